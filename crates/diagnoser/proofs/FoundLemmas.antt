@@ -1,4 +1,4 @@
--- What is found of the candidates from one up to but without another.
+-- What a search finds among the candidates `from..to`.
 use Rattle.std.proofs.Common.{◌≡◌, ℕ, ◌+◌, ◌<◌, ◌≤◌, Bool, true, false, cond, List, [], ◌∷◌, ◌++◌, length, Option, Some, None, Result, Ok, Err, refl, sym, ap, ◌∙◌, subst, inl, inr}
 use Rattle.std.specs.Prelude.{filter_map, slice_get, option_and_then, Decides, IfOk}
 use Rattle.std.specs.List.{cons_option}

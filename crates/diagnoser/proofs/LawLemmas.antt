@@ -1,4 +1,4 @@
--- What the definitions of diagnoses say.
+-- What the definitions of diagnoses imply.
 use Rattle.std.proofs.Common.{◌≡◌, Bool, List, [], sym, ap, ◌∙◌}
 use Rattle.std.specs.Bool.{one_answer}
 use Rattle.board_defs.specs.declared.board.RawBoard.{RawBoard}

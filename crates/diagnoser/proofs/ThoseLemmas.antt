@@ -1,4 +1,4 @@
--- The items of a list of which something holds, in their order.
+-- The items of a list for which a property holds, in order.
 use Rattle.std.proofs.Common.{◌≡◌, ◌⊎◌, inl, inr, Bool, true, false, cond, List, [], ◌∷◌, ◌++◌, refl, sym, ap, ◌∙◌, subst}
 use Rattle.std.specs.Prelude.{filter}
 use Rattle.board_defs.proofs.Members.{Has}

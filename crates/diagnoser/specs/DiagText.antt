@@ -26,16 +26,16 @@ name_of (Some net) = net.name
 abbrev pub net_name : RawBoard → ℕ → List ℕ
 net_name board n = name_of (slice_get board.nets n)
 
--- a stuck net
+-- the line of a stuck net
 abbrev pub stuck_line : List ℕ → Bool → List ℕ
 stuck_line name value = line_of (codes "stuck " ∷ name ∷ codes " " ∷ bit_word value ∷ [])
 
--- an open pin
+-- the line of an open pin
 abbrev pub open_line : Option NetPin → Bool → List ℕ
 open_line None value = []
 open_line (Some pin) value = line_of (codes "open " ∷ pin.part ∷ codes "." ∷ pin.pin ∷ codes " " ∷ bit_word value ∷ [])
 
--- a short of two nets; the net that dominates comes first
+-- the line of a short of two nets; the net that dominates comes first
 abbrev pub pair_line : List ℕ → List ℕ → List ℕ → List ℕ
 pair_line word x y = line_of (codes "short " ∷ word ∷ codes " " ∷ x ∷ codes " " ∷ y ∷ [])
 
@@ -51,16 +51,16 @@ fault_line board (StuckNet net value) = stuck_line (net_name board net) value
 fault_line board (OpenPin pin value) = open_line (pin_at board pin) value
 fault_line board (Short a b kind) = short_line kind (net_name board a) (net_name board b)
 
--- how many faults are listed
+-- the line with the number of faults
 abbrev pub fail_line : ℕ → List ℕ
 fail_line count = line_of (codes "FAIL " ∷ decimal count ∷ [])
 
--- whether the board passes, and else the faults
+-- the line that says that the board passes, or the faults
 unfoldable pub diag_text : RawBoard → Bool → List Single → List ℕ
 diag_text board true faults = line_of (codes "PASS" ∷ [])
 diag_text board false faults = fail_line (length faults) ++ flat_map (fault_line board) faults
 
--- the diagnosis of a log of the board's test: it passes where every compared bit is the expected one, and the faults are the single
+-- the diagnosis of a log of the board's test: it passes exactly if every compared bit is the expected one, and the faults are the single
 -- faults that explain it
 pub record IsDiagText (board : RawBoard) (log : List (List Bool)) (text : List ℕ) : Type 0 where
   pub pass : Bool

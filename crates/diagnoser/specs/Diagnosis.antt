@@ -1,4 +1,4 @@
--- Which single faults explain a log of a board's test.
+-- The single faults that explain a log of a board's test.
 use Rattle.std.specs.Prelude.{◌<◌, Bool, List, length}
 use Rattle.board_defs.specs.declared.board.RawBoard.{RawBoard}
 use Rattle.board_defs.specs.declared.fault.Single.{Single}

@@ -17,15 +17,15 @@ pub record ListsExplaining (board : RawBoard) (log : List (List Bool)) (faults :
 abbrev pub ExplainingListed : Type 0
 ExplainingListed = (board : RawBoard) (log : List (List Bool)) (faults : List Single) → IsBoard board → AreExplaining board log faults → ListsExplaining board log faults
 
--- one list of faults explains a log
+-- at most one list of faults explains a log
 abbrev pub OneList : Type 0
 OneList = (board : RawBoard) (log : List (List Bool)) (faults others : List Single) → AreExplaining board log faults → AreExplaining board log others → faults ≡ others
 
--- a log has one diagnosis
+-- a log has at most one diagnosis
 abbrev pub OneDiagnosis : Type 0
 OneDiagnosis = (board : RawBoard) (log : List (List Bool)) (text other : List ℕ) → IsDiagText board log text → IsDiagText board log other → text ≡ other
 
--- where every compared bit is the expected one, no single fault explains the log
+-- if every compared bit is the expected one, no single fault explains the log
 abbrev pub PassingUnexplained : Type 0
 PassingUnexplained =
     (board : RawBoard) (log : List (List Bool)) (faults : List Single) → IsBoard board → IsExpected board (svf_row_scans board) log → AreExplaining board log faults → faults ≡ []

@@ -16,12 +16,13 @@ use scan_planner::Plan;
 use std::alloc::{AllocError, Global};
 use std::thread::Threads;
 
-/// The single faults of a board that explain a log of its test, each once and in order, whatever the number of workers and
-/// the gate are. The plan is made of the board's passes, and the log has its rows, each as long as a scan of data.
+/// Returns the single faults of a board that explain a log of its test, each once and in order. Neither the number of workers nor
+/// the gate changes the result. The plan must be made of the board's passes, and the log must have its rows, each as long as a
+/// data scan.
 ///
-/// The candidates are the suspects' places. They are cut into as many pieces as there are workers, from 1 to 64, which
-/// differ by at most one candidate. Directly before a piece tries a candidate it enters the gate with its own number, from
-/// 0, and the candidate's place in the universe. Halves of the pieces run side by side, down to one piece. Where memory is
+/// The candidates are the suspects' places. They are cut into as many pieces as there are workers, from 1 to 64, whose sizes
+/// differ by at most one candidate. Directly before a piece tries a candidate, it enters the gate with its own number, from
+/// 0, and the candidate's place in the universe. Halves of the pieces run side by side, down to one piece. If memory is
 /// refused in any piece, it is refused for the whole.
 pub fn diagnose<R: Threads + Sync, G: Gate>(
     rt: &R,
@@ -45,7 +46,7 @@ pub fn diagnose<R: Threads + Sync, G: Gate>(
     diagnose_by(rt, alloc, board, plan, log, &nets, workers, gate)
 }
 
-/// The same where these are the nets that differ in the log, so that the log is gone through no second time.
+/// Like `diagnose`, but takes the nets that differ in the log, so the log is not searched for them again.
 pub fn diagnose_by<R: Threads + Sync, G: Gate>(
     rt: &R,
     alloc: Global,
@@ -70,7 +71,7 @@ pub fn diagnose_by<R: Threads + Sync, G: Gate>(
     diagnose_in(rt, alloc, board, plan, &universe, log, nets, workers, gate)
 }
 
-/// The same where this is also the universe of the board, which many logs of one test share.
+/// Like `diagnose_by`, but takes the universe of the board, which many logs of one test can share.
 pub fn diagnose_in<R: Threads + Sync, G: Gate>(
     rt: &R,
     alloc: Global,
@@ -97,7 +98,7 @@ pub fn diagnose_in<R: Threads + Sync, G: Gate>(
     diagnose_logged(rt, alloc, &logged, universe, nets, workers, gate)
 }
 
-/// The same of a log with its test, by what is kept of that.
+/// Like `diagnose_in`, but takes the log with its test and what is kept of the test.
 pub fn diagnose_logged<R: Threads + Sync, G: Gate>(
     rt: &R,
     alloc: Global,

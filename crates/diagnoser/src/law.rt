@@ -1,4 +1,4 @@
-//! Laws of diagnoses, each the contract of a function that does nothing.
+//! Laws of diagnoses. Each is the contract of a function that does nothing.
 ghost use Rattle.diagnoser.specs.Laws.{ExplainingListed, OneList, OneDiagnosis, PassingUnexplained};
 
 use board_defs::law as board_law;
@@ -11,12 +11,12 @@ pub fn explaining_listed()
     board_law::singles_listed();
 }
 
-/// One list of faults explains a log. So no number of workers and no gate changes it.
+/// At most one list of faults explains a log, so neither the number of workers nor the gate changes the list.
 pub fn one_list()
     ensures { OneList }
 {}
 
-/// A log has one diagnosis.
+/// A log has at most one diagnosis.
 pub fn one_diagnosis()
     ensures { OneDiagnosis }
 {}

@@ -1,7 +1,7 @@
 //! The diagnosis of a board: which of its single faults explain a log of its test.
 //!
-//! The faults that may explain the log are tried in pieces, which run side by side. What is found does not depend on how
-//! many pieces there are.
+//! The faults that may explain the log are tried in pieces, which run side by side. The result does not depend on the number
+//! of pieces.
 #![tactic(auto)]
 
 mod diagnosis;

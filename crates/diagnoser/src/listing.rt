@@ -12,7 +12,7 @@ use board_defs::{Board, NetPin, PinRef, Single};
 use bt_base::{PutFault, Sink};
 use bt_bits::Line;
 
-// The name of a net.
+// Returns the name of a net.
 fn net_name(board: &Board, n: u32) -> &[u8]
     requires { n < length board.now.nets }
     ensures { result.now ≡ net_name board.now n }
@@ -20,7 +20,7 @@ fn net_name(board: &Board, n: u32) -> &[u8]
     board.raw().nets.as_slice()[n as usize].name.bytes()
 }
 
-// The pin that is named.
+// Returns the pin that `pin` refers to.
 fn pin_at(board: &Board, pin: PinRef) -> &NetPin
     requires { IsOnBoard board.now pin }
     ensures { pin_at board.now pin ≡ Some result.now }
@@ -62,7 +62,7 @@ fn put_faults<K: Sink>(
     Ok(())
 }
 
-// Puts how many faults there are, and each of them.
+// Writes the number of faults, and then the line of each.
 fn put_list<K: Sink>(
     board: &Board,
     faults: &[Single],
@@ -76,10 +76,10 @@ fn put_list<K: Sink>(
     put_faults(board, faults, line, out)
 }
 
-/// Puts a diagnosis: that the log passes, or how many faults explain it and each of them. The faults name nets and pins of
-/// the board. Each line goes out in one put, and one of more than `MAX_LINE` bytes in pieces of so many and the rest. No
-/// memory is taken, and the line serves to write in: nothing is said of what it holds afterwards. It fails only where the
-/// sink does, and then a prefix of the text was put.
+/// Writes a diagnosis: that the log passes, or the number of faults that explain it, and then each fault. The faults must name nets
+/// and pins of the board. Each line is one put to the sink. A line of more than `MAX_LINE` bytes is put in pieces of `MAX_LINE`
+/// bytes and the rest. Allocates nothing. `line` is used as a buffer, and its content afterwards is unspecified. Fails only if
+/// the sink does, and then a prefix of the text was put.
 pub fn write_diagnosis<K: Sink>(
     board: &Board,
     pass: bool,

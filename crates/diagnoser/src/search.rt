@@ -14,8 +14,8 @@ use side_by_side::{Piece, in_pieces};
 use std::alloc::{AllocError, Global};
 use std::thread::Threads;
 
-/// A log with its test, the nets that differ in it and what one of them tells, and its candidates, which are the places of the faults that
-/// may explain it.
+/// A log with its test, the nets that differ in it, the first of these nets in the pass that exposes it, and the candidates: the places of
+/// the faults that may explain the log.
 #[derive(Clone, Copy)]
 pub struct Search<'a, 'b> {
     pub logged: &'a LoggedTest<'b>,
@@ -25,7 +25,7 @@ pub struct Search<'a, 'b> {
     pub suspects: &'a Suspects,
 }
 
-// Whether the first net that differs rules a fault out.
+// Returns true only if the first net that differs rules the fault out, in the pass that exposes this net.
 fn is_ruled_out(search: Search<'_, '_>, fault: Single) -> bool
     requires { IsSearch search }
     ensures { result ≡ true → IsSingle search.entry.logged.now.test.board fault → Explains search.entry.logged.now.test.board fault search.entry.logged.now.log → ⊥ }
@@ -36,8 +36,8 @@ fn is_ruled_out(search: Search<'_, '_>, fault: Single) -> bool
     }
 }
 
-// Whether some pass observes the nets of a candidate's fault, so that it is one of the board, and the fault explains the log. Few are left
-// once the first net that differs was asked.
+// Returns whether a candidate's fault explains the log, and some pass observes its nets, so that it is a single fault of the board. The
+// first net that differs rules out most candidates.
 fn explains(search: Search<'_, '_>, fault: Single) -> bool
     requires search { IsSearch search }
     requires fault { observes_fault search.logged.now.test.plan fault ≡ true → IsSingle search.logged.now.test.board fault }
@@ -52,7 +52,7 @@ fn explains(search: Search<'_, '_>, fault: Single) -> bool
     search.logged.matches_by(fault, search.nets)
 }
 
-// Tries candidate `i` for a piece: its fault, where it explains the log. The last look-up of a place ended at `near`.
+// Tries candidate `i` for a piece, and returns its fault if that explains the log. `near` is where the last look-up of a place ended.
 fn try_candidate<G: Gate>(
     search: Search<'_, '_>,
     piece: u32,
@@ -86,7 +86,7 @@ fn push_some(faults: &mut Vec<Single>, fault: Option<Single>) -> Result<(), Allo
     Ok(())
 }
 
-// What a piece finds.
+// Returns the faults that a piece finds.
 fn search_piece<G: Gate>(
     alloc: Global,
     search: Search<'_, '_>,
@@ -107,7 +107,7 @@ fn search_piece<G: Gate>(
     Ok(faults)
 }
 
-/// What the candidates give that are cut into so many pieces, which run side by side: the faults that explain the log, in order.
+/// Returns the faults that explain the log, in order. The candidates are cut into `pieces` pieces, which run side by side.
 pub fn search_pieces<R: Threads + Sync, G: Gate>(
     rt: &R,
     alloc: Global,

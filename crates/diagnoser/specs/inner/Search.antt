@@ -1,4 +1,4 @@
--- What a search for the faults that explain a log finds.
+-- What a search for the faults that explain a log has, and what it finds.
 use Rattle.std.specs.Prelude.{◌≡◌, ℕ, List, filter_map, IfSome}
 use Rattle.board_defs.specs.declared.fault.Single.{Single}
 use Rattle.board_defs.specs.Passes.{passes_of}
@@ -9,7 +9,7 @@ use Rattle.side_by_side.specs.Pieces.{items_between}
 use Rattle.diagnoser.specs.declared.search.Search.{Search}
 use Rattle.fault_sim.specs.Diagnosis.{Picks}
 
--- the candidates are the suspects for a log of the test that the plan makes of the board's passes, and the net that tells is one in a pass of it
+-- the candidates are the suspects for a log of the test that the plan makes of the board's passes; the telling net is in a pass of this log
 pub record IsSearch (s : Search) : Type 0 where
   pub passes : s.logged.now.test.plan.passes ≡ passes_of s.logged.now.test.board
   pub differing : AreDiffering s.logged.now.test.board s.logged.now.test.plan s.logged.now.log s.nets.now
@@ -17,10 +17,10 @@ pub record IsSearch (s : Search) : Type 0 where
   pub universe : IsUniverse s.logged.now.test.board s.universe.now
   pub suspects : AreSuspects s.logged.now.test.board s.logged.now.test.plan s.universe.now s.logged.now.log s.suspects.now
 
--- the faults at the candidates from one up to but without another
+-- the faults at the candidates `from..to`
 abbrev pub faults_between : Search → ℕ → ℕ → List Single
 faults_between s from to = filter_map (fault_at s.logged.now.test.board) (items_between s.suspects.now from to)
 
--- those of them that explain the log, in order
+-- those of these faults that explain the log, in order
 abbrev pub Found : Search → ℕ → ℕ → List Single → Type 0
 Found s from to faults = Picks (λ single. Explains s.logged.now.test.board single s.logged.now.log) (faults_between s from to) faults
