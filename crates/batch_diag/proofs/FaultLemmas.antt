@@ -1,4 +1,4 @@
--- A block's lines by themselves, and at their place in the text.
+-- A block's lines by themselves, and in their place in the text.
 use Rattle.std.proofs.Common.{◌≡◌, ℕ, zero, suc, ◌+◌, ◌≤◌, Bool, true, false, cond, nat_lt, Option, Some, None, Ok, Err, List, [], ◌∷◌, ◌++◌, length, map, take, drop, refl, sym, ap, ◌∙◌, subst, arith}
 use Rattle.std.specs.Prelude.{IfSome, filter_map, ◌==◌, is_some}
 use Rattle.std.specs.List.{slice_split, onto_first, cons_option}

@@ -1,4 +1,4 @@
--- Blocks that are read one after the other.
+-- Blocks that are read in turn.
 use Rattle.std.proofs.Common.{◌≡◌, ℕ, ◌+◌, ◌-◌, ◌<◌, ◌≤◌, Bool, true, false, cond, Option, Some, None, Result, Ok, Err, List, [], ◌∷◌, ◌++◌, length, length-drop, suc, map, take, drop, refl, sym, ap, ◌∙◌, subst, arith, append_assoc, append-nil}
 use Rattle.std.specs.Prelude.{IfSome, alloc_error, slice_get}
 use Rattle.std.proofs.lemmas.List.{length-map, length-take-le, length_push, map-append}

@@ -9,7 +9,7 @@ use Rattle.batch_diag.specs.declared.block.Block.{Block}
 use Rattle.batch_diag.specs.declared.fault.BatchFault.{BatchFault}
 use Rattle.batch_diag.specs.declared.fault.BatchFault.TheVariants.{Start, Title, Inner, Memory}
 
--- the first word of a title is `BOARD`
+-- the first word of the line is `BOARD`
 abbrev pub is_title : List Word → Bool
 is_title [] = false
 is_title (word ∷ words) = bytes_eq word (codes "BOARD")
@@ -26,13 +26,13 @@ abbrev pub id_of : List Word → Word
 id_of [] = []
 id_of (word ∷ words) = first_or_none words
 
--- one word, which keeps the word rule
+-- there is one word, which keeps the word rule
 abbrev pub is_id : List Word → Bool
 is_id [] = false
 is_id (id ∷ []) = is_word id
 is_id (id ∷ other ∷ words) = false
 
--- behind the first word of a title stands an id and nothing else
+-- an id and nothing else follows the first word of a title
 abbrev pub names_board : List Word → Bool
 names_board [] = false
 names_board (word ∷ words) = is_id words
@@ -40,12 +40,12 @@ names_board (word ∷ words) = is_id words
 abbrev pub is_wrong_title : NumberedLine → Bool
 is_wrong_title line = begins_block line && not (names_board line.words)
 
--- of lines with words, the first where it is no title
+-- the fault of the first line with words, if it is no title
 abbrev pub start_fault : List NumberedLine → Option BatchFault
 start_fault [] = None
 start_fault (line ∷ lines) = if begins_block line then None else Some (Start line.number)
 
--- the first title that is wrong
+-- the fault of the first title that is wrong
 abbrev pub title_fault : List NumberedLine → Option BatchFault
 title_fault [] = None
 title_fault (line ∷ lines) = if is_wrong_title line then Some (Title line.number) else title_fault lines
@@ -71,12 +71,12 @@ abbrev pub onto : Block → Answer → Answer
 onto block (Ok blocks) = Ok (block ∷ blocks)
 onto block (Err fault) = Err fault
 
--- a block, by what its lines say, and what is said of the blocks behind it
+-- the answer for a block and those after it: the block before the later blocks if its lines are a log, or else its fault
 abbrev pub block_then : Word → ℕ → Result (List (List Bool)) LogFault → Answer → Answer
 block_then id board (Ok log) later = onto (record { id = id; log = log }) later
 block_then id board (Err fault) later = Err (Inner board fault)
 
--- the logs of blocks, the first of which has this number, or the fault of the first whose lines are no log
+-- the blocks with their logs, or the fault of the first block whose lines are no log; the first block has the number `board`
 abbrev pub logs_from : ℕ → ℕ → ℕ → List BlockLines → Answer
 logs_from rows len board [] = Ok []
 logs_from rows len board (block ∷ blocks) = block_then block.id board (rows_of_lines rows len block.lines) (logs_from rows len (board + 1) blocks)
@@ -85,21 +85,21 @@ abbrev pub unless : Option BatchFault → Answer → Answer
 unless None answer = answer
 unless (Some fault) answer = Err fault
 
--- what lines with words say: a line before the first title is named, or else the first title that is wrong, or else the first block,
--- counted from 1, whose lines are no log; a line is named by its number in the whole text
+-- the answer for lines with words: the fault of the first line if it is no title, or else of the first title that is wrong, or else of the
+-- first block whose lines are no log; blocks are counted from 1, and a line has its number in the whole text
 abbrev pub blocks_of_lines : ℕ → ℕ → List NumberedLine → Answer
 blocks_of_lines rows len lines = unless (start_fault lines) (unless (title_fault lines) (logs_from rows len 1 (blocks_of lines)))
 
--- the blocks of a text, each with a log of so many rows of so many bits, or why it is no such batch
+-- the blocks of a text, each with a log of `rows` rows of `len` bits each, or why the text is no such batch
 abbrev pub batch_of : List ℕ → ℕ → ℕ → Answer
 batch_of text rows len = blocks_of_lines rows len (row_lines text)
 
--- what a fault tells
+-- the fault, or nothing if it is a refusal of memory, since no definition speaks of memory
 abbrev pub batch_told : BatchFault → Option BatchFault
 batch_told (Memory e) = None
 batch_told fault = Some fault
 
--- the fault of a block's lines is never want of memory
+-- the fault of a block's lines is never a refusal of memory
 abbrev pub IsOfLines : BatchFault → Type 0
 IsOfLines (Start n) = Unit {0}
 IsOfLines (Title n) = Unit {0}

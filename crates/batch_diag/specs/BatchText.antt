@@ -14,7 +14,7 @@ title_line id = line_of (codes "BOARD " ∷ id ∷ [])
 abbrev pub block_text : RawBoard → Block → Verdict → List ℕ
 block_text board block verdict = title_line block.id ++ diag_text board verdict.pass verdict.faults
 
--- the texts of blocks with their verdicts, one after the other
+-- the texts of blocks with their verdicts, in order
 abbrev pub batch_text : RawBoard → List Block → List Verdict → List ℕ
 batch_text board [] verdicts = []
 batch_text board (block ∷ blocks) [] = []

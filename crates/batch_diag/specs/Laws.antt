@@ -11,20 +11,20 @@ use Rattle.batch_diag.specs.Batch.{begins_block, is_wrong_title, up_to_title, ba
 use Rattle.batch_diag.specs.Verdicts.{AreVerdicts}
 use Rattle.batch_diag.specs.BatchText.{batch_text, IsBatchText}
 
--- a title and the lines behind it, none of which is a title, are a block
+-- a title and the lines after it, none of which is a title, are a block
 pub record IsBlockOf (rows len : ℕ) (title : NumberedLine) (lines : List NumberedLine) (block : Block) : Type 0 where
   pub words : title.words ≡ codes "BOARD" ∷ block.id ∷ []
   pub id : is_word block.id ≡ true
   pub inside : All (λ line. begins_block line ≡ false) lines
   pub log : rows_of_lines rows len lines ≡ Ok block.log
 
--- the lines are those of blocks, one after the other
+-- the lines are those of these blocks, in order
 abbrev pub AreBlocksOf : ℕ → ℕ → List NumberedLine → List Block → Type 0
 AreBlocksOf rows len lines [] = lines ≡ []
 AreBlocksOf rows len lines (block ∷ blocks) =
     (title : NumberedLine) × (own : List NumberedLine) × (later : List NumberedLine) × IsBlockOf rows len title own block × AreBlocksOf rows len later blocks × (lines ≡ title ∷ (own ++ later))
 
--- a text is a batch exactly where its lines with words are those of blocks
+-- a text is a batch exactly if its lines with words are those of blocks
 abbrev pub BlocksAreTheLines : Type 0
 BlocksAreTheLines = (text : List ℕ) (rows len : ℕ) (blocks : List Block) → (batch_of text rows len ≡ Ok blocks) ↔ AreBlocksOf rows len (row_lines text) blocks
 
@@ -32,7 +32,7 @@ BlocksAreTheLines = (text : List ℕ) (rows len : ℕ) (blocks : List Block) →
 abbrev pub AreRight : List NumberedLine → Type 0
 AreRight lines = All (λ line. is_wrong_title line ≡ false) lines
 
--- the first line with words, where it is no title; or else the first title that is wrong; or else, behind blocks that are right, the
+-- the first line with words, if it is no title; or else the first title that is wrong; or else, after blocks whose lines are logs, the
 -- first block whose lines are no log
 abbrev pub IsFirstFault : ℕ → ℕ → List NumberedLine → BatchFault → Type 0
 IsFirstFault rows len lines (Start n) = (line : NumberedLine) × (later : List NumberedLine) × (begins_block line ≡ false) × (line.number ≡ n) × (lines ≡ line ∷ later)
@@ -43,7 +43,7 @@ IsFirstFault rows len lines (Inner board fault) =
     × (begins_block title ≡ true) × All (λ line. begins_block line ≡ false) own × (up_to_title later ≡ []) × (rows_of_lines rows len own ≡ Err fault) × (board ≡ length blocks + 1) × (lines ≡ before ++ title ∷ (own ++ later))
 IsFirstFault rows len lines (Memory e) = ⊥
 
--- a fault is told of a text exactly where it is the first
+-- a fault is reported for a text exactly if it is the first
 abbrev pub FaultIsTheFirst : Type 0
 FaultIsTheFirst = (text : List ℕ) (rows len : ℕ) (fault : BatchFault) → (batch_of text rows len ≡ Err fault) ↔ IsFirstFault rows len (row_lines text) fault
 
@@ -51,6 +51,6 @@ FaultIsTheFirst = (text : List ℕ) (rows len : ℕ) (fault : BatchFault) → (b
 abbrev pub VerdictsMakeText : Type 0
 VerdictsMakeText = (board : RawBoard) (blocks : List Block) (verdicts : List Verdict) → AreVerdicts board blocks verdicts → IsBatchText board blocks (batch_text board blocks verdicts)
 
--- blocks have one such text
+-- blocks have at most one such text
 abbrev pub OneBatchText : Type 0
 OneBatchText = (board : RawBoard) (blocks : List Block) (text other : List ℕ) → IsBatchText board blocks text → IsBatchText board blocks other → text ≡ other

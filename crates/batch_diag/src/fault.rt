@@ -6,17 +6,17 @@ use response_log::LogFault;
 use std::alloc::{AllocError, AllocFailed};
 use thiserror::Error;
 
-/// The first line that can't stand where it does, or else the first block whose lines are no log, or want of memory. Lines
+/// The first line that is not allowed where it is, or else the first block whose lines are no log, or a refusal of memory. Lines
 /// are those of the whole text, numbered from 1.
 #[derive(Debug, Drop, Error)]
 pub enum BatchFault {
-    /// The line has words and stands before the first line that begins a block.
+    /// The line has words and comes before the first line that begins a block.
     #[error("line {0}: no board yet")]
     Start(u32),
-    /// The line begins a block and has not two words, or the id breaks the word rule.
+    /// The line begins a block, but does not have two words, or the id breaks the word rule.
     #[error("line {0}: board not allowed")]
     Title(u32),
-    /// The block, counted from 1, and how its lines are no log. The fault is never want of memory.
+    /// The block, counted from 1, and why its lines are no log. The fault is never a refusal of memory.
     #[error("board {board}: {fault}")]
     Inner { board: u32, fault: LogFault },
     #[error("out of memory")]

@@ -20,7 +20,7 @@ use side_by_side::{Piece, in_pieces};
 use std::alloc::{AllocError, Global};
 use std::thread::Threads;
 
-/// Blocks whose logs are of a board's test, with the universe of the board.
+/// Blocks with logs of a board's test, and the universe of the board.
 #[derive(Clone, Copy)]
 pub struct Batch<'a, 'b> {
     pub test: &'a BoardTest<'b>,
@@ -28,12 +28,12 @@ pub struct Batch<'a, 'b> {
     pub blocks: &'a [Block],
 }
 
-/// A verdict on each block of a batch, in the order of the blocks, whatever the number of workers and the gate are. The plan
-/// is made of the board's passes, and each log has its rows, each as long as a scan of data.
+/// Returns a verdict on each block of a batch, in the order of the blocks. Neither the number of workers nor the gate changes the
+/// verdicts. The plan must be made of the board's passes, and each log must have its rows, each as long as a data scan.
 ///
-/// The blocks are cut into as many pieces as there are workers, from 1 to 64, which differ by at most one block. Directly
-/// before a piece takes a block it enters the gate with its own number and that of the block, both from 0. Halves of the
-/// pieces run side by side, down to one piece. Each block is diagnosed by one worker. Where memory is refused in any piece,
+/// The blocks are cut into as many pieces as there are workers, from 1 to 64, whose sizes differ by at most one block. Directly
+/// before a piece takes a block, it enters the gate with its own number and that of the block, both from 0. Halves of the
+/// pieces run side by side, down to one piece. One worker diagnoses each block. If memory is refused in any piece,
 /// it is refused for the whole.
 pub fn diagnose_all<R: Threads + Sync, G: Gate>(
     rt: &R,
@@ -58,7 +58,7 @@ pub fn diagnose_all<R: Threads + Sync, G: Gate>(
     judge_all(rt, alloc, &test, blocks, workers, gate)
 }
 
-// The verdicts on the blocks, by what is kept of the test.
+// Returns the verdicts on the blocks. `test` has what is kept of the test.
 fn judge_all<R: Threads + Sync, G: Gate>(
     rt: &R,
     alloc: Global,
@@ -84,7 +84,7 @@ fn judge_all<R: Threads + Sync, G: Gate>(
     judge_pieces(rt, alloc, batch, workers, gate)
 }
 
-// The verdict on a log.
+// Returns the verdict on a log.
 fn verdict_on<R: Threads + Sync>(
     rt: &R,
     alloc: Global,
@@ -104,7 +104,7 @@ fn verdict_on<R: Threads + Sync>(
     })
 }
 
-// The verdict of a piece on block `i`.
+// Returns the verdict on block `i`, which a piece takes.
 fn judge<R: Threads + Sync, G: Gate>(
     rt: &R,
     alloc: Global,
@@ -123,7 +123,7 @@ fn judge<R: Threads + Sync, G: Gate>(
     verdict_on(rt, alloc, &logged, batch.universe)
 }
 
-// The verdicts of a piece.
+// Returns the verdicts on the blocks of a piece.
 fn judge_piece<R: Threads + Sync, G: Gate>(
     rt: &R,
     alloc: Global,
@@ -143,7 +143,7 @@ fn judge_piece<R: Threads + Sync, G: Gate>(
     Ok(verdicts)
 }
 
-// The verdicts on all blocks, which are cut into so many pieces.
+// Returns the verdicts on all blocks, which are cut into `pieces` pieces.
 fn judge_pieces<R: Threads + Sync, G: Gate>(
     rt: &R,
     alloc: Global,

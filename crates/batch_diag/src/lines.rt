@@ -10,7 +10,7 @@ use crate::fault::BatchFault;
 use std::alloc::{AllocError, Global};
 use text_lines::{first_line, is_blank, is_word, next_word};
 
-/// A line that begins a block: its number, the id in it, and the text of the lines behind it.
+/// A line that begins a block: its number, the id in it, and the text after the line.
 #[derive(Clone, Copy)]
 pub struct Title<'a> {
     pub line: usize,
@@ -18,7 +18,7 @@ pub struct Title<'a> {
     pub behind: &'a [u8],
 }
 
-/// A block whose log is to be read: the number of the line of its title, the id in that, and the text of its lines.
+/// A block whose log has yet to be read: the line number of its title, the id in the title, and the text of its lines.
 #[derive(Clone, Copy)]
 pub struct UnreadBlock<'a> {
     pub line: usize,
@@ -32,7 +32,7 @@ fn has_words(line: &[u8]) -> bool
     next_word(line).is_some()
 }
 
-// Whether the line begins with a byte that begins no title. Most rows do, and then their bytes need not be looked at.
+// Returns whether the line begins with a byte that begins no title. Most rows do, so the rest of them need not be read.
 fn begins_row(line: &[u8]) -> bool
     ensures { result ≡ begins_row line.now }
 {
@@ -42,7 +42,7 @@ fn begins_row(line: &[u8]) -> bool
     }
 }
 
-// Whether the first word of the line is `BOARD`.
+// Returns whether the first word of the line is `BOARD`.
 fn is_title(line: &[u8]) -> bool
     ensures { result ≡ is_title (words_of line.now) }
 {
@@ -55,7 +55,7 @@ fn is_title(line: &[u8]) -> bool
     }
 }
 
-// The first word of a line, or no bytes where it has none.
+// Returns the first word of a line, or no bytes if it has none.
 fn first_or_none(line: &[u8]) -> &[u8]
     ensures { result.now ≡ first_or_none (words_of line.now) }
 {
@@ -65,7 +65,7 @@ fn first_or_none(line: &[u8]) -> &[u8]
     }
 }
 
-// The second word of a line, or no bytes where it has none.
+// Returns the second word of a line, or no bytes if it has none.
 fn id_of(line: &[u8]) -> &[u8]
     ensures { result.now ≡ id_of (words_of line.now) }
 {
@@ -75,7 +75,7 @@ fn id_of(line: &[u8]) -> &[u8]
     }
 }
 
-// Whether the line is an id alone.
+// Returns whether the line is an id and nothing else.
 fn is_id(line: &[u8]) -> bool
     ensures { result ≡ is_id (words_of line.now) }
 {
@@ -85,7 +85,7 @@ fn is_id(line: &[u8]) -> bool
     }
 }
 
-// Whether an id and nothing else stands behind the first word of the line.
+// Returns whether an id and nothing else follows the first word of the line.
 fn names_board(line: &[u8]) -> bool
     ensures { result ≡ names_board (words_of line.now) }
 {
@@ -95,14 +95,14 @@ fn names_board(line: &[u8]) -> bool
     }
 }
 
-// Whether the line is a title that has not two words or whose id breaks the word rule.
+// Returns whether the line is a title, but does not have two words, or its id breaks the word rule.
 fn is_wrong_title(line: &[u8]) -> bool
     ensures { result ≡ (is_title (words_of line.now) && not (names_board (words_of line.now))) }
 {
     is_title(line) && !names_board(line)
 }
 
-/// The first line with words of a text, where it is no title.
+/// Returns the fault of a text's first line with words, if this line is no title.
 pub fn start_fault(text: &[u8]) -> Option<BatchFault>
     requires { length text.now < 2 ^ 32 }
     ensures { result ≡ start_fault (row_lines text.now) }
@@ -120,7 +120,7 @@ pub fn start_fault(text: &[u8]) -> Option<BatchFault>
     None
 }
 
-// The fault of a line with words that is to be a title.
+// Returns the fault of this line with words, unless it is a title.
 fn no_title(line: &[u8], number: u32) -> Option<BatchFault>
     ensures { result ≡ start_fault (record { number = number; words = words_of line.now } ∷ []) }
 {
@@ -131,7 +131,7 @@ fn no_title(line: &[u8], number: u32) -> Option<BatchFault>
     }
 }
 
-/// The first title of a text that has not two words or whose id breaks the word rule.
+/// Returns the fault of a text's first title that does not have two words or whose id breaks the word rule.
 pub fn title_fault(text: &[u8]) -> Option<BatchFault>
     requires { length text.now < 2 ^ 32 }
     ensures { result ≡ title_fault (row_lines text.now) }
@@ -149,14 +149,14 @@ pub fn title_fault(text: &[u8]) -> Option<BatchFault>
     None
 }
 
-// The text, or no bytes where there is none.
+// Returns the text, or no bytes if there is none.
 fn or_nothing(text: Option<&[u8]>) -> &[u8]
     ensures { result.now ≡ or_nothing (option_copied text.entry) }
 {
     text.unwrap_or(b"")
 }
 
-/// Cuts a text, the first line of which has this number, at its first title: the text before it, and the title.
+/// Cuts a text at its first title, and returns the text before it, and the title. The first line of the text has the number `number`.
 pub fn cut_at_title(text: &[u8], number: usize) -> (&[u8], Option<Title<'_>>)
     requires { number + length text.now < 2 ^ 33 }
     ensures own { up_to_title (rows_from number text.now) ≡ rows_from number result.0.now }
@@ -183,7 +183,7 @@ pub fn cut_at_title(text: &[u8], number: usize) -> (&[u8], Option<Title<'_>>)
     (text, None)
 }
 
-/// The blocks of a text, whatever its titles are.
+/// Returns the blocks of a text, even if its titles are wrong.
 pub fn list_blocks(alloc: Global, text: &[u8]) -> Result<Vec<UnreadBlock<'_>>, AllocError>
     requires { length text.now < 2 ^ 32 }
     ensures blocks { IfOk result (λ unread. blocks_of (row_lines text.now) ≡ map lines_of_unread unread.items) }

@@ -50,10 +50,10 @@ fn put_blocks<K: Sink>(
     Ok(())
 }
 
-/// Puts for each block of a batch, in order, its title and the diagnosis that is its verdict. There is a verdict for each
-/// block, whose faults name nets and pins of the board. Without blocks an empty text is put. Each line goes out in one put, and
-/// one of more than `MAX_LINE` bytes in pieces of so many and the rest. No memory is taken, and the line serves to write in:
-/// nothing is said of what it holds afterwards. It fails only where the sink does, and then a prefix of the text was put.
+/// Writes for each block of a batch, in order, its title and the diagnosis that is its verdict. There must be a verdict for each
+/// block, whose faults name nets and pins of the board. Without blocks the text is empty. Each line is one put to the sink. A line
+/// of more than `MAX_LINE` bytes is put in pieces of `MAX_LINE` bytes and the rest. Allocates nothing. `line` is used as a buffer,
+/// and its content afterwards is unspecified. Fails only if the sink does, and then a prefix of the text was put.
 pub fn write_batch<K: Sink>(
     board: &Board,
     blocks: &[Block],

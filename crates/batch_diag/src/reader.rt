@@ -15,12 +15,13 @@ use side_by_side::{Piece, in_pieces};
 use std::alloc::Global;
 use std::thread::Threads;
 
-/// Reads the blocks of a batch, each with a log of `rows` rows with `len` bits each. Any bytes may stand in the text, and a
-/// text without words has no block.
+/// Reads the blocks of a batch, each with a log of `rows` rows of `len` bits each. The text may have any bytes. A text
+/// without words has no block.
 ///
-/// Where some line with words stands before the first title, the answer is `Start` with the first such line. Otherwise, where
-/// some title has not two words or an id that breaks the word rule, it is `Title` with the first such title. Otherwise, where
-/// the lines of some block are no log, it is `Inner` with the first such block. The blocks take no more memory than the ids
+/// If a line with words comes before the first title, the answer is `Start` with the first such line. Otherwise, if a title
+/// does not have two words or its id breaks the word rule, it is `Title` with the first such title. Otherwise, if the lines
+/// of a block are no log, it is `Inner` with the first such block. The blocks take no more memory than the ids and a byte
+/// for each byte of the text.
 /// and a byte for each byte of the text.
 pub fn blocks(alloc: Global, bytes: &[u8], rows: u64, len: u32) -> Result<Vec<Block>, BatchFault>
     requires { length bytes.now < 2 ^ 32 }
@@ -35,9 +36,9 @@ pub fn blocks(alloc: Global, bytes: &[u8], rows: u64, len: u32) -> Result<Vec<Bl
     read_between(alloc, &reading, 0, count(&reading))
 }
 
-/// Reads the same blocks in as many pieces as there are workers, from 1 to 64, which differ by at most one block. Halves of the pieces run
-/// side by side, down to one piece. Where memory is refused for a block and no earlier one has a fault, it is refused for the whole; where
-/// it is refused for putting together what several pieces give, that comes before any fault of a block.
+/// Like `blocks`, but reads in as many pieces as there are workers, from 1 to 64, whose sizes differ by at most one block. Halves of
+/// the pieces run side by side, down to one piece. If memory is refused for a block and no earlier block has a fault, it is refused for
+/// the whole. If memory is refused for joining what several pieces give, this comes before any fault of a block.
 pub fn blocks_by<R: Threads + Sync>(
     rt: &R,
     alloc: Global,
@@ -59,7 +60,7 @@ pub fn blocks_by<R: Threads + Sync>(
     read_pieces(rt, alloc, &reading, workers)
 }
 
-/// Blocks whose logs are to be read, and how many rows with how many bits each log has.
+/// Blocks whose logs have yet to be read, and the number of rows of each log and of bits in each row.
 #[derive(Drop)]
 pub struct Reading<'a> {
     pub unread: Vec<UnreadBlock<'a>>,
@@ -67,14 +68,14 @@ pub struct Reading<'a> {
     pub len: u32,
 }
 
-// How many blocks there are.
+// Returns the number of blocks.
 fn count(reading: &Reading<'_>) -> usize
     ensures { result ≡ length reading.now.unread.items }
 {
     reading.unread.len()
 }
 
-// The blocks of a text before their logs are read, or the first line that can't stand where it does.
+// Returns the blocks of a text before their logs are read, or the first line that is not allowed where it is.
 fn reading_of(alloc: Global, bytes: &[u8], rows: u64, len: u32) -> Result<Reading<'_>, BatchFault>
     requires { length bytes.now < 2 ^ 32 }
     ensures said { IfOk result (λ reading. batch_of bytes.now rows len ≡ said_of reading) }
@@ -93,7 +94,7 @@ fn reading_of(alloc: Global, bytes: &[u8], rows: u64, len: u32) -> Result<Readin
     Ok(Reading { unread, rows, len })
 }
 
-// Block `i`, before its log is read.
+// Returns block `i`, before its log is read.
 fn unread_at<'a>(reading: &Reading<'a>, i: usize) -> UnreadBlock<'a>
     requires short { AreShort reading.now.unread.items }
     requires block { i < length reading.now.unread.items }
@@ -103,7 +104,7 @@ fn unread_at<'a>(reading: &Reading<'a>, i: usize) -> UnreadBlock<'a>
     reading.unread[i]
 }
 
-// The blocks from one up to but without another.
+// Returns the blocks `first..end`, or the fault of the first of them whose lines are no log.
 fn read_between(
     alloc: Global,
     reading: &Reading<'_>,
@@ -127,7 +128,7 @@ fn read_between(
     Ok(found)
 }
 
-// All blocks, which are cut into so many pieces.
+// Returns all blocks, which are read in `pieces` pieces.
 fn read_pieces<R: Threads + Sync>(
     rt: &R,
     alloc: Global,
@@ -146,7 +147,7 @@ fn read_pieces<R: Threads + Sync>(
     in_pieces(rt, alloc, count, pieces, &read)
 }
 
-// A block with its log. Its number counts the blocks from 1.
+// Returns a block with its log. `board` is the number of the block, from 1.
 fn read_block(
     alloc: Global,
     unread: UnreadBlock<'_>,
@@ -167,7 +168,7 @@ fn read_block(
     })
 }
 
-// The log of a block, the lines of which stand behind so many lines of the text.
+// Returns the log of block `board`, whose lines come after `before` lines of the text.
 fn read_log(
     alloc: Global,
     own: &[u8],
@@ -187,7 +188,8 @@ fn read_log(
     }
 }
 
-// What is said of a block where its lines by themselves, of which none has a greater number than `last`, have a fault.
+// Returns the fault of block `board`, whose lines by themselves have the fault `fault`. They come after `before` lines of the whole
+// text, and `last` is at least the line number in `fault`.
 fn inner(board: u32, before: u32, last: u32, fault: LogFault) -> BatchFault
     requires last { IsUpTo last fault }
     requires few { before + last < 2 ^ 32 }

@@ -10,33 +10,33 @@ use Rattle.batch_diag.specs.declared.fault.BatchFault.TheVariants.{Inner, Memory
 use Rattle.batch_diag.specs.declared.lines.Title.{Title}
 use Rattle.batch_diag.specs.Batch.{BlockLines, blocks_of, up_to_title}
 
--- the lines with words of a text, the first line of which has this number
+-- the lines with words of a text, whose first line has the number n
 abbrev pub rows_from : ℕ → List ℕ → List NumberedLine
 rows_from n text = filter has_words (numbered n (slice_split is_newline text))
 
--- a line that begins with a byte that begins no title
+-- a line begins with a byte that begins no title
 abbrev pub begins_row : List ℕ → Bool
 begins_row [] = false
 begins_row (b ∷ bs) = not (b == 66) && not (is_blank b)
 
--- a text, where there is one
+-- the text, or no bytes if there is none
 abbrev pub or_nothing : Option (List ℕ) → List ℕ
 or_nothing None = []
 or_nothing (Some text) = text
 
--- the blocks from a title on
+-- the blocks from this title on
 abbrev pub blocks_at : Option Title → List BlockLines
 blocks_at None = []
 blocks_at (Some title) =
     let behind = rows_from (title.line + 1) title.behind.now in
     record { id = title.id.now; lines = up_to_title behind } ∷ blocks_of behind
 
--- what is said of the block with this number, by what its lines say
+-- the answer for the log of the block with this number, from the answer for its lines
 abbrev pub in_block : ℕ → LogAnswer → Result (List (List Bool)) BatchFault
 in_block board (Ok log) = Ok log
 in_block board (Err fault) = Err (Inner board fault)
 
--- what is said of the block with this number where its lines, by themselves, have a fault: so many lines of the text stand before them
+-- the fault of the block with this number, from the fault of its lines by themselves; `before` lines of the text come before them
 abbrev pub moved_inner : ℕ → ℕ → LogFault → BatchFault
 moved_inner board before (Digit n) = Inner board (Digit (before + n))
 moved_inner board before (Length n) = Inner board (Length (before + n))
@@ -44,7 +44,7 @@ moved_inner board before (Missing found) = Inner board (Missing found)
 moved_inner board before (Extra n) = Inner board (Extra (before + n))
 moved_inner board before (LogMemory e) = Memory e
 
--- the line of a fault is at most the one with this number
+-- the fault's line number, if it has one, is at most `last`
 abbrev pub IsUpTo : ℕ → LogFault → Type 0
 IsUpTo last (Digit n) = n ≤ last
 IsUpTo last (Length n) = n ≤ last

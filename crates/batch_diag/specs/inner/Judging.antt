@@ -9,7 +9,7 @@ use Rattle.batch_diag.specs.declared.judging.Batch.{Batch}
 use Rattle.batch_diag.specs.declared.verdict.Verdict.{Verdict}
 use Rattle.batch_diag.specs.Verdicts.{EachPair, IsVerdict, AreLogs}
 
--- logs of the test that the plan makes of the board's passes
+-- the logs are of the test that the plan makes of the board's passes
 pub record IsBatch (b : Batch) : Type 0 where
   pub passes : b.test.now.plan.passes ≡ passes_of b.test.now.board
   pub universe : IsUniverse b.test.now.board b.universe.now
@@ -19,6 +19,6 @@ pub record IsBatch (b : Batch) : Type 0 where
 abbrev pub Judges : Batch → Block → Verdict → Type 0
 Judges b block verdict = IsVerdict b.test.now.board block verdict × All (IsNamed b.test.now.board) verdict.faults
 
--- the verdicts on the blocks from one up to but without another
+-- the verdicts on the blocks `from..to`
 abbrev pub Judged : Batch → ℕ → ℕ → List Verdict → Type 0
 Judged b from to verdicts = EachPair (Judges b) (items_between b.blocks.now from to) verdicts

@@ -14,19 +14,19 @@ use Rattle.batch_diag.specs.inner.Cutting.{rows_from}
 abbrev pub lines_of_unread : UnreadBlock → BlockLines
 lines_of_unread block = record { id = block.id.now; lines = rows_from (block.line + 1) block.own.now }
 
--- the blocks stand in a text of less than 2^32 bytes
+-- the blocks are in a text of fewer than 2^32 bytes
 abbrev pub AreShort : List UnreadBlock → Type 0
 AreShort blocks = (length blocks < 2 ^ 32) × All (λ block. block.line + length block.own.now < 2 ^ 32) blocks
 
--- what the blocks say from one up to but without another
+-- the answer for the blocks `from..to`
 abbrev pub said_between : Reading → ℕ → ℕ → Answer
 said_between r from to = logs_from r.rows r.len (from + 1) (map lines_of_unread (items_between r.unread.items from to))
 
--- what all blocks say
+-- the answer for all blocks
 abbrev pub said_of : Reading → Answer
 said_of r = logs_from r.rows r.len 1 (map lines_of_unread r.unread.items)
 
--- blocks with logs of this size, or a fault of their lines, as it is said
+-- the result is the answer `said`: blocks with logs of this size, or a fault of their lines
 abbrev pub IsRead : {V : Type 0} → (V → List Block) → ℕ → ℕ → Answer → Result V BatchFault → Type 0
 IsRead view rows len said result =
     Gives batch_told view (λ answer. said ≡ answer) result × IfOk result (λ v. All (λ block. HasSize rows len block.log) (view v)) × MatchResult result (λ _. Unit {0}) IsOfLines
