@@ -17,19 +17,19 @@ net_name board n = name_of (slice_get board.nets n)
 abbrev pub net_line : RawBoard → ℕ → List ℕ
 net_line board n = line_of (codes "NET " ∷ net_name board n ∷ [])
 
--- how many nets a group has
+-- the line with the number of nets of a group
 abbrev pub size_line : ℕ → List ℕ
 size_line size = line_of (codes "GROUP " ∷ decimal size ∷ [])
 
--- a group: its size and its nets
+-- the lines of a group: its size, and its nets
 abbrev pub group_text : RawBoard → List ℕ → List ℕ
 group_text board group = size_line (length group) ++ flat_map (net_line board) group
 
--- how many groups there are
+-- the line with the number of groups
 abbrev pub count_line : ℕ → List ℕ
 count_line count = line_of (codes "GROUPS " ∷ decimal count ∷ [])
 
--- the groups that explain a log, or that none do
+-- the groups that explain a log, or that no set of groups does
 unfoldable pub groups_text : RawBoard → Option (List (List ℕ)) → List ℕ
 groups_text board None = line_of (codes "GROUPS none" ∷ [])
 groups_text board (Some groups) = count_line (length groups) ++ flat_map (group_text board) groups

@@ -1,4 +1,4 @@
--- Groups of walk nets, and which set of them explains a log of the walking test.
+-- Groups of walk nets, and the set of them that explains a log of the walking test.
 use Rattle.std.specs.Prelude.{ℕ, suc, ◌<◌, ◌≤◌, ◌==◌, Bool, if◌then◌else◌, List, [], ◌∷◌, length, Option, Some, None, slice_index_or, All, AllPairs, Contains, MatchOption}
 use Rattle.std.specs.List.{list_any}
 use Rattle.board_defs.specs.declared.board.RawBoard.{RawBoard}
@@ -10,11 +10,11 @@ use Rattle.walk_test.specs.WalkTest.{walk_nets, walk_row_list}
 abbrev pub Rise : List ℕ → Type 0
 Rise numbers = AllPairs (λ a b. a < b) numbers
 
--- the least net of a group, which stands first
+-- the least net of a group, which is its first
 abbrev pub least_of : List ℕ → ℕ
 least_of group = slice_index_or group 0 0
 
--- a set of groups as one list: each group has two or more walk nets, in net order; no net is in two groups; and the groups stand in the
+-- a set of groups as a list: each group has two or more walk nets, in net order; no net is in two groups; and the groups are in the
 -- order of their least nets
 pub record AreGroups (board : RawBoard) (groups : List (List ℕ)) : Type 0 where
   pub several : All (λ group. 2 ≤ length group) groups
@@ -23,7 +23,7 @@ pub record AreGroups (board : RawBoard) (groups : List (List ℕ)) : Type 0 wher
   pub disjoint : AllPairs (λ one other. (n : ℕ) → Contains one n → Contains other n → ⊥) groups
   pub order : AllPairs (λ one other. least_of one < least_of other) groups
 
--- the number of the group that the net is in, where it is in one; the first of these groups has this number
+-- the number of the group that has the net, if one does; the first of these groups has the number k
 abbrev pub group_from : ℕ → List (List ℕ) → ℕ → Option ℕ
 group_from k [] n = None
 group_from k (group ∷ groups) n = if list_any (λ m. m == n) group then Some k else group_from (suc k) groups n
@@ -35,13 +35,13 @@ group_of groups n = group_from 0 groups n
 abbrev pub or_shorts : List (List ℕ) → FaultSet
 or_shorts groups = record no_faults { short = group_of groups; kind = λ k. Or }
 
--- a set of groups that explains the log: in every run of the walk text with these shorts each compared bit of each compared SDR
--- statement is the log's bit
+-- the set of groups explains the log: in every run of the walk text with these shorts, each compared bit of each SDR statement
+-- that compares is the log's bit
 pub record Explain (board : RawBoard) (log : List (List Bool)) (groups : List (List ℕ)) : Type 0 where
   pub are : AreGroups board groups
   pub explained : ExplainedBy board (or_shorts groups) (walk_row_list board) log
 
--- the one set of groups that explains the log, and none exactly where no set does
+-- the set of groups that explains the log, or none exactly if no set does
 abbrev pub AreFound : RawBoard → List (List Bool) → Option (List (List ℕ)) → Type 0
 AreFound board log found = MatchOption found ((groups : List (List ℕ)) → Explain board log groups → ⊥) (λ groups. Explain board log groups)
 
@@ -49,6 +49,6 @@ AreFound board log found = MatchOption found ((groups : List (List ℕ)) → Exp
 abbrev pub IsNamed : RawBoard → List ℕ → Type 0
 IsNamed board group = All (λ n. n < length board.nets) group
 
--- so are those of each group, where there are groups
+-- the nets of each group are on the board, if there are groups
 abbrev pub AreNamed : RawBoard → Option (List (List ℕ)) → Type 0
 AreNamed board groups = MatchOption groups (Unit {0}) (λ list. All (IsNamed board) list)

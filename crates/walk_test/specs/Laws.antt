@@ -17,11 +17,11 @@ use Rattle.walk_test.specs.Tables.{IsWalkOf, scan_count}
 abbrev pub WalkSafe : Type 0
 WalkSafe = (board : RawBoard) (walk : List Ctl) → IsBoard board → walk_setting board ≡ Some walk → IsSafe board (holds walk)
 
--- the walk setting holds those controls of the first pass that are of no switching driver
+-- the walk setting holds those controls of the first pass that are not the control of a switching driver
 abbrev pub WalkKept : Type 0
 WalkKept = (board : RawBoard) (pass walk : List Ctl) (c : Ctl) → slice_get (passes_of board) 0 ≡ Some pass → walk_setting board ≡ Some walk → holds walk c ≡ (holds pass c && not (switches_some board c))
 
--- the walk text passes on the board without faults, and is quiet whatever is faulty
+-- the walk text passes on the board without faults, and is quiet under every fault set
 abbrev pub WalkHarmless : Type 0
 WalkHarmless = (board : RawBoard) → IsBoard board → IsHarmless board (board_walk_text board)
 
@@ -33,7 +33,7 @@ ShortsAreFaults = (board : RawBoard) (groups : List (List ℕ)) → IsBoard boar
 abbrev pub GroupsRespond : Type 0
 GroupsRespond = (board : RawBoard) (groups : List (List ℕ)) → IsBoard board → AreGroups board groups → (log : List (List Bool)) × Explain board log groups
 
--- and any two such logs are one wherever bits are compared
+-- any two such logs agree at every compared bit
 abbrev pub OneResponse : Type 0
 OneResponse = (board : RawBoard) (groups : List (List ℕ)) (log other : List (List Bool)) → IsBoard board → Explain board log groups → Explain board other groups → AgreeOn board (walk_row_list board) log other
 

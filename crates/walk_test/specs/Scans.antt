@@ -1,4 +1,4 @@
--- What a walk fills in.
+-- The rows of a scan of a walk.
 use Rattle.std.specs.Prelude.{◌≡◌, ℕ, ◌<◌, ◌≤◌, Bool, true, false, List, length, Some, slice_get, slice_index_or}
 use Rattle.std.specs.List.{list_any}
 use Rattle.board_defs.specs.Limits.{most_bits}
@@ -7,8 +7,8 @@ use Rattle.tap_defs.specs.declared.scan.Shape.{Shape}
 use Rattle.tap_defs.specs.chain.Scan.{scan_bits}
 use Rattle.walk_test.specs.WalkTest.{walk_scans}
 
--- the rows are scan k of the walking test, in the form in which it is written: they have one length, from 1 to the most bits of a board; the
--- scan compares something exactly if some bit of the mask is 1; and a bit of TDO is 1 only where that of the mask is 1
+-- the rows are scan k of the walking test, in the form in which it is written: they have the same length, from 1 to the most bits of a
+-- board; the scan compares something exactly if some bit of the mask is 1; and TDO has a 1 only where the mask has one
 pub record FillsWalk (board : RawBoard) (k : ℕ) (shape : Shape) (tdi tdo mask : List Bool) : Type 0 where
   pub scan : slice_get (walk_scans board) k ≡ Some (record { ir = shape.ir; bits = scan_bits tdi tdo mask })
   pub some : 0 < length tdi

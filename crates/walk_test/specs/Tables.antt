@@ -16,11 +16,11 @@ use Rattle.walk_test.specs.declared.tables.NetCells.{NetCells}
 use Rattle.walk_test.specs.declared.tables.WalkTables.{WalkTables}
 use Rattle.walk_test.specs.WalkTest.{walk_setting, walk_nets}
 
--- what the scan that shifts a row in shifts in
+-- the bits that the scan of a row shifts in
 abbrev pub tdi_of : RawBoard → TestRow → List Bool
 tdi_of board row = tdi_bits (joined (row_bits board (record { now = row; before = quiet_row })))
 
--- a bit for each position of the scan after the one that shifts the row in: 1 where what that scan captures is compared with the row
+-- a 1 for each position at which the scan after the one that shifts the row in compares what it captures
 abbrev pub mask_of : RawBoard → TestRow → List Bool
 mask_of board row = mask_bits (joined (row_bits board (record { now = quiet_row; before = row })))
 
@@ -53,7 +53,7 @@ pub record IsWalkOf (board : RawBoard) (t : WalkTables) : Type 0 where
   pub nets : t.nets ≡ walk_nets board
   pub tables : (walk : List Ctl) → walk_setting board ≡ Some walk → AreWalkTables board walk t
 
--- the number of scans: three, and where there is a pass one for each walk net and one for the quiet row
+-- the number of data scans after the EXTEST codes: if there is a pass, one for each walk net and one for the quiet row
 abbrev pub rows_count : List (List Ctl) → List ℕ → ℕ
 rows_count [] nets = 0
 rows_count (pass ∷ passes) nets = suc (length nets)

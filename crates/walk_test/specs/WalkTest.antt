@@ -16,7 +16,7 @@ use Rattle.tap_defs.specs.chain.Text.{svf_text}
 abbrev pub is_switched_by : RawBoard → Ctl → Net → NetPin → Bool
 is_switched_by board c net pin = switches board net pin && is_by c (drive board net pin)
 
--- the control is that of a switching driver
+-- the control is the one of a switching driver
 abbrev pub switches_some : RawBoard → Ctl → Bool
 switches_some board c = list_any (λ net. list_any (is_switched_by board c net) net.pins) board.nets
 
@@ -24,21 +24,21 @@ switches_some board c = list_any (λ net. list_any (is_switched_by board c net) 
 abbrev pub without_switching : RawBoard → List Ctl → List Ctl
 without_switching board pass = filter (λ c. not (switches_some board c)) pass
 
--- the walk setting, where the board has a pass: the first pass without the controls of switching drivers
+-- the walk setting, if the board has a pass: the first pass without the controls of switching drivers
 abbrev pub walk_setting : RawBoard → Option (List Ctl)
 walk_setting board = option_map (without_switching board) (slice_get (passes_of board) 0)
 
--- the walk setting, where there is one, observes the net, where there is one
+-- there is a walk setting and this net, and the setting observes the net
 abbrev pub is_walk_net : RawBoard → Option (List Ctl) → Option Net → Bool
 is_walk_net board None net = false
 is_walk_net board (Some walk) None = false
 is_walk_net board (Some walk) (Some net) = is_walked board walk net
 
--- the numbers of the walk nets, those that the walk setting observes, in net order
+-- the numbers of the walk nets, which the walk setting observes, in net order
 abbrev pub walk_nets : RawBoard → List ℕ
 walk_nets board = filter (λ n. is_walk_net board (walk_setting board) (slice_get board.nets n)) (range_with_len 0 (length board.nets))
 
--- the scans of data after the EXTEST codes; without a pass there are none
+-- the data scans after the EXTEST codes; without a pass there are none
 abbrev pub scans_by : RawBoard → Option (List Ctl) → List RowScan
 scans_by board None = []
 scans_by board (Some walk) = walk_row_scans board walk
@@ -46,7 +46,7 @@ scans_by board (Some walk) = walk_row_scans board walk
 abbrev pub walk_row_list : RawBoard → List RowScan
 walk_row_list board = scans_by board (walk_setting board)
 
--- the scans of the walking test: the preload codes, the quiet row, the EXTEST codes, and then those of data
+-- the scans of the walking test: the preload codes, the quiet row, the EXTEST codes, and then the data scans
 abbrev pub walk_scans : RawBoard → List Scan
 walk_scans board = board_scans board (walk_row_list board)
 

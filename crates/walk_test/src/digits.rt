@@ -8,7 +8,7 @@ use bt_bits::digit_bit;
 // How many digits are gone through before a test ends the loop. Most digits of a row are 0.
 const BLOCK: usize = 64;
 
-/// A row by the values of its digits, beside as many digits with a 1 for each bit of it that is compared.
+/// A row as the values of its digits, and as many digits with a 1 for each compared bit of the row.
 #[derive(Clone, Copy)]
 pub struct MaskedRow<'a> {
     pub digits: &'a [u8],
@@ -28,7 +28,7 @@ fn digit_at(digits: &[u8], place: usize) -> u8
 }
 
 impl MaskedRow<'_> {
-    /// Whether a position is compared and reads 1; none past the end does.
+    /// Returns whether a position is compared and reads 1. No position past the end does.
     #[inline]
     pub fn is_one(&self, at: usize) -> bool
         ensures { result ≡ is_one self.now.digits.now self.now.mask.now at }
@@ -77,7 +77,7 @@ impl MaskedRow<'_> {
         self.blocks_end(self.blocks_end(from, BLOCK), 1)
     }
 
-    /// A later position than this one, with no compared 1 between the two.
+    /// Returns a later position than this one. No position between the two is compared and reads 1.
     #[inline]
     pub fn position_after(&self, at: usize) -> usize
         requires few { length self.now.digits.now < 2 ^ 60 }
@@ -92,8 +92,8 @@ impl MaskedRow<'_> {
         }
     }
 
-    /// Whether another row of as many digits reads the same wherever a position is compared. All digits are gone through, as wide as
-    /// the machine can.
+    /// Returns whether another row of as many digits reads the same at every compared position. The loop goes through all digits without a
+    /// branch, so the machine can take many at a time.
     pub fn is_alike(&self, other: &[u8]) -> bool
         requires { length other.now ≡ length self.now.digits.now }
         ensures { IsTrue result ↔ ((k : ℕ) → k < length self.now.mask.now → differing self.now.digits.now other.now self.now.mask.now k ≡ 0) }

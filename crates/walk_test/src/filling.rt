@@ -47,7 +47,7 @@ fn cells_before(tables: &WalkTables, j: usize) -> Option<&NetCells>
     if j > 0 { cells_at(tables, j - 1) } else { None }
 }
 
-/// Sets the bits at these positions. Those past the end are passed over.
+/// Sets the bits at these positions. Positions past the end are ignored.
 pub fn set_all(positions: &[u32], row: &mut Row)
     ensures bits { row.new.bits ≡ assigned (λ p. p) (λ p. true) row.old.bits positions.now }
     ensures room { row.new.room ≡ row.old.room }
@@ -124,7 +124,7 @@ impl<'a> RowFiller<'a> {
     }
 }
 
-/// Fills the rows with scan `k`.
+/// Fills the rows with scan `k`, and returns its shape.
 pub fn fill_scan(board: &Board, tables: &WalkTables, k: u64, rows: &mut ScanRows) -> Shape
     requires walk { IsWalkOf board.now tables.now }
     requires scan { k < scan_count tables.now }

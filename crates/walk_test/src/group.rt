@@ -4,7 +4,7 @@ ghost use Rattle.walk_test.specs.Groups.{Rise};
 
 use std::marker::Model;
 
-/// Walk nets that are shorted together, seen as the list of their numbers, which rise.
+/// Walk nets that are shorted together. The model is the list of their numbers, which rise.
 #[derive(Debug, Drop)]
 pub struct Group {
     nets: Vec<u32>,
@@ -30,7 +30,7 @@ impl Group {
         Group { nets }
     }
 
-    /// The numbers of the nets, in net order.
+    /// Returns the numbers of the nets, in net order.
     pub fn nets(&self) -> &[u32]
         ensures nets { result.now ≡ self.now }
         ensures order { Rise self.now }

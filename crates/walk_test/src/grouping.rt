@@ -61,13 +61,13 @@ fn groups_by(alloc: Global, nets: &[u32], labels: &[u32]) -> Result<Vec<Group>, 
     groups_among(alloc, all_members(alloc, nets, labels)?)
 }
 
-/// The one set of groups of walk nets that explains a log of the walking test, as groups in the order of their least nets, and
-/// `None` exactly where no set does. The walk is that of the board, and the log has a row for each walk net, each as long as a
-/// scan of data. The nets of the groups are nets of the board.
+/// Returns the set of groups of walk nets that explains a log of the walking test, or `None` exactly if no set does. There is at most one
+/// such set. Its groups are in the order of their least nets. The walk must be that of the board, and the log must have a row for each
+/// walk net, each as long as a data scan. The nets of the groups are nets of the board.
 ///
-/// A set of groups explains the log where, with the Or shorts of these groups and no other fault, every run of the test gives each
-/// bit of it that is compared. The log is read once, row by row, many bits at a time; the groups are made in about the time of the
-/// nets.
+/// A set of groups explains the log if every run of the test, with the Or shorts of these groups and no other fault, gives each
+/// compared bit of the log. The log is read once, row by row, many bits at a time. Making the groups takes time in proportion to
+/// the nets.
 pub fn groups(
     alloc: Global,
     board: &Board,

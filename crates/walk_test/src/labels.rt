@@ -8,7 +8,7 @@ use crate::tables::NetCells;
 use crate::walk_log::WalkLog;
 use std::alloc::{AllocError, Global};
 
-/// The first position of a net that is compared.
+/// Returns the first compared position of a net.
 #[inline]
 pub fn first_of(net: &NetCells) -> u32
     ensures { result ≡ first_at net.now }
@@ -19,7 +19,7 @@ pub fn first_of(net: &NetCells) -> u32
     }
 }
 
-/// The first row of a position, by those of all.
+/// Returns the first row of a position. `firsts` has the first row of each position.
 #[inline]
 pub fn row_at(firsts: &[u32], at: u32, none: u32) -> u32
     ensures { result ≡ slice_index_or firsts.now at none }
@@ -63,8 +63,8 @@ fn labels_in(
     Ok(labels)
 }
 
-/// The labels of the walk nets of a log, where in each row each compared cell reads what the labels say. The log is read once, row by
-/// row.
+/// Returns the labels of the walk nets of a log, or `None` if some compared cell reads in some row other than the labels say. The log is
+/// read once, row by row.
 pub fn shown_labels(alloc: Global, log: &WalkLog<'_>) -> Result<Option<Vec<u32>>, AllocError>
     ensures { IfOk result (λ found. MatchOption found (ShowsAll log.now.log (map (label_of log.now.log) log.now.nets) log.now.nets → ⊥) (λ labels. (labels.items ≡ map (label_of log.now.log) log.now.nets) × ShowsAll log.now.log labels.items log.now.nets)) }
 {

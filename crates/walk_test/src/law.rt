@@ -1,4 +1,4 @@
-//! Laws of the walking test, each the contract of a function that does nothing.
+//! Laws of the walking test. Each is the contract of a function that does nothing.
 ghost use Rattle.std.specs.Prelude.{ℕ, Bool, List, Option};
 ghost use Rattle.board_defs.specs.declared.board.RawBoard.{RawBoard};
 ghost use Rattle.board_defs.specs.BoardRules.{IsBoard};
@@ -17,12 +17,12 @@ pub fn walk_safe()
     board_law::passes_kept();
 }
 
-/// The walk setting holds a control exactly where the first pass does and it is of no switching driver.
+/// The walk setting holds a control exactly if the first pass holds it and it is not the control of a switching driver.
 pub fn walk_kept()
     ensures { WalkKept }
 {}
 
-/// The text of the walking test passes on the board without faults, and is quiet whatever is faulty.
+/// The text of the walking test passes on the board without faults, and is quiet under every fault set.
 pub fn walk_harmless()
     ensures { WalkHarmless }
 {
@@ -36,8 +36,8 @@ pub fn scans_counted()
     ensures { ScansCounted }
 {}
 
-/// Each set of groups is a set of faults of the board, and all runs of the test under it give one same list of compared bits: it
-/// explains a log, and any two logs that it explains are one wherever bits are compared.
+/// Each set of groups is a set of faults of the board. It explains a log, and any two logs that it explains agree at every compared
+/// bit.
 pub fn groups_respond()
     ensures faults { ShortsAreFaults }
     ensures some { GroupsRespond }
@@ -58,7 +58,7 @@ pub fn one_set()
     scans_in_turn();
 }
 
-/// Each log of a board's walking test has an answer, and no second one: the set of groups that explains it, or that none does.
+/// Each log of a board's walking test has exactly one answer: the set of groups that explains it, or that no set does.
 pub fn logs_have_one_set()
     ensures some { (board : RawBoard) (log : List (List Bool)) → IsBoard board → (found : Option (List (List ℕ))) × AreFound board log found }
     ensures one { OneSet }

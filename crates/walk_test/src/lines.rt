@@ -8,14 +8,14 @@ use bt_bits::Line;
 use itoa::Buffer;
 use line_printer::put_line;
 
-/// Puts that no set of groups explains the log.
+/// Writes the line that says that no set of groups explains the log.
 pub fn put_none<K: Sink>(line: &mut Line, out: &mut K) -> Result<(), PutFault>
     ensures { Prints (K.shown out.old) (K.shown out.new) [] [] (line_of (codes "GROUPS none" ∷ [])) result }
 {
     put_line(&[b"GROUPS none"], line, out)
 }
 
-/// Puts how many groups there are.
+/// Writes the line with the number of groups.
 pub fn put_count<K: Sink>(count: u64, line: &mut Line, out: &mut K) -> Result<(), PutFault>
     ensures { Prints (K.shown out.old) (K.shown out.new) [] [] (count_line count) result }
 {
@@ -24,7 +24,7 @@ pub fn put_count<K: Sink>(count: u64, line: &mut Line, out: &mut K) -> Result<()
     put_line(&[b"GROUPS ".as_slice(), count], line, out)
 }
 
-/// Puts how many nets a group has.
+/// Writes the line with the number of nets of a group.
 pub fn put_size<K: Sink>(size: u64, line: &mut Line, out: &mut K) -> Result<(), PutFault>
     ensures { Prints (K.shown out.old) (K.shown out.new) [] [] (size_line size) result }
 {
@@ -33,7 +33,7 @@ pub fn put_size<K: Sink>(size: u64, line: &mut Line, out: &mut K) -> Result<(), 
     put_line(&[b"GROUP ".as_slice(), size], line, out)
 }
 
-/// Puts a net of a group.
+/// Writes the line of a net of a group.
 pub fn put_net<K: Sink>(name: &[u8], line: &mut Line, out: &mut K) -> Result<(), PutFault>
     ensures { Prints (K.shown out.old) (K.shown out.new) [] [] (line_of (codes "NET " ∷ name.now ∷ [])) result }
 {

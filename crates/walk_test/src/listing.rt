@@ -97,10 +97,10 @@ fn put_all<K: Sink>(
     put_groups(board, groups, line, out)
 }
 
-/// Puts the groups that explain a log: how many there are, and of each its size and its nets in net order; or that no set of groups
-/// explains the log. A number that no net of the board has is put as an empty name. Each line goes out in one put, and one of more
-/// than `MAX_LINE` bytes in pieces of so many and the rest. No memory is taken, and the line serves to write in: nothing is said of
-/// what it holds afterwards. It fails only where the sink does, and then a prefix of the text was put.
+/// Writes the groups that explain a log: their number, and for each group its size and its nets in net order. Without groups, writes
+/// that no set of groups explains the log. A number that no net of the board has gives an empty name. Each line is one put to the
+/// sink. A line of more than `MAX_LINE` bytes is put in pieces of `MAX_LINE` bytes and the rest. Allocates nothing. `line` is used as a
+/// buffer, and its content afterwards is unspecified. Fails only if the sink does, and then a prefix of the text was put.
 pub fn write_groups<K: Sink>(
     board: &Board,
     groups: Option<&[Group]>,

@@ -245,7 +245,7 @@ fn walk_parts(alloc: Global, board: &Board, plan: &Plan) -> Result<WalkParts, Al
     Ok(WalkParts { nets, cells, rows })
 }
 
-/// The tables of a walk, from the plan whose passes are the walk setting, where there is one.
+/// Returns the tables of a walk. The passes of `plan` are the walk setting, if the board has one.
 pub fn tables_of(alloc: Global, board: &Board, plan: Plan) -> Result<WalkTables, AllocError>
     requires plan { IsPlanOf board.now plan }
     requires passes { plan.passes ≡ option_to_list (walk_setting board.now) }

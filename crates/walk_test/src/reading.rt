@@ -65,8 +65,8 @@ fn read_row(log: &WalkLog<'_>, firsts: &mut [u32], at: u32, j: u32, none: u32) -
     }
 }
 
-/// Reads the rows of all nets, in order, and tells whether each reads what the earlier ones let expect. Each position that is compared
-/// then has the first row in which it reads 1. Before, each has the number of rows.
+/// Reads the rows of all nets, in order. Returns whether each row reads what the earlier rows imply. If so, each compared position then
+/// has the first row in which it reads 1. Before, each position must have the number of rows.
 pub fn read_rows(log: &WalkLog<'_>, firsts: &mut [u32]) -> bool
     requires firsts { length firsts.old ≡ length log.now.mask }
     requires blank { (at : ℕ) → slice_index_or firsts.old at (length log.now.log) ≡ length log.now.log }

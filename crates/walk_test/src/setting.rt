@@ -140,7 +140,7 @@ fn only(alloc: Global, setting: Setting) -> Result<Vec<Setting>, AllocError>
     Ok(settings)
 }
 
-/// The walk setting, where there is a pass, as the passes of a plan.
+/// Returns the passes of a plan for the walk: the walk setting, if there is a pass.
 pub fn walk_settings(
     alloc: Global,
     board: &BoardPins<'_>,

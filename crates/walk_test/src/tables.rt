@@ -10,7 +10,7 @@ pub struct NetCells {
     pub compared: Items<u32>,
 }
 
-/// What all rows of a walk share: what is shifted in while no walk net carries 1, and what is compared. Where there is no
+/// What all rows of a walk share: the bits to shift in while no walk net carries 1, and the positions to compare. If there is no
 /// pass, neither is needed.
 #[derive(Drop)]
 pub struct WalkRows {
@@ -18,7 +18,7 @@ pub struct WalkRows {
     pub mask: Row,
 }
 
-/// What a walk keeps beside its plan: the walk nets and the cells of each, and the rows that all scans are made from.
+/// What a walk keeps besides its plan: the walk nets and the cells of each, and the rows from which all scans are made.
 #[derive(Drop)]
 pub struct WalkParts {
     pub nets: Items<u32>,
@@ -26,8 +26,8 @@ pub struct WalkParts {
     pub rows: WalkRows,
 }
 
-/// The tables of a walk: the plan whose one pass is the walk setting, or that has no pass; the walk nets and the cells of each;
-/// and the rows that all scans are made from.
+/// The tables of a walk: the plan, whose only pass is the walk setting, or which has no pass; the walk nets and the cells of each;
+/// and the rows from which all scans are made.
 #[derive(Drop)]
 pub struct WalkTables {
     pub plan: Plan,

@@ -20,7 +20,7 @@ use tap_defs::{ScanRows, Shape};
 
 /// The walking test of a board: its walk nets with their cells, and what its rows share.
 ///
-/// The walk setting is the first pass of the board's test without the controls of switching drivers, and the walk nets are those
+/// The walk setting is the first pass of the board's test without the controls of switching drivers. The walk nets are the nets
 /// that it observes. A board without a pass has no walk net.
 #[derive(Drop)]
 pub struct Walk {
@@ -39,8 +39,8 @@ impl Model for Walk {
 }
 
 impl Walk {
-    /// The walk of a board, from the first of the passes of its test, where that has one. Whatever follows it is not looked at.
-    /// It is `of` with the pins of the board's nets made here, for callers that have none.
+    /// Returns the walk of a board, from the first pass of its test, if it has one. Later passes are ignored. It calls `of`
+    /// with the pins of the board's nets, for callers that have not made them.
     pub fn new(alloc: Global, board: &Board, passes: &[Setting]) -> Result<Walk, AllocError>
         requires { slice_get passes.now 0 ≡ slice_get (passes_of board.now) 0 }
         ensures { IfOk result (λ walk. IsWalkOf board.now walk) }
@@ -49,7 +49,7 @@ impl Walk {
         Walk::of(alloc, board, pins, passes)
     }
 
-    /// The same, by the pins of the board's nets, which the walk takes over.
+    /// Like `new`, but takes ownership of `pins`, the pins of the board's nets.
     pub fn of(
         alloc: Global,
         board: &Board,
@@ -67,14 +67,14 @@ impl Walk {
         Ok(Walk { tables })
     }
 
-    /// The numbers of the walk nets, in net order.
+    /// Returns the numbers of the walk nets, in net order.
     pub fn nets(&self) -> &[u32]
         ensures { result.now ≡ self.now.nets }
     {
         self.tables.nets.as_slice()
     }
 
-    /// The number of scans: three, and where the board has a pass one for each walk net and one for the quiet row.
+    /// Returns the number of scans: three, and if the board has a pass, one for each walk net and one for the quiet row.
     pub fn scans(&self) -> u64
         ensures { result ≡ scan_count self.now }
     {
@@ -85,8 +85,8 @@ impl Walk {
         }
     }
 
-    /// Fills the rows with scan `k` of the walking test, counted from 0, and tells its kind. The board is that of the walk, `k` is
-    /// below the number of scans, and each row has room for the longer register. No memory is taken.
+    /// Fills the rows with scan `k` of the walking test, counted from 0, and returns its shape. The board must be that of the walk, `k`
+    /// must be below the number of scans, and each row must have room for the longer register. Allocates nothing.
     pub fn fill(&self, board: &Board, k: u64, tdi: &mut Row, tdo: &mut Row, mask: &mut Row) -> Shape
         requires walk { IsWalkOf board.now self.now }
         requires scan { k < scan_count self.now }

@@ -13,7 +13,7 @@ use response_log::Log;
 use std::alloc::{AllocError, Global};
 use std::marker::Model;
 
-/// A log with the cells of the nets whose rows it has, and what is compared of each row: the bits at the positions of these cells.
+/// A log, the cells of the nets whose rows it has, and the compared bits of each row, which are at the positions of these cells.
 #[derive(Drop)]
 pub struct WalkLog<'a> {
     log: &'a Log,
@@ -44,7 +44,7 @@ fn compared_row(alloc: Global, nets: &[NetCells], len: u32) -> Result<Row, Alloc
 }
 
 impl<'a> WalkLog<'a> {
-    /// The log, which has a row of so many bits for each of these nets.
+    /// Returns the log with these nets. It must have a row of `len` bits for each of them.
     pub fn of(
         alloc: Global,
         log: &'a Log,
@@ -61,21 +61,21 @@ impl<'a> WalkLog<'a> {
         Ok(WalkLog { log, nets, mask })
     }
 
-    /// Does nothing: its clause is what is known of the log.
+    /// Does nothing. Its clause gives the facts about the log.
     pub fn laws(&self)
         ensures { AreLoggedNets self.now }
     {
         let _known = &self.log;
     }
 
-    /// The cells of the nets.
+    /// Returns the cells of the nets.
     pub fn nets(&self) -> &[NetCells]
         ensures { result.now ≡ self.now.nets }
     {
         self.nets
     }
 
-    /// How many rows the log has.
+    /// Returns the number of rows of the log.
     #[inline]
     pub fn rows(&self) -> u32
         ensures { result ≡ length self.now.log }
@@ -83,14 +83,14 @@ impl<'a> WalkLog<'a> {
         self.log.rows() as u32
     }
 
-    /// How many bits each row has.
+    /// Returns the number of bits of each row.
     pub fn len(&self) -> u32
         ensures { result ≡ length self.now.mask }
     {
         self.mask.len()
     }
 
-    /// Row `j`, with what is compared of it.
+    /// Returns row `j`, with the bits that are compared.
     #[inline]
     pub fn row(&self, j: u32) -> MaskedRow<'_>
         requires { j < length self.now.log }

@@ -1,4 +1,4 @@
--- The rows of a scan as one thing, for the contracts of private functions.
+-- The rows of a scan as one value, for the contracts of private functions.
 use Rattle.std.specs.Prelude.{ℕ}
 use Rattle.board_defs.specs.declared.board.RawBoard.{RawBoard}
 use Rattle.tap_defs.specs.declared.scan.ScanRows.{ScanRows}

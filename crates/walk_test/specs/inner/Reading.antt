@@ -1,4 +1,4 @@
--- How walk nets read one another, and what a log shows of it.
+-- How walk nets read one another, and how a log shows it.
 use Rattle.std.specs.Prelude.{◌≡◌, ℕ, suc, ◌<◌, ◌≤◌, ◌==◌, nat_le, nat_lt, ◌^◌, Bool, true, false, if◌then◌else◌, ◌&&◌, ◌||◌, List, [], ◌∷◌, length, fold, replicate, Option, Some, None, slice_get, slice_index_or, All, Contains}
 use Rattle.std.specs.List.{list_all, flat_map, range_with_len}
 use Rattle.board_defs.specs.Pins.{is_same}
@@ -7,20 +7,20 @@ use Rattle.plan_tables.specs.Assigned.{assigned}
 use Rattle.walk_test.specs.declared.tables.NetCells.{NetCells}
 use Rattle.walk_test.specs.Groups.{group_of}
 
--- both nets are in one group
+-- both nets are in the same group
 abbrev pub is_one_group : Option ℕ → Option ℕ → Bool
 is_one_group None other = false
 is_one_group (Some k) other = is_in_short other k
 
--- the nets are one, or in one group
+-- the nets are the same, or in the same group
 abbrev pub are_joined : List (List ℕ) → ℕ → ℕ → Bool
 are_joined groups a b = (a == b) || is_one_group (group_of groups a) (group_of groups b)
 
--- the bit of a log at a position of a row
+-- the bit of a log at this position of a row
 abbrev pub bit_in : List (List Bool) → ℕ → ℕ → Bool
 bit_in log row at = slice_index_or (slice_index_or log row []) at false
 
--- the first row with a 1 at a position, and the number of rows where there is none
+-- the first row with a 1 at this position, or the number of rows if there is none
 abbrev pub first_one : List (List Bool) → ℕ → ℕ
 first_one [] at = 0
 first_one (row ∷ log) at = if slice_index_or row at false then 0 else suc (first_one log at)
@@ -33,33 +33,33 @@ label_of log cells = first_one log (slice_index_or cells.compared 0 0)
 abbrev pub first_at : NetCells → ℕ
 first_at cells = slice_index_or cells.compared 0 0
 
--- the first row of a net, by those of all positions
+-- the first row of a net; `firsts` has the first row of each position
 abbrev pub first_in : ℕ → List ℕ → NetCells → ℕ
 first_in none firsts cells = slice_index_or firsts (first_at cells) none
 
--- all positions of a net have one first row
+-- all compared positions of a net have the same first row
 abbrev pub is_even : ℕ → List ℕ → NetCells → Bool
 is_even none firsts cells = list_all (λ at. slice_index_or firsts at none == first_in none firsts cells) cells.compared
 
--- so many bits, those at the positions at which nets are compared 1
+-- `len` bits, with a 1 at each compared position of the nets
 abbrev pub with_compared : List Bool → NetCells → List Bool
 with_compared bits cells = assigned (λ at. at) (λ at. true) bits cells.compared
 
 abbrev pub compared_bits : ℕ → List NetCells → List Bool
 compared_bits len nets = fold with_compared (replicate len false) nets
 
--- the bits are those of the positions at which nets are compared
+-- `mask` has a 1 exactly at the compared positions of the nets, and each net has one
 pub record AreCompared (nets : List NetCells) (mask : List Bool) : Type 0 where
   pub all : (i at : ℕ) (net : NetCells) → slice_get nets i ≡ Some net → Contains net.compared at → slice_index_or mask at false ≡ true
   pub only : (at : ℕ) → slice_index_or mask at false ≡ true → (i : ℕ) × (net : NetCells) × (slice_get nets i ≡ Some net) × Contains net.compared at
   pub some : (i : ℕ) (net : NetCells) → slice_get nets i ≡ Some net → 0 < length net.compared
 
--- a net has positions at which it is compared, each within a row of so many bits
+-- a net has compared positions, and each is within a row of `len` bits
 pub record HasPlaces (len : ℕ) (net : NetCells) : Type 0 where
   pub some : 0 < length net.compared
   pub within : All (λ at. at < len) net.compared
 
--- a log, the nets whose rows it has, and where a row is compared
+-- a log, the nets whose rows it has, and the positions at which a row is compared
 pub record LoggedNets : Type 0 where
   pub log : List (List Bool)
   pub nets : List NetCells
@@ -75,39 +75,39 @@ pub record AreLoggedNets (it : LoggedNets) : Type 0 where
   pub bits : All (λ row. length row ≡ length it.mask) it.log
   pub compared : AreCompared it.nets it.mask
 
--- two rows read the same wherever a position is compared
+-- two rows read the same at every compared position
 abbrev pub AreSameRows : List (List Bool) → List Bool → ℕ → ℕ → Type 0
 AreSameRows log mask j other = (at : ℕ) → slice_index_or mask at false ≡ true → bit_in log j at ≡ bit_in log other at
 
--- row j starts a group of the net with position own: this is compared and reads 1, and no position that does has a row before row j
+-- row j starts a group of the net with position `own`: it is compared and reads 1, and no compared position that reads 1 has a row yet
 pub record StartsGroup (log : List (List Bool)) (mask : List Bool) (j own none : ℕ) (firsts : List ℕ) : Type 0 where
   pub is_read : (slice_index_or mask own false && bit_in log j own) ≡ true
   pub fresh : (at : ℕ) → slice_index_or mask at false ≡ true → bit_in log j at ≡ true → slice_index_or firsts at none ≡ none
 
--- the compared positions that read 1 in row j have this row, and the other ones what they had
+-- the compared positions that read 1 in row j have this row, and the others have what they had
 pub record AreStarted (log : List (List Bool)) (mask : List Bool) (j none : ℕ) (old new : List ℕ) : Type 0 where
   pub marked : (at : ℕ) → slice_index_or mask at false ≡ true → bit_in log j at ≡ true → slice_index_or new at none ≡ j
   pub kept : (at : ℕ) → slice_index_or mask at false ≡ true → bit_in log j at ≡ false → slice_index_or new at none ≡ slice_index_or old at none
 
--- a row below row j, or else none
+-- the row, if it is below row j, or else none
 abbrev pub below : ℕ → ℕ → ℕ → ℕ
 below j none row = if nat_lt row j then row else none
 
--- row k reads 1 at the compared positions that have the first row of its net, whose position this is
+-- row k reads 1 exactly at the compared positions with the same first row as `own`, the position of its net; that row is k or before it
 pub record IsRowRight (log : List (List Bool)) (mask : List Bool) (k own : ℕ) : Type 0 where
   pub low : first_one log own ≤ k
   pub reads : (at : ℕ) → slice_index_or mask at false ≡ true → bit_in log k at ≡ (first_one log at == first_one log own)
 
--- the first j rows are right, and each compared position has the first of them in which it reads 1
+-- the first j rows are right, and each compared position has the first of these rows in which it reads 1
 pub record AreRead (log : List (List Bool)) (mask : List Bool) (nets : List NetCells) (none j : ℕ) (firsts : List ℕ) : Type 0 where
   pub right : (k : ℕ) (net : NetCells) → k < j → slice_get nets k ≡ Some net → IsRowRight log mask k (first_at net)
   pub found : (at : ℕ) → slice_index_or mask at false ≡ true → slice_index_or firsts at none ≡ below j none (first_one log at)
 
--- all compared cells of the net at place i read in row j whether the labels of these two nets are one
+-- in row j all compared cells of the net at place i read 1 exactly if its label is that of the net at place j
 abbrev pub net_shows : List (List Bool) → List ℕ → ℕ → ℕ → NetCells → Bool
 net_shows log labels j i cells = list_all (λ at. is_same (bit_in log j at) (slice_index_or labels i 0 == slice_index_or labels j 0)) cells.compared
 
--- so do the cells of each net in row j, and in each row
+-- in row j the cells of each net do so; the same in each row
 abbrev pub ShowsIn : List (List Bool) → List ℕ → List NetCells → ℕ → Type 0
 ShowsIn log labels cells j = (i : ℕ) (net : NetCells) → slice_get cells i ≡ Some net → net_shows log labels j i net ≡ true
 
@@ -120,11 +120,11 @@ members [] labels k = []
 members (n ∷ nets) [] k = []
 members (n ∷ nets) (label ∷ labels) k = if label == k then n ∷ members nets labels k else members nets labels k
 
--- nets are a group, where they are two or more
+-- the nets as a group, if they are two or more
 abbrev pub where_several : List ℕ → List (List ℕ)
 where_several nets = if nat_le 2 (length nets) then nets ∷ [] else []
 
--- the nets with a label are a group, where they are two or more
+-- the nets with label k as a group, if they are two or more
 abbrev pub group_at : List ℕ → List ℕ → ℕ → List (List ℕ)
 group_at nets labels k = if nat_le 2 (length (members nets labels k)) then members nets labels k ∷ [] else []
 

@@ -10,12 +10,12 @@ use Rattle.board_defs.specs.declared.board.Ctl.{Ctl}
 use Rattle.board_defs.specs.Pins.{entry_at, guarded, is_pulled_to}
 use Rattle.board_defs.specs.Settings.{inserted}
 
--- the control of a driver, where it is its own cell and the net is pulled to the disable value
+-- the control of a driver, if it is its own cell and the net is pulled to the disable value
 abbrev pub own_switch : ℕ → ℕ → Option Bool → Option Control → Option Ctl
 own_switch part num pull None = None
 own_switch part num pull (Some control) = if (control.cell == num) && is_pulled_to control.disable pull then Some (record { part = part; cell = control.cell }) else None
 
--- the same by the driving entry, and by the place of the pin
+-- the same, from the driving entry, and from the place of the pin
 abbrev pub entry_switch : ℕ → Option Bool → Option Cell → Option Ctl
 entry_switch part pull None = None
 entry_switch part pull (Some cell) = own_switch part cell.num pull cell.ctl
@@ -24,16 +24,16 @@ abbrev pub pin_switch : RawBoard → Option Bool → Option PinAt → Option Ctl
 pin_switch board pull None = None
 pin_switch board pull (Some at) = entry_switch at.part pull (entry_at board at)
 
--- the setting with one control more, where there is one
+-- the setting, with this control if there is one
 abbrev pub with_some : List Ctl → Option Ctl → List Ctl
 with_some setting None = setting
 with_some setting (Some c) = inserted c setting
 
--- with those of pins of a net with this pull
+-- the setting, with the controls of the switching drivers among these pins of a net with this pull
 abbrev pub with_pins : RawBoard → Option Bool → List Ctl → List NetPin → List Ctl
 with_pins board pull setting pins = fold (λ s pin. with_some s (pin_switch board pull pin.at)) setting pins
 
--- with those of a net, which lets no pin switch where it is guarded
+-- the setting, with those of a net; if the net is guarded, none of its pins is a switching driver
 abbrev pub with_net : RawBoard → List Ctl → Net → List Ctl
 with_net board setting net = if guarded board net then setting else with_pins board net.pull setting net.pins
 

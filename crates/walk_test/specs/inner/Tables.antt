@@ -1,4 +1,4 @@
--- What serves the proofs alone. What a walk keeps of a board: its plan, its nets with their cells, and what all rows share.
+-- Terms for the proofs alone. What a walk keeps of a board: its plan, its nets with their cells, and what all rows share.
 use Rattle.std.specs.Prelude.{◌≡◌, ℕ, zero, suc, ◌<◌, ◌==◌, Bool, false, not, if◌then◌else◌, List, [], length, map, filter, Option, Some, None, is_some, option_and_then, slice_get, slice_index_or}
 use Rattle.std.specs.List.{range_with_len}
 use Rattle.board_defs.specs.declared.board.RawBoard.{RawBoard}
@@ -18,7 +18,7 @@ use Rattle.walk_test.specs.declared.tables.WalkTables.{WalkTables}
 use Rattle.walk_test.specs.WalkTest.{walk_setting}
 use Rattle.walk_test.specs.Tables.{tdi_of, mask_of}
 
--- what the scan behind a row is expected to capture, 0 where nothing is compared
+-- the bits that the scan after a row is expected to capture, and 0 where nothing is compared
 abbrev pub tdo_of : RawBoard → TestRow → List Bool
 tdo_of board row = tdo_bits (joined (row_bits board (record { now = quiet_row; before = row })))
 
@@ -30,12 +30,12 @@ first_row board plan = code_row board plan.passes (slice_index_or plan.passes 0 
 abbrev pub cleared : List Bool → List NetCells → List Bool
 cleared bits cells = assigned (λ c. c.driver) (λ c. false) bits cells
 
--- the driver by which a setting observes a net, by the tables of a plan
+-- the driver by which a setting observes a net, from the tables of a plan
 abbrev pub observer_in : PlanTables → List Ctl → ℕ → Option NetDriver
 observer_in plan walk n =
     option_and_then (λ d. if is_read_beside (slice_index_or plan.readers n []) d then Some d else None) (enabled_in (holds walk) (slice_index_or plan.drivers n []))
 
--- the positions of the cells that read another pin than the one at this place
+-- the positions of the cells that read a pin other than the one at this place
 abbrev pub positions_beside : ℕ → List ReaderCell → List ℕ
 positions_beside place readers = map (λ r. r.position) (filter (λ r. not (r.place == place)) readers)
 
@@ -44,15 +44,15 @@ abbrev pub cells_by : PlanTables → ℕ → Option NetDriver → NetCells
 cells_by plan n None = record { driver = 0; compared = [] }
 cells_by plan n (Some d) = record { driver = d.position; compared = positions_beside d.place (slice_index_or plan.readers n []) }
 
--- the cells of a net by the tables of a plan
+-- the cells of a net, from the tables of a plan
 abbrev pub cells_in : PlanTables → List Ctl → ℕ → NetCells
 cells_in plan walk n = cells_by plan n (observer_in plan walk n)
 
--- the nets that a setting observes, of so many, by the tables of a plan
+-- the nets below `count` that a setting observes, from the tables of a plan
 abbrev pub nets_in : PlanTables → List Ctl → ℕ → List ℕ
 nets_in plan walk count = filter (λ n. is_some (observer_in plan walk n)) (range_with_len 0 count)
 
--- the same where there is a setting
+-- the same, if there is a setting; without one there are none
 abbrev pub nets_by : PlanTables → Option (List Ctl) → ℕ → List ℕ
 nets_by plan None count = []
 nets_by plan (Some walk) count = nets_in plan walk count
@@ -61,12 +61,12 @@ abbrev pub cells_of : PlanTables → Option (List Ctl) → List ℕ → List Net
 cells_of plan None nets = []
 cells_of plan (Some walk) nets = map (cells_in plan walk) nets
 
--- the rows of a walk as they are made from its plan and the cells of its nets
+-- the rows of a walk, as they are made from its plan and the cells of its nets
 pub record AreMade (board : RawBoard) (plan : PlanTables) (cells : List NetCells) (rows : WalkRows) : Type 0 where
   pub still : 0 < length plan.passes → rows.still.bits ≡ cleared (tdi_of board (first_row board plan)) cells
   pub mask : 0 < length plan.passes → rows.mask.bits ≡ mask_of board (first_row board plan)
 
--- the controls of the walk setting, and none where the board has no pass
+-- the controls of the walk setting, or none if the board has no pass
 abbrev pub walk_controls : Option (List Ctl) → List Ctl
 walk_controls None = []
 walk_controls (Some walk) = walk
@@ -75,7 +75,7 @@ walk_controls (Some walk) = walk
 abbrev pub walk_row_of : RawBoard → ℕ → TestRow
 walk_row_of board j = walk_row board (walk_controls (walk_setting board)) j
 
--- what scan j after the EXTEST codes shifts in, and what it compares
+-- the row that scan j after the EXTEST codes shifts in, and the one that it compares
 abbrev pub now_of : RawBoard → ℕ → ℕ → TestRow
 now_of board count j = row_now (walk_row_of board) count j
 
@@ -90,7 +90,7 @@ pub record BoardWalk : Type 0 where
 abbrev pub board_walk : RawBoard → WalkTables → BoardWalk
 board_walk board tables = record { board = board; tables = tables }
 
--- what scan j after the EXTEST codes shifts in, what it expects, and where it compares that
+-- the bits that scan j after the EXTEST codes shifts in, those that it expects, and the positions at which it compares
 abbrev pub shifted_in : BoardWalk → ℕ → List Bool
 shifted_in it j = tdi_of it.board (now_of it.board (length it.tables.nets) j)
 
@@ -100,7 +100,7 @@ expected_in it j = tdo_of it.board (before_of it.board j)
 abbrev pub compared_in : BoardWalk → ℕ → List Bool
 compared_in it j = mask_of it.board (before_of it.board j)
 
--- the cells before those at a place, and none before the first
+-- the cells at the place before this one, and none before the first
 abbrev pub cells_before : List NetCells → ℕ → Option NetCells
 cells_before cells zero = None
 cells_before cells (suc j) = slice_get cells j
