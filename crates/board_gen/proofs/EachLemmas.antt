@@ -1,4 +1,4 @@
--- Lemmas on a text to which the texts of numbers are appended, one after the other.
+-- Lemmas on a text to which the texts of numbers are appended in turn.
 use Rattle.std.proofs.Common.{◌≡◌, ℕ, ◌+◌, ◌-◌, ◌≤◌, suc, zero, List, ◌++◌, sym, ◌∙◌, ap, arith, append_assoc, append-nil, add-zero, Result, Ok, Err, is_ok, cond, OnOk}
 use Rattle.board_gen.specs.BoardTexts.{each}
 

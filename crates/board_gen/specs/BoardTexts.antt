@@ -1,9 +1,9 @@
--- The chain file and the net file of a generated board of k parts U1 to Uk. Each part has 32 outputs, each of which drives
+-- The chain file and the net file of a generated board with k parts, U1 to Uk. Each part has 32 outputs, each of which drives
 -- an input of the next part, and 8 pins on a bus that all parts share.
 use Rattle.std.specs.Prelude.{ℕ, ◌+◌, ◌==◌, List, ◌++◌, codes, decimal, if◌then◌else◌}
 use Rattle.std.specs.List.{flat_map, range_with_len}
 
--- the texts of so many numbers from the first one on
+-- the texts of `count` numbers, from `first` on
 abbrev pub each : (ℕ → List ℕ) → ℕ → ℕ → List ℕ
 each text first count = flat_map text (range_with_len first count)
 
@@ -15,15 +15,15 @@ part_line part = codes "DEVICE U" ++ decimal part ++ codes " GEN -\n"
 unfoldable pub chain_text : ℕ → List ℕ
 chain_text k = each part_line 1 k
 
--- the word of a pin in the net file, and the blank before it
+-- the word of a pin in the net file, after a blank
 abbrev pub pin_word : ℕ → ℕ → List ℕ
 pin_word part pin = codes " U" ++ decimal part ++ codes "." ++ decimal pin
 
--- the part after this one, and after the last part the first
+-- the part after this one; the first part comes after the last
 abbrev pub next_part : ℕ → ℕ → ℕ
 next_part k part = if part == k then 1 else part + 1
 
--- the net from an output of a part to the input of the same bit of the next part
+-- the net from output `bit` of a part to input `bit` of the next part
 abbrev pub ring_line : ℕ → ℕ → ℕ → List ℕ
 ring_line k part bit =
     codes "NET R" ++ decimal part ++ codes "_" ++ decimal bit ++ pin_word part (bit + 1) ++ pin_word (next_part k part) (bit + 33) ++ codes "\n"

@@ -1,13 +1,13 @@
--- The BSDL text of GEN, the device of which generated boards are made: 32 outputs with a control for each 8 of them, 32
+-- The BSDL text of GEN, the device of generated boards: 32 outputs with a control for each 8 of them, 32
 -- inputs, and 8 pins of a bus with one control.
 use Rattle.std.specs.Prelude.{ℕ, ◌+◌, ◌-◌, ◌/◌, ◌==◌, List, ◌++◌, codes, decimal, nat_lt, if◌then◌else◌}
 use Rattle.board_gen.specs.BoardTexts.{each}
 
--- so many numbers from the first one on, with commas between them
+-- `count` numbers from `first` on, with commas between them
 abbrev pub numbers : ℕ → ℕ → List ℕ
 numbers first count = decimal first ++ each (λ n. codes "," ++ decimal n) (first + 1) (count - 1)
 
--- what the boundary register has at a cell
+-- the boundary register's entry for a cell
 abbrev pub cell_text : ℕ → List ℕ
 cell_text cell =
     if nat_lt cell 5 then codes " (BC_1, *, control, 1)" else (
@@ -15,7 +15,7 @@ cell_text cell =
     if nat_lt cell 69 then codes " (BC_1, D(" ++ decimal (cell - 37) ++ codes "), input, X)"
     else codes " (BC_7, B(" ++ decimal (cell - 69) ++ codes "), bidir, X, 4, 1, Z)"))
 
--- the line of a cell: the last one ends the string
+-- the line of a cell; that of the last cell ends the string
 abbrev pub cell_line : ℕ → List ℕ
 cell_line cell = codes "\"" ++ decimal cell ++ cell_text cell ++ (if cell == 76 then codes "\";\n" else codes ",\" &\n")
 

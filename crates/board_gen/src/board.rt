@@ -5,13 +5,13 @@ ghost use Rattle.board_gen.specs.BoardTexts.{each, chain_text, part_line, net_te
 use crate::pieces::push_numbered;
 use std::alloc::{AllocError, Global};
 
-// The nets between a part and the next one.
+// The number of nets between a part and the next one.
 const RING: u32 = 32;
 
-// The nets of the bus.
+// The number of nets of the bus.
 const BUS: u32 = 8;
 
-// The chain file of so many parts.
+// Returns the chain file of `number` parts.
 pub fn chain(alloc: Global, number: u32) -> Result<Vec<u8>, AllocError>
     requires { number ≤ 255 }
     ensures { IfOk result (λ text. text.items ≡ chain_text number) }
@@ -31,7 +31,7 @@ fn push_part(text: &mut Vec<u8>, part: u32) -> Result<(), AllocError>
     text.extend_from_slice(b" GEN -\n")
 }
 
-// The net file of so many parts.
+// Returns the net file of `number` parts.
 #[tactic(auto, unfolding(crate::specs::BoardTexts::net_text))]
 pub fn nets(alloc: Global, number: u32) -> Result<Vec<u8>, AllocError>
     requires { number ≤ 255 }
@@ -78,7 +78,7 @@ fn push_ring_line(text: &mut Vec<u8>, number: u32, part: u32, bit: u32) -> Resul
     text.extend_from_slice(b"\n")
 }
 
-// The part after this one, and after the last part the first.
+// Returns the part after this one. The first part comes after the last.
 fn next_part(number: u32, part: u32) -> u32
     requires { part ≤ 255 }
     ensures { result ≡ next_part number part }
@@ -86,7 +86,7 @@ fn next_part(number: u32, part: u32) -> u32
     if part == number { 1 } else { part + 1 }
 }
 
-// Appends the word of a pin after a blank.
+// Appends a blank and the word of a pin.
 fn push_pin(text: &mut Vec<u8>, part: u32, pin: u32) -> Result<(), AllocError>
     ensures { OnOk result (text.new.items ≡ text.old.items ++ pin_word part pin) }
 {

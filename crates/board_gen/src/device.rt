@@ -6,10 +6,10 @@ ghost use Rattle.board_gen.specs.DeviceText.{attributes_text, bsdl_text, cell_li
 use crate::pieces::{push_number, push_numbered};
 use std::alloc::{AllocError, Global};
 
-// How many cells the boundary register has.
+// The number of cells of the boundary register.
 const CELLS: u32 = 77;
 
-// The BSDL text of the device.
+// Returns the BSDL text of the device.
 #[tactic(auto, unfolding(crate::specs::DeviceText::bsdl_text))]
 pub fn bsdl(alloc: Global) -> Result<Vec<u8>, AllocError>
     ensures { IfOk result (λ text. text.items ≡ bsdl_text) }
@@ -54,7 +54,7 @@ fn push_map(text: &mut Vec<u8>) -> Result<(), AllocError>
     text.extend_from_slice(b")\";\n")
 }
 
-// Appends so many numbers, with commas between them.
+// Appends the numbers from `first` on, `count` of them, with commas between them.
 fn push_numbers(text: &mut Vec<u8>, first: u32, count: u32) -> Result<(), AllocError>
     requires some { 1 ≤ count }
     requires few { first + count < 1000 }
@@ -105,7 +105,7 @@ fn push_cell_line(text: &mut Vec<u8>, cell: u32) -> Result<(), AllocError>
     text.extend_from_slice(end_of(cell))
 }
 
-// What ends the line of a cell: the last one ends the string.
+// Returns the end of the line of a cell. That of the last cell ends the string.
 fn end_of(cell: u32) -> &'static [u8]
     ensures { result.now ≡ (if cell == 76 then codes "\";\n" else codes ",\" &\n") }
 {
@@ -116,7 +116,7 @@ fn end_of(cell: u32) -> &'static [u8]
     }
 }
 
-// Appends what the boundary register has at a cell.
+// Appends the boundary register's entry for a cell.
 fn push_cell(text: &mut Vec<u8>, cell: u32) -> Result<(), AllocError>
     ensures { OnOk result (text.new.items ≡ text.old.items ++ cell_text cell) }
 {
@@ -128,7 +128,7 @@ fn push_cell(text: &mut Vec<u8>, cell: u32) -> Result<(), AllocError>
     }
 }
 
-// Appends the cell of an output: each eight of them have one control.
+// Appends the cell of an output. Each eight outputs have one control.
 fn push_output(text: &mut Vec<u8>, index: u32) -> Result<(), AllocError>
     ensures { OnOk result (text.new.items ≡ text.old.items ++ (codes " (BC_1, Q(" ++ decimal index ++ codes "), output3, X, " ++ decimal (index / 8) ++ codes ", 1, Z)")) }
 {

@@ -23,8 +23,8 @@ pub struct Made {
     pub bsdl: Vec<u8>,
 }
 
-/// The texts of the board with so many parts, from 1 to 255. It has 32 nets for each part, and the 8 nets of the bus.
-/// Each text has at most 4,194,304 bytes. It fails only for want of memory.
+/// Returns the texts of the board with `number` parts, from 1 to 255. It has 32 nets for each part, and the 8 nets of the bus.
+/// Each text has at most 4,194,304 bytes. Fails only if memory is refused.
 pub fn make(alloc: Global, number: u32) -> Result<Made, AllocError>
     requires some { 1 ≤ number }
     requires few { number ≤ 255 }

@@ -1,4 +1,4 @@
-// Pieces at the end of a text.
+// Pieces that are appended to a text.
 ghost use Rattle.std.specs.Prelude.{◌≡◌, ◌++◌, decimal, OnOk};
 
 use itoa::Buffer;

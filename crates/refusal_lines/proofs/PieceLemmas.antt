@@ -1,4 +1,4 @@
--- Texts that go out in pieces.
+-- Texts that are written in pieces.
 use Rattle.std.proofs.Common.{◌≡◌, ℕ, ◌<◌, List, [], ◌∷◌, ◌++◌, length, take, drop, map, Result, Ok, Err, IsErr, refl, sym, ap, ◌∙◌, subst, append_assoc, append-nil, Bor, get_or, ◌+◌}
 use Rattle.bt_base.specs.Puts.{Puts, Shown}
 use Rattle.line_printer.proofs.PrintLemmas.{whole-split}

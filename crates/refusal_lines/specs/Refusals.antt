@@ -40,7 +40,7 @@ memory_line = codes "out of memory\n"
 abbrev pub about : Text → Text → Text
 about name wrong = whole (name ∷ wrong ∷ [])
 
--- a text that has more bytes than it may
+-- a text has more bytes than the limit
 abbrev pub long_line : Text → ℕ → Text
 long_line name limit = whole (name ∷ codes ": longer than " ∷ decimal limit ∷ codes " bytes\n" ∷ [])
 
@@ -48,7 +48,7 @@ long_line name limit = whole (name ∷ codes ": longer than " ∷ decimal limit 
 abbrev pub at_line : Text → ℕ → Text → Text
 at_line name n wrong = whole (name ∷ codes " line " ∷ decimal n ∷ wrong ∷ [])
 
--- a word of a line of a text
+-- a word of a line of a text, and what is wrong with it
 abbrev pub at_spot : Text → Spot → Text → Text
 at_spot name spot wrong = whole (name ∷ codes " line " ∷ decimal spot.line ∷ codes " word " ∷ decimal spot.word ∷ wrong ∷ [])
 
@@ -75,7 +75,7 @@ limit_line which =
     if which == 1 then codes "limit: chain parts\n" else (if which == 2 then codes "limit: boundary bits\n"
     else (if which == 3 then codes "limit: nets\n" else codes "limit: pins\n"))
 
--- a board rule that fails
+-- the line for a board rule that fails
 abbrev pub board_fault_line : Names → BoardFault → Text
 board_fault_line names board.NoChain = about names.chain (codes ": no part in the chain\n")
 board_fault_line names (board.PartTwice spot) = at_line names.chain spot.line (codes ": part twice\n")
@@ -92,20 +92,20 @@ board_fault_line names (board.NoPullNet spot) = at_line names.chain spot.line (c
 board_fault_line names (board.PullTwice spot) = at_line names.chain spot.line (codes ": net pulled twice\n")
 board_fault_line names (board.Memory e) = memory_line
 
--- the first bad place of a BSDL text
+-- the line for the first bad place of a BSDL text
 abbrev pub lex_fault_line : Text → LexFault → Text
 lex_fault_line name (lex.Byte n) = at_line name n (codes ": byte not allowed\n")
 lex_fault_line name (lex.OpenString n) = at_line name n (codes ": string not closed\n")
 lex_fault_line name (lex.TooMany n) = at_line name n (codes ": too many tokens\n")
 lex_fault_line name (lex.Memory e) = memory_line
 
--- the first token that can't stand in a BSDL text
+-- the line for the first token that is not allowed in a BSDL text
 abbrev pub parse_fault_line : Text → ParseFault → Text
 parse_fault_line name (parse.Expected n) = at_line name n (codes ": not in the grammar\n")
 parse_fault_line name (parse.Package n) = at_line name n (codes ": package text\n")
 parse_fault_line name (parse.Memory e) = memory_line
 
--- the attribute with this number, of those whose strings are read
+-- the name of the attribute with this number, whose string is read
 abbrev pub attribute_name : ℕ → Text
 attribute_name n =
     if n == 7 then codes "INSTRUCTION_OPCODE" else (if n == 8 then codes "INSTRUCTION_CAPTURE"
@@ -120,18 +120,18 @@ rule_line name number item = whole (name ∷ codes ": rule V" ∷ decimal number
 abbrev pub string_line : Text → ℕ → ℕ → Text
 string_line name attribute entry = whole (name ∷ codes ": " ∷ attribute_name attribute ∷ codes " entry " ∷ decimal entry ∷ codes "\n" ∷ [])
 
--- the first rule or string of a device that fails
+-- the line for the first rule or string of a device that fails
 abbrev pub device_fault_line : Text → DeviceFault → Text
 device_fault_line name (device.Rule number item) = rule_line name number item
 device_fault_line name (device.Text attribute entry) = string_line name attribute entry
 device_fault_line name (device.Memory e) = memory_line
 
--- the first pin of a LINK line that stands in no net
+-- the line for the first pin of a LINK line that is in no net
 abbrev pub link_fault_line : Text → LinkFault → Text
 link_fault_line name (link.NoLinkPin spot) = at_spot name spot (codes ": link pin not in a net\n")
 link_fault_line name (link.Memory e) = memory_line
 
--- the first fault of the texts
+-- the line for the first fault of the texts
 abbrev pub input_fault_line : Names → InputFault → Text
 input_fault_line names (input.Chain fault) = line_fault_line names.chain fault
 input_fault_line names (input.Nets fault) = line_fault_line names.nets fault
@@ -143,7 +143,7 @@ input_fault_line names (input.Link fault) = link_fault_line names.chain fault
 input_fault_line names (input.NoIdent line) = at_line names.chain line (codes ": part without a description\n")
 input_fault_line names (input.Memory e) = memory_line
 
--- a log of which so many rows are wanted
+-- the line for a log that must have `rows` rows
 abbrev pub log_fault_line : Text → ℕ → LogFault → Text
 log_fault_line name rows (log.Digit n) = at_line name n (codes ": digit not allowed\n")
 log_fault_line name rows (log.Length n) = at_line name n (codes ": wrong length\n")
@@ -151,7 +151,7 @@ log_fault_line name rows (log.Extra n) = at_line name n (codes ": row too many\n
 log_fault_line name rows (log.Missing found) = whole (name ∷ codes ": " ∷ decimal found ∷ codes " rows of " ∷ decimal rows ∷ codes "\n" ∷ [])
 log_fault_line name rows (log.Memory e) = memory_line
 
--- the lines of a block of a batch that are no log, by the number of its board; so many rows are wanted
+-- the line for a block of a batch that is no log of `rows` rows; its board has the number `board`
 abbrev pub block_fault_line : Text → ℕ → ℕ → LogFault → Text
 block_fault_line name rows board (log.Digit n) = log_fault_line name rows (log.Digit n)
 block_fault_line name rows board (log.Length n) = log_fault_line name rows (log.Length n)
@@ -159,7 +159,7 @@ block_fault_line name rows board (log.Extra n) = log_fault_line name rows (log.E
 block_fault_line name rows board (log.Missing found) = whole (name ∷ codes " board " ∷ decimal board ∷ codes ": " ∷ decimal found ∷ codes " rows of " ∷ decimal rows ∷ codes "\n" ∷ [])
 block_fault_line name rows board (log.Memory e) = memory_line
 
--- a batch of logs of which so many rows are wanted
+-- the line for a batch of logs that must have `rows` rows each
 abbrev pub batch_fault_line : Text → ℕ → BatchFault → Text
 batch_fault_line name rows (batch.Start n) = at_line name n (codes ": no board yet\n")
 batch_fault_line name rows (batch.Title n) = at_line name n (codes ": board not allowed\n")

@@ -1,4 +1,4 @@
-// The lines of words that are no command, and of what was not read, not written or not had.
+// The lines for words that are no command, for a text that was not read or is too long, for a failed write and for refused memory.
 ghost use Rattle.bt_base.specs.Puts.{Puts};
 ghost use Rattle.refusal_lines.specs.Refusals.{long_line, memory_line, read_line, usage_line, write_line};
 
@@ -6,7 +6,7 @@ use crate::pieces::put_all;
 use bt_base::{PutFault, Sink};
 use itoa::Buffer;
 
-/// Puts the line of words that are no command.
+/// Writes the line for words that are no command.
 pub fn put_usage<N: Sink>(notes: &mut N) -> Result<(), PutFault>
     ensures { Puts (N.shown notes.old) (N.shown notes.new) usage_line result }
 {
@@ -15,14 +15,14 @@ pub fn put_usage<N: Sink>(notes: &mut N) -> Result<(), PutFault>
     )
 }
 
-/// Puts the line of a text that was not read.
+/// Writes the line for a text that was not read.
 pub fn put_not_read<N: Sink>(name: &str, notes: &mut N) -> Result<(), PutFault>
     ensures { Puts (N.shown notes.old) (N.shown notes.new) (read_line name.now) result }
 {
     put_all(b"cannot read ", &[name.as_bytes(), b"\n"], notes)
 }
 
-/// Puts the line of a text that has more bytes than it may.
+/// Writes the line for a text with more bytes than the limit.
 pub fn put_too_long<N: Sink>(name: &str, limit: u32, notes: &mut N) -> Result<(), PutFault>
     ensures { Puts (N.shown notes.old) (N.shown notes.new) (long_line name.now limit) result }
 {
@@ -35,14 +35,14 @@ pub fn put_too_long<N: Sink>(name: &str, limit: u32, notes: &mut N) -> Result<()
     )
 }
 
-/// Puts the line of a put that failed.
+/// Writes the line for a failed write.
 pub fn put_not_written<N: Sink>(notes: &mut N) -> Result<(), PutFault>
     ensures { Puts (N.shown notes.old) (N.shown notes.new) write_line result }
 {
     notes.put(b"cannot write\n")
 }
 
-/// Puts the line of want of memory.
+/// Writes the line for a refusal of memory.
 pub fn put_memory<N: Sink>(notes: &mut N) -> Result<(), PutFault>
     ensures { Puts (N.shown notes.old) (N.shown notes.new) memory_line result }
 {

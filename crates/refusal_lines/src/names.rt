@@ -1,9 +1,9 @@
-// The names by which the lines tell texts apart.
+// The names of texts in the lines of refusal.
 ghost use Rattle.std.specs.Prelude.{◌≡◌, ◌∷◌, [], map, string_bytes};
 ghost use Rattle.refusal_lines.specs.Refusals.{text_name};
 ghost use Rattle.refusal_lines.specs.NamesView.{text_names_view};
 
-/// The names of a command's texts, by which the lines of refusal tell them apart.
+/// The names of a command's texts, for the lines of refusal.
 #[derive(Clone, Copy)]
 pub struct Names<'a> {
     pub log: &'a str,
@@ -19,7 +19,7 @@ pub enum TextNames<'a> {
     Several(&'a [String]),
 }
 
-// The name of a BSDL text, by its number from 0.
+// Returns the name of BSDL text `text`, counted from 0.
 pub fn text_name<'a>(names: TextNames<'a>, text: u32) -> &'a str
     ensures { result.now ≡ text_name (text_names_view names.entry) text }
 {

@@ -1,4 +1,4 @@
-// Lines that go out in pieces.
+// Lines that are written in pieces.
 ghost use Rattle.std.specs.Prelude.{◌≡◌, ◌++◌, map};
 ghost use Rattle.bt_base.specs.Puts.{Puts};
 ghost use Rattle.line_printer.specs.Prints.{whole};
@@ -8,7 +8,7 @@ use board_defs::Spot;
 use bt_base::{PutFault, Sink};
 use itoa::Buffer;
 
-// Puts a piece, and then others in order.
+// Writes a piece, and then the others in order.
 pub fn put_all<N: Sink>(first: &[u8], others: &[&[u8]], notes: &mut N) -> Result<(), PutFault>
     ensures { Puts (N.shown notes.old) (N.shown notes.new) (first.now ++ whole (map (λ p. p.now) others.now)) result }
 {
@@ -19,7 +19,7 @@ pub fn put_all<N: Sink>(first: &[u8], others: &[&[u8]], notes: &mut N) -> Result
     Ok(())
 }
 
-// Puts a line of a text, and what is wrong with it.
+// Writes the name of a text, the number of a line of it, and what is wrong with the line.
 pub fn put_at_line<N: Sink>(
     name: &str,
     line: u32,
@@ -37,7 +37,7 @@ pub fn put_at_line<N: Sink>(
     )
 }
 
-// Puts a word of a line of a text, and what is wrong with it.
+// Writes the name of a text, the line and the number of a word of it, and what is wrong with the word.
 pub fn put_at_spot<N: Sink>(
     name: &str,
     spot: Spot,
@@ -63,7 +63,7 @@ pub fn put_at_spot<N: Sink>(
     )
 }
 
-// Puts what is wrong with a text.
+// Writes the name of a text, and what is wrong with the text.
 pub fn put_about<N: Sink>(name: &str, wrong: &[u8], notes: &mut N) -> Result<(), PutFault>
     ensures { Puts (N.shown notes.old) (N.shown notes.new) (about name.now wrong.now) result }
 {

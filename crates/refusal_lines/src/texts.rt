@@ -17,7 +17,7 @@ use device_check::DeviceFault;
 use itoa::Buffer;
 use series_parts::LinkFault;
 
-// Puts the line of a faulty line of a chain or net file.
+// Writes the line for a faulty line of a chain or net file.
 fn put_line_fault<N: Sink>(name: &str, fault: &LineFault, notes: &mut N) -> Result<(), PutFault>
     ensures { Puts (N.shown notes.old) (N.shown notes.new) (line_fault_line name.now fault.now) result }
 {
@@ -29,7 +29,7 @@ fn put_line_fault<N: Sink>(name: &str, fault: &LineFault, notes: &mut N) -> Resu
     }
 }
 
-// Puts the line of a limit, by its number.
+// Writes the line for limit `which`.
 fn put_limit<N: Sink>(which: u32, notes: &mut N) -> Result<(), PutFault>
     ensures { Puts (N.shown notes.old) (N.shown notes.new) (limit_line which) result }
 {
@@ -41,7 +41,7 @@ fn put_limit<N: Sink>(which: u32, notes: &mut N) -> Result<(), PutFault>
     }
 }
 
-// Puts the line of a board rule that fails.
+// Writes the line for a board rule that fails.
 fn put_board_fault<N: Sink>(names: Names, fault: &BoardFault, notes: &mut N) -> Result<(), PutFault>
     ensures { Puts (N.shown notes.old) (N.shown notes.new) (board_fault_line (names_view names.entry) fault.now) result }
 {
@@ -80,7 +80,7 @@ fn put_board_fault<N: Sink>(names: Names, fault: &BoardFault, notes: &mut N) -> 
     }
 }
 
-// Puts the line of the first bad place of a BSDL text.
+// Writes the line for the first bad place of a BSDL text.
 fn put_lex_fault<N: Sink>(name: &str, fault: &LexFault, notes: &mut N) -> Result<(), PutFault>
     ensures { Puts (N.shown notes.old) (N.shown notes.new) (lex_fault_line name.now fault.now) result }
 {
@@ -92,7 +92,7 @@ fn put_lex_fault<N: Sink>(name: &str, fault: &LexFault, notes: &mut N) -> Result
     }
 }
 
-// Puts the line of the first token that can't stand in a BSDL text.
+// Writes the line for the first token that is not allowed in a BSDL text.
 fn put_parse_fault<N: Sink>(name: &str, fault: &ParseFault, notes: &mut N) -> Result<(), PutFault>
     ensures { Puts (N.shown notes.old) (N.shown notes.new) (parse_fault_line name.now fault.now) result }
 {
@@ -103,7 +103,7 @@ fn put_parse_fault<N: Sink>(name: &str, fault: &ParseFault, notes: &mut N) -> Re
     }
 }
 
-// Puts the line of a device rule that fails.
+// Writes the line for a device rule that fails.
 fn put_rule<N: Sink>(name: &str, rule: u32, item: u32, notes: &mut N) -> Result<(), PutFault>
     ensures { Puts (N.shown notes.old) (N.shown notes.new) (rule_line name.now rule item) result }
 {
@@ -124,7 +124,7 @@ fn put_rule<N: Sink>(name: &str, rule: u32, item: u32, notes: &mut N) -> Result<
     )
 }
 
-// The name of an attribute whose string is read.
+// Returns the name of this attribute, whose string is read.
 fn attribute_name(attribute: u32) -> &'static [u8]
     ensures { result.now ≡ attribute_name attribute }
 {
@@ -138,7 +138,7 @@ fn attribute_name(attribute: u32) -> &'static [u8]
     }
 }
 
-// Puts the line of a string that leaves its grammar.
+// Writes the line for a string that leaves its grammar.
 fn put_string_fault<N: Sink>(
     name: &str,
     attribute: u32,
@@ -162,7 +162,7 @@ fn put_string_fault<N: Sink>(
     )
 }
 
-// Puts the line of the first rule or string of a device that fails.
+// Writes the line for the first rule or string of a device that fails.
 fn put_device_fault<N: Sink>(name: &str, fault: &DeviceFault, notes: &mut N) -> Result<(), PutFault>
     ensures { Puts (N.shown notes.old) (N.shown notes.new) (device_fault_line name.now fault.now) result }
 {
@@ -173,7 +173,7 @@ fn put_device_fault<N: Sink>(name: &str, fault: &DeviceFault, notes: &mut N) -> 
     }
 }
 
-// Puts the line of a LINK pin that stands in no net.
+// Writes the line for a LINK pin that is in no net.
 fn put_link_fault<N: Sink>(name: &str, fault: &LinkFault, notes: &mut N) -> Result<(), PutFault>
     ensures { Puts (N.shown notes.old) (N.shown notes.new) (link_fault_line name.now fault.now) result }
 {
@@ -183,7 +183,7 @@ fn put_link_fault<N: Sink>(name: &str, fault: &LinkFault, notes: &mut N) -> Resu
     }
 }
 
-/// Puts the line of the first fault of the texts.
+/// Writes the line for the first fault of the texts.
 pub fn put_input_fault<N: Sink>(
     names: Names,
     fault: &InputFault,
