@@ -1,4 +1,4 @@
--- The answer to a request, as what the run says of it.
+-- The answer to a request, in the terms of a run.
 use Rattle.std.proofs.Common.{Result, Ok, Err, refl, inl, inr}
 use Rattle.bt_base.specs.Puts.{Shown}
 use Rattle.btest_core.specs.declared.fault.InputFault.{InputFault}

@@ -1,4 +1,4 @@
--- Texts that are read one after another, as a reading.
+-- Texts that are read in turn, as one reading.
 use Rattle.std.proofs.Common.{◌≡◌, ℕ, suc, ◌+◌, ◌<◌, ◌≤◌, Bool, true, false, List, [], ◌∷◌, ◌++◌, length, map, take, drop, nat_lt, slice_index_or, String, string_bytes, Global, Vec, Option, Some, None, refl, ap, sym, ◌∙◌, subst, arith, append_assoc, append-nil}
 use Rattle.std.specs.Prelude.{if◌then◌else◌, Ok, Err}
 use Rattle.std.proofs.lemmas.Grind.{common_steps}

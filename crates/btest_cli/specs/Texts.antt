@@ -2,7 +2,7 @@
 use Rattle.std.specs.Prelude.{◌≡◌, ℕ, ◌<◌, List, [], ◌∷◌, ◌++◌, length, map, Option, Some, None, nat_lt, if◌then◌else◌}
 use Rattle.command_line.specs.Words.{Text, Command, Chain, Device, Cover, Svf, Walk, Ident, Make, Diagnose, Groups, Batch, board_names, names_of}
 
--- a text that is wanted: its name, and the most bytes that it may have
+-- a text to read: its name, and the most bytes that it may have
 pub record Wanted : Type 0 where
   pub name : Text
   pub limit : ℕ
@@ -11,11 +11,11 @@ pub record Wanted : Type 0 where
 abbrev pub text_called : Text → Wanted
 text_called name = record { name = name; limit = 4194304 }
 
--- a response log of this name, or many of them in one text
+-- a response log or a batch of logs of this name
 abbrev pub log_called : Text → Wanted
 log_called name = record { name = name; limit = 67108864 }
 
--- the texts that a command reads, in their order
+-- the texts that a command reads, in order
 abbrev pub wanted_of : Command → List Wanted
 wanted_of (Chain names) = map text_called (names_of (Chain names))
 wanted_of (Ident names) = map text_called (names_of (Ident names))
@@ -31,7 +31,7 @@ wanted_of (Batch workers log names) = log_called log ∷ map text_called (board_
 abbrev pub names_in : List Wanted → List Text
 names_in texts = map (λ text. text.name) texts
 
--- what a store tells that it holds, if it does
+-- the text that a store holds under each name, if the store tells what it holds
 abbrev pub Held : Type 0
 Held = Option (Text → Option Text)
 
@@ -49,43 +49,43 @@ abbrev pub read_first : Wanted → Option Text → Option Reading → Option Rea
 read_first wanted None rest = None
 read_first wanted (Some text) rest = if nat_lt wanted.limit (length text) then Some (TooLong wanted) else and_text text rest
 
--- what reading these texts in order gives, where the store holds a text for each that is read
+-- what reading these texts in order gives, if the store holds a text for each that is read
 abbrev pub reading_of : (Text → Option Text) → List Wanted → Option Reading
 reading_of held [] = Some (Read [])
 reading_of held (wanted ∷ others) = read_first wanted (held wanted.name) (reading_of held others)
 
--- the same, where these are the texts that are read
+-- the same, if these are the texts that are read
 abbrev pub reading_in : List Wanted → List Text → Option Reading
 reading_in [] found = Some (Read [])
 reading_in (wanted ∷ others) [] = None
 reading_in (wanted ∷ others) (text ∷ found) = read_first wanted (Some text) (reading_in others found)
 
--- this is what reading the texts gives: where the store tells what it holds, from that, else from some texts
+-- this is what reading the texts gives: from what the store holds, if it tells that, or else from some texts
 abbrev pub IsRead : Held → List Wanted → Reading → Type 0
 IsRead None texts reading = (found : List Text) × (reading_in texts found ≡ Some reading)
 IsRead (Some held) texts reading = reading_of held texts ≡ Some reading
 
--- what reading these texts gives, where that is known: a store that tells what it holds settles it, and of no texts no store is asked
+-- what reading these texts gives, if that is known: the store tells what it holds, or there is no text to read
 abbrev pub known_reading : Held → List Wanted → Option Reading
 known_reading held [] = Some (Read [])
 known_reading None (wanted ∷ others) = None
 known_reading (Some held) (wanted ∷ others) = reading_of held (wanted ∷ others)
 
--- the store holds this text under the name, where it tells what it holds
+-- the store holds this text under the name, if it tells what it holds
 abbrev pub IsText : Held → Text → Text → Type 0
 IsText None name text = Unit {0}
 IsText (Some held) name text = held name ≡ Some text
 
--- a text has more bytes than it may, which the store holds under the name, where it tells what it holds
+-- a text has more bytes than the limit; if the store tells what it holds, it holds this text under the name
 abbrev pub IsLong : Held → Wanted → Type 0
 IsLong None wanted = (text : Text) × (wanted.limit < length text)
 IsLong (Some held) wanted = (text : Text) × (held wanted.name ≡ Some text) × (wanted.limit < length text)
 
--- these were asked for one after the other, and no others
+-- these names were asked for in turn, and no others
 abbrev pub Asks : List Text → List Text → List Text → Type 0
 Asks old new names = new ≡ old ++ names
 
--- the texts before this one were read, and then this one was asked for and no other
+-- the texts before this one were read, then this one was asked for, and no other
 pub record IsReadUpTo (held : Held) (texts : List Wanted) (last : Wanted) (old new : List Text) : Type 0 where
   pub before : List Wanted
   pub after : List Wanted
@@ -94,7 +94,7 @@ pub record IsReadUpTo (held : Held) (texts : List Wanted) (last : Wanted) (old n
   pub read : IsRead held before (Read found)
   pub asked : Asks old new (names_in before ++ last.name ∷ [])
 
--- what was asked for where this was read: all texts, or those up to the first that is too long
+-- what was asked for if this was read: all texts, or those up to the first that is too long
 abbrev pub AsksFor : Held → List Wanted → Reading → List Text → List Text → Type 0
 AsksFor held texts (Read found) old new = Asks old new (names_in texts)
 AsksFor held texts (TooLong last) old new = IsReadUpTo held texts last old new

@@ -1,4 +1,4 @@
-// The status and the line of texts that were not read, and of a text that was not put whole.
+// The status and the line for texts that were not read, and for a text that was not written whole.
 ghost use Rattle.std.specs.Prelude.{◌≡◌};
 ghost use Rattle.bt_base.specs.Puts.{Puts};
 ghost use Rattle.btest_cli.specs.inner.Failures.{unread_status, unread_line, unput_status, unput_line};
@@ -24,7 +24,7 @@ pub enum Unread<'a> {
     Memory,
 }
 
-/// The status of texts that were not read.
+/// Returns the status for texts that were not read.
 pub fn unread_status(failure: &Unread) -> Status
     ensures { result ≡ unread_status failure.now }
 {
@@ -35,7 +35,7 @@ pub fn unread_status(failure: &Unread) -> Status
     }
 }
 
-/// The status of a text that was not put whole.
+/// Returns the status for a text that was not written whole.
 pub fn unput_status(failure: &Unput) -> Status
     ensures { result ≡ unput_status failure.now }
 {
@@ -46,7 +46,7 @@ pub fn unput_status(failure: &Unput) -> Status
     }
 }
 
-/// Puts the line of texts that were not read.
+/// Writes the line for texts that were not read.
 pub fn put_unread<N: Sink>(failure: &Unread, notes: &mut N) -> Result<(), PutFault>
     ensures { Puts (N.shown notes.old) (N.shown notes.new) (unread_line failure.now) result }
 {
@@ -57,7 +57,7 @@ pub fn put_unread<N: Sink>(failure: &Unread, notes: &mut N) -> Result<(), PutFau
     }
 }
 
-/// Puts the line of a text that was not put whole, by the names of what it was made from.
+/// Writes the line for a text that was not written whole. `names` are the names of the texts from which it was made.
 pub fn put_unput<N: Sink>(names: Names, failure: &Unput, notes: &mut N) -> Result<(), PutFault>
     ensures { Puts (N.shown notes.old) (N.shown notes.new) (unput_line (names_view names.entry) failure.now) result }
 {

@@ -82,7 +82,7 @@ fn read_board<'a, S: Store>(
     }
 }
 
-// Reads a text of logs, and then the texts of the board that they are of.
+// Reads a text of logs, and then the texts of their board.
 fn read_logs<'a, S: Store>(
     alloc: Global,
     log: &'a str,

@@ -5,7 +5,7 @@ ghost use Rattle.btest_cli.specs.ExitNumbers.{exit_number};
 /// How a run ended.
 #[derive(Clone, Copy, Debug, PartialEq, Eq)]
 pub enum Status {
-    /// The defined text was put.
+    /// The whole text was written.
     Done,
     /// The texts have a fault.
     Refused,
@@ -13,14 +13,14 @@ pub enum Status {
     Usage,
     /// A text was not read.
     ReadFault,
-    /// A piece of the text was not put.
+    /// A piece of the text was not written.
     WriteFault,
-    /// There was not enough memory. Nothing was put.
+    /// There was not enough memory. Nothing was written to the output.
     NoMemory,
 }
 
 impl Status {
-    /// The exit status of the program.
+    /// Returns the exit status of the program.
     pub fn number(self) -> u8
         ensures { result ≡ exit_number self }
     {

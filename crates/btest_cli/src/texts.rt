@@ -13,17 +13,17 @@ use std::alloc::Global;
 // The most bytes of a chain file, a net file or a BSDL text.
 const MOST_BYTES: u32 = 4_194_304;
 
-// The most bytes of a response log, or of many of them in one text.
+// The most bytes of a response log, or of a batch of logs in one text.
 const MOST_LOG_BYTES: u32 = 67_108_864;
 
-/// A text that is wanted: its name, and the most bytes that it may have.
+/// A text to read: its name, and the most bytes that it may have.
 #[derive(Clone, Copy)]
 pub struct Wanted<'a> {
     pub name: &'a str,
     pub limit: u32,
 }
 
-// A chain file, a net file or a BSDL text of this name.
+// Returns a chain file, a net file or a BSDL text of this name, as a text to read.
 fn text_called<'a>(name: &'a str) -> Wanted<'a>
     ensures { wanted_view result ≡ text_called name.entry.now }
 {
@@ -33,7 +33,7 @@ fn text_called<'a>(name: &'a str) -> Wanted<'a>
     }
 }
 
-// A response log of this name, or many of them in one text.
+// Returns a response log or a batch of logs of this name, as a text to read.
 fn log_called<'a>(name: &'a str) -> Wanted<'a>
     ensures { wanted_view result ≡ log_called name.entry.now }
 {
@@ -71,7 +71,7 @@ pub fn read_text<'a, S: Store>(
     read_wanted(alloc, text_called(name), store)
 }
 
-/// Reads a response log, or many of them in one text.
+/// Reads a response log or a batch of logs.
 pub fn read_log<'a, S: Store>(
     alloc: Global,
     name: &'a str,
@@ -82,7 +82,7 @@ pub fn read_log<'a, S: Store>(
     read_wanted(alloc, log_called(name), store)
 }
 
-/// Reads BSDL texts in their order, up to the first that fails or is too long.
+/// Reads BSDL texts in order, up to the first that is not read or is too long.
 pub fn read_texts<'a, S: Store>(
     alloc: Global,
     names: BsdlNames<'a>,

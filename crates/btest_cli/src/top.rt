@@ -26,8 +26,8 @@ use std::alloc::Global;
 use std::thread::Threads;
 use walk_test::law::logs_have_one_set;
 
-/// Runs a command line: reads its words, fetches the texts that they name, checks them, and puts the
-/// defined text to `out`. At every status but `Done` the notes are given one line.
+/// Runs a command line: reads its words, fetches the texts that they name, checks them, and writes the
+/// defined text to `out`. At every status but `Done`, it writes one line to `notes`.
 pub fn run<R: Threads + Sync, S: Store, K: Sink, N: Sink, G: Gate>(
     rt: &R,
     alloc: Global,
@@ -37,33 +37,33 @@ pub fn run<R: Threads + Sync, S: Store, K: Sink, N: Sink, G: Gate>(
     notes: &mut N,
     gate: &G,
 ) -> Status
-    // Usage comes exactly where the words are not in the grammar, and nothing was fetched.
+    // Usage: the words are not in the grammar. Such words give Usage, unless memory runs out, and nothing is fetched.
     ensures usage { result ≡ Status.Usage → command_of (map string_bytes words.now) ≡ None }
     ensures words { command_of (map string_bytes words.now) ≡ None → (result ≡ Status.Usage) ⊎ (result ≡ Status.NoMemory) }
     ensures not_fetched { command_of (map string_bytes words.now) ≡ None → store.new ≡ store.old }
     ensures usage_noted { result ≡ Status.Usage → TookOrCut (N.shown notes.old) (N.shown notes.new) usage_line }
 
-    // Done: each text was asked for once and read, `out` took exactly the text that they give, and that is worth what it should be.
+    // Done: each text was asked for once and read, `out` took exactly the text that they give, and `IsWorthFor` holds of this text.
     ensures done { result ≡ Status.Done → ForCommand words.now (λ c. IsDone (S.held store.old) c (S.asked store.old) (S.asked store.new) (K.shown out.old) (K.shown out.new)) }
     ensures silent { result ≡ Status.Done → N.shown notes.new ≡ N.shown notes.old }
 
-    // Refused: what was read has a first fault, and the notes were given its line. No text was asked for behind one that is too long.
+    // Refused: what was read has a first fault, and `notes` took its line. No text was asked for after one that is too long.
     ensures refused { result ≡ Status.Refused → ForCommand words.now (λ c. IsRefused (S.held store.old) c (S.asked store.old) (S.asked store.new) (N.shown notes.old) (N.shown notes.new)) }
 
-    // ReadFault: the texts before one were read, the count of that one rose, none was asked for behind it, and the notes were given its name.
+    // ReadFault: the texts before one were read, the count of that one rose, none was asked for after it, and `notes` took its line.
     ensures read { result ≡ Status.ReadFault → ForCommand words.now (λ c. IsNotRead (S.held store.old) c (S.faults store.old) (S.faults store.new) (S.asked store.old) (S.asked store.new) (N.shown notes.old) (N.shown notes.new)) }
 
-    // WriteFault: the count of `out` rose, and it took some first bytes of the text.
+    // WriteFault: the count of `out` rose, and `out` took some first bytes of the text.
     ensures write { result ≡ Status.WriteFault → Rose (K.shown out.old).faults (K.shown out.new).faults }
     ensures cut { result ≡ Status.WriteFault → ForCommand words.now (λ c. IsCutShort (S.held store.old) c (S.asked store.old) (S.asked store.new) (K.shown out.old) (K.shown out.new)) }
     ensures write_noted { result ≡ Status.WriteFault → TookOrCut (N.shown notes.old) (N.shown notes.new) write_line }
 
-    // Nothing was put at any other status, want of memory among them.
+    // At every other status, refused memory among them, nothing was written to `out`.
     ensures untouched { result ≢ Status.Done → result ≢ Status.WriteFault → K.shown out.new ≡ K.shown out.old }
     ensures memory_noted { result ≡ Status.NoMemory → TookOrCut (N.shown notes.old) (N.shown notes.new) memory_line }
     ensures memory_asks { result ≡ Status.NoMemory → ForCommand words.now (λ c. AsksSome c (S.asked store.old) (S.asked store.new)) }
 
-    // Where no count rose, the texts settle the status, unless memory ran out. A command that reads no text needs no store that tells.
+    // If no count rose, the texts settle the status, unless memory ran out. If a command reads no text, the store need not tell its texts.
     ensures complete { ForCommand words.now (λ c. IsComplete (S.held store.old) c
         (SomeRose (S.faults store.old) (S.faults store.new) (names_of c)) (Rose (K.shown out.old).faults (K.shown out.new).faults) result) }
 {
@@ -114,7 +114,7 @@ fn run_command<R: Threads + Sync, S: Store, K: Sink, N: Sink, G: Gate>(
     }
 }
 
-// The names of the texts of a command, by what they hold.
+// Returns the names of the texts of a command, by what they hold.
 fn roles_of<'a>(command: Command<'a>) -> Names<'a>
     ensures { names_view result ≡ roles_of (command_view command.entry) }
 {
@@ -154,7 +154,7 @@ fn roles_of<'a>(command: Command<'a>) -> Names<'a>
     }
 }
 
-// Puts what a request gives, whatever the names of its texts.
+// Writes what a request gives. The clause holds for all names of its texts.
 fn answer<R: Threads + Sync, K: Sink, G: Gate>(
     rt: &R,
     alloc: Global,

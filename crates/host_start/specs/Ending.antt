@@ -1,4 +1,4 @@
--- With which number a run ends, and what it leaves.
+-- The number with which a run ends, and what the run leaves.
 use Rattle.std.specs.Prelude.{◌≡◌, ◌≢◌, ◌⊎◌, ℕ, List, None, String, map, string_bytes}
 use Rattle.std.specs.declared.alloc.Global.{Global}
 use Rattle.bt_base.specs.Counts.{Rose}
@@ -11,7 +11,7 @@ use Rattle.btest_cli.specs.ExitNumbers.{exit_number}
 use Rattle.btest_cli.specs.Texts.{Held}
 use Rattle.btest_cli.specs.Outcome.{AsksSome, ForCommand, IsComplete, IsCutShort, IsDone, IsNotRead, IsRefused, SomeRose, TookOrCut}
 
--- the words were run, over this store, with these sinks for the text and for the line of refusal, and the number is that of the status
+-- the words were run on this store, with these sinks for the text and for the line of refusal, and `number` is that of the status
 pub record IsEndOf (words : List (String Global)) (held : Held) (before now : Text → ℕ) (asked asked' : List Text) (out out' notes notes' : Shown) (number : ℕ) : Type 0 where
   pub ended : Status
   pub exits : number ≡ exit_number ended

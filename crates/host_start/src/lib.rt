@@ -1,5 +1,5 @@
-//! What a program over the real files and streams does: the words of its command line go to `run`, and the number of the status that
-//! comes back is its exit status. It stands apart from the program, which is one call of it.
+//! The program over the real files and streams. It passes the words of its command line to `run`, and exits with the number of the status
+//! that comes back. It is a crate of its own, and the program is one call of it.
 #![tactic(auto)]
 
 ghost use Rattle.std.specs.Prelude.{◌≡◌, ◌≢◌, IfErr, IfOk, IsErr};
@@ -17,7 +17,7 @@ use std::rt::{Env, Files};
 use std::thread::Threads;
 use std::{env, io};
 
-// The words after the program's name.
+// Returns the words after the program's name.
 fn words(rt: &(impl Env + AllocGlobal)) -> io::Result<Vec<String>> {
     let mut words = Vec::new(rt.alloc());
     for word in env::args(rt)?.skip(1) {
@@ -26,7 +26,7 @@ fn words(rt: &(impl Env + AllocGlobal)) -> io::Result<Vec<String>> {
     Ok(words)
 }
 
-// Runs these words: their text goes to `out`, and their line of refusal to `notes`.
+// Runs these words. The text goes to `out`, and the line of refusal to `notes`. Returns the exit status.
 fn end_with<R: Threads + Sync, S: Store, K: Sink, N: Sink>(
     rt: &R,
     alloc: Global,
@@ -41,7 +41,7 @@ fn end_with<R: Threads + Sync, S: Store, K: Sink, N: Sink>(
     run(rt, alloc, words, store, out, notes, &OpenGate).number()
 }
 
-// Ends without words. Where memory ran out before there were words, nothing is written.
+// Ends without words, and returns the exit status. If memory ran out before there were words, nothing is written.
 fn end_without<N: Sink>(error: &io::Error, notes: &mut N) -> u8
     ensures no_words { error_kind error.now ≢ ErrorKind.OutOfMemory → (result ≡ 2) × TookOrCut (N.shown notes.old) (N.shown notes.new) usage_line }
     ensures no_memory { error_kind error.now ≡ ErrorKind.OutOfMemory → (result ≡ 5) × (N.shown notes.new ≡ N.shown notes.old) }
@@ -53,7 +53,7 @@ fn end_without<N: Sink>(error: &io::Error, notes: &mut N) -> u8
     Status::Usage.number()
 }
 
-// The exit status for the words that the system gave. Words that it can't give, as words that are no UTF-8, are no command.
+// Returns the exit status for the words from the system. Words that it can't give, such as words that are not UTF-8, are no command.
 fn end_of<R: Threads + Sync, S: Store, K: Sink, N: Sink>(
     rt: &R,
     alloc: Global,
@@ -62,11 +62,11 @@ fn end_of<R: Threads + Sync, S: Store, K: Sink, N: Sink>(
     out: &mut K,
     notes: &mut N,
 ) -> u8
-    // It gave words, and they were run.
+    // The system gave words, and they were run.
     ensures run { IfOk words.now (λ words. IsEndOf words.items (S.held store.old) (S.faults store.old) (S.faults store.new) (S.asked store.old) (S.asked store.new)
         (K.shown out.old) (K.shown out.new) (N.shown notes.old) (N.shown notes.new) result) }
 
-    // It gave none, and no text was asked for.
+    // The system gave no words, and no text was asked for.
     ensures no_words { IfErr words.now (λ error. error_kind error ≢ ErrorKind.OutOfMemory
         → (result ≡ 2) × TookOrCut (N.shown notes.old) (N.shown notes.new) usage_line) }
     ensures no_memory { IfErr words.now (λ error. error_kind error ≡ ErrorKind.OutOfMemory
@@ -79,7 +79,7 @@ fn end_of<R: Threads + Sync, S: Store, K: Sink, N: Sink>(
     }
 }
 
-/// Runs the words of the command line over the files of the system and standard output, with `notes` for the lines of refusal. The
+/// Runs the words of the command line on the files of the system and standard output, with `notes` for the lines of refusal. The
 /// number of the status is the exit status.
 pub fn start<R, E>(rt: &R, notes: E) -> ExitCode
 where

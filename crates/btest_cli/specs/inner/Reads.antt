@@ -1,4 +1,4 @@
--- Texts that are read one after the other.
+-- Texts that are read in turn.
 use Rattle.std.specs.Prelude.{◌≡◌, ℕ, ◌≤◌, List, [], ◌∷◌, ◌++◌, Some, Result, Ok, Err}
 use Rattle.bt_base.specs.Counts.{Rose}
 use Rattle.command_line.specs.Words.{Text, Command, most_made, most_workers}
@@ -13,30 +13,30 @@ use Rattle.btest_cli.specs.declared.failure.Unread.TheVariants as unread
 use Rattle.btest_cli.specs.Texts.{Held, Wanted, Reading, Read, TooLong, Asks, IsRead, IsReadUpTo, names_in}
 use Rattle.btest_cli.specs.inner.Failures.{wanted_view}
 
--- a reading, behind texts that were read before
+-- a reading, after texts that were read before
 abbrev pub behind : List Text → Reading → Reading
 behind front (Read texts) = Read (front ++ texts)
 behind front (TooLong wanted) = TooLong wanted
 
--- these texts were read of what is wanted: what reading more gives stands behind them
+-- these texts were read as `wanted`, and what reading more texts gives comes after them
 abbrev pub Continues : Held → List Wanted → List Text → Type 0
 Continues held wanted front = (rest : List Wanted) (reading : Reading) → IsRead held rest reading → IsRead held (wanted ++ rest) (behind front reading)
 
--- some first texts were asked for
+-- some first texts were asked for, and no others
 pub record AsksFirst (wanted : List Wanted) (asked asked' : List Text) : Type 0 where
   pub first : List Text
   pub others : List Text
   pub are : names_in wanted ≡ first ++ others
   pub asks : Asks asked asked' first
 
--- what was read, as which these texts stand
+-- a value that was read, with the texts that it has
 pub record IsReadOf {A : Type 0} (Of : A → List Text → Type 0) (wanted : List Wanted) (held : Held) (asked asked' : List Text) (value : A) : Type 0 where
   pub texts : List Text
   pub stands : Of value texts
   pub continues : Continues held wanted texts
   pub asks : Asks asked asked' (names_in wanted)
 
--- why texts were not all read, whatever is wanted behind them, and which were asked for
+-- why texts were not all read, whatever is to be read after them, and which of them were asked for
 abbrev pub IsUnread : List Wanted → Held → (Text → ℕ) → (Text → ℕ) → List Text → List Text → Unread → Type 0
 IsUnread wanted held before now asked asked' (unread.TooLong last) = ((rest : List Wanted) → IsRead held (wanted ++ rest) (TooLong (wanted_view last))) × IsReadUpTo held wanted (wanted_view last) asked asked'
 IsUnread wanted held before now asked asked' (unread.Failed last) = IsReadUpTo held wanted (wanted_view last) asked asked' × Rose (before last.name.now) (now last.name.now)
@@ -46,20 +46,20 @@ abbrev pub TellsRead : {A : Type 0} → (A → List Text → Type 0) → List Wa
 TellsRead Of wanted held before now asked asked' (Ok value) = IsReadOf Of wanted held asked asked' value
 TellsRead Of wanted held before now asked asked' (Err lost) = IsUnread wanted held before now asked asked' lost
 
--- what reading texts one after the other tells, and what it leaves of what a store holds, of its counts and of what it was asked for
+-- what reading texts in turn returns, and what it leaves of what a store holds, of its counts, and of the names that it was asked for
 pub record Reads {A : Type 0} (Of : A → List Text → Type 0) (wanted : List Wanted) (held held' : Held) (before now : Text → ℕ) (asked asked' : List Text) (result : Result A Unread) : Type 0 where
   pub same : held' ≡ held
   pub later : (name : Text) → before name ≤ now name
   pub told : TellsRead Of wanted held before now asked asked' result
 
--- the number of a request is in its range: that of the parts of a board that is to be made, or of the workers of diagnoses
+-- the number of a request is in its range: the parts of a board to make, or the workers of diagnoses
 abbrev pub IsNumbered : Request → Type 0
 IsNumbered (Make parts) = (1 ≤ parts) × (parts ≤ most_made)
 IsNumbered (Diagnose workers texts) = (1 ≤ workers) × (workers ≤ most_workers)
 IsNumbered (Batch workers texts) = (1 ≤ workers) × (workers ≤ most_workers)
 IsNumbered other = Unit {0}
 
--- what was read, as its texts in order
+-- the texts of what was read, in order
 abbrev pub IsOne : Text → List Text → Type 0
 IsOne text texts = texts ≡ text ∷ []
 
