@@ -1,4 +1,4 @@
--- A text is read as a log or a batch exactly where it holds that by its lines.
+-- A text is read as a log or a batch exactly if its lines hold one.
 use Rattle.std.proofs.Common.{◌≡◌, ◌↔◌, ℕ, ◌*◌, Bool, List, [], ◌∷◌, length, Ok}
 use Rattle.std.specs.Prelude.{All, count_by}
 use Rattle.board_defs.specs.declared.board.Ctl.{Ctl}

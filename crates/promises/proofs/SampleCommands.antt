@@ -1,5 +1,6 @@
--- What each command promises, seen from the text that a run put: a text that is another one, or worth less, is refused, and so is one that
--- was put, or begun, for files that denote no board or hold no log of it. The files hold any texts of which what is said here holds.
+-- What each command promises, seen from the text that a run wrote: a text that is another one, or worth less, is refused, and so is one
+-- that was written, or begun, for files that denote no board or hold no log of it. The files may have any texts with the properties
+-- stated here.
 use Rattle.std.proofs.Common.{◌≡◌, ◌≢◌, ◌↔◌, ◌⊎◌, ◌∙◌, ℕ, ◌+◌, ◌≤◌, Bool, true, false, List, [], ◌∷◌, ◌++◌, length, sum, Option, Some, None, Ok, refl, sym, ap, subst, length-append, arith}
 use Rattle.std.specs.Prelude.{codes}
 use Rattle.board_defs.specs.declared.board.RawBoard.{RawBoard}

@@ -1,6 +1,6 @@
--- Runs that break what is promised, one for each thing that a promise says, worked by hand: each breaks that thing alone. And runs of which
--- a promise must speak, since only the read of another name failed, or only a write of the notes; and some that break nothing. The texts of
--- files are any texts of which what is said here holds.
+-- Runs that break a promise, one for each thing that a promise says, worked by hand. Each breaks that thing alone. There are also runs that
+-- a promise must cover, since only the read of another name failed, or only a write to the notes; and some that break nothing. The files
+-- may have any texts with the properties stated here.
 use Rattle.std.proofs.Common.{◌≡◌, ◌⊎◌, ◌∙◌, ℕ, zero, suc, ◌+◌, ◌<◌, ◌≤◌, Bool, true, false, List, [], ◌∷◌, ◌++◌, length, map, cond, Option, Some, None, Result, Ok, Err, refl, sym, ap, subst, inl, inr, length-append, arith}
 use Rattle.std.specs.Prelude.{Contains, codes, take}
 use Rattle.std.specs.Str.{bytes_eq}

@@ -1,4 +1,4 @@
--- What each status but Done tells, from the clauses of `run`.
+-- What each status other than Done implies, from the clauses of `run`.
 use Rattle.std.proofs.Common.{◌≡◌, ◌≢◌, ◌⊎◌, ◌∙◌, ℕ, List, [], ◌∷◌, ◌++◌, map, Option, Some, None, Result, Ok, Err, refl, sym, subst, inl, inr}
 use Rattle.std.specs.Prelude.{take}
 use Rattle.command_line.specs.Words.{Text, Command, command_of, names_of}

@@ -1,4 +1,4 @@
--- What each command promises, in the words of the board and of its model, and what each other status tells.
+-- What each command promises, in the words of the board and of its model, and what each other status means.
 use Rattle.std.specs.Prelude.{◌≡◌, ◌≢◌, ◌⊎◌, ◌↔◌, ℕ, ◌≤◌, Bool, true, false, List, [], ◌∷◌, ◌++◌, length, map, sum, take, Option, Some, Result, Ok, Err, AllPairs, Contains, Decides}
 use Rattle.bt_base.specs.Counts.{Rose}
 use Rattle.board_defs.specs.declared.board.RawBoard.{RawBoard}
@@ -55,8 +55,8 @@ TestsChain run =
     × ((wiring : Wiring) (parts : List TestLogic) → ir_lengths parts ≡ lengths → PassesOn wiring parts clocks)
     × ((wiring : Wiring) (parts : List TestLogic) → AreIrLengths (ir_lengths parts) → length parts ≢ length lengths → sum (ir_lengths parts) ≤ sum lengths → FailsOn wiring parts clocks))
 
--- `ident`: the text has a meaning. On every chain of parts with the patterns of the files it passes where each code fits its pattern, and
--- fails where some code does not, whatever the pins capture
+-- `ident`: the text has a meaning. On every chain of parts with the patterns of the files it passes if each code fits its pattern, and
+-- fails if some code does not, whatever the pins capture
 abbrev pub TestsIdents : Run → Type 0
 TestsIdents run =
     (names : ChainNames) (chain : Text) (bsdl : List Text) (patterns : List (Option (List Symbol))) → RunsOn run (Ident names) (chain ∷ bsdl) → AreIdents chain bsdl (Ok patterns) →
@@ -70,39 +70,39 @@ ListsDevice run =
     (name text : Text) (device : RawDevice) → RunsOn run (Device name) (text ∷ []) → IsDeviceText text (Ok device) →
     Prints run (Device name) (λ listing. (listing ≡ device_text device) × IsDevice device)
 
--- `cover`: the text says of each net, pin and pair of nets of the board what is true of all its safe settings
+-- `cover`: the text says for each net, pin and pair of nets of the board what is true of all its safe settings
 abbrev pub ListsCover : Run → Type 0
 ListsCover run =
     (names : BoardNames) (chain nets : Text) (bsdl : List Text) (board : RawBoard) → RunsOn run (Cover names) (chain ∷ nets ∷ bsdl) → Denotes chain nets bsdl board →
     Prints run (Cover names) (λ text. (text ≡ cover_text board) × IsBoard board × IsCoverList board text)
 
--- `svf`: run by its meaning on the board from any state, the text is quiet after its reset whatever is faulty, passes where nothing is
--- faulty, and fails under every nonempty set of observable faults
+-- `svf`: run by its meaning on the board from any state, the text is quiet after its reset under every fault set, passes without faults,
+-- and fails under every nonempty set of observable faults
 abbrev pub TestsBoard : Run → Type 0
 TestsBoard run =
     (names : BoardNames) (chain nets : Text) (bsdl : List Text) (board : RawBoard) → RunsOn run (Svf names) (chain ∷ nets ∷ bsdl) → Denotes chain nets bsdl board →
     Prints run (Svf names) (λ text. (text ≡ board_text board) × (clocks : List Clock) × (meaning text ≡ Some clocks) × IsQuiet board clocks × PassOnBoard board no_faults clocks
     × ((faults : FaultSet) → IsObservable board faults → IsNonempty faults → FailOnBoard board faults clocks))
 
--- `walk`: run by its meaning on the board from any state, the text is quiet after its reset whatever is faulty, and passes where nothing is
+-- `walk`: run by its meaning on the board from any state, the text is quiet after its reset under every fault set; it passes without faults
 abbrev pub WalksBoard : Run → Type 0
 WalksBoard run =
     (names : BoardNames) (chain nets : Text) (bsdl : List Text) (board : RawBoard) → RunsOn run (Walk names) (chain ∷ nets ∷ bsdl) → Denotes chain nets bsdl board →
     Prints run (Walk names) (λ text. (text ≡ board_walk_text board) × (clocks : List Clock) × (meaning text ≡ Some clocks) × IsQuiet board clocks × PassOnBoard board no_faults clocks)
 
--- `make`: the text is the summary of the generated board. No file is read, so it holds of every store
+-- `make`: the text is the summary of the generated board. No file is read, so this holds for every store
 abbrev pub SumsUp : Run → Type 0
 SumsUp run =
     (parts : ℕ) (board : RawBoard) → RunsOn run (Make parts) [] → Denotes (made.chain_text parts) (made.net_text parts) (bsdl_text ∷ []) board → Prints run (Make parts) (λ text. text ≡ summary board)
 
--- the clocks of the board's test are those of its scans, by which a fault explains a log; each single fault explains some log; and all logs
+-- the text of the board's test means the clocks of the scans by which faults explain logs; each single fault explains a log; and all logs
 -- that it explains have the same compared bits
 pub record HasResponses (board : RawBoard) : Type 0 where
   pub means : meaning (board_text board) ≡ Some (test_clocks (svf_scans board))
   pub some : (single : Single) → IsSingle board single → (log : List (List Bool)) × Explains board single log
   pub one : (single : Single) (log other : List (List Bool)) → Explains board single log → Explains board single other → AgreeOn board (svf_row_scans board) log other
 
--- the log passes exactly where each compared bit is the expected one, and then nothing explains it; and the faults are exactly the single
+-- the log passes exactly if each compared bit is the expected one, and then nothing explains it; and the faults are exactly the single
 -- faults that explain it, each once and in order
 pub record IsDiagnosed (board : RawBoard) (log : List (List Bool)) (pass : Bool) (faults : List Single) : Type 0 where
   pub passes : Decides pass (IsExpected board (svf_row_scans board) log)
@@ -110,23 +110,23 @@ pub record IsDiagnosed (board : RawBoard) (log : List (List Bool)) (pass : Bool)
   pub exactly : (single : Single) → Contains faults single ↔ (IsSingle board single × Explains board single log)
   pub in_order : AllPairs SinglePrecedes faults
 
--- `diagnose`: of every text that holds a log of the board's test, the text that is printed says whether the log passes, and lists exactly the
--- single faults that explain it
+-- `diagnose`: if the file holds a log of the board's test, the printed text says whether the log passes, and lists exactly the single
+-- faults that explain it
 abbrev pub DiagnosesLog : Run → Type 0
 DiagnosesLog run =
     (workers : ℕ) (name : Text) (names : BoardNames) (log chain nets : Text) (bsdl : List Text) (board : RawBoard) (rows : List (List Bool)) →
     RunsOn run (Diagnose workers name names) (log ∷ chain ∷ nets ∷ bsdl) → Denotes chain nets bsdl board → HoldsLog board (svf_row_scans board) log rows →
     Prints run (Diagnose workers name names) (λ text. HasResponses board × (pass : Bool) × (faults : List Single) × IsDiagnosed board rows pass faults × (text ≡ diag_text board pass faults))
 
--- and a text is printed, or begun, only where the files denote a board and the log is one of its test
+-- and a text is printed, or begun, only if the files denote a board and the log is one of its test
 abbrev pub RestsOnLog : Run → Type 0
 RestsOnLog run =
     (workers : ℕ) (name : Text) (names : BoardNames) (log chain nets : Text) (bsdl : List Text) →
     RunsOn run (Diagnose workers name names) (log ∷ chain ∷ nets ∷ bsdl) → (run.status ≡ Done) ⊎ (run.status ≡ WriteFault) →
     (board : RawBoard) × Denotes chain nets bsdl board × (rows : List (List Bool)) × HoldsLog board (svf_row_scans board) log rows
 
--- `batch`: of every text that holds blocks with logs of the board's test, the text that is printed has, for each block in order, its title and
--- the diagnosis of its log by itself
+-- `batch`: if the file holds blocks with logs of the board's test, the printed text has, for each block in order, its title and the
+-- diagnosis of its log by itself
 abbrev pub DiagnosesBlocks : Run → Type 0
 DiagnosesBlocks run =
     (workers : ℕ) (name : Text) (names : BoardNames) (logs chain nets : Text) (bsdl : List Text) (board : RawBoard) (blocks : List Block) →
@@ -134,16 +134,16 @@ DiagnosesBlocks run =
     Prints run (Batch workers name names) (λ text. HasResponses board × (verdicts : List Verdict)
     × EachPair (λ block verdict. IsDiagnosed board block.log verdict.pass verdict.faults) blocks verdicts × (text ≡ batch_text board blocks verdicts))
 
--- and a text is printed, or begun, only where the files denote a board and the text holds blocks with logs of its test
+-- and a text is printed, or begun, only if the files denote a board and the text holds blocks with logs of its test
 abbrev pub RestsOnBlocks : Run → Type 0
 RestsOnBlocks run =
     (workers : ℕ) (name : Text) (names : BoardNames) (logs chain nets : Text) (bsdl : List Text) →
     RunsOn run (Batch workers name names) (logs ∷ chain ∷ nets ∷ bsdl) → (run.status ≡ Done) ⊎ (run.status ≡ WriteFault) →
     (board : RawBoard) × Denotes chain nets bsdl board × (blocks : List Block) × HoldsBlocks board logs blocks
 
--- `groups`: of every text that holds a log of the walking test, the text that is printed names the one set of groups of nets that walk with
--- which, each group shorted so that a 1 wins and nothing else faulty, every run gives the log's compared bits, or says that there is none. Each
--- set gives some log, and all logs that it gives have the same compared bits
+-- `groups`: if the file holds a log of the walking test, the printed text names the one set of groups of walk nets that explains it, or
+-- says that there is none. A set explains a log if every run gives the log's compared bits, with each group shorted so that a 1 wins and
+-- nothing else faulty. Each set explains some log, and all logs that it explains have the same compared bits
 abbrev pub FindsGroups : Run → Type 0
 FindsGroups run =
     (name : Text) (names : BoardNames) (log chain nets : Text) (bsdl : List Text) (board : RawBoard) (rows : List (List Bool)) →
@@ -160,13 +160,13 @@ RestsOnWalkLog run =
     RunsOn run (Groups name names) (log ∷ chain ∷ nets ∷ bsdl) → (run.status ≡ Done) ⊎ (run.status ≡ WriteFault) →
     (board : RawBoard) × Denotes chain nets bsdl board × (rows : List (List Bool)) × HoldsLog board (walk_row_list board) log rows
 
--- Usage comes exactly where the words ask for no command, unless memory ran out. The store is as it was
+-- Usage comes exactly if the words ask for no command, unless memory ran out. The store is as it was
 abbrev pub TellsUsage : Run → Type 0
 TellsUsage run =
     (run.status ≡ Usage → AsksNothing run × PutsNothing run × Notes run usage_line)
     × (AsksNothing run → ((run.status ≡ Usage) ⊎ (run.status ≡ NoMemory)) × (run.new.asked ≡ run.old.asked) × (run.new.unread ≡ run.old.unread) × (run.new.held ≡ run.old.held))
 
--- Refused comes exactly where the files have a first fault, unless a read of one failed or memory ran out, and its line is told
+-- Refused comes exactly if the files have a first fault, unless a read of one failed or memory ran out, and the notes take its line
 abbrev pub TellsFault : Run → Type 0
 TellsFault run =
     (run.status ≡ Refused → PutsNothing run)
@@ -174,36 +174,36 @@ TellsFault run =
     (run.status ≡ Refused → AsksFor run (names_of command) × ((line : Text) × Gives command texts (Err line) × Notes run line))
     × ((line : Text) → Gives command texts (Err line) → (run.status ≢ Done) × (run.status ≢ WriteFault) × EndsWith run command Refused))
 
--- so it does where a file is longer than it may be. Where it is refused, no file behind it was asked for; where memory ran out, some
--- may have been (`TellsMemory`)
+-- the same if a file is longer than allowed. If the run is refused, no file after this one was asked for; if memory ran out, some may
+-- have been (`TellsMemory`)
 abbrev pub TellsLong : Run → Type 0
 TellsLong run =
     (command : Command) (file : Wanted) → Asks run command → (long : IsTooLong run.old.held (files_of command) file) →
     (run.status ≡ Refused → AsksFor run (map (λ f. f.name) long.before ++ file.name ∷ []) × Notes run (long_line file.name file.limit))
     × (run.status ≢ Done) × (run.status ≢ WriteFault) × EndsWith run command Refused
 
--- what the files of a command give, where the store holds them: what their texts give, or else the line of the first that is too long
+-- what the files of a command give, if the store holds them: what their texts give, or else the line of the first that is too long
 abbrev pub FilesGive : Run → Command → Result Text Text → Type 0
 FilesGive run command outcome =
     ((texts : List Text) × HoldsEach run.old.held (files_of command) texts × Gives command texts outcome)
     ⊎ ((file : Wanted) × IsTooLong run.old.held (files_of command) file × (outcome ≡ Err (long_line file.name file.limit)))
 
--- Done and WriteFault come only where the words ask for a command whose files give a text, and Refused only where they give a line
+-- Done and WriteFault come only if the words ask for a command whose files give a text, and Refused only if they give a line
 abbrev pub RestsOnFiles : Run → Type 0
 RestsOnFiles run =
     (run.status ≡ Done → (command : Command) × Asks run command × (text : Text) × FilesGive run command (Ok text) × Puts run text)
     × (run.status ≡ WriteFault → (command : Command) × Asks run command × (text : Text) × FilesGive run command (Ok text) × (count : ℕ) × Puts run (take count text))
     × (run.status ≡ Refused → (command : Command) × Asks run command × (line : Text) × FilesGive run command (Err line) × Notes run line)
 
--- where the words ask for a command and no read of its files failed, its files give a text or a line, unless memory ran out; and texts that
+-- if the words ask for a command and no read of its files failed, its files give a text or a line, unless memory ran out; and texts that
 -- the store holds for them give one or the other, however the run ends
 abbrev pub FindsOutcome : Run → Type 0
 FindsOutcome run =
     ((command : Command) → Asks run command → NoReadFailed run command → run.status ≢ NoMemory → (outcome : Result Text Text) × FilesGive run command outcome)
     × ((command : Command) (texts : List Text) → RunsOn run command texts → (outcome : Result Text Text) × Gives command texts outcome)
 
--- ReadFault comes only where the words ask for a command and a read of one of its files failed. It is named, those before it were asked for
--- and none behind it, and a store that tells its files holds those before it
+-- ReadFault comes only if the words ask for a command and a read of one of its files failed. The notes name this file. The files before it
+-- were asked for, and none after it. A store that tells its files holds those before it
 abbrev pub TellsUnread : Run → Type 0
 TellsUnread run =
     run.status ≡ ReadFault → PutsNothing run
@@ -211,14 +211,14 @@ TellsUnread run =
     × Rose (run.old.unread file.name) (run.new.unread file.name) × AsksFor run (map (λ f. f.name) before ++ file.name ∷ []) × Notes run (read_line file.name)
     × ((held : Text → Option Text) → run.old.held ≡ Some held → (texts : List Text) × HoldsEach run.old.held before texts)
 
--- WriteFault comes only where a write of the output failed, and the output took some first bytes of the text
+-- WriteFault comes only if a write of the output failed, and the output took some first bytes of the text
 abbrev pub TellsUnwritten : Run → Type 0
 TellsUnwritten run =
     run.status ≡ WriteFault → Rose run.old.unwritten run.new.unwritten × Notes run write_line
     × ((command : Command) (texts : List Text) → RunsOn run command texts → AsksFor run (names_of command) × ((text : Text) × Gives command texts (Ok text) × (count : ℕ) × Puts run (take count text)))
 
--- where memory ran out, nothing was put, and some first files were asked for, each once and in order. Files behind one that is too long
--- may be among them
+-- if memory ran out, nothing was written to the output, and some first files were asked for, each once and in order. Files after one that
+-- is too long may be among them
 abbrev pub TellsMemory : Run → Type 0
 TellsMemory run =
     run.status ≡ NoMemory → PutsNothing run × Notes run memory_line × ((command : Command) → Asks run command → (count : ℕ) × AsksFor run (take count (names_of command)))

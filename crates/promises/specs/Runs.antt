@@ -12,7 +12,7 @@ use Rattle.btest_cli.specs.declared.status.Status.{Status}
 use Rattle.btest_cli.specs.declared.status.Status.TheVariants.{Done, NoMemory}
 use Rattle.promises.specs.declared.desk.Desk.{Desk}
 
--- what a store tells that it holds under each name, if it does; the names that it was asked for, and how often a read of each failed;
+-- the text that a store holds under each name, if the store tells; the names that it was asked for, and how often a read of each failed;
 -- what the output and the notes took, and how often a write to each failed
 pub record Ends : Type 0 where
   pub held : Held
@@ -33,7 +33,7 @@ pub record Run : Type 0 where
 abbrev pub run_of : List (String Global) → Ends → Ends → Status → Run
 run_of words old new status = record { words = map string_bytes words; old = old; new = new; status = status }
 
--- the ends by what a store tells, with an output and notes in memory
+-- the ends, from what a store tells, with an output and notes in memory
 abbrev pub ends_of : Held → List Text → (Text → ℕ) → MemSink → MemSink → Ends
 ends_of held asked unread out notes = record { held = held; asked = asked; unread = unread; out = taken_of out; unwritten = faults_of out; notes = taken_of notes; unnoted = faults_of notes }
 
@@ -43,9 +43,9 @@ desk_ends desk = ends_of (Some (text_of desk.store)) (asked_of desk.store) (λ n
 abbrev pub desk_run : List (String Global) → Desk → Desk → Status → Run
 desk_run words old new status = run_of words (desk_ends old) (desk_ends new) status
 
--- The most BSDL files and the most workers stand here as numerals, not by the names that the reader of the words has for them: this is what
--- the program promises, and a limit that is changed there alone breaks it. The most parts of a board that is made have their name, and samples
--- hold it to 255.
+-- The limits on BSDL files and on workers are numerals here, not the names that the reader of the words has for them. They are promises of
+-- the program, so a limit that is changed only in the reader breaks a proof here. The limit on the parts of a generated board has its name,
+-- and samples fix it at 255.
 
 -- these words, then a chain file and at most 255 BSDL files
 abbrev pub ThenChain : List Text → ChainNames → List Text → Type 0
@@ -55,7 +55,7 @@ ThenChain front names words = (words ≡ front ++ names.chain ∷ names.bsdl) ×
 abbrev pub ThenBoard : List Text → BoardNames → List Text → Type 0
 ThenBoard front names words = (words ≡ front ++ names.chain ∷ names.nets ∷ names.bsdl) × (length names.bsdl ≤ 255)
 
--- the words of each command. A board that is made has 1 to 255 parts, and there are 1 to 64 workers
+-- the words of each command. A generated board has 1 to 255 parts, and there are 1 to 64 workers
 abbrev pub AreWords : Command → List Text → Type 0
 AreWords (Chain names) words = ThenChain (codes "chain" ∷ []) names words
 AreWords (Ident names) words = ThenChain (codes "ident" ∷ []) names words
@@ -72,15 +72,15 @@ AreWords (Batch workers log names) words = (number : Text) × (number_of 64 numb
 abbrev pub Asks : Run → Command → Type 0
 Asks run command = AreWords command run.words × (list_all is_plain run.words ≡ true)
 
--- it has the words of none
+-- the run has the words of no command
 abbrev pub AsksNothing : Run → Type 0
 AsksNothing run = (command : Command) → Asks run command → ⊥
 
--- files of these names, of which each may have 4 MiB
+-- files of these names, each with at most 4 MiB
 abbrev pub texts_called : List Text → List Wanted
 texts_called names = map (λ name. record { name = name; limit = 4194304 }) names
 
--- the files of a command in their order. One with logs may have 64 MiB
+-- the files of a command, in order. A file of logs may have 64 MiB
 abbrev pub files_of : Command → List Wanted
 files_of (Diagnose workers log names) = record { name = log; limit = 67108864 } ∷ texts_called (board_names names)
 files_of (Groups log names) = record { name = log; limit = 67108864 } ∷ texts_called (board_names names)
@@ -92,14 +92,14 @@ abbrev pub Holds : Held → Text → Text → Type 0
 Holds None name text = ⊥
 Holds (Some held) name text = held name ≡ Some text
 
--- so it does for each of these files, and no text is too long
+-- the store does so for each of these files, and no text is too long
 abbrev pub HoldsEach : Held → List Wanted → List Text → Type 0
 HoldsEach held [] [] = Unit {0}
 HoldsEach held [] (text ∷ texts) = ⊥
 HoldsEach held (file ∷ files) [] = ⊥
 HoldsEach held (file ∷ files) (text ∷ texts) = Holds held file.name text × (length text ≤ file.limit) × HoldsEach held files texts
 
--- the file is the first of these that is longer than it may be, and the store holds those before it
+-- the file is the first of these that is longer than allowed, and the store holds those before it
 pub record IsTooLong (held : Held) (files : List Wanted) (file : Wanted) : Type 0 where
   pub before : List Wanted
   pub after : List Wanted
@@ -110,7 +110,7 @@ pub record IsTooLong (held : Held) (files : List Wanted) (file : Wanted) : Type 
   pub holds : Holds held file.name text
   pub long : file.limit < length text
 
--- the run is one of the command, for whose files the store holds these texts
+-- the words ask for the command, and the store holds these texts for its files
 abbrev pub RunsOn : Run → Command → List Text → Type 0
 RunsOn run command texts = Asks run command × HoldsEach run.old.held (files_of command) texts
 
@@ -118,11 +118,11 @@ RunsOn run command texts = Asks run command × HoldsEach run.old.held (files_of 
 abbrev pub NoReadFailed : Run → Command → Type 0
 NoReadFailed run command = (name : Text) → Contains (names_of command) name → Rose (run.old.unread name) (run.new.unread name) → ⊥
 
--- where no read failed, the run ends with this status, or memory ran out
+-- if no read failed, the run ends with this status, or memory ran out
 abbrev pub EndsWith : Run → Command → Status → Type 0
 EndsWith run command status = NoReadFailed run command → (run.status ≡ status) ⊎ (run.status ≡ NoMemory)
 
--- the store was asked for these names, one after the other, and for no other
+-- the store was asked for these names, in turn, and for no other
 abbrev pub AsksFor : Run → List Text → Type 0
 AsksFor run names = run.new.asked ≡ run.old.asked ++ names
 
@@ -133,12 +133,12 @@ Puts run bytes = run.new.out ≡ run.old.out ++ bytes
 abbrev pub PutsNothing : Run → Type 0
 PutsNothing run = run.new.out ≡ run.old.out
 
--- the notes took this line, or some first bytes of it where a write to them failed
+-- the notes took this line, or some first bytes of it if a write to them failed
 abbrev pub Notes : Run → Text → Type 0
 Notes run line = (run.new.notes ≡ run.old.notes ++ line) ⊎ (Rose run.old.unnoted run.new.unnoted × ((count : ℕ) × (run.new.notes ≡ run.old.notes ++ take count line)))
 
--- at Done each file was asked for once and in order, the output took exactly a text of which P holds, and the notes took nothing; and Done
--- it is, unless a read of a file or a write of the output failed or memory ran out
+-- at Done each file was asked for once and in order, the output took exactly a text for which P holds, and the notes took nothing. The
+-- status is Done unless a read of a file or a write of the output failed or memory ran out
 pub record Prints (run : Run) (command : Command) (P : Text → Type 0) : Type 0 where
   pub asks : run.status ≡ Done → AsksFor run (names_of command)
   pub puts : run.status ≡ Done → (text : Text) × Puts run text × P text

@@ -1,4 +1,4 @@
-// A run on a store, an output and notes in memory.
+// A run with a store, an output and notes in memory.
 ghost use Rattle.promises.specs.Runs.{desk_run, ends_of, run_of};
 ghost use Rattle.promises.specs.Logs.{LinesAreRead};
 ghost use Rattle.promises.specs.inner.Facts.{IsRun, SayOne};
@@ -45,7 +45,7 @@ impl Desk {
     }
 }
 
-/// Runs a command line on any store.
+/// Runs a command line with any store.
 pub(crate) fn run_on<R: Threads + Sync, S: Store, G: Gate>(
     rt: &R,
     alloc: Global,
@@ -65,7 +65,7 @@ pub(crate) fn run_on<R: Threads + Sync, S: Store, G: Gate>(
     run(rt, alloc, words, store, out, notes, gate)
 }
 
-/// Logs are read by their lines, and a text that is read as one holds it by its lines.
+/// A text is read as a log or a batch exactly if its lines hold one.
 pub fn lines_are_read()
     ensures { LinesAreRead }
 {

@@ -9,7 +9,7 @@ use std::alloc::Global;
 use std::thread::Threads;
 
 impl Desk {
-    /// `chain` tells a chain with the parts of its files from one with another number of them.
+    /// `chain` tells a chain with the parts of its files from one with another number of parts.
     pub fn chain<R: Threads + Sync, G: Gate>(
         &mut self,
         rt: &R,
@@ -45,7 +45,7 @@ impl Desk {
         self.run(rt, words, gate)
     }
 
-    /// `cover` says what no safe setting tests.
+    /// `cover` says for each net, pin and pair of nets what holds under all safe settings.
     pub fn cover<R: Threads + Sync, G: Gate>(
         &mut self,
         rt: &R,
@@ -71,7 +71,7 @@ impl Desk {
         self.run(rt, words, gate)
     }
 
-    /// `diagnose` lists exactly the single faults that explain a log, and prints only where there is one.
+    /// `diagnose` lists exactly the single faults that explain a log, and prints only if there is one.
     pub fn diagnose<R: Threads + Sync, G: Gate>(
         &mut self,
         rt: &R,
@@ -85,7 +85,7 @@ impl Desk {
         self.run(rt, words, gate)
     }
 
-    /// `batch` gives for each block its title and the diagnosis of its log by itself, and prints only where there are such
+    /// `batch` gives for each block its title and the diagnosis of its log by itself, and prints only if there are such
     /// blocks.
     pub fn batch<R: Threads + Sync, G: Gate>(
         &mut self,
@@ -100,7 +100,7 @@ impl Desk {
         self.run(rt, words, gate)
     }
 
-    /// `groups` names the one set of groups that explains a log, or says that there is none, and prints only where there is a
+    /// `groups` names the set of groups that explains a log, or says that there is none, and prints only if there is a
     /// log.
     pub fn groups<R: Threads + Sync, G: Gate>(
         &mut self,
@@ -115,7 +115,7 @@ impl Desk {
         self.run(rt, words, gate)
     }
 
-    /// Words that are no command, and they alone, are answered by the usage line, and no file is read.
+    /// Words that are no command, and no others, are answered by the usage line, and no file is read.
     pub fn usage<R: Threads + Sync, G: Gate>(
         &mut self,
         rt: &R,
@@ -127,9 +127,9 @@ impl Desk {
         self.run(rt, words, gate)
     }
 
-    /// A text is printed only where the words ask for a command whose files give it, and Refused comes only where they give
-    /// the line that it tells; of the lines of other statuses this says nothing. Files that were read or that the store
-    /// holds give one or the other.
+    /// A text is printed only if the words ask for a command whose files give it. Refused comes only if the files give the
+    /// line that is written. This says nothing about the lines of other statuses. Files that were read or that the store holds
+    /// give a text or a line.
     pub fn outcome<R: Threads + Sync, G: Gate>(
         &mut self,
         rt: &R,
@@ -142,7 +142,7 @@ impl Desk {
         self.run(rt, words, gate)
     }
 
-    /// Files with a first fault, and they alone, are refused, by its line.
+    /// Files with a first fault, and no others, are refused with its line.
     pub fn refused<R: Threads + Sync, G: Gate>(
         &mut self,
         rt: &R,
@@ -155,7 +155,7 @@ impl Desk {
         self.run(rt, words, gate)
     }
 
-    /// Where the text was not written whole, a write failed.
+    /// If the text was not written whole, a write failed.
     pub fn write_fault<R: Threads + Sync, G: Gate>(
         &mut self,
         rt: &R,
@@ -167,7 +167,7 @@ impl Desk {
         self.run(rt, words, gate)
     }
 
-    /// Where memory ran out, nothing is put.
+    /// If memory ran out, nothing is written to the output.
     pub fn no_memory<R: Threads + Sync, G: Gate>(
         &mut self,
         rt: &R,
@@ -195,7 +195,7 @@ pub fn make<R: Threads + Sync, S: Store, G: Gate>(
     run_on(rt, alloc, words, store, out, notes, gate)
 }
 
-/// A file that was not read is named, and a read of it failed, whatever the store.
+/// If a file was not read, it is named, and a read of it failed, whatever the store.
 pub fn read_fault<R: Threads + Sync, S: Store, G: Gate>(
     rt: &R,
     alloc: Global,
