@@ -1,4 +1,4 @@
-// One run on texts and sinks in memory, and what it left.
+// One run with texts and sinks in memory, and what it left.
 use crate::board::{HEAD, TAIL};
 use crate::devices::DEVICES;
 use crate::row::{Ending, Named, RowFault};
@@ -8,7 +8,7 @@ use btest_cli::{Status, run};
 use std::alloc::{AllocError, Global};
 use std::thread::Threads;
 
-// The line of refusal of words that are no command.
+// The line of refusal for words that are no command.
 const USAGE: &str =
     "usage: btest chain, device, cover, svf, diagnose, make, ident, walk, groups or batch\n";
 
@@ -18,14 +18,14 @@ pub struct Bench {
     alloc: Global,
     /// The texts by their names.
     pub store: MemStore,
-    /// What the run put.
+    /// The text that the run wrote.
     pub out: MemSink,
     /// Its lines of refusal.
     pub notes: MemSink,
 }
 
 impl Bench {
-    /// An empty store, and sinks with ample room.
+    /// Returns a bench with an empty store, and sinks with ample room.
     pub fn empty(alloc: Global) -> Result<Bench, AllocError> {
         Ok(Bench {
             alloc,
@@ -35,7 +35,7 @@ impl Bench {
         })
     }
 
-    /// A store with a chain file `c`, a net file `n`, and the texts of the worked devices by their names.
+    /// Returns a bench with a chain file `c`, a net file `n`, and the texts of the worked devices under their names.
     pub fn with_board(alloc: Global, chain: &str, nets: &str) -> Result<Bench, AllocError> {
         let mut bench = Bench::empty(alloc)?;
         for (name, text) in &DEVICES {
@@ -46,7 +46,7 @@ impl Bench {
         Ok(bench)
     }
 
-    /// A store with the texts of a generated board of 60 devices, `c`, `n` and `gen`, and a sink with room for its tests.
+    /// Returns a bench with the texts of a generated board of 60 devices, `c`, `n` and `gen`, and a sink with room for its tests.
     pub fn with_sixty_devices(alloc: Global) -> Result<Bench, AllocError> {
         let made = make(alloc, 60)?;
         let mut bench = Bench::empty(alloc)?;
@@ -57,7 +57,7 @@ impl Bench {
         Ok(bench)
     }
 
-    /// Adds texts to the store, or puts them in the place of those of their names.
+    /// Adds texts to the store. A text replaces one of the same name.
     pub fn add(&mut self, texts: &[Named]) -> Result<(), AllocError> {
         for (name, text) in texts {
             text.add_to(self.alloc, &mut self.store, name)?;
@@ -65,7 +65,7 @@ impl Bench {
         Ok(())
     }
 
-    /// Runs a command line, whose words are separated by spaces. An empty line has no word.
+    /// Runs a command line, whose words are separated by spaces. An empty line has no words.
     pub fn run(&mut self, rt: &(impl Threads + Sync), line: &str) -> Result<Status, AllocError> {
         self.run_watched(rt, line, &OpenGate)
     }
@@ -86,7 +86,7 @@ impl Bench {
         Ok(self.run_words(rt, &words, gate))
     }
 
-    /// Runs the words of a command line.
+    /// Runs the words of a command line. The pieces of its work enter this gate.
     pub fn run_words(
         &mut self,
         rt: &(impl Threads + Sync),
@@ -104,12 +104,12 @@ impl Bench {
         )
     }
 
-    // Whether this is all that the sinks took.
+    // Returns whether the sinks took exactly this.
     fn took(&self, out: &[u8], notes: &str) -> bool {
         self.out.bytes() == out && self.notes.bytes() == notes.as_bytes()
     }
 
-    /// Runs a command line, and compares what it left with how the row of a table is to end.
+    /// Runs a command line, and checks what it left against the row's ending.
     pub fn ends(
         &mut self,
         rt: &(impl Threads + Sync),
@@ -122,7 +122,7 @@ impl Bench {
         self.expect(table, row, status, ending)
     }
 
-    /// Compares what the run of a row left with how it is to end.
+    /// Checks what the run of a row left against the row's ending.
     pub fn expect(
         &self,
         table: &'static str,
@@ -137,7 +137,7 @@ impl Bench {
         }
     }
 
-    // Whether a run with this status left what it should.
+    // Returns whether a run with this status left what it should.
     fn has_ended(&self, status: Status, ending: Ending) -> Result<bool, AllocError> {
         match ending {
             Ending::Puts(text) => Ok(status == Status::Done && self.took(text.as_bytes(), "")),

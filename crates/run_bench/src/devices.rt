@@ -188,7 +188,7 @@ attribute BOUNDARY_REGISTER of FOUR : entity is
 end FOUR;
 "#;
 
-/// A driver of one open-drain output, which its own cell turns off.
+/// A driver with one open-drain output, which its own cell turns off.
 pub const OD: &str = r#"entity OD is
 generic (PHYSICAL_PIN_MAP : string := "P");
 port (TDI, TMS, TCK : in bit; TDO : out bit; Q : out bit);
@@ -208,7 +208,7 @@ attribute BOUNDARY_REGISTER of OD : entity is
 end OD;
 "#;
 
-/// A device of 2001 with the driver's outputs.
+/// A device of 2001 with the outputs of `DRV`.
 pub const DRV1: &str = r#"entity DRV1 is
 generic (PHYSICAL_PIN_MAP : string := "P");
 port (TDI, TMS, TCK : in bit; TDO : out bit; Q : out bit_vector(1 to 2));
@@ -285,7 +285,7 @@ CELL 4 INPUT OE_N X
 CELL 4 CONTROL * 1
 "#;
 
-/// The texts of the worked devices by their names.
+/// The texts of the worked devices, with their names.
 pub const DEVICES: [(&str, &str); 11] = [
     ("drv", DRV),
     ("drv1", DRV1),

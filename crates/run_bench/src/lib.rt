@@ -1,5 +1,5 @@
-//! Runs on texts and sinks in memory, for the crates that test whole runs. A run is proved here once, and no contract says how it ends:
-//! the tests that compare it then have little to prove.
+//! Runs with texts and sinks in memory, for the crates that test whole runs. A run is proved here once, and no contract says how it ends.
+//! So the tests that compare its ending have little to prove.
 #![tactic(auto)]
 
 mod bench;

@@ -1,4 +1,4 @@
-// Runs with how they end, in tables.
+// Runs and how they end, in tables.
 use crate::bench::Bench;
 use crate::board::{CHAIN, NETS};
 use crate::text::Text;
@@ -8,36 +8,36 @@ use std::alloc::{AllocError, Global};
 use std::thread::Threads;
 use thiserror::Error;
 
-/// How a run ends: its status, the text that it puts and its line of refusal. What is not named is empty.
+/// How a run ends: its status, the text that it writes, and its line of refusal. What is not named is empty.
 #[derive(Clone, Copy)]
 pub enum Ending<'a> {
-    /// This text was put.
+    /// This text was written.
     Puts(&'a str),
-    /// This text was put, which is large.
+    /// This large text was written.
     PutsAll(Text),
-    /// An SVF text of these scans was put.
+    /// The SVF text of these scans was written.
     Scans(&'a str),
-    /// A text of so many bytes was put.
+    /// A text of this many bytes was written.
     Long(usize),
-    /// The run is done. What it put is not compared.
+    /// The run is done. What it wrote is not compared.
     Done,
     /// The texts are refused with this line.
     Refused(&'a str),
     /// A text was not read, and this is the line.
     NotRead(&'a str),
-    /// The text was cut short: these bytes of it and of the line were taken.
+    /// The text was cut short. The sinks took these bytes of it and of the line.
     NotPut(&'a str, &'a str),
     /// The words are no command.
     Usage,
 }
 
-/// A text by its name.
+/// The name of a text, and the text.
 pub type Named = (&'static str, Text);
 
 /// A run and how it ends.
 #[derive(Clone, Copy)]
 pub struct Row {
-    /// Texts that the store holds beside others or in their place.
+    /// Texts for the store. They are added, or replace others of the same name.
     pub texts: &'static [Named],
     /// The words, separated by spaces.
     pub line: &'static str,
@@ -50,24 +50,24 @@ pub struct Row {
 pub enum Trouble {
     /// This read, counted from 1.
     Read(u32),
-    /// This put, counted from 1, after so many bytes.
+    /// This put, counted from 1, after this many bytes.
     Put(u32, u32),
-    /// Standard output, after so many bytes.
+    /// Standard output, after this many bytes.
     Out(u32),
-    /// Standard error, after so many bytes.
+    /// Standard error, after this many bytes.
     Notes(u32),
 }
 
-/// A text and how a run on it ends.
+/// A text, and how a run with it ends.
 pub type Run = (Text, Ending<'static>);
 
-/// A line or a log, and how the run ends.
+/// A line or a log, and how its run ends.
 pub type Line = (&'static str, Ending<'static>);
 
-/// What a text has, what comes in its place, and the line of refusal behind the text's name.
+/// A piece of a text, what replaces it, and the line of refusal after the text's name.
 pub type Change = (&'static str, &'static str, &'static str);
 
-/// A chain file, a net file, the words behind their names, and the line of refusal.
+/// A chain file, a net file, the words after their names, and the line of refusal.
 pub type Case = (&'static str, &'static str, &'static str, &'static str);
 
 /// The rows of a table.
@@ -77,19 +77,19 @@ pub enum Rows {
     Runs(&'static [Row]),
     /// Runs in which something fails.
     Failing(&'static [(Trouble, Row)]),
-    /// Lines.
+    /// Lines, each run by itself.
     Lines(&'static [Line]),
-    /// A line with each of these logs, which is the text `g`.
+    /// A line that is run with each of these logs, as the text `g`.
     Logs(&'static str, &'static [Line]),
-    /// A line with each of these texts, by the name.
+    /// A line that is run with each of these texts, under this name.
     Texts(&'static str, &'static str, &'static [Run]),
-    /// The listing of a device with a place of its text changed.
+    /// The listing of a device. In each row one piece of the device's text is changed.
     Devices(&'static str, &'static [Change]),
-    /// Boards that each command of a board refuses with the same line.
+    /// Boards. Each command on a board refuses them with the same line.
     Boards(&'static [Case]),
-    /// Lines that are no command, so nothing is read: the first read would fail.
+    /// Lines that are no command, so nothing is read. The first read would fail.
     NoCommands(&'static [&'static str]),
-    /// A line, and how often a word, with a space before it, follows.
+    /// A line with a word after it this many times, each time after a space.
     Words(&'static str, &'static str, &'static [(usize, Ending<'static>)]),
 }
 
@@ -98,7 +98,7 @@ pub enum Rows {
 pub struct Table {
     /// What the rows show.
     pub name: &'static str,
-    /// Texts that the store holds beside a board of a driver and a receiver and the worked devices, or in their place.
+    /// Texts for the store, besides a board of a driver and a receiver and the worked devices, or in their place.
     pub texts: &'static [Named],
     /// The rows.
     pub rows: Rows,
@@ -107,7 +107,7 @@ pub struct Table {
 /// Why a table does not hold.
 #[derive(Debug, Drop, Error)]
 pub enum RowFault {
-    /// The first row that does not end as it says, from 0, with its table and the status that its run had.
+    /// The first row that does not end as it says, counted from 0, with its table and the status of its run.
     #[error("{table}: row {row} ended otherwise, with {status:?}")]
     Ended {
         /// The name of the table.
@@ -117,7 +117,7 @@ pub enum RowFault {
         /// How its run ended.
         status: Status,
     },
-    /// What a row compares beside how its run ends is something else.
+    /// Something else that the row compares is not as it says.
     #[error("{table}: row {row} gives something else")]
     Other {
         /// The name of the table.
@@ -135,7 +135,7 @@ impl From<AllocError> for RowFault {
     }
 }
 
-/// Returns the row as the error, unless it holds.
+/// Returns an error that names the row, unless `holds` is true.
 pub fn expect(table: &'static str, row: usize, holds: bool) -> Result<(), RowFault> {
     if holds {
         Ok(())
@@ -144,7 +144,7 @@ pub fn expect(table: &'static str, row: usize, holds: bool) -> Result<(), RowFau
     }
 }
 
-/// Tries each row of each table.
+/// Runs each row of each table.
 pub fn tables_hold(
     rt: &(impl Threads + Sync),
     alloc: Global,
@@ -259,7 +259,7 @@ fn texts_hold(
     Ok(())
 }
 
-// Changes are of the text `drv`.
+// Changes are made to the text `drv`.
 fn devices_hold(
     rt: &(impl Threads + Sync),
     alloc: Global,
@@ -277,8 +277,8 @@ fn devices_hold(
     Ok(())
 }
 
-// The commands of a board, with the names of its files. Where they read a log it comes after the board, so it makes no difference that
-// this one is wrong.
+// The commands on a board, with the names of its files. A fault of a log comes after the faults of the board, so it makes no difference
+// that the log `g` is wrong.
 const COMMANDS: [&str; 6] = [
     "cover c n",
     "svf c n",
@@ -347,7 +347,7 @@ fn words_hold(
     Ok(())
 }
 
-/// Tries each line on the texts of a generated board of 60 devices: `c`, `n`, `gen` and, as `g`, this log.
+/// Runs each line with the texts of a generated board of 60 devices: `c`, `n`, `gen` and, as `g`, this log.
 pub fn sixty_devices_hold(
     rt: &(impl Threads + Sync),
     alloc: Global,

@@ -1,4 +1,4 @@
-// The texts of rows. A large one is said by how it is made.
+// The texts of rows. A large text is given by how it is made.
 use bt_base::MemStore;
 use std::alloc::{AllocError, Global};
 
@@ -7,46 +7,46 @@ use std::alloc::{AllocError, Global};
 pub enum Text {
     /// These characters.
     Plain(&'static str),
-    /// These bytes, which need be no characters.
+    /// These bytes, which need not be characters.
     Bytes(&'static [u8]),
-    /// A text in which each of these places is changed: what stands there, and what comes in its place.
+    /// A text with replaced pieces: each old piece, and its replacement.
     Edited(&'static str, &'static [(&'static str, &'static str)]),
-    /// A piece that is repeated so often.
+    /// A piece, repeated this many times.
     Repeated(&'static str, usize),
-    /// So many first lines of a text, and what follows them.
+    /// This many first lines of a text, and what follows them.
     Front(&'static str, usize, &'static str),
-    /// First lines of a text, and a piece that is repeated between a head and a tail.
+    /// The first lines of a text, then a head, a piece that is repeated, and a tail.
     Filled {
         /// The text.
         of: &'static str,
-        /// How many of its lines.
+        /// The number of its lines.
         lines: usize,
-        /// What stands before the pieces.
+        /// What comes before the pieces.
         head: &'static str,
         /// The piece.
         piece: &'static str,
-        /// How often it stands there.
+        /// The number of pieces.
         count: usize,
-        /// What stands behind the pieces.
+        /// What comes after the pieces.
         tail: &'static str,
     },
-    /// A head, and a piece for each number of `first..end`, in which the number stands in place of each `#`.
+    /// A head, and a piece for each number of `first..end`. The number replaces each `#` of the piece.
     Numbered {
-        /// What stands before the pieces.
+        /// What comes before the pieces.
         head: &'static str,
         /// The piece.
         piece: &'static str,
         /// The first number.
         first: u32,
-        /// The number behind the last one.
+        /// The number after the last one.
         end: u32,
     },
-    /// The BSDL text of a device of this name with so many internal cells.
+    /// The BSDL text of a device with this name and this many internal cells.
     Cells(&'static str, u32),
 }
 
 impl Text {
-    /// Returns its bytes.
+    /// Returns the bytes of the text.
     pub fn bytes(&self, alloc: Global) -> Result<Vec<u8>, AllocError> {
         match self {
             Text::Plain(text) => text.as_bytes().to_vec(alloc),
@@ -72,7 +72,7 @@ impl Text {
         }
     }
 
-    /// Adds it to a store.
+    /// Adds the text to a store.
     pub fn add_to(
         &self,
         alloc: Global,
@@ -84,7 +84,7 @@ impl Text {
     }
 }
 
-// The text with each of these places changed.
+// Returns the text with each of these pieces replaced.
 fn edited(alloc: Global, text: &str, edits: &[(&str, &str)]) -> Result<Vec<u8>, AllocError> {
     let mut edited = String::from_str(alloc, text)?;
     for (old, new) in edits {
@@ -93,7 +93,7 @@ fn edited(alloc: Global, text: &str, edits: &[(&str, &str)]) -> Result<Vec<u8>, 
     Ok(edited.into_bytes())
 }
 
-// First lines of a text, a head, a piece that is repeated, and a tail.
+// Returns the first lines of a text, a head, a piece that is repeated, and a tail.
 fn filled(
     alloc: Global,
     of: &str,
