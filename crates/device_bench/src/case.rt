@@ -6,7 +6,7 @@ use thiserror::Error;
 /// Why a table of cases does not hold.
 #[derive(Debug, Drop, Error)]
 pub enum CaseFault {
-    /// The first case that ends otherwise, from 0, and how it ends.
+    /// The first case that ends otherwise, counted from 0, and how it ends.
     #[error("case {case} ends otherwise: {found}")]
     Ended {
         /// The number of the case.
@@ -17,7 +17,7 @@ pub enum CaseFault {
     /// A text has 2^32 bytes or more.
     #[error("too long")]
     TooLong,
-    /// A string that is to have a value has none.
+    /// A string that must have a value has none.
     #[error("{0}")]
     String(StringFault),
     #[error("out of memory")]
@@ -42,7 +42,7 @@ impl From<StringFault> for CaseFault {
     }
 }
 
-/// Compares how a case ends with how it should.
+/// Compares how a case ends with how it should end.
 pub fn compare(case: usize, found: String, wanted: &str) -> Result<(), CaseFault> {
     if found.as_str() == wanted {
         Ok(())

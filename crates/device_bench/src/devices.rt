@@ -1,4 +1,4 @@
-// Devices of texts.
+// The devices that texts describe.
 ghost use Rattle.std.specs.Prelude.{◌<◌, ◌^◌, length};
 
 use crate::case::{CaseFault, compare};
@@ -10,18 +10,18 @@ use bsdl_parser::{ParseFault, parse};
 use device_check::{DeviceFault, device};
 use std::alloc::{AllocError, Global};
 
-/// Why a text has no device.
+/// Why a text describes no device.
 #[derive(Debug, Drop)]
 pub enum TextFault {
-    /// It has no list of tokens.
+    /// The text has no list of tokens.
     Lex(LexFault),
     /// Its tokens derive no entity.
     Parse(ParseFault),
-    /// Its entity is none that can be used.
+    /// Its entity cannot be used.
     Device(DeviceFault),
 }
 
-/// Tries each text, with its own package: its device, or the line of its fault.
+/// Checks each text, in its default package: its device, or the line of its fault.
 pub fn devices_hold(alloc: Global, cases: &[(Source, &'static str)]) -> Result<(), CaseFault> {
     for (case, (source, wanted)) in cases.iter().enumerate() {
         let text = source.bytes(alloc)?;
@@ -30,7 +30,7 @@ pub fn devices_hold(alloc: Global, cases: &[(Source, &'static str)]) -> Result<(
     Ok(())
 }
 
-/// Tries a text with each of these packages: its device, or the line of its fault.
+/// Checks a text with each of these packages: its device, or the line of its fault.
 pub fn packages_hold(
     alloc: Global,
     source: Source,
@@ -43,7 +43,7 @@ pub fn packages_hold(
     Ok(())
 }
 
-/// The device of a text.
+/// Returns the device that a text describes.
 pub fn device_of(alloc: Global, text: &[u8], package: Option<&[u8]>) -> Result<Device, TextFault>
     requires { length text.now < 2 ^ 32 }
 {
@@ -60,7 +60,7 @@ pub fn device_of(alloc: Global, text: &[u8], package: Option<&[u8]>) -> Result<D
     }
 }
 
-/// The line of a fault.
+/// Returns the line of a fault.
 pub fn shown_fault(alloc: Global, fault: &TextFault) -> Result<String, AllocError> {
     match fault {
         TextFault::Lex(fault) => format!(in alloc; "{fault}"),
@@ -78,7 +78,7 @@ fn shown(alloc: Global, text: &[u8], package: Option<&[u8]>) -> Result<String, A
     }
 }
 
-/// The entity, the package, the edition, the codes, and the pin of each port bit.
+/// Returns the entity, the package, the edition and the codes of a device, and the pin of each port bit.
 fn shown_device(alloc: Global, device: &Device) -> Result<String, AllocError> {
     let raw = device.raw();
     let mut shown = String::new(alloc);

@@ -1,4 +1,4 @@
-// What texts say of a device, with one rule broken at a time, and the device that it describes.
+// What texts say of a device, with one rule broken at a time, and the device that such a text describes.
 ghost use Rattle.std.specs.Prelude.{◌≡◌, true};
 ghost use Rattle.device_rules.specs.Rules.{HasShortLists};
 
@@ -29,7 +29,7 @@ struct Texts {
     entries: &'static str,
 }
 
-/// One place of a text that is another than in a text without fault.
+/// A place at which a text differs from a text without faults.
 #[derive(Clone, Copy)]
 pub enum Change {
     /// No place.
@@ -48,7 +48,7 @@ pub enum Change {
     Map(&'static str),
     /// INSTRUCTION_OPCODE.
     Opcodes(&'static str),
-    /// INSTRUCTION_OPCODE of a text of 2001.
+    /// INSTRUCTION_OPCODE, in a text of 2001.
     Of2001(&'static str),
     /// INSTRUCTION_CAPTURE.
     Capture(&'static str),
@@ -58,7 +58,7 @@ pub enum Change {
     Entries(u32, &'static str),
 }
 
-/// Tries each change: the rule that it breaks and the item, or zeros where it breaks none.
+/// Checks each change: the rule that it breaks and the item, or zeros if it breaks none.
 pub fn rules_hold(alloc: Global, cases: &[(Change, (u32, u32))]) -> Result<(), CaseFault> {
     for (case, (change, (rule, item))) in cases.iter().enumerate() {
         expect_rule(alloc, case, &changed(&[*change]), *rule, *item)?;
@@ -90,14 +90,14 @@ fn expect_rule(
     Ok(())
 }
 
-/// Tries these changes together: each port bit with its index, its pin, whether it is of the TAP and whether the
-/// compliance patterns name it, then each cell with its port bit, and how many ones the preload code has.
+/// Checks these changes together. The result has each port bit with its index, its pin, whether it belongs to the TAP and whether
+/// the compliance patterns name it; then each cell with its port bit; and the number of ones in the preload code.
 pub fn draft_holds(alloc: Global, changes: &[Change], wanted: &str) -> Result<(), CaseFault> {
     let shown = shown_device(alloc, &changed(changes))?;
     compare(0, shown, wanted)
 }
 
-/// What the text of a device of two outputs says, with these changes.
+/// Returns what the text of a device of two outputs says, with these changes.
 fn changed(changes: &[Change]) -> Texts {
     let mut texts = sound();
     for change in changes {
@@ -225,7 +225,7 @@ fn no_taps(alloc: Global) -> TapPorts {
     }
 }
 
-/// The draft of a text that says nothing.
+/// Returns the draft of a text that says nothing.
 fn empty_draft(alloc: Global) -> Draft {
     Draft {
         entity: no_name(alloc),
@@ -244,7 +244,7 @@ fn empty_draft(alloc: Global) -> Draft {
     }
 }
 
-/// Adds what the strings say.
+/// Adds the values of the strings.
 fn fill_strings(alloc: Global, texts: &Texts, draft: &mut Draft) -> Result<(), CaseFault> {
     draft.opcodes = opcodes_of(alloc, texts.opcodes)?;
     draft.capture = code_of(alloc, texts.capture)?;
@@ -255,7 +255,7 @@ fn fill_strings(alloc: Global, texts: &Texts, draft: &mut Draft) -> Result<(), C
     Ok(())
 }
 
-/// Makes an empty draft that of these texts.
+/// Fills an empty draft with these texts.
 fn fill(alloc: Global, texts: &Texts, draft: &mut Draft) -> Result<(), CaseFault> {
     draft.entity = name(alloc, "DRV")?;
     draft.package = name(alloc, "P")?;
@@ -275,13 +275,13 @@ fn is_short(draft: &Draft) -> bool
         && draft.entries.len() < 1000
 }
 
-/// The rule and the item, or zeros where no rule is broken.
+/// Returns the number of the rule that is broken and the item, or zeros if none is broken.
 fn broken(alloc: Global, texts: &Texts) -> Result<(u32, u32), CaseFault> {
     let mut draft = empty_draft(alloc);
     filled_broken(alloc, texts, &mut draft)
 }
 
-/// Fills an empty draft, and tries the rules.
+/// Fills an empty draft, and tries the rules on it.
 fn filled_broken(alloc: Global, texts: &Texts, draft: &mut Draft) -> Result<(u32, u32), CaseFault> {
     fill(alloc, texts, draft)?;
     if !is_short(draft) {

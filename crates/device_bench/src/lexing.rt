@@ -1,11 +1,11 @@
-// Tokens of texts.
+// The tokens of texts.
 use crate::case::{CaseFault, compare};
 use crate::shown::add_bytes;
 use crate::source::Source;
 use bsdl_lexer::{LexFault, Token, lex};
 use std::alloc::{AllocError, Global};
 
-/// Tries each text: how the search for its tokens ends, and after how many.
+/// Checks each text: how the search for its tokens ends, and after how many tokens.
 pub fn lexings_hold(
     alloc: Global,
     cases: &[(Source, Result<(), LexFault>, usize)],
@@ -22,7 +22,7 @@ pub fn lexings_hold(
     Ok(())
 }
 
-/// Tries each text: its tokens, each on a line with its kind, its bytes and the number of its line.
+/// Checks each text: its tokens, each on a line of its own with its kind, its bytes and the number of its line.
 pub fn tokens_hold(alloc: Global, cases: &[(Source, &'static str)]) -> Result<(), CaseFault> {
     for (case, (source, wanted)) in cases.iter().enumerate() {
         let text = source.bytes(alloc)?;

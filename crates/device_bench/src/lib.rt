@@ -1,5 +1,5 @@
-//! Comparisons of what BSDL texts denote with what is wanted, for the crate that tests them. Each is proved here once, and no contract
-//! says how it ends: a test is then a table and one call, and has little to prove.
+//! Checks of what BSDL texts denote, for the crate that tests them. Each is proved here once, and no contract says how it ends.
+//! So a test is a table and one call, and has little to prove.
 #![tactic(auto)]
 
 mod case;

@@ -1,4 +1,4 @@
-// Listings of the devices of texts.
+// The listings of the devices that texts describe.
 use crate::case::CaseFault;
 use crate::devices::{device_of, shown_fault};
 use crate::shown::add_bytes;
@@ -9,14 +9,14 @@ use bt_bits::Line;
 use device_check::write_device;
 use std::alloc::{AllocError, Global};
 
-/// What is wanted of a listing.
+/// What a listing must be.
 #[derive(Clone, Copy)]
 enum Wanted<'a> {
-    /// It is this text.
+    /// This text.
     Whole(&'a str),
-    /// It ends in this text.
+    /// A text that ends with this one.
     End(&'a str),
-    /// It fails where this put fails, with so many bytes taken, which end in this text.
+    /// It fails at this put. The sink has taken this many bytes, and the last of them are this text.
     Cut(u32, usize, &'a str),
 }
 
@@ -32,7 +32,7 @@ impl Wanted<'_> {
     }
 }
 
-/// Tries each text: the listing of its device.
+/// Checks each text: the listing of its device.
 pub fn listings_hold(alloc: Global, cases: &[(Source, &'static str)]) -> Result<(), CaseFault> {
     let mut line = Line::new(alloc)?;
     for (case, (source, wanted)) in cases.iter().enumerate() {
@@ -41,13 +41,13 @@ pub fn listings_hold(alloc: Global, cases: &[(Source, &'static str)]) -> Result<
     Ok(())
 }
 
-/// Tries a text: the last lines of the listing of its device.
+/// Checks the last lines of the listing of a text's device.
 pub fn listing_ends(alloc: Global, source: Source, end: &str) -> Result<(), CaseFault> {
     let mut line = Line::new(alloc)?;
     try_source(alloc, 0, &source, Wanted::End(end), &mut line)
 }
 
-/// Tries the listing of a text's device with each of these puts that fails: how many bytes are taken, and their end.
+/// Checks the listing of a text's device with each of these failing puts: how many bytes the sink takes, and the last of them.
 pub fn cuts_hold(
     alloc: Global,
     source: Source,
@@ -85,7 +85,7 @@ fn try_source(
     }
 }
 
-/// Tries the listing of a device. The line may hold what an earlier one left.
+/// Checks the listing of a device. The line may hold what an earlier listing left.
 fn try_device(
     alloc: Global,
     case: usize,
@@ -113,7 +113,7 @@ fn described(alloc: Global, case: usize, source: &Source) -> Result<Device, Case
     }
 }
 
-/// The fault of a case that ends so.
+/// Returns the fault of a case that ends like this.
 fn ended(case: usize, found: Result<String, AllocError>) -> CaseFault {
     match found {
         Ok(found) => CaseFault::Ended { case, found },

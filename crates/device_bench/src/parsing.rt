@@ -1,4 +1,4 @@
-// Entities of texts.
+// The entities that texts describe.
 ghost use Rattle.std.specs.Prelude.{◌<◌, ◌^◌, length};
 
 use crate::case::{CaseFault, compare};
@@ -8,10 +8,10 @@ use bsdl_lexer::{LexFault, lex};
 use bsdl_parser::{Attr, AttrValue, Entity, ParseFault, Port, parse};
 use std::alloc::{AllocError, Global};
 
-/// How the reading of a text ends.
+/// How reading a text ends.
 #[derive(Clone, Copy, Debug, PartialEq, Eq)]
 pub enum Reading {
-    /// It describes an entity.
+    /// The text describes an entity.
     Entity,
     /// It has no list of tokens.
     Lex(LexFault),
@@ -19,7 +19,7 @@ pub enum Reading {
     Parse(ParseFault),
 }
 
-/// Tries each text: how its reading ends.
+/// Checks each text: how reading it ends.
 pub fn readings_hold(alloc: Global, cases: &[(Source, Reading)]) -> Result<(), CaseFault> {
     for (case, (source, wanted)) in cases.iter().enumerate() {
         let text = source.bytes(alloc)?;
@@ -35,7 +35,7 @@ pub fn readings_hold(alloc: Global, cases: &[(Source, Reading)]) -> Result<(), C
     Ok(())
 }
 
-/// Tries each text: what it says of its entity, an item on each line.
+/// Checks each text: what it says of its entity, one item on each line.
 pub fn entities_hold(alloc: Global, cases: &[(Source, &'static str)]) -> Result<(), CaseFault> {
     for (case, (source, wanted)) in cases.iter().enumerate() {
         let text = source.bytes(alloc)?;
@@ -48,7 +48,7 @@ pub fn entities_hold(alloc: Global, cases: &[(Source, &'static str)]) -> Result<
     Ok(())
 }
 
-/// The entity of a text, or how its reading ends.
+/// Returns the entity of a text, or how reading the text ends.
 fn entity_of(alloc: Global, text: &[u8]) -> Result<Entity, Reading>
     requires { length text.now < 2 ^ 32 }
 {
@@ -62,8 +62,8 @@ fn entity_of(alloc: Global, text: &[u8]) -> Result<Entity, Reading>
     }
 }
 
-/// The name and the package, what is used, the pin maps, the ports with their modes and ranges, and the attributes
-/// by their numbers.
+/// Returns the name and the package, what is used, the pin maps, the ports with their modes and ranges, and the attributes with
+/// their numbers.
 fn shown_entity(alloc: Global, entity: &Entity) -> Result<String, AllocError> {
     let mut shown = String::from_str(alloc, "entity ")?;
     add_bytes(entity.name.bytes(), &mut shown)?;

@@ -1,8 +1,8 @@
-// Names and codes as cases spell them.
+// Names and codes, as the cases write them.
 use board_defs::{Code, Symbol};
 use std::alloc::AllocError;
 
-/// The bytes of a name or a token.
+/// Appends the bytes of a name or a token.
 pub fn add_bytes(bytes: &[u8], shown: &mut String) -> Result<(), AllocError> {
     match std::str::from_utf8(bytes) {
         Ok(text) => shown.push_str(text),
@@ -10,7 +10,7 @@ pub fn add_bytes(bytes: &[u8], shown: &mut String) -> Result<(), AllocError> {
     }
 }
 
-/// The symbols as a string spells them, the bit nearest TDO last.
+/// Appends the symbols as a string has them, with the bit nearest TDO last.
 pub fn add_code(code: &Code, shown: &mut String) -> Result<(), AllocError> {
     for symbol in code.symbols().iter().rev() {
         match symbol {

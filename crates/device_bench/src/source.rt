@@ -1,10 +1,10 @@
-// The BSDL texts that cases are of.
+// The BSDL texts of cases.
 ghost use Rattle.std.specs.Prelude.{◌<◌, ◌^◌, length, IfOk};
 
 use crate::case::CaseFault;
 use std::alloc::{AllocError, Global};
 
-/// A two-bit driver. Its first entry stands on line 16.
+/// A two-bit driver. Its first entry is in line 16.
 pub const DRV: &str = "entity DRV is
 generic (PHYSICAL_PIN_MAP : string := \"P\");
 port (TDI, TMS, TCK : in bit; TDO : out bit; Q : out bit_vector(1 to 2));
@@ -25,8 +25,8 @@ attribute BOUNDARY_REGISTER of DRV : entity is
 end DRV;
 ";
 
-/// A two-bit three-state buffer, in two packages, mostly in lower case, with attributes in an unusual order and
-/// some that are not used.
+/// A two-bit three-state buffer, in two packages. It is mostly in lower case, its attributes are in an unusual order, and
+/// some of them are not used.
 pub const BUF2: &str = "-- two-bit three-state buffer
 entity buf2 is
   generic (physical_pin_map : string := \"dw\");
@@ -60,39 +60,39 @@ entity buf2 is
 end buf2;
 ";
 
-/// A line by its number, from 1, and what stands in its place.
+/// The number of a line, from 1, and what replaces the line.
 pub type Line = (usize, &'static str);
 
-/// A text that a case is of.
+/// The text of a case.
 #[derive(Clone, Copy)]
 pub enum Source {
     /// These bytes.
     Bytes(&'static [u8]),
     /// The buffer `BUF2`.
     Buffer,
-    /// The driver `DRV`, with others in place of these lines.
+    /// The driver `DRV`, with these lines replaced.
     Driver(&'static [Line]),
-    /// So many lines of the driver, and then this text.
+    /// This many lines of the driver, and then this text.
     Front(usize, &'static str),
-    /// So many lines of the driver, and then a text with a byte many times in it.
+    /// This many lines of the driver, and then a text with a byte many times in it.
     Filled {
-        /// How many lines of the driver stand first.
+        /// The number of lines of the driver.
         lines: usize,
-        /// What stands before the bytes.
+        /// What comes before the bytes.
         head: &'static str,
         /// The byte.
         byte: u8,
-        /// How often it stands there.
+        /// The number of these bytes.
         count: usize,
-        /// What stands behind the bytes.
+        /// What comes after the bytes.
         tail: &'static str,
     },
-    /// The driver, with a port of 500 bits on pins from 100 to 599 as its first port and in its pin map.
+    /// The driver, with a port of 500 bits in place of its outputs. Its pin map has this port alone, on pins 100 to 599.
     Wide,
 }
 
 impl Source {
-    /// The bytes of the text.
+    /// Returns the bytes of the text.
     pub fn bytes(&self, alloc: Global) -> Result<Vec<u8>, CaseFault>
         ensures { IfOk result (λ bytes. length bytes.items < 2 ^ 32) }
     {
@@ -105,7 +105,7 @@ impl Source {
     }
 }
 
-/// The bytes of a string that is short enough to be read.
+/// Returns the bytes of a string, if it is short enough to be read.
 pub fn bytes_of(text: &str) -> Result<&[u8], CaseFault>
     ensures { IfOk result (λ bytes. length bytes.now < 2 ^ 32) }
 {
@@ -151,7 +151,7 @@ fn add_line(line: &str, made: &mut Vec<u8>) -> Result<(), AllocError> {
     Ok(())
 }
 
-/// The driver, with others in place of these lines.
+/// Returns the driver, with these lines replaced.
 fn with_lines(alloc: Global, lines: &[(usize, &str)]) -> Result<Vec<u8>, AllocError> {
     let mut made = Vec::new(alloc);
     for (at, old) in DRV.lines().enumerate() {
@@ -163,7 +163,7 @@ fn with_lines(alloc: Global, lines: &[(usize, &str)]) -> Result<Vec<u8>, AllocEr
     Ok(made)
 }
 
-/// The first lines of the driver.
+/// Returns the first lines of the driver.
 fn front_of(alloc: Global, lines: usize) -> Result<Vec<u8>, AllocError> {
     let mut made = Vec::new(alloc);
     for line in DRV.lines().take(lines) {
@@ -172,7 +172,7 @@ fn front_of(alloc: Global, lines: usize) -> Result<Vec<u8>, AllocError> {
     Ok(made)
 }
 
-/// A pin map that gives a port D 500 pins of three digits.
+/// Returns a pin map that gives a port D 500 pins of three digits.
 fn wide_map(alloc: Global) -> Result<String, AllocError> {
     let mut map = String::from_str(alloc, "constant P : PIN_MAP_STRING := \"D:(100")?;
     for pin in 101..600u32 {

@@ -1,4 +1,4 @@
-// Values of strings inside texts.
+// The values of strings in texts.
 ghost use Rattle.std.specs.Prelude.{◌<◌, ◌^◌, length};
 
 use crate::case::CaseFault;
@@ -8,7 +8,7 @@ use board_defs::Symbol;
 use bsdl_strings::{Entry, PortWord, StringFault, boundary, compliance, opcodes, pattern, pin_map};
 use std::alloc::{AllocError, Global};
 
-/// What a string is.
+/// The kind of a string.
 #[derive(Clone, Copy)]
 pub enum Grammar {
     /// A pin map.
@@ -23,7 +23,7 @@ pub enum Grammar {
     Boundary,
 }
 
-/// Tries each string: its value, or the entry at which it leaves the grammar.
+/// Checks each string: its value, or the entry at which it leaves the grammar.
 pub fn strings_hold(
     alloc: Global,
     grammar: Grammar,
@@ -43,7 +43,7 @@ pub fn strings_hold(
     Ok(())
 }
 
-/// Tries a pattern: its symbols, the one nearest TDO first.
+/// Checks a pattern: its symbols, with the one nearest TDO first.
 pub fn symbols_hold(alloc: Global, text: &str, wanted: &[Symbol]) -> Result<(), CaseFault> {
     let found = match pattern(alloc, bytes_of(text)?) {
         Ok(code) => {

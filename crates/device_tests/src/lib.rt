@@ -1,4 +1,4 @@
-//! Tests of BSDL texts and of the devices that they describe, from tokens to listings, through what each crate has public.
+//! Tests of BSDL texts and of the devices that they describe, from tokens to listings, through the public calls of each crate.
 #![tactic(auto)]
 
 #[cfg(test)]

@@ -1,4 +1,4 @@
-//! Whole texts, read from their bytes on.
+//! Whole texts, read from their bytes.
 use bsdl_lexer::LexFault::{Byte, OpenString, TooMany};
 use bsdl_parser::ParseFault::{Expected, Package};
 use device_bench::Reading::{Entity, Lex, Parse};
@@ -23,13 +23,13 @@ static CHANGED: [(Source, Reading); 24] = [
         Driver(&[(2, "generic (PHYSICAL_PIN_MAP : string);\n")]),
         Entity,
     ),
-    // a byte that begins nothing, and a string that is not closed
+    // a byte that begins no token, and a string that is not closed
     (
         Driver(&[(4, "\u{7}use STD_1149_1_1994.all;\n")]),
         Lex(Byte(4)),
     ),
     (Driver(&[(16, "\"0 (BC_1,\n")]), Lex(OpenString(16))),
-    // a word where an integer is wanted; ten digits; a clock of another kind
+    // a word instead of an integer; ten digits; a clock of another kind
     (
         Driver(&[(11, "attribute INSTRUCTION_LENGTH of DRV : entity is two;\n")]),
         Parse(Expected(11)),
@@ -48,7 +48,7 @@ static CHANGED: [(Source, Reading); 24] = [
         )]),
         Parse(Expected(10)),
     ),
-    // an attribute that is not used; one that is not used and not closed
+    // an attribute that is not used; one that is neither used nor closed
     (
         Driver(&[(
             14,
@@ -57,7 +57,7 @@ static CHANGED: [(Source, Reading); 24] = [
         Entity,
     ),
     (Driver(&[(14, "attribute FOO\n")]), Entity),
-    // attributes that are needed at most once, and inout and linkage ports
+    // attributes that may be there at most once, and inout and linkage ports
     (
         Driver(&[(
             18,
@@ -79,7 +79,7 @@ static CHANGED: [(Source, Reading); 24] = [
         )]),
         Entity,
     ),
-    // what stands behind the file
+    // the end of the entity, and what comes after it
     (Driver(&[(18, "end ;\n-- package\n")]), Entity),
     (
         Driver(&[(18, "end DRV;\npackage X is\n")]),
@@ -137,7 +137,7 @@ fn parts_of_texts(rt: HostRuntime) -> Result<(), CaseFault> {
 }
 
 static LARGE: [(Source, Reading); 2] = [
-    // a nest that is not used
+    // deep parentheses in an attribute that is not used
     (
         Filled {
             lines: 17,
@@ -148,7 +148,7 @@ static LARGE: [(Source, Reading); 2] = [
         },
         Entity,
     ),
-    // a token more than may be
+    // one token too many
     (
         Filled {
             lines: 0,

@@ -1,4 +1,4 @@
-//! What texts say of a device, with one broken rule at a time, and the device that a draft describes.
+//! What texts say of a device, with one broken rule at a time, and the device that such a text describes.
 use device_bench::{CaseFault, Change, draft_holds, orders_hold, rules_hold};
 
 static PORTS_AND_PINS: [(Change, (u32, u32)); 20] = [
@@ -40,14 +40,14 @@ static INSTRUCTIONS: [(Change, (u32, u32)); 20] = [
     (Change::Opcodes("SAMPLE (10), EXTEST (01)"), (6, 2)),
     (Change::Opcodes("SAMPLE (10), EXTEST (01, X0)"), (0, 0)),
     (Change::Opcodes("SAMPLE (10), BYPASS (10)"), (6, 3)),
-    // one of several codes is enough, and X fits
+    // one of several codes is enough, and X fits any bit
     (Change::Opcodes("SAMPLE (10), BYPASS (10, 11)"), (0, 0)),
     (Change::Opcodes("SAMPLE (10), BYPASS (1X)"), (0, 0)),
     (Change::Of2001("SAMPLE (10)"), (6, 2)),
     (Change::Of2001("PRELOAD (11), SAMPLE (10)"), (6, 1)),
     (Change::Of2001("PRELOAD (00), EXTEST (0X)"), (6, 2)),
     (Change::Of2001("PRELOAD (00), EXTEST (01)"), (0, 0)),
-    // SAMPLE is not loaded where PRELOAD is listed
+    // SAMPLE does not preload if PRELOAD is listed
     (
         Change::Of2001("SAMPLE (11), PRELOAD (00), EXTEST (01)"),
         (0, 0),

@@ -11,7 +11,7 @@ static PIN_MAPS: [(&str, Result<&str, u32>); 18] = [
         "oe_n:A1, a:(A2,A3), y:(B1,B2), gnd:C1, vcc:C2, tdi:D1, tms:D2, tck:D3, tdo:D4",
         Ok("OE_N A1; A A2 A3; Y B1 B2; GND C1; VCC C2; TDI D1; TMS D2; TCK D3; TDO D4; "),
     ),
-    // one pin in parentheses; blanks around all parts, and none; a pin that begins with `_`
+    // one pin in parentheses; blanks around all parts, and no blanks; a pin that begins with `_`
     ("A:(1)", Ok("A 1; ")),
     ("\t A\t: ( 1 , 2 ) , B : 3 ", Ok("A 1 2; B 3; ")),
     ("A:(1,2),B:_3", Ok("A 1 2; B _3; ")),
@@ -21,11 +21,11 @@ static PIN_MAPS: [(&str, Result<&str, u32>); 18] = [
     ("A", Err(1)),
     ("3A:1, B:2", Err(1)),
     (",A:1", Err(1)),
-    // a comma missing behind the first, a middle and the last entry
+    // a comma is missing after the first, a middle and the last entry
     ("A:1 B:2, C:3", Err(1)),
     ("A:1, B:2 C:3", Err(2)),
     ("A:1, B:(1,2), C:3 D", Err(3)),
-    // a comma at the end; a group that is not closed, and one of no pin
+    // a comma at the end; a group that is not closed, and one without pins
     ("A:1, B:2,", Err(3)),
     ("A:1, B:(1,2, C:3", Err(2)),
     ("A:1, B:()", Err(2)),
@@ -53,7 +53,7 @@ static OPCODES: [(&str, Result<&str, u32>); 11] = [
     ("", Err(1)),
     ("BYPASS (12), SAMPLE (10)", Err(1)),
     ("BYPASS 11", Err(1)),
-    // no code; a blank inside a code; a comma behind the last code
+    // no code; a blank inside a code; a comma after the last code
     ("BYPASS (11), SAMPLE (), EXTEST (00)", Err(2)),
     ("BYPASS (11), SAMPLE (1 0)", Err(2)),
     ("BYPASS (11), SAMPLE (10), EXTEST (00,)", Err(3)),
@@ -98,7 +98,7 @@ static COMPLIANCE: [(&str, Result<&str, u32>); 16] = [
     ("() (1)", Err(1)),
     ("(A,) (1)", Err(1)),
     ("(A(1234567890)) (1)", Err(1)),
-    // the second is missing, not of codes, or not the end
+    // the second is missing, has no codes, or is not the end
     ("(A)", Err(2)),
     ("(A),(1)", Err(2)),
     ("(A) (2)", Err(2)),
@@ -133,7 +133,7 @@ static BOUNDARY: [(&str, Result<&str, u32>); 17] = [
             "0 D Clock Zero; 1 * ControlR One; 2 * Internal Any; 3 D ObserveOnly Any; 4 D Bidir Any 1 false; ",
         ),
     ),
-    // each of the results
+    // each possible result
     (
         "0(C,D,OUTPUT2,1,0,1,WEAK0),1(C,D,OUTPUT2,1,1,1,WEAK1),2(C,D,OUTPUT3,0,999999999,1,PULL0),3(C,D,OUTPUT3,0,007,1,PULL1)",
         Ok(
