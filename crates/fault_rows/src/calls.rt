@@ -3,14 +3,14 @@ use run_bench::Text::Plain;
 use run_bench::{Bench, CHAIN, NETS, Named};
 use std::alloc::{AllocError, Global};
 
-/// A run that puts a text.
+/// A run that writes a text.
 #[derive(Clone, Copy)]
 pub struct Command {
     /// The words.
     pub line: &'static str,
-    /// The names of its texts, in their order.
+    /// The names of its texts, in order.
     pub names: &'static [&'static str],
-    /// The text that it puts.
+    /// The text that it writes.
     pub text: &'static str,
 }
 
@@ -77,14 +77,14 @@ pub const COMMANDS: [Command; 10] = [
     },
 ];
 
-/// Logs beside the board: one of its test, one of its walking test, and a batch.
+/// Logs of the board: one of its test, one of its walking test, and a batch.
 pub const LOGS: [Named; 3] = [
     ("g", Plain("0\n2\n")),
     ("w", Plain("3\n3\n")),
     ("b", Plain("BOARD A\n1\n2\nBOARD B\n0\n2\n")),
 ];
 
-/// The texts of all commands.
+/// Returns a bench with the texts of all commands.
 pub fn bench_of(alloc: Global) -> Result<Bench, AllocError> {
     let mut bench = Bench::with_board(alloc, CHAIN, NETS)?;
     bench.add(&LOGS)?;

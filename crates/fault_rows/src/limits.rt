@@ -11,7 +11,7 @@ const MOST: usize = 4_194_304;
 
 const MOST_OF_LOG: usize = 67_108_864;
 
-// The most bytes of the text of this name.
+// Returns the limit on the bytes of the text with this name.
 fn limit(name: &str) -> usize {
     if name == "g" || name == "w" || name == "b" {
         MOST_OF_LOG
@@ -20,7 +20,7 @@ fn limit(name: &str) -> usize {
     }
 }
 
-// Tries a command whose text of this name has one byte too many.
+// Checks a command whose text of this name has one byte too many.
 fn is_too_long(
     rt: &(impl Threads + Sync),
     alloc: Global,
@@ -35,7 +35,7 @@ fn is_too_long(
     bench.ends(rt, name, 0, line, Ending::Refused(&note))
 }
 
-// Tries a command whose text of this name has blanks behind it, as many as it may have.
+// Checks a command whose text of this name has blanks after it, up to the limit.
 fn may_be_as_long(
     rt: &(impl Threads + Sync),
     alloc: Global,

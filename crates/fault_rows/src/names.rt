@@ -1,4 +1,4 @@
-// The fault of each text, told by the name of that text.
+// The fault of each text, which is reported with the name of that text.
 use run_bench::Text::Plain;
 use run_bench::{Ending, Named, Row, RowFault, Rows, Table, tables_hold};
 
@@ -9,7 +9,7 @@ const LOGS: [Named; 3] = [
     ("b", Plain("BOARD A\n1\n2\n")),
 ];
 
-// A chain file, a net file and a BSDL text that are none.
+// A chain file, a net file and a BSDL text, none of which is valid.
 const CHAIN: Named = ("c", Plain("DEVICE U1 DRV\n"));
 
 const NETS: Named = ("n", Plain("NETS N1 U1.1\n"));

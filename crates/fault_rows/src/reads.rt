@@ -4,7 +4,7 @@ use run_bench::{Ending, RowFault};
 use std::alloc::Global;
 use std::thread::Threads;
 
-// Tries a failure of this read, counted from 1, of the text with this name, whatever the sink would do.
+// Checks a failure of read number `call`, counted from 1, of the text with this name. The sink would fail as well.
 fn ends_at(
     rt: &(impl Threads + Sync),
     alloc: Global,
@@ -19,7 +19,7 @@ fn ends_at(
     bench.ends(rt, name, call as usize, line, Ending::NotRead(&note))
 }
 
-// Tries a failure of each of a command's reads.
+// Checks a failure of each read of a command.
 fn ends_at_each(
     rt: &(impl Threads + Sync),
     alloc: Global,

@@ -6,12 +6,12 @@ use run_bench::{Ending, Row, RowFault, Rows, Table, Trouble, tables_hold};
 use std::alloc::Global;
 use std::thread::Threads;
 
-// The first characters of a text, so many or all that it has.
+// Returns the first `count` characters of a text, or all of them if it has fewer.
 fn first(text: &str, count: usize) -> &str {
     text.get(..count).unwrap_or(text)
 }
 
-// Tries a failure of this put, counted from 1, after so many bytes. The lines before it have `before` bytes.
+// Checks a failure of put number `call`, counted from 1, after `taken` bytes. The lines before it have `before` bytes.
 fn is_cut(
     rt: &(impl Threads + Sync),
     alloc: Global,
@@ -27,7 +27,7 @@ fn is_cut(
     bench.ends(rt, command.line, call as usize, command.line, ending)
 }
 
-// Tries a failure of the put of each line of a command's text after so many bytes.
+// Checks a failure of the put of each line of a command's text, after `taken` bytes.
 fn is_cut_at_each(
     rt: &(impl Threads + Sync),
     alloc: Global,
@@ -44,7 +44,7 @@ fn is_cut_at_each(
     Ok(())
 }
 
-// A write that fails leaves the lines before it, and may take a part of its own.
+// A failing write leaves the lines before it, and may take a part of its own.
 #[test]
 fn a_write_that_fails_leaves_the_lines_before_it(rt: HostRuntime) -> Result<(), RowFault> {
     for command in &COMMANDS {
@@ -66,7 +66,7 @@ fn puts_text(rt: &(impl Threads + Sync), alloc: Global, command: &Command) -> Re
     )
 }
 
-// The status stays where the notes take only a part of the line.
+// The status stays if the notes take only a part of the line.
 fn has_short_note(
     rt: &(impl Threads + Sync),
     alloc: Global,
@@ -88,7 +88,7 @@ fn every_command_puts_its_text_or_keeps_its_status(rt: HostRuntime) -> Result<()
     Ok(())
 }
 
-// A batch without a block has an empty text, which is put too.
+// A batch without a block has an empty text, which is put to the sink too.
 const EMPTY: [(Trouble, Row); 1] = [(
     Trouble::Put(1, 0),
     Row {

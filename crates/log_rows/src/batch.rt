@@ -13,7 +13,7 @@ const LOGS: [Line; 15] = [
     (TWO_BLOCKS, Ending::Puts(TWO_VERDICTS)),
     ("", Ending::Puts("")),
     ("# no board today\r\n\r\n", Ending::Puts("")),
-    // A name may repeat, and lines may have blanks and comments.
+    // A name may occur again, and lines may have blanks and comments.
     (
         " BOARD A # first\r\n\r\n1\r\n2\r\nBOARD A\n# again\n0\n0\n",
         Ending::Puts("BOARD A\nPASS\nBOARD A\nFAIL 1\nshort AND N1 N2\n"),
@@ -44,12 +44,12 @@ const LOGS: [Line; 15] = [
         "BOARD A\n1\nG\n2\n",
         Ending::Refused("g line 3: digit not allowed\n"),
     ),
-    // A word of a title in another place of a row.
+    // The word of a title as another word of a row.
     (
         "BOARD A\n1\n1 BOARD\n",
         Ending::Refused("g line 3: wrong length\n"),
     ),
-    // A title that is wrong comes before any fault of a log.
+    // A wrong title comes before any fault of a log.
     (
         "BOARD A\n1\nBOARD\n1\n2\n",
         Ending::Refused("g line 3: board not allowed\n"),
@@ -139,7 +139,7 @@ fn each_block_is_diagnosed_by_itself(rt: HostRuntime) -> Result<(), RowFault> {
     tables_hold(&rt, rt.alloc(), &TABLES)
 }
 
-// 10,000 blocks, and the text. Every second board has a net that stays at 0.
+// Appends 10,000 blocks, and the text for them. In every second block a net stays at 0.
 fn push_blocks(logs: &mut String, text: &mut String) -> Result<(), AllocError> {
     for number in 0..5_000 {
         write!(logs, "BOARD A{number}\n1\n2\nBOARD B{number}\n0\n2\n")?;

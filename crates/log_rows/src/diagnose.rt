@@ -28,7 +28,7 @@ const LOGS: [Line; 19] = [
     ("1\n\nG\n", Ending::Refused("g line 3: digit not allowed\n")),
     ("1\n2\n2\n", Ending::Refused("g line 3: row too many\n")),
     ("1\n2\nz z\n", Ending::Refused("g line 3: row too many\n")),
-    // A wrong row comes before one too many behind it.
+    // A wrong row comes before a row too many after it.
     (
         "G\n2\n2\n",
         Ending::Refused("g line 1: digit not allowed\n"),
@@ -81,7 +81,7 @@ const WORKERS: [Row; 10] = [
         line: "diagnose 1 g c",
         ending: Ending::Usage,
     },
-    // A fault of the other texts comes before one of the log, and a text that isn't there before both.
+    // A fault of the other texts comes before one of the log. A missing text comes before both.
     Row {
         texts: &[("g", Plain("zz\n")), ("c", Plain("DEVICE U1 DRV\n"))],
         line: "diagnose 1 g c n drv rcv",
@@ -134,12 +134,12 @@ const BOARDS: [Row; 4] = [
     },
 ];
 
-// A bus of two drivers, which two passes enable one after the other.
+// A bus with two drivers, which two passes enable in turn.
 const BUS: &str = "DEVICE U1 TS -\nDEVICE U2 TS -\nDEVICE U3 RCV1 -\n";
 
 const BUS_LOGS: [Line; 5] = [
     ("01\n00\n01\n00\n", Ending::Puts("PASS\n")),
-    // One driver alone is open, and its pass shows it.
+    // Only one driver is open, and its pass shows it.
     ("00\n00\n01\n00\n", Ending::Puts("FAIL 1\nopen U1.1 0\n")),
     ("01\n00\n01\n01\n", Ending::Puts("FAIL 1\nopen U2.1 1\n")),
     (
@@ -149,7 +149,7 @@ const BUS_LOGS: [Line; 5] = [
     ("00\n00\n01\n01\n", Ending::Puts("FAIL 0\n")),
 ];
 
-// Two controls that exclude each other: the first pass shows A and X, the second X and B.
+// Two controls that exclude each other. The first pass shows A and X, the second X and B.
 const APART: &str = "DEVICE U1 TWO -\nDEVICE U2 RCV -\nDEVICE U3 RCV -\n";
 
 const APART_NETS: &str = "NET A U1.1 U2.1\nNET X U1.2 U1.3 U2.2\nNET B U1.4 U3.1\n";
@@ -164,7 +164,7 @@ const APART_LOGS: [Line; 4] = [
         "000\n000\n000\n001\n009\n000\n",
         Ending::Puts("FAIL 1\nshort AND A X\n"),
     ),
-    // A and B are wrong, which are not paired.
+    // A and B, which are not paired, are wrong.
     ("000\n008\n000\n000\n008\n000\n", Ending::Puts("FAIL 0\n")),
 ];
 

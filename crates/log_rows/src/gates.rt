@@ -1,4 +1,4 @@
-// Gates that watch how the work on a log is shared out.
+// Gates that watch how the work on a log is divided.
 use bt_base::Gate;
 use run_bench::{Bench, CHAIN, Ending, NETS, RowFault, expect};
 use std::alloc::{AllocError, Global};
@@ -6,10 +6,10 @@ use std::sync::atomic::Ordering::SeqCst;
 use std::sync::atomic::{AtomicBool, AtomicU64};
 use std::thread::Threads;
 
-// How often an entry looks for the other pieces before it gives up.
+// The number of times that an entry looks for the other pieces before it gives up.
 const TURNS: u32 = 100_000_000;
 
-// The most pieces that a gate watches. A command has at most as many workers.
+// The largest number of pieces that a gate watches, which is the largest number of workers of a command.
 const PIECES: u64 = 64;
 
 // Returns a number of counters, all 0.
@@ -26,7 +26,7 @@ fn counters(alloc: Global, count: u64) -> Result<Vec<AtomicU64>, AllocError> {
 struct InStep {
     entries: Vec<AtomicU64>,
     held: u64,
-    // Some entry was held in vain. From then on none is held.
+    // Some entry was held in vain. After that no entry is held.
     late: AtomicBool,
 }
 
@@ -70,7 +70,7 @@ impl Gate for InStep {
     }
 }
 
-// The most entries of a piece that are recorded.
+// The largest number of entries of a piece that are recorded.
 const ENTRIES: u64 = 16;
 
 // A piece, and the item with which it entered.
@@ -139,7 +139,7 @@ impl Gate for Entries {
     }
 }
 
-// The texts of a board of a driver and a receiver, and this log of it.
+// Returns a bench with the texts of a board of a driver and a receiver, and this log of it.
 fn bench_of(alloc: Global, log: &str) -> Result<Bench, AllocError> {
     let mut bench = Bench::with_board(alloc, CHAIN, NETS)?;
     bench.store.add("g", log.as_bytes())?;
@@ -276,7 +276,7 @@ fn boards_are_shared(rt: HostRuntime) -> Result<(), RowFault> {
 // A log, the text that is written, the items with which the pieces of two workers enter, and the pieces.
 type Try = (&'static str, &'static str, &'static [u64], &'static [u64]);
 
-// Of a log that passes, no candidate is tried, and of one in which two nets differ their shorts alone.
+// For a log that passes the pieces try nothing. If two nets differ, they try the shorts of these nets.
 const TRIES: [Try; 2] = [
     ("1\n2\n", "PASS\n", &[], &[]),
     (

@@ -4,15 +4,15 @@ use std::alloc::{AllocError, Global};
 
 const DEVICES: u32 = 60;
 
-// The rows of a pass: 1,928 codes want 11 bits.
+// The number of rows of a pass: 1,928 codes need 11 bits.
 const WIDTH: u32 = 11;
 
 const DIGITS: [char; 16] = [
     '0', '1', '2', '3', '4', '5', '6', '7', '8', '9', 'A', 'B', 'C', 'D', 'E', 'F',
 ];
 
-// The code of the net that a cell of a device reads, and 0 for a cell that reads none. Cells 37 to 68 read the outputs of the device
-// before, which for the first device is the last; cells 69 to 76 read the bus. The nets of the bus come after all others.
+// Returns the code of the net that a cell of a device reads, or 0 if the cell reads none. Cells 37 to 68 read the outputs of the previous
+// device, which for the first device is the last. Cells 69 to 76 read the bus. The nets of the bus come after all others.
 fn code_at(device: u32, cell: u32) -> u32 {
     let before = if device == 1 {
         DEVICES
@@ -29,7 +29,7 @@ fn code_at(device: u32, cell: u32) -> u32 {
     }
 }
 
-// What a cell has in a row of a pass, where the nets up to this code read 0.
+// Returns the bit of a cell in a row of a pass. The nets with a code of at most `silent` read 0.
 fn bit_at(device: u32, cell: u32, row: u32, silent: u32) -> u32 {
     let code = code_at(device, cell);
     if code <= silent {
@@ -39,7 +39,7 @@ fn bit_at(device: u32, cell: u32, row: u32, silent: u32) -> u32 {
     }
 }
 
-// A row of a pass. The first device is the leftmost, and the last cell of each. The 4,620 cells fill 1,155 digits.
+// Returns a row of a pass. The first device is the leftmost, and the last cell of each device. The 4,620 cells fill 1,155 digits.
 fn row(alloc: Global, row: u32, silent: u32) -> Result<String, AllocError> {
     let mut text = String::new(alloc);
     let mut value = 0u32;
@@ -61,8 +61,8 @@ fn row(alloc: Global, row: u32, silent: u32) -> Result<String, AllocError> {
     Ok(text)
 }
 
-// The log. Each pass enables all outputs and the bus of one device, whose own cells on the bus are not compared, so the rows of all
-// passes are the same.
+// Returns the log. Each pass enables all outputs and the bus pins of one device, whose own cells on the bus are not compared. So the
+// rows of all passes are the same.
 fn log(alloc: Global, silent: u32) -> Result<String, AllocError> {
     let mut rows = String::new(alloc);
     for number in 0..WIDTH {
@@ -71,7 +71,7 @@ fn log(alloc: Global, silent: u32) -> Result<String, AllocError> {
     rows.repeat(alloc, DEVICES as usize)
 }
 
-// How many first nets read 0, and the diagnosis.
+// How many of the first nets read 0, and the diagnosis.
 const SILENT: [(u32, &str); 5] = [
     (0, "PASS\n"),
     (1, "FAIL 3\nstuck R1_0 0\nopen U1.1 0\nopen U2.33 0\n"),

@@ -5,17 +5,17 @@ use run_bench::{Ending, Line, Named, Row, RowFault, Rows, Table, tables_hold};
 /// Two drivers and two receivers.
 pub const WALK: &str = "DEVICE U1 DRV -\nDEVICE U2 DRV -\nDEVICE U3 RCV -\nDEVICE U4 RCV -\n";
 
-/// Three nets of them.
+/// Three nets of these parts.
 pub const WALK_NETS: &str = "NET N1 U1.1 U3.1\nNET N2 U1.2 U3.2\nNET N3 U2.1 U4.1\n";
 
 /// A driver that its own cell turns off, on a net with a pull, beside two nets that are driven.
 pub const MIXED: &str =
     "DEVICE U1 OD -\nDEVICE U2 RCV1 -\nDEVICE U3 DRV -\nDEVICE U4 RCV -\nPULL N 1\n";
 
-/// The net with the pull, and the two.
+/// The net with the pull, and the other two.
 pub const MIXED_NETS: &str = "NET N U1.1 U2.1\nNET N1 U3.1 U4.1\nNET N2 U3.2 U4.2\n";
 
-/// That driver and its net alone.
+/// This driver and its net alone.
 pub const PULLED: &str = "DEVICE U1 OD -\nDEVICE U2 RCV1 -\nPULL N 1\n";
 
 /// The net.
@@ -44,7 +44,7 @@ const THREE_NETS: [Line; 16] = [
         "# bits that are not compared\n\nf5\nf8\nf5\n",
         Ending::Puts("GROUPS 1\nGROUP 2\nNET N1\nNET N3\n"),
     ),
-    // Nets that carry nothing, or each the other's bit, are no group.
+    // Nets that carry nothing, or that each carry the other's bit, are no group.
     ("00\n00\n00\n", Ending::Puts("GROUPS none\n")),
     ("01\n08\n04\n", Ending::Puts("GROUPS none\n")),
     ("05\n0D\n0D\n", Ending::Puts("GROUPS none\n")),
@@ -60,7 +60,7 @@ const THREE_NETS: [Line; 16] = [
         "04\n08\n01\n01\n",
         Ending::Refused("g line 4: row too many\n"),
     ),
-    // The length of a line comes before its digits, and a wrong line before a row too many.
+    // A wrong length of a line comes before its digits, and a wrong line before a row too many.
     ("G\n08\n01\n", Ending::Refused("g line 1: wrong length\n")),
     (
         "04\n0G\n01\n01\n",
@@ -117,7 +117,7 @@ const ROWS: [Row; 8] = [
         line: LINE,
         ending: Ending::Puts("GROUPS none\n"),
     },
-    // Joined nets are in a group by the first of their names.
+    // Joined nets are in a group under the first of their names.
     Row {
         texts: &[
             ("c", Plain(LINKED)),

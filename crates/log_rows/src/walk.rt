@@ -15,7 +15,7 @@ const ROWS: [Row; 7] = [
              SDR 8 TDI (00) TDO (01) MASK (0D);\n",
         ),
     },
-    // A net whose driver reaches its pull by turning off takes no part.
+    // A net with a switching driver takes no part.
     Row {
         texts: &[("c", Plain(MIXED)), ("n", Plain(MIXED_NETS))],
         line: LINE,
@@ -24,13 +24,13 @@ const ROWS: [Row; 7] = [
              SDR 6 TDI (24);\nSDR 6 TDI (28) TDO (01) MASK (03);\nSDR 6 TDI (20) TDO (02) MASK (03);\n",
         ),
     },
-    // Joined nets walk as one, and the codes of two nets each have one 1, as here.
+    // Joined nets walk as one. Each code of two nets has one 1, so these scans are also those of the walking test.
     Row {
         texts: &[("c", Plain(LINKED)), ("n", Plain(LINKED_NETS))],
         line: LINE,
         ending: Ending::Scans(SCANS),
     },
-    // Where no net walks there is one quiet row, and without a pass none.
+    // If no net walks, there is one quiet row. Without a pass there is none.
     Row {
         texts: &[("c", Plain(PULLED)), ("n", Plain(PULLED_NETS))],
         line: LINE,

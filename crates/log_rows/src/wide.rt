@@ -1,16 +1,16 @@
-// A board of 4,096 nets, each of a driver and a receiver.
+// A board of 4,096 nets, each with a driver and a receiver.
 use run_bench::{Bench, Ending, RowFault, Text};
 use std::alloc::{AllocError, Global};
 
-// So many parts drive, as many receive, and each of them has as many pins.
+// This many parts drive, and as many receive. Each of them has as many pins.
 const PARTS: u32 = 64;
 
-// The digits of a row: the cells of the drivers stand left of those of the receivers.
+// The digits of a row for the cells of the drivers, which are left of those of the receivers.
 const DRIVER_DIGITS: usize = 1024;
 
 const RECEIVER_DIGITS: usize = 1024;
 
-// The BSDL text of a part with a cell for each pin: what stands before the numbers of the pins. `%` stands for the mode of the pins,
+// The BSDL text of a part with a cell for each pin, up to the numbers of the pins. `%` stands for the mode of the pins,
 // `@` for the function of the cells, and `^` for the name.
 const FRONT: &str = r#"entity ^ is
 generic (PHYSICAL_PIN_MAP : string := "P");
@@ -19,7 +19,7 @@ use STD_1149_1_1994.all;
 attribute PIN_MAP of ^ : entity is PHYSICAL_PIN_MAP;
 constant P : PIN_MAP_STRING := "TDI:T1, TDO:T2, TMS:T3, TCK:T4, B:(1"#;
 
-// What stands between them and the second cell.
+// The text between the numbers of the pins and the second cell.
 const MIDDLE: &str = r#")";
 attribute TAP_SCAN_IN of TDI : signal is true;
 attribute TAP_SCAN_OUT of TDO : signal is true;
@@ -32,7 +32,7 @@ attribute BOUNDARY_LENGTH of ^ : entity is 64;
 attribute BOUNDARY_REGISTER of ^ : entity is
 "0 (BC_1, B(1), @, X)"#;
 
-// The text with words in place of its signs.
+// Returns the text of a device, with this name, mode and function in place of the signs.
 fn device(alloc: Global, name: &str, mode: &str, function: &str) -> Result<String, AllocError> {
     let mut text = String::from_str(alloc, FRONT)?;
     for pin in 2..=PARTS {
@@ -49,12 +49,12 @@ fn device(alloc: Global, name: &str, mode: &str, function: &str) -> Result<Strin
     moded.as_str().replace(alloc, '@', function)
 }
 
-// The net of pin `pin` of driver and receiver `part`, both from 0.
+// Returns the number of the net of pin `pin` of driver and receiver `part`, both counted from 0.
 fn net_number(part: u32, pin: u32) -> u32 {
     part.saturating_mul(PARTS).saturating_add(pin)
 }
 
-// The lines of the nets, in the order of their numbers.
+// Returns the lines of the nets, in the order of their numbers.
 fn net_lines(alloc: Global) -> Result<String, AllocError> {
     let mut nets = String::new(alloc);
     for part in 0..PARTS {
@@ -67,7 +67,7 @@ fn net_lines(alloc: Global) -> Result<String, AllocError> {
     Ok(nets)
 }
 
-// The lines of a number of parts.
+// Returns the lines of the parts, one `piece` for each number of a part.
 fn part_lines(piece: &'static str) -> Text {
     Text::Numbered {
         head: "",
@@ -83,7 +83,7 @@ fn chain_lines(alloc: Global) -> Result<Vec<u8>, AllocError> {
     Ok(chain)
 }
 
-// The texts of this board, and this log.
+// Returns a bench with the texts of this board, and this log.
 fn bench_of(alloc: Global, log: &str) -> Result<Bench, AllocError> {
     let mut bench = Bench::empty(alloc)?;
     bench.store.add("c", &chain_lines(alloc)?)?;
@@ -102,7 +102,7 @@ fn add_devices(alloc: Global, bench: &mut Bench) -> Result<(), AllocError> {
 
 const LINE: &str = "groups g c n drivers receivers";
 
-// The row in which all receivers read 1.
+// Returns the row in which all receivers read 1.
 fn full_row(alloc: Global) -> Result<String, AllocError> {
     let mut row = "0".repeat(alloc, DRIVER_DIGITS)?;
     row.push_str(&"F".repeat(alloc, RECEIVER_DIGITS)?)?;
@@ -125,8 +125,8 @@ fn all_nets_may_be_one_group(rt: HostRuntime) -> Result<(), RowFault> {
     bench.ends(&rt, "4,096 nets", 0, LINE, Ending::PutsAll(ONE_GROUP))
 }
 
-// The row in which an even net of a receiver and the next one read 1, and all others 0. The last receiver is the rightmost, and the
-// first pin of each.
+// Returns the row in which two nets of a receiver read 1, an even one and the next, and all others read 0. The last receiver is the
+// rightmost, and the first pin of each receiver.
 fn pair_row(alloc: Global, part: u32, pin: u32) -> Result<String, AllocError> {
     let behind = PARTS.saturating_sub(part.saturating_add(1)) as usize * 16 + (pin / 4) as usize;
     let mut row = "0".repeat(
@@ -139,7 +139,7 @@ fn pair_row(alloc: Global, part: u32, pin: u32) -> Result<String, AllocError> {
     Ok(row)
 }
 
-// The rows of an even net and the next one, one in which each of them carries 1, and their group.
+// Appends the rows in which an even net and the next one carry 1, and their group.
 fn push_pair(
     alloc: Global,
     part: u32,

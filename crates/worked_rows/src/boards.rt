@@ -1,4 +1,4 @@
-// Texts that denote no board, each by its first fault.
+// Texts that denote no board, and the first fault of each.
 use run_bench::Text::{Numbered, Plain};
 use run_bench::{CHAIN, Case, Ending, NETS, RowFault, Rows, Run, Table, tables_hold};
 

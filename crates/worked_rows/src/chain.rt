@@ -193,7 +193,7 @@ const NO_COMMANDS: [&str; 24] = [
 ];
 
 const FAILING: [(Trouble, Row); 3] = [
-    // The text isn't tried again, though its name stands twice among the words.
+    // The text is not tried again, although its name is twice among the words.
     (
         Trouble::Read(1),
         Row {
@@ -210,7 +210,7 @@ const FAILING: [(Trouble, Row); 3] = [
             ending: Ending::NotPut("TRST OFF;\nENDIR IDLE", "cannot write\n"),
         },
     ),
-    // A refusal stays if its line is cut.
+    // The status stays Refused if the line is cut.
     (
         Trouble::Notes(5),
         Row {

@@ -1,8 +1,8 @@
-// What safe settings can reach, as the coverage list says it.
+// What safe settings can reach, as the coverage list has it.
 use run_bench::Text::{Edited, Numbered, Plain};
 use run_bench::{CHAIN, Ending, NETS, Named, RCV1, Row, RowFault, Rows, Run, Table, tables_hold};
 
-// A net that is not covered has its first reason.
+// A net that is not covered has the first reason that holds.
 const REASONS: [Row; 4] = [
     Row {
         texts: &[
@@ -50,7 +50,7 @@ const REASONS: [Row; 4] = [
     },
 ];
 
-// A name of up to 24 bytes stands in its value, a longer one in memory of its own.
+// A name of up to 24 bytes is kept in its value, a longer one in memory of its own.
 const LONG_NAMES: [Row; 1] = [Row {
     texts: &[
         (
@@ -197,7 +197,7 @@ const COVERED: [Row; 2] = [
     },
 ];
 
-// A three-state driver and a receiver whose text is changed.
+// A three-state driver, and a receiver whose text is changed.
 const BESIDE: [Named; 2] = [
     ("c", Plain("DEVICE U1 TS -\nDEVICE U2 RCV1 -\n")),
     ("n", Plain("NET N U1.1 U2.1")),

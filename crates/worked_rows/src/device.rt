@@ -1,4 +1,4 @@
-// The listing of a device, and why a text describes none.
+// The listing of a device, or why a text describes none.
 use run_bench::Text::{Edited, Filled, Front, Plain, Repeated};
 use run_bench::{
     BUF2, BUF2_LISTING, Change, DRV, DRV1, Ending, RCV, RCV1, RowFault, Rows, Run, Table,
@@ -9,7 +9,7 @@ const DRV_LISTING: &str =
     "ENTITY DRV\nPACKAGE P\nIR 2 SAMPLE 10 IDCODE -\nPORT TDI IN T1\nPORT TMS IN T3\nPORT TCK IN T4\n\
                            PORT TDO OUT T2\nPORT Q OUT 1 2\nCELL 0 OUTPUT2 Q(1) X\nCELL 1 OUTPUT2 Q(2) X\n";
 
-// What differs in the listing of the driver of 2001.
+// The differences in the listing of the driver of 2001.
 const EDITION: [(&str, &str); 2] = [
     ("ENTITY DRV", "ENTITY DRV1"),
     ("SAMPLE 10 IDCODE", "PRELOAD 00 EXTEST 01 IDCODE"),
@@ -28,7 +28,7 @@ const LISTED: [Run; 7] = [
     (Plain(BUF2), Ending::Puts(BUF2_LISTING)),
     (Plain(DRV1), DRV1_LISTING),
     (Edited(DRV, &EXCHANGED), Ending::Puts(DRV_LISTING)),
-    // An attribute that is not read may nest deep.
+    // An attribute that is not read may have deeply nested parentheses.
     (
         Filled {
             of: DRV,
@@ -40,7 +40,7 @@ const LISTED: [Run; 7] = [
         },
         Ending::Puts(DRV_LISTING),
     ),
-    // Either makes a text of 2001: its use or its conformance.
+    // Its use or its conformance alone makes a text one of 2001.
     (
         Edited(
             DRV1,
@@ -76,7 +76,7 @@ const OUTSIDE: [Change; 5] = [
     (LAST, "end DRV;\npackage X is\n", " line 19: package text"),
 ];
 
-// Texts of which all or much is missing, or which are no entity.
+// Texts with much or all of them missing, or which are no entity.
 const PARTS: [Run; 6] = [
     (
         Front(DRV, 10, ""),
@@ -98,7 +98,7 @@ const PARTS: [Run; 6] = [
         Repeated(",", 1_048_577),
         Ending::Refused("drv line 1: too many tokens\n"),
     ),
-    // A text that is of 2001 neither by its use nor by its conformance.
+    // Neither its use nor its conformance makes this text one of 2001.
     (
         Edited(
             DRV1,
@@ -217,7 +217,7 @@ const ATTRIBUTES: [Change; 24] = [
         "constant P : PIN_MAP_STRING := \"\";\nend DRV;\n",
         ": rule V1 item 15",
     ),
-    // The least number counts, and this rule comes before the strings.
+    // The lowest item number counts, and this rule comes before the strings.
     (
         "attribute INSTRUCTION_CAPTURE of DRV : entity is \"01\";\nattribute BOUNDARY_LENGTH of DRV : entity is 2;\n",
         "",
@@ -264,7 +264,7 @@ const STRINGS: [Change; 11] = [
         "Q(2), outputx",
         ": BOUNDARY_REGISTER entry 2",
     ),
-    // The pin map comes first, and the boundary register last; all come before the other rules.
+    // The pin map comes first among the strings, and the boundary register last. All strings come before the other rules.
     ("(1,2)\"", "(1,2\"", ": PIN_MAP_STRING entry 5"),
     ("(1 to 2)", "(2 to 1)", ": rule V2 item 5"),
 ];

@@ -6,7 +6,7 @@ use btest_core::read_board;
 use run_bench::{RowFault, expect};
 use std::alloc::{AllocError, Global};
 
-// Whether the texts of the board with so many devices denote a board.
+// Returns whether the texts of the board with `number` devices denote a board.
 fn is_board(alloc: Global, number: u32) -> Result<bool, AllocError>
     requires some { 1 ≤ number }
     requires few { number ≤ 255 }

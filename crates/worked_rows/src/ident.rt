@@ -3,7 +3,7 @@ use run_bench::Text::{Edited, Numbered, Plain};
 use run_bench::{Bench, DRV, Ending, Named, Row, RowFault, Rows, Table, Text, tables_hold};
 use std::alloc::{AllocError, Global};
 
-// The driver with an identification code of which the four highest bits, its version, are free.
+// The driver with an identification code. Its four highest bits, the version, are free.
 const CODED: Text = Edited(
     DRV,
     &[
@@ -15,7 +15,7 @@ const CODED: Text = Edited(
     ],
 );
 
-// One of which all bits are free, and one with a code that is too short.
+// The driver with a code of which all bits are free, and with a code that is too short.
 const FREE: Text = Edited(
     DRV,
     &[
@@ -73,7 +73,7 @@ const CODES: [Row; 9] = [
         line: "ident c idc rcv",
         ending: Ending::Scans("SDR 32 TDI (00000000);\n"),
     },
-    // Every part has to be described.
+    // Every part must be described.
     Row {
         texts: &[
             ("c", Plain("DEVICE U1 IDC -\nBYPASS U2 4\n")),
@@ -127,7 +127,7 @@ fn compares_the_codes_of_the_parts(rt: HostRuntime) -> Result<(), RowFault> {
     tables_hold(&rt, rt.alloc(), &TABLES)
 }
 
-// A field of 2,040 digits, eight of them repeated, which are cut into pieces of 64.
+// Appends a field of 2,040 digits: `digits`, eight of them, again and again. The field is cut into pieces of 64.
 fn push_field(text: &mut String, label: &str, digits: &str, end: &str) -> Result<(), AllocError> {
     text.push_str(label)?;
     for k in 0..255u32 {

@@ -13,7 +13,7 @@ const SUMMARIES: [Line; 7] = [
         "make 7",
         Ending::Puts("DEVICES 7 NETS 232 COVERED 232 PASSES 7 SCANS 66 BYTES 26132\n"),
     ),
-    // More controls than bits in a word.
+    // This board has more controls than a word has bits.
     (
         "make 13",
         Ending::Puts("DEVICES 13 NETS 424 COVERED 424 PASSES 13 SCANS 133 BYTES 96866\n"),
