@@ -1,4 +1,4 @@
-// The text of the identity test of a chain.
+// The text of a chain's identity test.
 ghost use Rattle.std.specs.Prelude.{◌≡◌, length, All, IfSome, IsTrue};
 
 use crate::missed::{Missed, expect};
@@ -27,7 +27,7 @@ fn are_whole(parts: &[Option<Code>]) -> bool
     parts.iter().all(is_whole)
 }
 
-// The digits of a pattern, 0, 1 and X, of which the last is nearest TDO.
+// The digits of a pattern: 0, 1 and X. The last one is nearest TDO.
 type Digits = [u8; 32];
 
 fn pattern(alloc: Global, digits: &Digits) -> Result<Code, AllocError> {
@@ -42,7 +42,7 @@ fn pattern(alloc: Global, digits: &Digits) -> Result<Code, AllocError> {
     Code::of(alloc, &symbols)
 }
 
-// The patterns of a chain's parts.
+// Returns the patterns of a chain's parts.
 fn patterns(alloc: Global, chain: &[Option<&Digits>]) -> Result<Vec<Option<Code>>, AllocError> {
     let mut parts = Vec::new(alloc);
     for part in chain {
@@ -54,7 +54,7 @@ fn patterns(alloc: Global, chain: &[Option<&Digits>]) -> Result<Vec<Option<Code>
     Ok(parts)
 }
 
-// Puts the text of the identity test.
+// Writes the text of the identity test.
 #[tactic(auto, using(ident_test::proofs::LengthLemmas::room_of))]
 fn put_ident(
     alloc: Global,
@@ -71,7 +71,7 @@ fn put_ident(
     Ok(write_ident(parts, &mut tdi, &mut tdo, &mut mask, &mut line, out))
 }
 
-// The text with this statement between the head and the tail.
+// Returns the text with this statement between the head and the tail.
 fn text_of(alloc: Global, statement: &[u8]) -> Result<Vec<u8>, AllocError> {
     let mut text = HEAD.to_vec(alloc)?;
     text.extend_from_slice(statement)?;
@@ -95,7 +95,7 @@ const LOWEST: &Digits = b"00000000000000000000000000000001";
 
 const BOTH_ENDS: &Digits = b"1XXXXXXXXXXXXXXXXXXXXXXXXXXXXXX1";
 
-// The patterns of a chain, and the statement. A part without a pattern has one bit.
+// The patterns of a chain, and the statement for them. A part without a pattern has one bit.
 type Chain = (&'static [Option<&'static Digits>], &'static [u8]);
 
 static CHAINS: [Chain; 4] = [
@@ -125,7 +125,7 @@ fn compares_the_fixed_bits_of_patterns(rt: HostRuntime) -> Result<(), Missed> {
     Ok(())
 }
 
-// A field of 2,040 digits, eight of them repeated.
+// The fields of 2,040 digits: the text before each, eight digits that are repeated, and the text after it.
 static FIELDS: [(&[u8], &[u8], &[u8]); 3] = [
     (b"TDI (", b"00000000", b")\n"),
     (b"TDO (", b"00000001", b")\n"),
@@ -162,7 +162,7 @@ fn puts_long_chains(rt: HostRuntime) -> Result<(), Missed> {
     expect(0, puts(rt.alloc(), &[Some(LOWEST); 255], &statement)?)
 }
 
-// The put that fails, from 1, after four bytes, and the bytes that were taken.
+// The number of the put that fails, from 1, after four bytes, and the bytes that were taken.
 static CUTS: [(u32, &[u8]); 3] = [
     (1, b"TRST"),
     (

@@ -9,7 +9,7 @@ use std::fs::File;
 use std::io::{BufWriter, Write};
 use std::rt::Files;
 
-// The name of a text, the most bytes that it may have, the answer, and the bytes that come.
+// The name of a text, the most bytes that it may have, the answer, and the bytes that are fetched.
 type Fetch = (&'static str, u32, Result<(), FetchFault>, &'static [u8]);
 
 static FETCHES: [Fetch; 5] = [
@@ -57,7 +57,7 @@ fn long_text(alloc: Global) -> Result<Vec<u8>, AllocError> {
     Ok(text)
 }
 
-// The most bytes that a text of 20,000 may have, the answer, and the number of bytes that come.
+// The most bytes that a text of 20,000 bytes may have, the answer, and the number of bytes that are fetched.
 static LONG: [(u32, Result<(), FetchFault>, usize); 2] = [
     (20_000, Ok(()), 20_000),
     (19_998, Err(FetchFault::TooLong), 19_999),
@@ -80,7 +80,7 @@ fn reads_a_file_in_many_chunks(rt: HostRuntime) -> Result<(), Missed> {
     given
 }
 
-// Bytes that are put, and the answer.
+// Bytes for a put, and its answer.
 type Put = (&'static [u8], Result<(), PutFault>);
 
 // Returns whether the sink gives the expected answers to these puts, in order.

@@ -1,4 +1,4 @@
-// The files of a board: what their readers answer, joined files, and those of made boards.
+// The files of a board: the answers of their readers, joined files, and the files of generated boards.
 use crate::missed::{Missed, expect};
 use board_defs::Name;
 use board_files::{ChainFile, ChainStatement, LineFault, NetFile, PinWord, chain, nets};
@@ -6,7 +6,7 @@ use board_gen::make;
 use series_parts::{Joined, LinkFault, join};
 use std::alloc::{AllocError, Global};
 
-// A text, and the fault of its first faulty line, or nothing.
+// A text, and the message for its first faulty line, or nothing.
 type Answer = (&'static [u8], &'static str);
 
 static CHAIN_FILES: [Answer; 8] = [
@@ -33,7 +33,7 @@ static NET_FILES: [Answer; 10] = [
     (b"NET N1 U1.1\nNET N\xff", "line 2: word not allowed"),
 ];
 
-// The chain file of a text of fewer than 1,000 bytes.
+// Returns the chain file of a text of fewer than 1,000 bytes.
 fn chain_of(alloc: Global, text: &[u8]) -> Result<ChainFile, LineFault> {
     if text.len() < 1000 {
         chain(alloc, text)
@@ -42,7 +42,7 @@ fn chain_of(alloc: Global, text: &[u8]) -> Result<ChainFile, LineFault> {
     }
 }
 
-// The net file of a text of fewer than 1,000 bytes.
+// Returns the net file of a text of fewer than 1,000 bytes.
 fn nets_of(alloc: Global, text: &[u8]) -> Result<NetFile, LineFault> {
     if text.len() < 1000 {
         nets(alloc, text)
@@ -51,7 +51,7 @@ fn nets_of(alloc: Global, text: &[u8]) -> Result<NetFile, LineFault> {
     }
 }
 
-// Returns whether the fault has this text.
+// Returns whether the fault has this message.
 fn is_told(alloc: Global, fault: &LineFault, wanted: &str) -> Result<bool, AllocError> {
     Ok(fault.to_string(alloc)?.as_str() == wanted)
 }
@@ -202,19 +202,19 @@ static JOINED: [(&[u8], &[u8], Shown); 9] = [
     ),
     (b"LINK R1 1 2\nLINK R1 8 9", BOARD, Shown::Missing(2, 3)),
     (b"LINK R2 1 2", BOARD, Shown::Missing(1, 3)),
-    // Three nets in a chain, and a fourth apart.
+    // Three nets in a row, and a fourth one apart.
     (
         b"LINK R2 1 2\nLINK R1 1 2",
         b"NET A R1.1\nNET B R1.2 R2.1\nNET X\nNET C R2.2",
         Shown::Files(b" A A X A inert R2 inert R1"),
     ),
-    // Two chains of three that a fifth part brings together.
+    // Two rows of three nets, which a fifth part joins.
     (
         b"LINK R1 1 2\nLINK R2 1 2\nLINK R3 1 2\nLINK R4 1 2\nLINK R5 2 1",
         b"NET E R3.1\nNET F R3.2 R4.1\nNET G R4.2 R5.1\nNET A R1.1\nNET B R1.2 R2.1\nNET C R2.2 R5.2",
         Shown::Files(b" E E E E E E inert R1 inert R2 inert R3 inert R4 inert R5"),
     ),
-    // R1.1 stands in A first, and B's first line is before that of A.
+    // R1.1 is in A first, and B's first line comes before that of A.
     (
         b"LINK R1 1 2",
         b"NET Z\nNET B R1.2\nNET A R1.1\nNET C R1.1\nNET B\nNET A",
@@ -305,7 +305,7 @@ fn makes_the_text_of_the_device(rt: HostRuntime) -> Result<(), Missed> {
     expect(0, is_between(&made.bsdl, BSDL_BEGINS, BSDL_ENDS))
 }
 
-// Linear work: the largest board is made at once.
+// The largest board is made at once, since the work is linear.
 #[test]
 fn makes_the_largest_board(rt: HostRuntime) -> Result<(), Missed> {
     let made = make(rt.alloc(), 255)?;

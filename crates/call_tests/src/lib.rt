@@ -1,4 +1,4 @@
-//! Tests of what the lower crates have public: tables, and the calls that go through them.
+//! Tests of the public calls of the lower crates: tables, and functions that go through them.
 #![tactic(auto)]
 
 #[cfg(test)]

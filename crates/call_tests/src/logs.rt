@@ -7,7 +7,7 @@ use response_log::{Log, log};
 use std::alloc::{AllocError, Global};
 use std::thread::Threads;
 
-// Appends the bits of each row, the first one to the left, with a space behind each row.
+// Appends the bits of each row, the first one to the left, and a space after each row.
 fn push_bits(text: &mut String, log: &Log) -> Result<(), AllocError> {
     for row in 0..log.rows() {
         for at in 0..log.len() {
@@ -24,7 +24,7 @@ fn bits_of(alloc: Global, log: &Log) -> Result<String, AllocError> {
     Ok(text)
 }
 
-// A text, the number of its rows and of the bits of each, and its bits or its fault.
+// A text, the number of its rows and of the bits in each, and its bits or its fault.
 type LogText = (&'static [u8], u64, u32, &'static str);
 
 static LOGS: [LogText; 20] = [
@@ -55,7 +55,7 @@ static LOGS: [LogText; 20] = [
     (b"3FF\n4FF\n3FF", 1, 10, "line 2: row too many"),
 ];
 
-// The answer to a text.
+// Returns the bits of a text, or its fault.
 fn log_answer(alloc: Global, text: &[u8], rows: u64, len: u32) -> Result<String, AllocError>
     requires { length text.now < 2 ^ 32 }
 {
@@ -75,7 +75,7 @@ fn logs(rt: HostRuntime) -> Result<(), Missed> {
     Ok(())
 }
 
-// The id of each block, and its bits.
+// Returns the id of each block, and its bits.
 fn shown(alloc: Global, blocks: &[Block]) -> Result<String, AllocError> {
     let mut text = String::new(alloc);
     for block in blocks {
@@ -171,7 +171,7 @@ static BATCHES: [BatchText; 29] = [
         "board 1: line 4: row too many",
     ),
     (b"BOARD #\nBOARD A", 0, "line 1: board not allowed"),
-    // Lines that can not stand.
+    // Lines that are not allowed where they are.
     (b"1\nBOARD A", 2, "line 1: no board yet"),
     (b"\n# log\nboard A\nBOARD A", 2, "line 3: no board yet"),
     (b"1 # log\nBOARD\n", 2, "line 1: no board yet"),
@@ -200,14 +200,14 @@ fn batches(rt: HostRuntime) -> Result<(), Missed> {
     Ok(())
 }
 
-// A title line whose id has so many bytes.
+// Returns a title line whose id has `len` bytes.
 fn title(alloc: Global, len: usize) -> Result<Vec<u8>, AllocError> {
     let mut text = b"BOARD ".to_vec(alloc)?;
     text.resize(len.saturating_add(6), b'A')?;
     Ok(text)
 }
 
-// The id of so many bytes, and the colon that is shown behind it.
+// Returns an id of `len` bytes, and the colon that is shown after it.
 fn shown_title(alloc: Global, len: usize) -> Result<String, AllocError> {
     let mut text = "A".repeat(alloc, len)?;
     text.push(':')?;

@@ -27,7 +27,7 @@ impl From<io::Error> for Missed {
     }
 }
 
-/// Returns the row's number as the error, unless the row holds.
+/// Returns an error with the row's number, unless `holds` is true.
 pub fn expect(row: usize, holds: bool) -> Result<(), Missed> {
     if holds { Ok(()) } else { Err(Missed::Row(row)) }
 }

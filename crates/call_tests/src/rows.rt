@@ -5,7 +5,7 @@ use crate::missed::{Missed, expect};
 use bt_bits::{Column, HexFault, Line, Row, RowStack};
 use std::alloc::{AllocError, Global};
 
-// The number of a row's bits, the places of those that are 1, and the digits that are printed: the first, their number and their text.
+// The number of bits of a row, the places of its 1 bits, and the digits to print: the first, their number, and their text.
 type Printed = (u32, &'static [u32], u32, u32, &'static [u8]);
 
 static PRINTED: [Printed; 4] = [
@@ -21,7 +21,7 @@ static PRINTED: [Printed; 4] = [
     (5, &[0, 2, 3, 4], 0, 2, b"1D"),
 ];
 
-// The row of so many bits that are 1 at these places.
+// Returns the row of `len` bits that has a 1 at each of these places.
 fn row_of(alloc: Global, len: u32, ones: &[u32]) -> Result<Row, AllocError> {
     let mut row = Row::with_room(alloc, len)?;
     row.clear(len);
@@ -33,7 +33,7 @@ fn row_of(alloc: Global, len: u32, ones: &[u32]) -> Result<Row, AllocError> {
     Ok(row)
 }
 
-// Appends digits of a row to a line.
+// Appends `count` digits of a row to a line, from digit `from` on.
 fn push_digits(row: &Row, from: u32, count: u32, line: &mut Line) {
     let end = u64::from(from) + u64::from(count);
     if line.len() + count as usize <= 1024 && end <= (u64::from(row.len()) + 3) / 4 {
@@ -102,7 +102,7 @@ fn a_line_takes_words_digits_and_numbers(rt: HostRuntime) -> Result<(), Missed> 
 
 static BITS: [bool; 5] = [true, false, true, true, true];
 
-// Returns whether a row takes the bits of a list in place of its own, and another row then takes them from it.
+// Returns whether a row takes the bits of a list instead of its own, and another row then takes the bits from it.
 fn is_copied(alloc: Global) -> Result<bool, AllocError> {
     let mut row = row_of(alloc, 300, &[0, 299])?;
     if row.len() == 300 {
@@ -148,7 +148,7 @@ fn has_row(alloc: Global, stack: &RowStack, number: u32, digits: &[u8]) -> Resul
     Ok(row.digits() == digits)
 }
 
-// The stack of a row of six bits, with each bit as in the row.
+// Returns the stack of a row of six bits. Each column has the row's bit.
 fn common_stack(alloc: Global) -> Result<RowStack, AllocError> {
     let row = row_of(alloc, 6, &[1, 4])?;
     let mut common = RowStack::with_room(alloc, row.len())?;
@@ -163,7 +163,7 @@ enum Bits {
     Same(bool),
 }
 
-// Columns at five places of a stack of six bits, and one behind its end.
+// Columns at five places of a stack of six bits, and one past its end.
 static COLUMNS: [(u32, Bits); 6] = [
     (0, Bits::Of(0x8002)),
     (1, Bits::Same(false)),
@@ -180,7 +180,7 @@ fn column(bits: Bits) -> Column {
     }
 }
 
-// The stack with columns of its own.
+// Returns the stack, with some columns of its own.
 fn changed_stack(alloc: Global, common: &RowStack) -> Result<RowStack, AllocError> {
     let mut stack = RowStack::with_room(alloc, common.len())?;
     stack.copy_from(common);
@@ -224,7 +224,7 @@ static READ: [Read; 12] = [
     (b"2a5", 10, Ok(())),
 ];
 
-// The answer of a row that reads a text.
+// Returns the answer of a row that reads a text.
 fn answer(alloc: Global, text: &[u8], len: u32) -> Result<Result<(), HexFault>, AllocError> {
     let mut row = Row::with_room(alloc, len)?;
     Ok(row.read_hex(text, len))

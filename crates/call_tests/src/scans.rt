@@ -1,4 +1,4 @@
-// The text of scans.
+// The texts of scans.
 ghost use Rattle.std.specs.Prelude.{◌≡◌, ◌≤◌, ◌<◌, length, All, IfOk, IsTrue};
 ghost use Rattle.board_defs.specs.Limits.{IsInstructionLength};
 
@@ -9,14 +9,14 @@ use std::alloc::{AllocError, Global};
 use svf_writer::{write_chain, write_head, write_scan, write_tail};
 use tap_defs::Shape;
 
-// Returns whether each number is the length of an instruction register.
+// Returns whether each number may be the length of an instruction register.
 fn are_lengths(lengths: &[u32]) -> bool
     ensures { IsTrue result → All IsInstructionLength lengths.now }
 {
     lengths.iter().all(|n| *n >= 2 && *n <= 255)
 }
 
-// Puts the scans of the chain test.
+// Writes the scans of the chain test.
 #[tactic(auto, using(svf_writer::proofs::ChainLemmas::sum_at_most))]
 fn put_chain(
     alloc: Global,
@@ -64,7 +64,7 @@ fn puts_the_chain_test(rt: HostRuntime) -> Result<(), Missed> {
     Ok(())
 }
 
-// A row of so many bits, of which the first and the last are 1.
+// Returns a row of `len` bits. Its first and last bits are 1, the others are 0.
 fn tdi_of(alloc: Global, len: u32) -> Result<Row, AllocError>
     requires { 5 ≤ len }
     ensures { IfOk result (λ row. length row.bits ≡ len) }
@@ -76,7 +76,7 @@ fn tdi_of(alloc: Global, len: u32) -> Result<Row, AllocError>
     Ok(tdi)
 }
 
-// Puts a scan whose first and last bits are 1, and of which bit 4 may be compared with 1.
+// Writes a scan whose first and last bits are 1. If `compare` is true, it compares bit 4 with 1.
 #[tactic(auto, using(lists::proofs::ListLemmas::none_of_zeros))]
 fn put_scan(
     alloc: Global,
@@ -184,7 +184,7 @@ static SCAN_LINES: [&[u8]; 7] = [
     b"00000000010);\n",
 ];
 
-// Puts scans with lines of their own: those of the chain test of 40 parts, or one of 300 bits.
+// Writes scans that need several lines: those of the chain test of 40 parts, or one of 300 bits.
 fn put_lines(
     alloc: Global,
     is_chain: bool,
@@ -197,7 +197,7 @@ fn put_lines(
     }
 }
 
-// Returns whether the sink takes these bytes and the answer is this one if a put, counted from 1, fails after four bytes.
+// Returns whether the sink takes these bytes and the answer is this one if put number `call`, counted from 1, fails after four bytes.
 fn is_cut(
     alloc: Global,
     is_chain: bool,
@@ -232,7 +232,7 @@ fn puts_each_line_at_once(rt: HostRuntime) -> Result<(), Missed> {
     lines_are_put(rt.alloc(), false, &SCAN_LINES)
 }
 
-// Puts the lines before the scans and behind them.
+// Writes the lines before the scans and after them.
 fn put_ends(out: &mut MemSink) -> Result<(), PutFault> {
     write_head(out)?;
     write_tail(out)

@@ -27,7 +27,7 @@ fn words_of_a_line(_rt: HostRuntime) -> Result<(), Missed> {
     Ok(())
 }
 
-// A number of nets, and the width of their codes. Two words stay unused.
+// A number of nets, and the width of their codes. Two code words stay unused.
 static WIDTHS: [(u32, u32); 8] = [
     (1, 2),
     (2, 2),
@@ -39,7 +39,7 @@ static WIDTHS: [(u32, u32); 8] = [
     (16382, 14),
 ];
 
-// A code, the number of a bit, and the bit. Bit 0 is the least.
+// A code, the number of a bit, and the bit. Bit 0 is the least significant.
 static CODE_BITS: [(u32, u32, bool); 5] = [
     (6, 0, false),
     (6, 1, true),
@@ -80,7 +80,7 @@ static IN_ORDER: [Ctl; 3] = [
     Ctl { part: 1, cell: 5 },
 ];
 
-// Adds the controls. The setting has each from then on.
+// Adds the controls, and checks that the setting then has each.
 fn add_all(setting: &mut Setting) -> Result<(), Missed> {
     for (row, control) in ADDED.iter().enumerate() {
         setting.add(*control)?;
