@@ -13,11 +13,11 @@ use Rattle.batch_diag.specs.declared.fault.BatchFault.TheVariants.{Title as Wron
 use Rattle.batch_diag.specs.Batch.{is_title, id_of, names_board, begins_block, start_fault, title_fault, up_to_title, blocks_of}
 use Rattle.batch_diag.specs.inner.Cutting.{rows_from, begins_row, or_nothing}
 
--- lines with their numbers, of which those with words count
+-- lines with their numbers; those with words count
 abbrev pub rows_at : ℕ → List (List ℕ) → List NumberedLine
 rows_at n lines = filter has_words (numbered n lines)
 
--- a line more in front, by its words
+-- one more line at the front, given its words
 abbrev pub with_line : ℕ → List Word → List NumberedLine → List NumberedLine
 with_line n words later = cond (holds_word words) (record { number = n; words = words } ∷ later) later
 
@@ -67,7 +67,7 @@ wrong_title_words (word ∷ words) is = refl
 pub wrong_line : (line : List ℕ) → (is_title (words_of line) && not (names_board (words_of line))) ≡ true → 0 < length line
 wrong_line line is = worded_line line (wrong_title_words (words_of line) is)
 
--- a line that begins with another byte than a blank and the first of `BOARD` is no title
+-- a line is no title if its first byte is neither a blank nor the first one of `BOARD`
 other_first : (b : ℕ) (piece : List ℕ) (pieces : List (List ℕ)) (comment : Bool) → (b == 66) ≡ false → is_title (cond comment ((b ∷ piece) ∷ pieces) []) ≡ false
 other_first b piece pieces true other = ap (λ (t : Bool). t && bytes_eq piece (codes "OARD")) other
 other_first b piece pieces false other = refl
@@ -91,11 +91,11 @@ row_line (b ∷ bs) begins = by_tests (b == 66) (is_blank b) refl refl begins
     by_tests false true is is' begins = absurd cc
     by_tests false false is is' begins = no_title_at b bs is' is
 
--- a text is never cut into no line
+-- cutting a text gives at least one line
 no_part : (text : List ℕ) → slice_split is_newline text ≡ [] → ⊥
 no_part text none = let count : length (slice_split is_newline text) ≡ 0 = ap length none in omega (arith, count, length-slice_split is_newline text)
 
--- a first line stays the first line whatever stands behind its newline
+-- a first line stays the first line, whatever comes after its newline
 abbrev Stays : List ℕ → List ℕ → Type 0
 Stays line behind = slice_split is_newline (line ++ 10 ∷ behind) ≡ line ∷ slice_split is_newline behind
 
@@ -124,7 +124,7 @@ first_stays : (text line behind part : List ℕ) (parts : List (List ℕ)) → s
 first_stays [] line behind part parts is = absurd cc
 first_stays (b ∷ bs) line behind part parts is = stays_byte b bs line behind part parts (is_newline b) refl is (λ first split. first_stays bs first behind part parts split)
 
--- the same of a text behind which a line follows
+-- the same for a text that is followed by a line
 follows : (text line left behind : List ℕ) → slice_split is_newline text ≡ line ∷ slice_split is_newline left → slice_split is_newline (line ++ 10 ∷ behind) ≡ line ∷ slice_split is_newline behind
 follows text line left behind is = by_parts (slice_split is_newline left) refl is
   where
@@ -156,7 +156,7 @@ rows_append n (line ∷ lines) later =
     let next : n + 1 + length lines ≡ n + suc (length lines) = omega arith in
     front_append n (words_of line) (rows_at (n + 1) lines) (rows_at (n + suc (length lines)) later) (rows_at (n + 1) (lines ++ later)) (rows_append (n + 1) lines later ∙ ap (λ m. rows_at (n + 1) lines ++ rows_at m later) next)
 
--- a line with words that is no title stands before the first title, and begins no block
+-- a line with words that is no title comes before the first title, and begins no block
 up_to_front : (n : ℕ) (words : List Word) (rows later : List NumberedLine) → is_title words ≡ false → up_to_title (rows ++ later) ≡ rows ++ up_to_title later → up_to_title (with_line n words rows ++ later) ≡ with_line n words rows ++ up_to_title later
 up_to_front n [] rows later title below = below
 up_to_front n (word ∷ words) rows later title below =
@@ -197,7 +197,7 @@ pub record Passed (text : List ℕ) (n k : ℕ) (left : List ℕ) : Type 0 where
   pub count : k ≡ n + length lines
   pub none : NoTitles lines
 
--- the same where nothing may be left
+-- the same, if nothing may be left
 abbrev pub Passes : List ℕ → ℕ → ℕ → Option (List ℕ) → Type 0
 Passes text n k None = NoTitles (slice_split is_newline text)
 Passes text n k (Some left) = Passed text n k left
@@ -274,7 +274,7 @@ pub uncut_blocks : (text : List ℕ) (n : ℕ) → NoTitles (slice_split is_newl
 uncut_blocks text n none =
     ap blocks_of (sym (append-nil (rows_from n text))) ∙ blocks_behind n (slice_split is_newline text) [] none
 
--- how much stands behind a line with bytes
+-- the number of bytes after a line that has bytes
 pub behind_less : (after : Option (Bor (List ℕ))) (line left : List ℕ) → IfSome after (λ rest. length line + length rest.now + 1 ≡ length left) → IfNone after (length line ≡ length left) → 0 < length line → length (or_nothing (option_copied after)) + 1 ≤ length left
 behind_less None line left shorter whole filled = omega arith
 behind_less (Some rest) line left shorter whole filled = omega arith

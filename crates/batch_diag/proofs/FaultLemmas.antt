@@ -13,7 +13,7 @@ use Rattle.batch_diag.specs.OwnTexts.{moved_fault}
 use Rattle.batch_diag.specs.inner.Cutting.{rows_from, in_block, moved_inner, IsUpTo}
 use Rattle.batch_diag.proofs.CutLemmas.{rows_at, with_line, worded_line}
 
--- the line as it stands behind so many lines
+-- the line after `before` lines
 abbrev moved_line : ℕ → NumberedLine → NumberedLine
 moved_line before line = record { number = before + line.number; words = line.words }
 
@@ -44,7 +44,7 @@ wanted_moved before rows len lines =
     by_test true = refl
     by_test false = refl
 
--- what a line says that is to be a row, before what later lines say
+-- the answer for a line that must be a row, before the answer for later lines
 abbrev front : Option LogFault → LogAnswer → LogAnswer
 front None answer = answer
 front (Some fault) answer = Err fault
@@ -77,7 +77,7 @@ lines_moved before rows len lines =
     ap (λ answer. first_or answer (offenses rows len (map (moved_line before) lines))) (wanted_moved before rows len lines)
     ∙ faults_moved before rows len (wanted_rows rows len lines) lines
 
--- a block's lines at their place say what they say by themselves
+-- a block's lines give in their place the answer that they give by themselves
 pub said_at_place : (own : List ℕ) (before rows len : ℕ) → rows_of_lines rows len (rows_from (before + 1) own) ≡ moved before (log_rows own rows len)
 said_at_place own before rows len =
     ap (rows_of_lines rows len) (rows_moved before 1 (slice_split is_newline own)) ∙ lines_moved before rows len (row_lines own)
@@ -92,7 +92,7 @@ fault_at_place own before rows len board (Missing found) is = ap (in_block board
 fault_at_place own before rows len board (Extra n) is = ap (in_block board) (said_at_place own before rows len ∙ ap (moved before) is)
 fault_at_place own before rows len board (LogMemory e) is = tt
 
--- no line is named behind the last one with words
+-- no line with words has a greater number than `last`
 abbrev UpTo : ℕ → List NumberedLine → Type 0
 UpTo last [] = Unit {0}
 UpTo last (line ∷ lines) = (line.number ≤ last) × UpTo last lines
@@ -125,7 +125,7 @@ wanted_up_to last rows len lines = by_test (nat_lt (length lines) rows)
     by_test true = tt
     by_test false = tt
 
--- how many bytes lines take, with a byte behind each
+-- the number of bytes of lines, with a byte after each
 abbrev size_of : List (List ℕ) → ℕ
 size_of [] = 0
 size_of (line ∷ lines) = length line + 1 + size_of lines

@@ -69,7 +69,7 @@ module _ (b : Batch) where
   judged_by i block less is (Ok verdict) right named = judged_one i block verdict less is (right, named)
   judged_by i block less is (Err e) right named = tt
 
-  -- the verdicts on neighbouring ranges
+  -- the verdicts on neighboring ranges
   judged_ranges : (items : ℕ) {E : Type 0} → IsOfRanges {E = E} items (λ from to said. IfOk said (Judged b from to))
   judged_ranges items = record {
     nothing = judged_none;

@@ -56,7 +56,7 @@ rows_up_to [] later rows none = none
 rows_up_to (line ∷ own) later rows none =
     up_to_row line (own ++ later) (All-head IsRow line own rows) ∙ ap (λ (ls : List NumberedLine). line ∷ ls) (rows_up_to own later (All-tail IsRow line own rows) none)
 
--- from blocks to what is said of their lines
+-- from blocks to the answer for their lines
 module _ (rows len : ℕ) where
   block_title : (title : NumberedLine) (own : List NumberedLine) (block : Block) → IsBlockOf rows len title own block → begins_block title ≡ true
   block_title title own block is = is_title_of title.words block.id is.words
@@ -111,7 +111,7 @@ module _ (rows len : ℕ) where
     are = split.are;
   }
 
-  -- the block of a title, and those behind it
+  -- the block of a title, and those after it
   record Behind (id : Word) (own : List NumberedLine) (rest : Answer) (blocks : List Block) : Type 0 where
     log : List (List Bool)
     more : List Block
@@ -175,7 +175,7 @@ module _ (rows len : ℕ) where
       by_lines [] none = refl
       by_lines (line ∷ lines) none = by_line line lines (begins_block line) refl none
 
-  -- an answer with blocks comes where there is no fault
+  -- if the answer is blocks, there is no fault
   pub record NoFault (lines : List NumberedLine) (blocks : List Block) : Type 0 where
     pub start : start_fault lines ≡ None
     pub titles : title_fault lines ≡ None
@@ -199,7 +199,7 @@ module _ (rows len : ℕ) where
 pub blocks_are_the_lines : BlocksAreTheLines
 blocks_are_the_lines text rows len blocks = (to_blocks rows len (row_lines text) blocks, from_blocks rows len (row_lines text) blocks)
 
--- the lines up to the first title, and those behind them
+-- the lines up to the first title, and those after them
 record Front (lines : List NumberedLine) : Type 0 where
   behind : List NumberedLine
   all : lines ≡ up_to_title lines ++ behind
@@ -394,7 +394,7 @@ module _ (rows len : ℕ) where
   first_fault lines fault None (Some other) start title is = let same : other ≡ fault = cc in title_first lines fault start (title ∙ ap Some same)
   first_fault lines fault (Some other) title start title_is is = let same : other ≡ fault = cc in start_first lines fault (start ∙ ap Some same)
 
-  -- and back: what is first is told
+  -- and back: what is first is reported
   starts : (lines : List NumberedLine) → up_to_title lines ≡ [] → start_fault lines ≡ None
   starts [] none = refl
   starts (line ∷ lines) none = by_title (begins_block line) refl

@@ -115,7 +115,7 @@ own_rows_at : (n : ℕ) (lines : List (List ℕ)) → All IsClean lines → rows
 own_rows_at n [] clean = let none : words_of [] ≡ [] = words_of_empty [] refl in sym (ap (λ words. with_line n words []) none)
 own_rows_at n (line ∷ lines) clean = ap (rows_at n) (sym (split_join line lines clean))
 
--- blocks at their places in the text, the first title of which has this number
+-- blocks in their places in the text, whose first title has this line number
 abbrev placed : ℕ → List BlockText → List BlockLines
 placed m [] = []
 placed m (text ∷ texts) = record { id = id_of (words_of text.title); lines = rows_at (m + 1) text.below } ∷ placed (m + 1 + length text.below) texts
@@ -229,7 +229,7 @@ onto_fails : (block : Block) (rest : Answer) (fault : BatchFault) → onto block
 onto_fails block (Ok more) fault is = absurd cc
 onto_fails block (Err other) fault is = cc
 
--- what is said of blocks is what is said of each by itself
+-- the answer for blocks is the answers for each of them by itself
 module _ (rows len : ℕ) where
   abbrev Rest : ℕ → ℕ → BlockText → List BlockText → Answer
   Rest k m text texts = logs_from rows len (k + 1) (placed (m + 1 + length text.below) texts)
@@ -394,7 +394,7 @@ no_inner_title (line ∷ lines) board fault is = by_test (is_wrong_title line) i
     by_test true is below = absurd cc
     by_test false is below = below is
 
--- what is told of a block is told where no line and no title is faulty
+-- the fault of a block is reported if no line and no title is faulty
 record ToldOfBlock (start title : Option BatchFault) (answer : Answer) (fault : BatchFault) : Type 0 where
   start_is : start ≡ None
   title_is : title ≡ None

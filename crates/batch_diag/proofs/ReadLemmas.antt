@@ -34,7 +34,7 @@ abbrev pub titles_left : Option Title → ℕ
 titles_left None = 0
 titles_left (Some title) = 1 + length title.behind.now
 
--- the first block of several, by what is said of it alone
+-- the first of several blocks, from the answer for it alone
 block_holds : (id : Word) (board n : ℕ) (said : LogAnswer) (log : List (List Bool)) (later : Answer) → in_block n said ≡ Ok log → block_then id board said later ≡ onto (record { id = id; log = log }) later
 block_holds id board n (Ok here) log later is = let same : here ≡ log = cc in ap (λ (l : List (List Bool)). onto (record { id = id; log = l }) later) same
 block_holds id board n (Err fault) log later is = absurd cc
@@ -43,7 +43,7 @@ block_fails : (id : Word) (board : ℕ) (said : LogAnswer) (fault : BatchFault) 
 block_fails id board (Ok log) fault later is = absurd cc
 block_fails id board (Err inner) fault later is = cc
 
--- what is said of blocks is said of the first of them and then of the others
+-- the answer for blocks is that for the first of them, and then that for the others
 then_onto : (block : Block) (said later : Answer) → onto block (said_then said later) ≡ said_then (onto block said) later
 then_onto block (Ok blocks) (Ok later) = refl
 then_onto block (Ok blocks) (Err fault) = refl
@@ -61,7 +61,7 @@ logs_append rows len n (x ∷ xs) ys =
     ∙ then_block x.id n (rows_of_lines rows len x.lines) (logs_from rows len (n + 1) xs) (logs_from rows len (n + 1 + length xs) ys)
     ∙ ap (λ (k : ℕ). said_then (block_then x.id n (rows_of_lines rows len x.lines) (logs_from rows len (n + 1) xs)) (logs_from rows len k ys)) number
 
--- an answer of code by what is said of blocks and then of those behind them
+-- an answer of the code, given the answers for some blocks and for those after them
 module _ {V : Type 0} (view : V → List Block) (rows len : ℕ) (said later : Answer) where
   pub read_first : (fault : BatchFault) → IfSome (batch_told fault) (λ f. said ≡ Err f) → IfSome (batch_told fault) (λ f. said_then said later ≡ Err f)
   read_first fault fails = IfSome_then (batch_told fault) fails (λ f is. ap (λ (s : Answer). said_then s later) is)
@@ -85,7 +85,7 @@ module _ (r : Reading) where
       ∙ logs_append r.rows r.len (from + 1) first second
       ∙ ap (λ (n : ℕ). said_then (said_between r from middle) (logs_from r.rows r.len n second)) number
 
-  -- nothing is said of no block
+  -- the answer for no blocks
   said_nothing : (i : ℕ) → said_between r i i ≡ Ok []
   said_nothing i = ap (λ (l : List UnreadBlock). logs_from r.rows r.len (i + 1) (map lines_of_unread l)) (range_none r.unread.items i)
 
@@ -109,7 +109,7 @@ module _ (r : Reading) where
         ∙ read_whole (λ (l : List Block). l) r.rows r.len (said_between r from i) (said_between r i (i + 1)) found (read ∷ []) more said
         (said_one ∙ block_holds block.id.now (i + 1) board own read.log (Ok []) log ∙ ap (λ (word : Word). Ok (record { id = word; log = read.log } ∷ [])) (sym id)) sum
 
-    -- where one is no log, nothing behind it is told of
+    -- if one is no log, the answer says nothing about the blocks after it
     pub read_none : (from to : ℕ) (found : List Block) (fault : BatchFault) → from ≤ i → i < to → to ≤ length r.unread.items → said_between r from i ≡ Ok found → IfSome (batch_told fault) (λ f. in_block (i + 1) own ≡ Err f) → IfSome (batch_told fault) (λ f. said_between r from to ≡ Err f)
     read_none from to found fault low high within said fails =
         IfSome_then (batch_told fault) fails (λ f bad.
@@ -121,7 +121,7 @@ module _ (r : Reading) where
   pub read_end : (from i end : ℕ) (found : List Block) → i ≡ end → said_between r from i ≡ Ok found → said_between r from end ≡ Ok found
   read_end from i end found same said = ap (λ (n : ℕ). said_between r from n) (sym same) ∙ said
 
-  -- what was read of the blocks from one up to but without another
+  -- what was read of the blocks `from..to`
   abbrev ReadBetween : ℕ → ℕ → Answer → Type 0
   ReadBetween from to said = IsRead (λ (l : List Block). l) r.rows r.len (said_between r from to) said
 
@@ -160,7 +160,7 @@ module _ (r : Reading) where
     read_all : (answer : Result V BatchFault) → ReadBetween 0 (length r.unread.items) (seen view answer) → IsRead view r.rows r.len (said_of r) answer
     read_all answer read = seen_read answer (subst (λ (s : Answer). IsRead (λ (l : List Block). l) r.rows r.len s (seen view answer)) all_said read)
 
-    -- what the pieces read is read of all blocks
+    -- what the pieces read is what is read of all blocks
     pub read_of_pieces : (items pieces : ℕ) → 0 < pieces → items ≡ length r.unread.items → (Gives : Piece → Result V BatchFault → Type 0) (result : Result V BatchFault) → GivesTogether view Gives (λ fault. fault ≡ Memory alloc_error) items pieces result →
         ((number : ℕ) (answer : Result V BatchFault) → Gives (piece_of items pieces number) answer → IsRead view r.rows r.len (said_between r (piece_start items pieces number) (piece_start items pieces (number + 1))) answer) →
         IsRead view r.rows r.len (said_of r) result
@@ -222,18 +222,18 @@ unless_start start title said (Memory e) is = tt
 pub unless_title : (start title : Option BatchFault) (said : Answer) (fault : BatchFault) → start ≡ None → title ≡ Some fault → IfSome (batch_told fault) (λ f. unless start (unless title said) ≡ Err f)
 unless_title start title said fault none is = IfSome_then (batch_told fault) (unless_start title None said fault is) (λ f fails. ap (λ (o : Option BatchFault). unless o (unless title said)) none ∙ fails)
 
--- where no line and no title is faulty
+-- no line and no title is faulty
 pub unless_none : {V : Type 0} (view : V → List Block) (result : Result V BatchFault) (start title : Option BatchFault) (said : Answer) → start ≡ None → title ≡ None → Gives batch_told view (λ answer. said ≡ answer) result → Gives batch_told view (λ answer. unless start (unless title said) ≡ answer) result
 unless_none view result start title said no_start no_title gives =
     let same : unless start (unless title said) ≡ said = ap (λ (o : Option BatchFault). unless o (unless title said)) no_start ∙ ap (λ (o : Option BatchFault). unless o said) no_title in
     subst (λ (s : Answer). Gives batch_told view (λ answer. s ≡ answer) result) (sym same) gives
 
--- what a text says by its blocks, where no line and no title is faulty
+-- the answer for a text, given its blocks, if no line and no title is faulty
 pub unread_said : (rows len : ℕ) (start title : Option BatchFault) (lines blocks : List BlockLines) → start ≡ None → title ≡ None → lines ≡ blocks → unless start (unless title (logs_from rows len 1 lines)) ≡ logs_from rows len 1 blocks
 unread_said rows len start title lines blocks no_start no_title same =
     ap (λ (o : Option BatchFault). unless o (unless title (logs_from rows len 1 lines))) no_start ∙ ap (λ (o : Option BatchFault). unless o (logs_from rows len 1 lines)) no_title ∙ ap (logs_from rows len 1) same
 
--- the blocks that are cut out have their titles behind them
+-- the blocks so far are fewer than the line number of the next title
 pub next_count : (following : Option Title) (blocks : List UnreadBlock) (block : UnreadBlock) (line : ℕ) → length blocks < line → IfSome following (λ title. line + 1 ≤ title.line) → IfSome following (λ title. length (blocks ++ block ∷ []) < title.line)
 next_count None blocks block line less later = tt
 next_count (Some title) blocks block line less later = omega (arith, less, later, length_push blocks block)

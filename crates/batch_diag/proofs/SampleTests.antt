@@ -13,7 +13,7 @@ use Rattle.batch_diag.specs.declared.fault.BatchFault.TheVariants.{Start, Title,
 use Rattle.batch_diag.specs.Batch.{Answer, IsOfLines, batch_of}
 use Rattle.batch_diag.specs.BatchText.{title_line, batch_text}
 
--- a comment, a title, a row, and a block with the same id and a comment behind its title
+-- a comment, a title, a row, and a block with the same id and a comment after its title
 two_blocks : batch_of (codes "# 0\nBOARD A\n1\n\r\n BOARD\tA # B\n2") 1 2 ≡ Ok (record { id = codes "A"; log = (true ∷ false ∷ []) ∷ [] } ∷ record { id = codes "A"; log = (false ∷ true ∷ []) ∷ [] } ∷ [])
 unfolding words_of
 two_blocks = refl
@@ -41,7 +41,7 @@ line_of_text : batch_of (codes "BOARD A\n1\nBOARD B\n#\n4") 1 2 ≡ Err (Inner 2
 unfolding words_of
 line_of_text = refl
 
--- what a text says of logs of one row of two bits
+-- the answer for logs of one row of two bits
 abbrev of_one_row : List ℕ → Answer
 of_one_row text = batch_of text 1 2
 
@@ -97,6 +97,6 @@ two_verdicts : batch_text two_nets (rowless (codes "A") ∷ rowless (codes "B") 
 unfolding diag_text digits
 two_verdicts = refl
 
--- the fault of a block is never want of memory
+-- the fault of a block is never a refusal of memory
 never_memory : IsOfLines (Inner 1 (LogMemory alloc_error)) ≡ ⊥
 never_memory = refl

@@ -36,7 +36,7 @@ one_batch_text one board (block ∷ blocks) text other (diagnosis, later, is, ar
 abbrev pub texts_after : RawBoard → List Block → List Verdict → ℕ → List ℕ
 texts_after board blocks verdicts i = batch_text board (drop i blocks) (drop i verdicts)
 
--- what is still to be put completes the text
+-- what has yet to be written completes the text
 abbrev pub Completes : Shown → Shown → List ℕ → List ℕ → Type 0
 Completes start now rest whole = (new : Shown) (r : Result (Unit {0}) PutFault) → Prints now new [] [] rest r → Prints start new [] [] whole r
 
@@ -69,7 +69,7 @@ puts_some board [] verdicts same some prints = absurd (omega (arith, some))
 puts_some board (block ∷ blocks) [] same some prints = absurd (omega (arith, same))
 puts_some board (block ∷ blocks) (verdict ∷ verdicts) same some prints = puts_of prints
 
--- no block has none
+-- without blocks the text has no bytes
 pub puts_none : {T E : Type 0} {old new : Shown} {r : Result T E} (board : RawBoard) (blocks : List Block) (verdicts : List Verdict) → true ≡ (length blocks == 0) → Puts old new [] r → Puts old new (batch_text board blocks verdicts) r
 puts_none board [] verdicts is puts = puts
 puts_none board (block ∷ blocks) verdicts is puts = let none : length (block ∷ blocks) ≡ 0 = eqb-true (length (block ∷ blocks)) 0 (sym is) in absurd (omega (arith, none))

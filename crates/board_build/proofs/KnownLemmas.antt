@@ -54,7 +54,7 @@ none_placed n (part ∷ parts) pin e =
         let both = or_parts (same_word part.name pin.0) (list_any (λ name. same_word name pin.0) (described_names parts)) k in
         ap (λ b. b || list_any (λ (i : PinPlace). same_pin i.0 pin) (places_from (n + 1) parts)) (none_in_bits n part.name 0 device.bits pin both.0) ∙ rest both.1
 
--- so a place says that the part is described
+-- so a place implies that the part is described
 placed_known : (parts : List Part) (pin : Pin) → (is_some (place_of_pin (pin_places parts) pin) || is_among (described_names parts) pin.0) ≡ is_among (described_names parts) pin.0
 placed_known parts pin = by_test (is_among (described_names parts) pin.0) refl
   where
@@ -63,6 +63,6 @@ placed_known parts pin = by_test (is_among (described_names parts) pin.0) refl
     by_test false e =
         ap (λ b. b || false) (some_value same_pin (pin_places parts) pin ∙ none_placed 0 parts pin (sym (some_place (λ name. same_word name pin.0) 0 (described_names parts)) ∙ e))
 
--- of a pin without a place, the names of the described parts are asked
+-- for a pin without a place, the names of the described parts decide
 pub known_same : (parts : List Part) (pin : Pin) (d : Bool) (a : Option PinAt) → d ≡ is_among (described_names parts) pin.0 → a ≡ place_of_pin (pin_places parts) pin → (is_some a || d) ≡ is_among (described_names parts) pin.0
 known_same parts pin d a ed ea = ap (λ (v : Option PinAt). is_some v || d) ea ∙ ap (λ b. is_some (place_of_pin (pin_places parts) pin) || b) ed ∙ placed_known parts pin

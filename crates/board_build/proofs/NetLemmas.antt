@@ -75,7 +75,7 @@ same_pin_of a b e f = and_from (same_word a.0 b.0) (same_word a.1 b.1) (sym (ap 
 not_apart : (a b : NetWord) → (pin_of a).0 ≡ (pin_of b).0 → (pin_of a).1 ≡ (pin_of b).1 → have_same_pin a b ≡ false → ⊥
 not_apart a b e f h = clash (have_same_pin a b) (same_pin_of (pin_of a) (pin_of b) e f) h
 
--- words of one pin are one word
+-- words with the same pin are the same word
 pub record SameWord (m n i j : ℕ) : Type 0 where
   pub net : m ≡ n
   pub place : i ≡ j

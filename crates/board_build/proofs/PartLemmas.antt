@@ -1,4 +1,4 @@
--- The parts of a chain, and where their pins are.
+-- The parts of a chain, and the places of their pins.
 use Rattle.std.proofs.Common.{◌≡◌, ◌≢◌, ℕ, suc, ◌+◌, Bool, true, false, cond, ◌&&◌, List, [], ◌∷◌, length, map, Option, Some, None, refl, sym, ap, subst, ◌∙◌, arith, ◌⊎◌, inl, inr}
 use Rattle.std.specs.Prelude.{slice_get, find, is_some, is_none, option_map}
 use Rattle.std.specs.List.{AllByRecursion, position_from, cons_option}

@@ -34,7 +34,7 @@ pub map_none : {A B : Type 0} (f : A → B) (o : Option A) → option_map f o �
 map_none f None e = refl
 map_none f (Some a) e = cc e
 
--- the first fault of the limits
+-- what holds if no limit is exceeded
 pub record LimitsKept (parts : List Part) (names : List (List ℕ)) (words : List NetWord) : Type 0 where
   pub bits : sum_by (λ part. data_length part.kind) parts ≤ most_bits
   pub nets : length names ≤ most_nets

@@ -1,4 +1,4 @@
--- Small files, and what the definitions say of them.
+-- Small files, and what the definitions give for them.
 use Rattle.std.proofs.Common.{◌≡◌, ℕ, Bool, true, false, List, [], ◌∷◌, Option, Some, None, Ok, Err, refl}
 use Rattle.std.specs.Prelude.{codes, map}
 use Rattle.board_files.specs.declared.chain_file.ChainLine.{ChainLine}
@@ -116,7 +116,7 @@ a_net_that_is_pulled_twice : board_of (chain (said 3 (Pull (codes "N2") true) �
 unfolding board_answer board_fault limit_fault data_limit net_limit pin_limit pin_fault no_pin pin_twice line_fault inert_in_chain no_supply_net no_pull_net pull_twice driver_fault guarded_driver two_always_on
 a_net_that_is_pulled_twice = refl
 
--- nets stand in the order of their first lines, a second line adds pins, and a repeated pin counts once
+-- nets are in the order of their first lines, a second line adds pins, and a repeated pin counts once
 a_whole_board : board_of (chain (said 3 (Bypass (codes "U3") 4) ∷ said 4 (Inert (codes "R1")) ∷ said 5 (Pull (codes "B") true) ∷ [])) (net 1 (codes "A") (pin (codes "U1") (codes "1") ∷ pin (codes "U1") (codes "1") ∷ pin (codes "R1") (codes "2") ∷ []) ∷ net 2 (codes "B") (pin (codes "U3") (codes "7") ∷ []) ∷ net 3 (codes "A") (pin (codes "U2") (codes "2") ∷ []) ∷ []) (drv ∷ rcv ∷ []) ≡ Ok (record {
   chain = (record { name = codes "U1"; kind = Described drv }) ∷ (record { name = codes "U2"; kind = Described rcv }) ∷ (record { name = codes "U3"; kind = BypassPart 4 }) ∷ [];
   nets =
@@ -134,11 +134,11 @@ a_pin_of_a_bypass_part_in_two_nets = refl
 abbrev place : ℕ → ℕ → PinAt
 place part bit = record { part = part; bit = bit }
 
--- one place whatever the names, two bits of a part, and two parts
+-- one place whatever the names are, two bits of a part, and two parts
 by_places : at_one_place (Some (place 0 4)) (Some (place 0 4)) false ∷ at_one_place (Some (place 0 4)) (Some (place 0 5)) true ∷ at_one_place (Some (place 0 4)) (Some (place 1 4)) true ∷ [] ≡ true ∷ false ∷ false ∷ []
 by_places = refl
 
--- without a place the names tell, and a pin with a place is none without
+-- without a place the names decide, and a pin with a place is never the same as one without
 by_names : map (at_one_place None None) (true ∷ false ∷ []) ≡ true ∷ false ∷ []
 by_names = refl
 
@@ -160,11 +160,11 @@ word n part name = mark parts (pin_places parts) [] ((n, (part, name)), at n 3)
 one_pin : map (are_one (word 0 (codes "U1") (codes "1"))) (word 1 (codes "U1") (codes "1") ∷ word 1 (codes "U1") (codes "2") ∷ word 1 (codes "U2") (codes "1") ∷ word 1 (codes "U3") (codes "1") ∷ []) ≡ true ∷ false ∷ false ∷ false ∷ []
 one_pin = refl
 
--- the same of pin 7 of U3, which has no place
+-- the same for pin 7 of U3, which has no place
 one_unplaced_pin : map (are_one (word 0 (codes "U3") (codes "7"))) (word 1 (codes "U3") (codes "7") ∷ word 1 (codes "U3") (codes "8") ∷ word 1 (codes "RAM") (codes "7") ∷ word 1 (codes "U1") (codes "1") ∷ []) ≡ true ∷ false ∷ false ∷ false ∷ []
 one_unplaced_pin = refl
 
--- where both have a place their names are not asked for: no file gives such words, since pins are taken in upper case
+-- if both have a place, their names do not matter; no file gives such words, since pins are read in upper case
 abbrev there : List ℕ → Marked
 there name = record { word = ((0, (codes "U1", name)), at 1 3); described = true; at = Some (place 0 0); inert = false; always_on = false }
 

@@ -13,7 +13,7 @@ each_more f a (suc n) =
     ∙ sym (append_assoc (f a) (each f (a + 1) n) (f (a + 1 + n)))
     ∙ ap (λ m. f a ++ each f (a + 1) n ++ f m) last
 
--- the texts of the numbers from `a` up to but without `i` were appended
+-- the texts of the numbers `a..i` were appended
 abbrev pub Appended : List ℕ → List ℕ → (ℕ → List ℕ) → ℕ → ℕ → Type 0
 Appended old now f a i = now ≡ old ++ each f a (i - a)
 
@@ -36,7 +36,7 @@ appended_more old now new f a i h before step =
 pub appended_all : (old now : List ℕ) (f : ℕ → List ℕ) (a n i : ℕ) → i ≡ a + n → Appended old now f a i → now ≡ old ++ each f a n
 appended_all old now f a n i e h = let all : i - a ≡ n = omega arith in h ∙ ap (λ m. old ++ each f a m) all
 
--- where the last piece was appended, the text has what was appended before it, and that piece
+-- if the last piece was appended, the text has what was appended before it, and then that piece
 pub ends_with : {X E : Type 0} (r : Result X E) (old a b : List ℕ) {now new : List ℕ} → now ≡ old ++ a → new ≡ cond (is_ok r) (now ++ b) now → OnOk r (new ≡ old ++ (a ++ b))
 ends_with (Ok x) old a b first last = last ∙ ap (λ t. t ++ b) first ∙ append_assoc old a b
 ends_with (Err e) old a b first last = tt

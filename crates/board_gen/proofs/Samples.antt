@@ -14,7 +14,7 @@ chain_of_two : chain_text 2 ≡ codes "DEVICE U1 GEN -\nDEVICE U2 GEN -\n"
 unfolding chain_text digits
 chain_of_two = refl
 
--- a net to the next part, and from the last part to the first
+-- a net to the next part, and one from the last part to the first
 first_ring : ring_line 2 1 0 ≡ codes "NET R1_0 U1.1 U2.33\n"
 unfolding digits
 first_ring = refl
@@ -49,7 +49,7 @@ nets_of_two : count_by (λ byte. byte == 10) (net_text 2) ≡ 72
 unfolding net_text digits
 nets_of_two = refl
 
--- cells on both sides of each border between the kinds
+-- cells on both sides of each border between the kinds of cells
 last_control : cell_line 4 ≡ codes "\"4 (BC_1, *, control, 1),\" &\n"
 unfolding digits
 last_control = refl
@@ -181,7 +181,7 @@ bus_pins : numbers 65 8 ≡ codes "65,66,67,68,69,70,71,72"
 unfolding digits
 bus_pins = refl
 
--- the first cell stands on line 16, and one line ends the text after the 77 cells
+-- the first cell is in line 16, and one line ends the text after the 77 cells
 lines_of_device : count_by (λ byte. byte == 10) bsdl_text ≡ 15 + 77 + 1
 unfolding bsdl_text head_text map_line attributes_text digits
 lines_of_device = refl

@@ -1,4 +1,4 @@
--- What holds of each two items of a list.
+-- Properties of each two items of a list.
 use Rattle.std.proofs.Common.{◌≡◌, ℕ, zero, suc, ◌<◌, Bool, true, false, cond, ◌||◌, List, [], ◌∷◌, ◌++◌, map, get_or, Some, None, refl, sym, ap, subst, ◌∙◌, arith, ◌⊎◌, inl, inr}
 use Rattle.std.specs.Prelude.{slice_get, filter, AllPairs}
 use Rattle.std.specs.List.{list_any, AllByRecursion}
@@ -110,11 +110,11 @@ once_from_apart {X} eq seen (x ∷ items) =
     by_test rest first true = rest
     by_test rest first false = (first, rest)
 
--- items that are kept once differ
+-- items that are kept once differ from each other
 pub once_apart : {X : Type 0} (eq : X → X → Bool) (items : List X) → Apart (λ a b. eq a b ≡ false) (once eq items)
 once_apart eq items = once_from_apart eq [] items
 
--- items of which none is repeated differ
+-- if no item is repeated, the items differ from each other
 pub unrepeated_apart : {X : Type 0} (eq : X → X → Bool) (items : List X) → first_repeated eq items ≡ None → Apart (λ a b. eq a b ≡ false) items
 unrepeated_apart {X} eq items e = let P : List X → Type 0 = λ v. Apart (λ a b. eq a b ≡ false) v in subst P (unrepeated eq eq (λ a b h. h) items e) (once_apart eq items)
 

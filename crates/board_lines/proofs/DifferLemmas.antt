@@ -1,4 +1,4 @@
--- The words of a net file line by line, and words of which no two name the same pin.
+-- The words of a net file line by line, and words that name different pins.
 use Rattle.std.proofs.Common.{◌≡◌, ℕ, zero, suc, ◌+◌, ◌<◌, ◌==◌, Bool, true, List, [], ◌∷◌, ◌++◌, length, map, drop, get_or, append_assoc, arith, Option, Some, None, refl, sym, ap, ◌∙◌, Bor}
 use Rattle.std.specs.Prelude.{is_none, slice_get, unwrap_or}
 use Rattle.std.proofs.lemmas.List.{drop_more}
@@ -29,7 +29,7 @@ words_step names lines i line numbers done new all within read told pushed same 
     ∙ sym (append_assoc done (line_words (unwrap_or (slice_get numbers i) 0) line.line 3 line.pins) (words_of names (drop (i + 1) lines)))
     ∙ ap (λ (v : List NetWord). v ++ words_of names (drop (i + 1) lines)) (sym pushed)
 
--- where no pin is repeated, each word stands
+-- if no pin is repeated, each word counts
 pub all_stand : (words : List NetWord) → first_repeated have_same_pin words ≡ None → once same_place words ≡ words
 all_stand words e = unrepeated have_same_pin same_place (λ a b h. and_right (net_of a == net_of b) (same_pin (pin_of a) (pin_of b)) h) words e
 

@@ -32,7 +32,7 @@ named_none line o done rest all e same = same ∙ ap (λ o. done ++ with_name li
 pub first_repeat_lent : (names : List (Bor (List ℕ))) → first_repeat (λ a b. same_word a.now b.now) names ≡ first_repeat same_word (map (λ n. n.now) names)
 first_repeat_lent names = repeat-map (λ n. n.now) same_word [] 0 names
 
--- a question about each lent name
+-- a function of each borrowed name
 pub map_lent : {A : Type 0} (f : Bor (List ℕ) → A) (g : List ℕ → A) → ((n : Bor (List ℕ)) → f n ≡ g n.now) → (names : List (Bor (List ℕ))) → map f names ≡ map g (map (λ n. n.now) names)
 map_lent f g same [] = refl
 map_lent f g same (n ∷ names) = ap (λ a. a ∷ map f names) (same n) ∙ ap (λ as_. g n.now ∷ as_) (map_lent f g same names)

@@ -58,7 +58,7 @@ within_more n k x xs rest more true found =
     omega (arith, same)
 within_more n k x xs rest more false found = omega (arith, more found)
 
--- places of which none is missing are within the list
+-- places are within the list, if none is missing
 place_within : (n : ℕ) (entities : List (List ℕ)) (name : List ℕ) (k : ℕ) → position_from (λ e. same_word e name) n entities ≡ Some k → k < n + length entities
 place_within n [] name k e = absurd cc
 place_within n (entity ∷ entities) name k e = within_more n k entity entities _ (place_within (n + 1) entities name k) (same_word entity name) e

@@ -23,7 +23,7 @@ use Rattle.board_lines.specs.PinRows.{AreRows, bit_of_pin, is_pin, pins_of, pins
 abbrev bit_in_part : ℕ → Option ℕ → Option PinAt
 bit_in_part part bit = option_map (λ b. record { part = part; bit = b }) bit
 
--- the value among two lists
+-- the first value in two joined lists
 value_append : {K V : Type 0} (eq : K → K → Bool) (xs ys : List (K × V)) (q : K) → first_value eq (xs ++ ys) q ≡ option_or (first_value eq xs q) (first_value eq ys q)
 value_append {K} {V} eq xs ys q = ap (option_map (λ (i : K × V). i.1)) (find-append (λ (i : K × V). eq i.0 q) xs ys) ∙ by_case (find (λ (i : K × V). eq i.0 q) xs)
   where
@@ -31,7 +31,7 @@ value_append {K} {V} eq xs ys q = ap (option_map (λ (i : K × V). i.1)) (find-a
     by_case None = refl
     by_case (Some i) = refl
 
--- a pin of another part is none of this one's
+-- no pin of another part is a pin of this part
 bits_other : (part : ℕ) (name : List ℕ) (n : ℕ) (bits : List PortBit) (pin : Pin) → same_word name pin.0 ≡ false → first_value same_pin (bit_places part name n bits) pin ≡ None
 bits_other part name n [] pin other = refl
 bits_other part name n (bit ∷ bits) pin other = by_pin bit.pin (bits_other part name (n + 1) bits pin other)
@@ -73,7 +73,7 @@ parts_other n (part ∷ parts) pin others =
     ∙ ap (λ o. option_or o (first_value same_pin (places_from (n + 1) parts) pin)) (part_other n part.name part.kind pin others.0)
     ∙ parts_other (n + 1) parts pin others.1
 
--- what follows the first of names that differ
+-- the names after the first differ, if all do
 rest_differ : {X : Type 0} (R : X → X → Type 0) (x : X) (xs : List X) → AllPairs R (x ∷ xs) → AllPairs R xs
 rest_differ R x xs h = λ i j d less within. h (suc i) (suc j) d (omega (arith, less)) (omega (arith, within))
 
@@ -85,7 +85,7 @@ first_differs : (name : List ℕ) (others : List (List ℕ)) (q : List ℕ) → 
 first_differs name [] q same differ = tt
 first_differs name (other ∷ others) q same differ = (not_same name other q same (differ 0 (omega arith)) (same_word other q) refl, first_differs name others q same (λ j within. differ (suc j) (omega (arith, within))))
 
--- the place of a pin of the part that stands at index i
+-- the place of a pin of the part at index `index`
 pub record Found (n : ℕ) (parts : List Part) (pin : Pin) (k : ℕ) : Type 0 where
   pub index : ℕ
   pub number : k ≡ n + index
@@ -151,7 +151,7 @@ then_map : {A B C : Type 0} (f : A → B) (g : B → Option C) (o : Option A) �
 then_map f g None = refl
 then_map f g (Some a) = refl
 
--- a pin's place is that which the number and the row of its part give
+-- a pin's place is the one that its part's number and row give
 pub place_by_rows : (rows : List (List (Option (List ℕ)))) (numbers : List ℕ) (parts : List Part) (pin : Pin) → AreRows rows numbers parts → AllPairs (λ a b. a ≢ b) (names parts) →
     place_by_part rows numbers (first_place same_word (names parts) pin.0) pin.1 ≡ place_of_pin (pin_places parts) pin
 place_by_rows rows numbers parts pin are differ = by_place (first_place same_word (names parts) pin.0) refl

@@ -12,7 +12,7 @@ use Rattle.board_defs.specs.declared.board.PinAt.{PinAt}
 use Rattle.board_lines.specs.ChainParts.{pin_places, place_of_pin}
 use Rattle.board_lines.specs.PinRows.{AreRows, bit_of_pin, place_by_part, pins_of}
 
--- a device whose third port bit has no pin, as where the pin map does not name the port
+-- a device whose third port bit has no pin, since the pin map does not name the port
 abbrev bit : Option (List ℕ) → PortBit
 bit pin = record { port = 0; index = None; mode = Outward; pin = pin; tap = false; compliance = false }
 
@@ -42,15 +42,15 @@ pins = refl
 bits : map (bit_of_pin row) (codes "T1" ∷ codes "A2" ∷ codes "7" ∷ codes "" ∷ codes "8" ∷ []) ≡ Some 0 ∷ Some 1 ∷ Some 3 ∷ None ∷ None ∷ []
 bits = refl
 
--- names are compared whole and as they stand: files are read with their pins in upper case
+-- names are compared as a whole, and with their case: files are read with their pins in upper case
 whole : map (bit_of_pin row) (codes "a2" ∷ codes "A" ∷ codes "A22" ∷ []) ≡ None ∷ None ∷ None ∷ []
 whole = refl
 
--- of two port bits with one name the first counts
+-- of two port bits with one name, the first counts
 first : bit_of_pin (None ∷ Some (codes "A2") ∷ row) (codes "A2") ≡ Some 1
 first = refl
 
--- U1 and U3 are of one device and share a row, and U2 is in BYPASS
+-- U1 and U3 are the same device and share a row, and U2 is in BYPASS
 abbrev parts : List Part
 parts = record { name = codes "U1"; kind = Described device } ∷ record { name = codes "U2"; kind = Bypass 4 } ∷ record { name = codes "U3"; kind = Described device } ∷ []
 
@@ -60,7 +60,7 @@ numbers = 1 ∷ 0 ∷ 1 ∷ []
 rows : AreRows ([] ∷ row ∷ []) numbers parts
 rows = refl
 
--- a pin of a part that is described, a pin that no bit of it has, a pin of the part in BYPASS, of no part, and of a part without a row
+-- a pin of a described part, a pin that no bit of it has, a pin of the part in BYPASS, a pin of no part, and one of a part without a row
 abbrev place : Option ℕ → List ℕ → Option PinAt
 place = place_by_part ([] ∷ row ∷ []) numbers
 
@@ -68,7 +68,7 @@ places : place (Some 2) (codes "7") ∷ place (Some 2) (codes "9") ∷ place (So
     ≡ Some (record { part = 2; bit = 3 }) ∷ None ∷ None ∷ None ∷ None ∷ []
 places = refl
 
--- the same of the places of all pins of the chain
+-- the same, by the places of all pins of the chain
 all_places : map (place_of_pin (pin_places parts)) ((codes "U3", codes "7") ∷ (codes "U3", codes "9") ∷ (codes "U2", codes "7") ∷ (codes "RAM", codes "7") ∷ (codes "u3", codes "7") ∷ [])
     ≡ Some (record { part = 2; bit = 3 }) ∷ None ∷ None ∷ None ∷ None ∷ []
 all_places = refl

@@ -1,4 +1,4 @@
--- What is known of a chain that was selected.
+-- What holds of a selected chain.
 use Rattle.std.proofs.Common.{◌≡◌, ℕ, suc, ◌+◌, ◌<◌, ◌≤◌, Bool, true, false, cond, List, [], ◌∷◌, ◌++◌, length, map, get_or, Option, Some, None, Result, Ok, Err, refl, sym, ap, ◌∙◌, arith}
 use Rattle.std.specs.Prelude.{slice_get, option_map, option_and_then, unwrap_or, IfOk}
 use Rattle.std.specs.List.{list_any}
@@ -22,7 +22,7 @@ use Rattle.board_lines.specs.ChainParts.{IsChain}
 use Rattle.board_lines.proofs.ApartLemmas.{apart_pairs, apart_weaker, unrepeated_apart}
 use Rattle.board_lines.proofs.FaultLemmas.{then_none, limit_kept}
 
--- where a name is repeated
+-- the place at which a name is repeated
 pub record Repeat (n count k : ℕ) : Type 0 where
   pub below : k < n + count
 

@@ -23,7 +23,7 @@ pub is_long : (limit n : ℕ) (b : Bool) → nat_lt limit n ≡ b → limit < n 
 is_long limit n true test long = refl
 is_long limit n false test long = grind (arith, common_steps)
 
--- what a fetch tells
+-- what a fetch says about its text
 pub text_told : (held : Held) (name text : Text) → Told held name (λ t. text ≡ t) → IsText held name text
 text_told None name text told = tt
 text_told (Some held) name text told = by (held name) refl told
@@ -79,14 +79,14 @@ continued held wanted front continues =
     let whole = subst (λ texts. IsRead held (wanted ++ []) (Read texts)) (append-nil front) (continues [] (Read []) (reads_none held)) in
     subst (λ texts. IsRead held texts (Read front)) (append-nil wanted) whole
 
--- the names of texts, and of more
+-- the names of texts, and of more texts
 names_both : (first rest : List Wanted) → names_in (first ++ rest) ≡ names_in first ++ names_in rest
 names_both first rest = map-append (λ (text : Wanted). text.name) first rest
 
 asks_both : (old mid new names more : List Text) → Asks old mid names → Asks mid new more → Asks old new (names ++ more)
 asks_both old mid new names more first second = second ∙ ap (λ (l : List Text). l ++ more) first ∙ append_assoc old names more
 
--- a text that is wanted
+-- a text that is to be read
 module _ (held held' : Held) (before now : Text → ℕ) (asked asked' : List Text) (same : held' ≡ held) (later : (name : Text) → before name ≤ now name) (last : Lent) (asks : Asks asked asked' (last.name.now ∷ [])) where
   up_to_here : IsReadUpTo held (wanted_view last ∷ []) (wanted_view last) asked asked'
   up_to_here = record { before = []; after = []; are = refl; found = []; read = reads_none held; asked = asks }
@@ -107,7 +107,7 @@ module _ (held held' : Held) (before now : Text → ℕ) (asked asked' : List Te
   pub no_memory : Reads IsOne (wanted_view last ∷ []) held held' before now asked asked' (Err unread.Memory)
   no_memory = record { same = same; later = later; told = record { first = last.name.now ∷ []; others = []; are = refl; asks = asks } }
 
--- what was read first was not all read
+-- the texts that were to be read first were not all read
 module _ (first rest : List Wanted) (held : Held) (asked asked' : List Text) where
   up_to_here_too : (last : Wanted) → IsReadUpTo held first last asked asked' → IsReadUpTo held (first ++ rest) last asked asked'
   up_to_here_too last there = record {
@@ -135,7 +135,7 @@ pub lost_first : {A B : Type 0} {Of : A → List Text → Type 0} {first : List 
 lost_first {first = first} rest {held = held} {before = before} {now = now} {asked = asked} {asked' = asked'} As {lost = lost} reads =
     record { same = reads.same; later = reads.later; told = more_unread first rest held asked asked' before now lost reads.told }
 
--- memory ran out behind what was read first
+-- memory ran out after the first texts were read
 lost_between : {A B : Type 0} {Of : A → List Text → Type 0} {first : List Wanted} (rest : List Wanted) {held held' : Held} {before now : Text → ℕ} {asked asked' : List Text} (As : B → List Text → Type 0) {value : A} → Reads Of first held held' before now asked asked' (Ok value)
     → Reads As (first ++ rest) held held' before now asked asked' (Err unread.Memory)
 lost_between {first = first} rest As reads = record {
@@ -144,7 +144,7 @@ lost_between {first = first} rest As reads = record {
   told = record { first = names_in first; others = names_in rest; are = names_both first rest; asks = reads.told.asks };
 }
 
--- what was read first was read, and what is read behind it was not
+-- the first texts were read, and those after them were not
 module _ (first rest : List Wanted) (held : Held) (front asked asked_mid asked' : List Text) (continues : Continues held first front) (asks : Asks asked asked_mid (names_in first)) where
   up_to_there : (last : Wanted) → IsReadUpTo held rest last asked_mid asked' → IsReadUpTo held (first ++ rest) last asked asked'
   up_to_there last there = record {
@@ -172,7 +172,7 @@ module _ (first rest : List Wanted) (held : Held) (front asked asked_mid asked' 
 both_later : (before between now : Text → ℕ) → ((name : Text) → before name ≤ between name) → ((name : Text) → between name ≤ now name) → (name : Text) → before name ≤ now name
 both_later before between now one other name = let first = one name in let more = other name in omega (arith, first, more)
 
--- of two reads, one after the other, the second one lost a text
+-- of two reads in turn, the second one lost a text
 pub lost_then : {A B C : Type 0} {Of : A → List Text → Type 0} {Then : B → List Text → Type 0} {first rest : List Wanted} {held mid held' : Held} {before between now : Text → ℕ} {asked asked_mid asked' : List Text} {value : A} {lost : Unread} (As : C → List Text → Type 0)
     → Reads Of first held mid before between asked asked_mid (Ok value) → Reads Then rest mid held' between now asked_mid asked' (Err lost) → Reads As (first ++ rest) held held' before now asked asked' (Err lost)
 lost_then {first = first} {rest = rest} {held = held} {before = before} {between = between} {now = now} {asked = asked} {asked_mid = asked_mid} {asked' = asked'} {lost = lost} As one other = record {
@@ -199,7 +199,7 @@ read_then {Then = Then} {first = first} {rest = rest} {held = held} {before = be
       };
     }
 
--- of two texts
+-- the reading of two texts
 pub read_two : {first second : Wanted} {held mid held' : Held} {before between now : Text → ℕ} {asked asked_mid asked' : List Text} {one other : Text} → Reads IsOne (first ∷ []) held mid before between asked asked_mid (Ok one) → Reads IsOne (second ∷ []) mid held' between now asked_mid asked' (Ok other)
     → Reads AreAll (first ∷ second ∷ []) held held' before now asked asked' (Ok (one ∷ other ∷ []))
 read_two {one = one} {other = other} first second = read_then AreAll (one ∷ other ∷ []) first second (λ texts more is are. ap (λ (l : List Text). l ++ more) is ∙ ap (λ (l : List Text). one ∷ l) are)
@@ -223,7 +223,7 @@ module _ (names : List (String Global)) (k : ℕ) {held held' : Held} {before no
   lost_of : {lost : Unread} → Reads AreAll (called (take k names)) held held' before now asked asked' (Err lost) → Reads AreAll (called names) held held' before now asked asked' (Err lost)
   lost_of {lost} reads = subst (λ (wanted : List Wanted). Reads AreAll wanted held held' before now asked asked' (Err lost)) (sym (cut_at names k)) (lost_first (called (drop k names)) AreAll reads)
 
-  -- memory ran out behind them
+  -- memory ran out after them
   pub memory_of : {found : List Text} → Reads AreAll (called (take k names)) held held' before now asked asked' (Ok found) → Reads AreAll (called names) held held' before now asked asked' (Err unread.Memory)
   memory_of {found} reads = subst (λ (wanted : List Wanted). Reads AreAll wanted held held' before now asked asked' (Err unread.Memory)) (sym (cut_at names k)) (lost_between (called (drop k names)) AreAll reads)
 

@@ -12,7 +12,7 @@ same_request e = cc
 none_made : {a : Request} → ◌≡◌ {A = Option Request} None (Some a) → ⊥
 none_made e = cc e
 
--- what holds of each command with its texts
+-- a property that holds of each command with its texts
 module _ (P : Command → List Text → Request → Type 0) (of_chain : (names : ChainNames) (chain : Text) (bsdl : List Text) → P (Chain names) (chain ∷ bsdl) (request.Chain (chain_texts chain bsdl)))
     (of_ident : (names : ChainNames) (chain : Text) (bsdl : List Text) → P (Ident names) (chain ∷ bsdl) (request.Ident (chain_texts chain bsdl))) (of_device : (name bsdl : Text) → P (Device name) (bsdl ∷ []) (request.Device bsdl))
     (of_cover : (names : BoardNames) (chain nets : Text) (bsdl : List Text) → P (Cover names) (chain ∷ nets ∷ bsdl) (request.Cover (board_texts chain nets bsdl)))

@@ -47,7 +47,7 @@ use Rattle.btest_cli.specs.inner.Reads.{IsUnread, OfRequest, Reads}
 use Rattle.btest_cli.specs.inner.Failures.{IsPut, IsUnput, wanted_view, unread_status, unread_line, unput_status, unput_line}
 use Rattle.btest_cli.specs.inner.RunOf.{IsRunOf}
 
--- a line that was put, or not whole
+-- a line that was written, wholly or in part
 pub took_or_cut : {T E : Type 0} {old new : Shown} {line : Text} (r : Result T E) → Puts old new line r → TookOrCut old new line
 took_or_cut (Ok x) puts = inl puts.whole
 took_or_cut (Err e) puts = inr (puts.cause, puts.cut)
@@ -84,7 +84,7 @@ was_read command {held} {held'} {before} {now} {asked} {asked'} reads = record {
   asks = all_asked command asked asked' reads.told.asks;
 }
 
--- a run that put its text
+-- a run that wrote its text
 pub run_put : (command : Command) (held : Held) (before now : Text → ℕ) (asked asked' : List Text) (request : Request) (out out' notes : Shown) → IsReadAs held command asked asked' request → IsPut (roles_of command) request out out' → IsRunOf command held before now asked asked' out out' notes notes status.Done
 run_put command held before now asked asked' request out out' notes read put = record {
   no_usage = λ e. cc;
@@ -180,7 +180,7 @@ run_unread command held before now asked asked' unread.Memory out notes notes' i
 same_out : (command : Command) (held : Held) (before now : Text → ℕ) (asked asked' : List Text) (out out' notes notes' : Shown) (ended : Status) → out' ≡ out → IsRunOf command held before now asked asked' out out notes notes' ended → IsRunOf command held before now asked asked' out out' notes notes' ended
 same_out command held before now asked asked' out out' notes notes' ended same run = subst (λ o. IsRunOf command held before now asked asked' out o notes notes' ended) (sym same) run
 
--- a run whose text was not put whole
+-- a run whose text was not written whole
 pub run_unput : (command : Command) (held : Held) (before now : Text → ℕ) (asked asked' : List Text) (request : Request) (failure : Unput) (out out' notes notes' : Shown) → IsReadAs held command asked asked' request → IsUnput (roles_of command) request out out' failure → TookOrCut notes notes' (unput_line (roles_of command) failure)
     → IsRunOf command held before now asked asked' out out' notes notes' (unput_status failure)
 run_unput command held before now asked asked' request (unput.Input fault) out out' notes notes' read is noted =
@@ -214,7 +214,7 @@ pub rose_among : (command : Command) (held : Held) (before now : Text → ℕ) (
 rose_among command held before now asked asked' last up_to rose =
     subst (SomeRose before now) (ap names_in (sym up_to.are) ∙ wanted_names command) (rose_in before now up_to.before last up_to.after rose)
 
--- texts give one outcome
+-- texts give at most one outcome
 abbrev pub OneOutcome : Type 0
 OneOutcome = (command : Command) (reading : Reading) (a b : Result Text Text) → IsOutcome command reading a → IsOutcome command reading b → a ≡ b
 
@@ -222,7 +222,7 @@ OneOutcome = (command : Command) (reading : Reading) (a b : Result Text Text) �
 abbrev pub SomeOutcome : Type 0
 SomeOutcome = (command : Command) (held : Held) (reading : Reading) → known_reading held (wanted_of command) ≡ Some reading → (outcome : Result Text Text) × IsOutcome command reading outcome
 
--- want of memory may come in place of each outcome
+-- a refusal of memory may come instead of any outcome
 settles_memory : (rose : Type 0) (outcome : Result Text Text) → Settles rose outcome status.NoMemory
 settles_memory rose (Ok text) = λ calm. inr refl
 settles_memory rose (Err line) = inr refl
@@ -236,7 +236,7 @@ pub memory_for : SomeOutcome → (command : Option Command) (held : Held) (befor
 memory_for some None held before now out_rose = tt
 memory_for some (Some command) held before now out_rose = memory_complete some command held (SomeRose before now (names_of command)) out_rose
 
--- what was read is one thing, where it is known
+-- there is at most one reading, if it is known
 pub one_reading : (held : Held) (wanted : List Wanted) (reading other : Reading) → known_reading held wanted ≡ Some reading → IsRead held wanted other → other ≡ reading
 one_reading None [] reading other known read =
     let same : ◌≡◌ {A = Option Reading} (Some other) (Some reading) = sym read.1 ∙ known in
@@ -253,11 +253,11 @@ same_outcome : (held : Held) (command : Command) (reading other : Reading) (a b 
 same_outcome held command reading other a b one known is gives_a gives_b =
     one command reading a b (subst (λ r. IsOutcome command r a) (one_reading held (wanted_of command) reading other known is) gives_a) gives_b
 
--- a text and a line are not one outcome
+-- a text and a line are not the same outcome
 apart : {text line : Text} → ◌≡◌ {A = Result Text Text} (Ok text) (Err line) → ⊥
 apart e = cc e
 
--- where no count rose, the outcome of what was read settles the status
+-- if no count rose, the outcome of what was read settles the status
 pub run_complete : OneOutcome → SomeOutcome → (command : Command) (held : Held) (before now : Text → ℕ) (asked asked' : List Text) (out out' notes notes' : Shown) (ended : Status) → IsRunOf command held before now asked asked' out out' notes notes' ended
     → IsComplete held command (SomeRose before now (names_of command)) (Rose out.faults out'.faults) ended
 run_complete one some command held before now asked asked' out out' notes notes' ended run = λ reading known no_rise.
@@ -284,7 +284,7 @@ run_complete one some command held before now asked asked' out out' notes notes'
         let told = run.cut refl in absurd (apart (same_outcome held command reading (Read told.read.texts) (Ok told.text) (Err line) one known told.read.read (told.request, told.read.made, told.gives) gives))
     settle (Err line) status.NoMemory reading known gives no_rise run = inr refl
 
--- what is found in texts, as what is said of it
+-- what is found in texts, as an outcome
 abbrev said : {A F : Type 0} → (A → Text) → (F → Text) → Result A F → Result Text Text
 said text_of line_of (Ok value) = Ok (text_of value)
 said text_of line_of (Err fault) = Err (line_of fault)
@@ -302,7 +302,7 @@ one_said text_of line_of IsFound a b one says_a says_b =
     let y = found_of text_of line_of IsFound b says_b in
     x.2 ∙ ap (said text_of line_of) (one x.0 y.0 x.1 y.1) ∙ sym y.2
 
--- what is known of the texts of devices, chains, their codes, and boards
+-- the properties of the texts of devices, chains, their codes, and boards
 abbrev OneDevice : Type 0
 OneDevice = (text : Text) → AtMostOne (IsDeviceText text)
 
@@ -315,11 +315,11 @@ OneIdents = (chain : Text) (texts : List Text) → AtMostOne (AreIdents chain te
 abbrev OneBoard : Type 0
 OneBoard = (chain nets : Text) (texts : List Text) → AtMostOne (IsBoardRead chain nets texts)
 
--- a text of logs says at most one thing of the board that others denote
+-- a text of logs has at most one meaning for the board that others denote
 abbrev OneJudged : {L E A : Type 0} → Judging L E A → Type 0
 OneJudged judging = (text chain nets : Text) (texts : List Text) → AtMostOne (OnDenoted judging text chain nets texts)
 
--- what is found in the contents of a text is one thing
+-- at most one value is found in the contents of a text
 abbrev FindsOne : {L E A : Type 0} → Judging L E A → Type 0
 FindsOne {L} {E} {A} judging = (board : RawBoard) (contents : L) (x y : A) → IsBoard board → judging.Finds board contents x → judging.Finds board contents y → x ≡ y
 
@@ -416,7 +416,7 @@ one_grouping one board rows None (Some groups) rules is_x is_y = absurd (is_x gr
 one_grouping one board rows (Some groups) None rules is_x is_y = absurd (is_y groups is_x)
 one_grouping one board rows (Some groups) (Some others) rules is_x is_y = ap Some (one board rows groups others rules is_x is_y)
 
--- texts of logs say at most one thing
+-- texts of logs have at most one meaning
 pub record LogsSayOne : Type 0 where
   pub diagnoses : OneJudged diagnosing
   pub groups : OneJudged grouping
@@ -429,7 +429,7 @@ logs_say_one boards rules diagnosis set = record {
   each = one_judged boards rules judging_each (one_each diagnosis);
 }
 
--- texts that say at most one thing give one outcome
+-- texts that have at most one meaning give at most one outcome
 module _ (devices : OneDevice) (chains : OneChain) (idents : OneIdents) (boards : OneBoard) (logs : LogsSayOne) where
   one_given : (names : Names) (request : Request) (a b : Result Text Text) → IsGiven names request a → IsGiven names request b → a ≡ b
   one_given names (Chain texts) a b is_a is_b = one_said chain_text (input_fault_line names) (AreChainLengths texts.chain texts.bsdl) a b (chains texts.chain texts.bsdl) is_a is_b
@@ -506,7 +506,7 @@ says text_of line_of IsFound (Err fault) found = (Err (line_of fault), inr (faul
 some_said : {A F : Type 0} (text_of : A → Text) (line_of : F → Text) (IsFound : Result A F → Type 0) → HasAnswer IsFound → HasOutcome (IsSaid text_of line_of IsFound)
 some_said text_of line_of IsFound some = says text_of line_of IsFound some.0 some.1
 
--- what is known of the texts of devices, chains, their codes, and boards
+-- the properties of the texts of devices, chains, their codes, and boards
 abbrev SomeDevice : Type 0
 SomeDevice = (text : Text) → HasAnswer (IsDeviceText text)
 
@@ -519,7 +519,7 @@ SomeIdents = (chain : Text) (texts : List Text) → HasAnswer (AreIdents chain t
 abbrev SomeBoard : Type 0
 SomeBoard = (chain nets : Text) (texts : List Text) → HasAnswer (IsBoardRead chain nets texts)
 
--- a text of logs says something of the board that others denote
+-- a text of logs has a meaning for the board that others denote
 abbrev SomeJudged : {L E A : Type 0} → Judging L E A → Type 0
 SomeJudged judging = (text chain nets : Text) (texts : List Text) → HasAnswer (OnDenoted judging text chain nets texts)
 
@@ -558,7 +558,7 @@ some_verdicts some board rules (block ∷ blocks) =
 some_each : SomeDiagnosis → FindsSome judging_each
 some_each some board blocks rules = let told = some_verdicts some board rules blocks in ((blocks, told.0), (refl, told.1))
 
--- texts of logs say something
+-- texts of logs have a meaning
 pub record LogsSaySome : Type 0 where
   pub diagnoses : SomeJudged diagnosing
   pub groups : SomeJudged grouping
@@ -571,7 +571,7 @@ logs_say_some boards rules diagnosis groups = record {
   each = some_judged boards rules judging_each (some_each diagnosis);
 }
 
--- texts that say something give some outcome
+-- texts that have a meaning give some outcome
 module _ (devices : SomeDevice) (chains : SomeChain) (idents : SomeIdents) (boards : SomeBoard) (logs : LogsSaySome) where
   some_given : (names : Names) (request : Request) → HasOutcome (IsGiven names request)
   some_given names (Chain texts) = some_said chain_text (input_fault_line names) (AreChainLengths texts.chain texts.bsdl) (chains texts.chain texts.bsdl)

@@ -29,7 +29,7 @@ chooses_none entities choices = record {
   devices = λ i choice device chosen there. absurd (none-some device there);
 }
 
--- the devices of the choices with one more behind them
+-- the devices of the choices, and one more
 of_more : (entities : List Entity) (choices : List Chosen) (front : List RawDevice) (device : RawDevice) → AreOfChoices entities choices front → ((choice : Chosen) → slice_get choices (length front) ≡ Some choice → IsDeviceOf entities choice (Ok device)) → AreOfChoices entities choices (front ++ device ∷ [])
 of_more entities [] front device are is i choice found chosen there = absurd (none-some choice chosen)
 of_more entities (first ∷ choices) [] device are is zero choice found chosen there = subst (λ d. IsDeviceOf entities choice (Ok d)) (ap (λ (o : Option RawDevice). unwrap_or o device) there) (is choice chosen)
@@ -37,7 +37,7 @@ of_more entities (first ∷ choices) [] device are is (suc i) choice found chose
 of_more entities (first ∷ choices) (d ∷ front) device are is zero choice found chosen there = are 0 choice found chosen there
 of_more entities (first ∷ choices) (d ∷ front) device are is (suc i) choice found chosen there = of_more entities choices front device (λ k. are (suc k)) is i choice found chosen there
 
--- the choice at a place before the end, and those behind it
+-- the choice at a place before the end, and those after it
 left_at : (choices : List Chosen) (n : ℕ) → n < length choices → drop n choices ≡ slice_index_or choices n (0, None) ∷ drop (n + 1) choices
 left_at choices n within = let next : n + 1 ≡ suc n = omega arith in rw next (drop-cons choices n (0, None) within)
 
@@ -62,7 +62,7 @@ chooses_fault entities choices n front fault within so_far is = completes_fault 
 pub chooses_all : (entities : List Entity) (choices : List Chosen) (n : ℕ) (front : List RawDevice) → length choices ≤ n → Chooses entities choices n front → EachOf (IsDeviceOf entities) choices (Ok front)
 chooses_all entities choices n front past so_far = completes_end (IsDeviceOf entities) choices front (subst (λ rest. Completes (IsDeviceOf entities) choices rest front) (drop_all n choices past) so_far.completes)
 
--- where one of two lists has ended, there are no more pairs
+-- if one of two lists is at its end, there are no more pairs
 pub no_pairs : {A B : Type 0} (xs : List A) (ys : List B) → (length xs ≡ 0) ⊎ (length ys ≡ 0) → ◌≡◌ {A = List (A × B)} (zip xs ys) []
 no_pairs [] ys ended = refl
 no_pairs (x ∷ xs) [] ended = refl

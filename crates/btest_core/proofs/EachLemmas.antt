@@ -3,7 +3,7 @@ use Rattle.std.proofs.Common.{◌≡◌, List, [], ◌∷◌, ◌++◌, Result, 
 use Rattle.btest_core.specs.declared.fault.InputFault.{InputFault}
 use Rattle.btest_core.specs.Answers.{EachOf}
 
--- an answer, behind values that were found before
+-- an answer, after values that were found before
 abbrev pub behind : {B : Type 0} → List B → Result (List B) InputFault → Result (List B) InputFault
 behind front (Ok values) = Ok (front ++ values)
 behind front (Err fault) = Err fault

@@ -36,7 +36,7 @@ use Rattle.btest_core.proofs.JoinLemmas.{kept}
 use Rattle.btest_core.proofs.OneLemmas.{same_ok}
 use Rattle.btest_core.proofs.SomeLemmas.{selected}
 
--- what is known of devices, selections, chain files and boards
+-- the properties of devices, selections, chain files and boards
 abbrev pub SoundKeep : Type 0
 SoundKeep = (entity : Entity) (given : Option (List ℕ)) (device : RawDevice) → IsSound entity given device → IsDevice device
 
@@ -54,7 +54,7 @@ BoardsKeep = (chain : List ChainLine) (nets : List NetLine) (devices : List RawD
     → IsChain chain → AllByRecursion (λ line. HasLength line.statement) chain → AllByRecursion IsDevice devices → length devices ≡ length (named EntityName chain)
     → board_of chain nets devices ≡ Ok board → IsBoard board
 
--- where the answer is a value, the first step gave one too
+-- if the answer is a value, the first step gave one too
 follows_ok : {A B : Type 0} (first : Result A InputFault → Type 0) (next : A → Result B InputFault → Type 0) (value : B) → Follows first next (Ok value) → (found : A) × first (Ok found) × next found (Ok value)
 follows_ok first next value (inl (found, is, answers)) = (found, is, answers)
 follows_ok first next value (inr (fault, is, answers)) = absurd cc

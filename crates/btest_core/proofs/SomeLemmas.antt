@@ -54,7 +54,7 @@ each_more : {A : Type 0} (P Q : A → Type 0) → ((item : A) → P item → Q i
 each_more P Q more [] all = tt
 each_more P Q more (item ∷ items) all = (more item all.0, each_more P Q more items all.1)
 
--- what is known of tokens, entities and devices
+-- the properties of tokens, entities and devices
 abbrev pub SomeLexed : Type 0
 SomeLexed = (text : List ℕ) → (tokens : List Token) × (answer : Result (Unit {0}) LexFault) × lexer.IsAnswer text tokens answer
 
@@ -64,7 +64,7 @@ SomeParsed = (text : List ℕ) (tokens : List Lexeme) → (answer : Result Entit
 abbrev pub SomeChecked : Type 0
 SomeChecked = (entity : Entity) (given : Option (List ℕ)) → (answer : Result RawDevice DeviceFault) × check.IsAnswer entity given answer
 
--- what is known of selections
+-- the property of selections
 abbrev pub SelectsWithin : Type 0
 SelectsWithin = (lines : List ChainLine) (entities : List Entity) (numbers : List ℕ) → selection lines entities ≡ Ok numbers → All (λ number. number < length entities) numbers
 

@@ -44,7 +44,7 @@ kind_back Or = refl
 kind_back First = refl
 kind_back Second = refl
 
--- two faults are one
+-- whether two faults are the same
 abbrev same_single : Single → Single → Bool
 same_single (StuckNet n v) (StuckNet m w) = (n == m) && is_same v w
 same_single (StuckNet n v) (OpenPin q w) = false
@@ -96,7 +96,7 @@ module _ (board : RawBoard) (rules : IsBoard board) (plan : PlanTables) (lists :
       let kept = suffice board plan lists log suspects rules are test (λ other is on. subst (λ (s : Single). Explains board s log) (sym (same_one other single on)) explains) in
       (filter_has test candidates single (subst (λ (l : List Single). Has l single) kept (has_filter test (singles board) single listed (one_same single)))).0
 
-  -- the candidates that explain the log are the single faults that do
+  -- the candidates that explain the log are the single faults that explain it
   pub candidates_explain : (faults : List Single) → Picks (λ single. Explains board single log) candidates faults → AreExplaining board log faults
   candidates_explain faults those =
       subst (λ (l : List Single). AreExplaining board log l) whole
@@ -118,7 +118,7 @@ module _ (board : RawBoard) (rules : IsBoard board) (plan : PlanTables) (lists :
           suffice board plan lists log suspects rules are test (λ single is on. only single on)
           ∙ those_filter (λ single. Explains board single log) test candidates faults (λ single candidate on. only single on) (λ single candidate explains. all single candidate explains) those
 
-  -- what is found of all candidates
+  -- what is found among all candidates
   pub all_found : {V E : Type 0} (view : V → List Single) (result : Result V E) → IfOk result (λ v. Picks (λ single. Explains board single log) (filter_map (fault_at board) (items_between suspects 0 (length suspects))) (view v)) → IfOk result (λ v. AreExplaining board log (view v))
   all_found view (Err e) found = tt
   all_found view (Ok v) found = candidates_explain (view v) (subst (λ (l : List ℕ). Picks (λ single. Explains board single log) (filter_map (fault_at board) l) (view v)) (range_whole suspects) found)

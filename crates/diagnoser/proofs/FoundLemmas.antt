@@ -57,7 +57,7 @@ found_one s i place single holds at some decides =
     by_test true decides = inl ([], decides.0 refl, refl, refl)
     by_test false decides = inr ((λ explains. let bad : false ≡ true = decides.1 explains in cc bad), refl)
 
--- what a place has whose fault this is if it has one
+-- a place, and the fault that it has, if it has one
 module _ (s : Search) (rules : IsBoard s.logged.now.test.board) (p : IsPlanOf s.logged.now.test.board s.logged.now.test.plan) (are : ArePasses s.logged.now.test.board s.logged.now.test.plan.passes) (search : IsSearch s) (place : ℕ) where
   abbrev plan : PlanTables
   plan = s.logged.now.test.plan
@@ -71,7 +71,7 @@ module _ (s : Search) (rules : IsBoard s.logged.now.test.board) (p : IsPlanOf s.
   found_no_fault i at candidate = found_none s i place at (place_has None candidate)
 
   module _ (fault : Single) (candidate : (plan : PlanTables) → listed_at (listed_places plan s.universe.now) place ≡ where_observed plan (Some fault)) where
-    -- a fault of the board, where some pass observes its nets
+    -- this is a fault of the board, if some pass observes its nets
     pub candidate_single : observes_fault plan fault ≡ true → IsSingle s.logged.now.test.board fault
     candidate_single observed =
         place_single s.logged.now.test.board rules place fault (there (slice_get (places_of s.logged.now.test.board) place) (place_has (Some fault) candidate ∙ ap (λ (b : Bool). cond b (Some fault) None) observed))
@@ -95,7 +95,7 @@ module _ (s : Search) (rules : IsBoard s.logged.now.test.board) (p : IsPlanOf s.
             (λ e. (decides.0 e).1, λ explains. decides.1 (on, explains))
         by_test false off = by_answer holds refl off
 
--- what was found of neighbouring ranges
+-- what is found in neighboring ranges
 found_ranges : (s : Search) (items : ℕ) {E : Type 0} → IsOfRanges {E = E} items (λ from to said. IfOk said (Found s from to))
 found_ranges s items = record {
   nothing = found_nothing s;
@@ -115,7 +115,7 @@ seen_found : (s : Search) (from to : ℕ) {V E : Type 0} (view : V → List Sing
 seen_found s from to view (Ok v) found = found
 seen_found s from to view (Err e) found = tt
 
--- what the pieces find is found of all candidates
+-- what the pieces find is what is found among all candidates
 pub found_pieces : (s : Search) (items pieces : ℕ) → 0 < pieces → items ≡ length s.suspects.now → {V E : Type 0} (view : V → List Single) (Gives : Piece → Result V E → Type 0) (IsRefusal : E → Type 0) (result : Result V E) → GivesTogether view Gives IsRefusal items pieces result →
     ((number : ℕ) (answer : Result V E) → Gives (piece_of items pieces number) answer → IfOk answer (λ v. Found s (piece_start items pieces number) (piece_start items pieces (number + 1)) (view v))) →
     IfOk result (λ v. Found s 0 (length s.suspects.now) (view v))

@@ -52,7 +52,7 @@ fn explains(search: Search<'_, '_>, fault: Single) -> bool
     search.logged.matches_by(fault, search.nets)
 }
 
-// Tries candidate `i` for a piece, and returns its fault if that explains the log. `near` is where the last look-up of a place ended.
+// Tries candidate `i` for a piece, and returns its fault if that explains the log. `near` is the place at which the last look-up ended.
 fn try_candidate<G: Gate>(
     search: Search<'_, '_>,
     piece: u32,

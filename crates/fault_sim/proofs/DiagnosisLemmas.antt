@@ -60,7 +60,7 @@ module _ {A : Type 0} (P : A → Type 0) where
       by_test true d picks = inl (filter test xs, d.0 refl, refl, picks)
       by_test false d picks = inr (not_from_Decides false d refl, picks)
 
--- rows that agree where they are compared
+-- bits that agree if they are compared
 agree_at : (o : Option Bool) (x y : Bool) → IsDecided (AgreeAt o x y)
 agree_at None x y = (true, (λ e. tt, λ h. refl))
 agree_at (Some v) x y = (beq x y, booleans_Decides x y)
@@ -122,7 +122,7 @@ module _ (board : RawBoard) where
         same (λ h. record { shape = h.0; bits = h.1 }) (λ e. (e.shape, e.bits))
         (both shape_decided (are_expected (filter is_compared (board_scans board scans)) log, (λ e. e, λ e. e)))
 
-    -- a log of the shape is explained where it agrees with one that is
+    -- a log of the right shape is explained if it agrees with an explained log
     module _ (rules : IsBoard board) (faults : FaultSet) (turn : AreInTurn board scans) (other : List (List Bool)) (explained : ExplainedBy board faults scans other) where
       explained_with : HasShape board scans log × AgreeOn board scans log other → ExplainedBy board faults scans log
       explained_with (shape, agree) = (explained_by_rows board rules faults scans turn.follow log).1 (shape, captures)
@@ -160,11 +160,11 @@ module _ (board : RawBoard) (log : List (List Bool)) (rules : IsBoard board) whe
       let picked = some_picked Explaining (singles board) (λ single has. single_decided single (listed single has)) in
       (passes.0, picked.0, record { passes = passes.1; list = picked.1 })
 
-  -- the faults that pass a test which decides what they explain are those of the diagnosis
+  -- if a test decides what the faults explain, those that pass it are the faults of the diagnosis
   pub explaining_picked : (test : Single → Bool) → ((single : Single) → IsSingle board single → Decides (test single) (Explains board single log)) → Picks Explaining (singles board) (filter test (singles board))
   explaining_picked test decides = filter_picks Explaining test (singles board) (λ single has. decides single (listed single has))
 
--- and one alone
+-- a log has no second diagnosis
 pub one_diagnosis : (board : RawBoard) (log : List (List Bool)) (pass other_pass : Bool) (faults others : List Single) → IsDiagnosis board log pass faults → IsDiagnosis board log other_pass others →
     (pass ≡ other_pass) × (faults ≡ others)
 one_diagnosis board log pass other_pass faults others h k =

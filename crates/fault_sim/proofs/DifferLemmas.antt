@@ -107,13 +107,13 @@ module _ (board : RawBoard) (plan : PlanTables) (log : List (List Bool)) where
           by_hidden (inl has) = has_contains nets n has
           by_hidden (inr shows) = absurd (hidden shows)
 
--- a net is none of no nets
+-- a net is not in an empty list
 not_among : {P : Type 0} (n : ℕ) (nets : List ℕ) → length nets ≡ 0 → Contains nets n ⊎ P → P
 not_among n [] e (inl has) = absurd (contains_has [] n has)
 not_among n [] e (inr p) = p
 not_among n (m ∷ nets) e s = absurd (omega (arith, e))
 
--- no net differs exactly where all show
+-- no net differs exactly if all show the expected bits
 pub none_decides : (board : RawBoard) (plan : PlanTables) (log : List (List Bool)) (nets : List ℕ) → AreDiffering board plan log nets → (P : Type 0) → (P → ShowsAll board plan None log) → (ShowsAll board plan None log → P) → (r : Bool) → r ≡ (length nets == 0) → Decides r P
 none_decides board plan log [] differ P to back r is = (λ e. back (λ x less n within. not_among n [] refl (differ.others n within) x less), λ p. is)
 none_decides board plan log (n ∷ nets) differ P to back r is =
@@ -145,7 +145,7 @@ place_in_filter g a (v ∷ nets) (suc n) net e on =
     by_test false = let none : 0 + count_by g (take n nets) ≡ count_by g (take n nets) = omega arith in ap (λ (i : ℕ). slice_get (map (λ (m : Numbered). m.0) rest) i) none
 
 module _ (board : RawBoard) (rules : IsBoard board) (plan : PlanTables) (p : IsPlanOf board plan) (log : List (List Bool)) where
-  -- a net that no pass observes shows whatever the log is
+  -- a net that no pass observes shows the expected bits, whatever the log is
   unobserved_shows : (n : ℕ) (net : Net) → slice_get board.nets n ≡ Some net → is_observed board plan.passes net ≡ false → ShowsOn board plan None log n
   unobserved_shows n net is_net off x less =
       let pass = item_there plan.passes x less in

@@ -24,7 +24,7 @@ use Rattle.fault_sim.specs.Effects.{feed_bit, driver_in, place_of_driver, pull_i
 use Rattle.fault_sim.specs.inner.Effects.{fault_bit}
 use Rattle.fault_sim.proofs.FeedLemmas.{driven_is, first_place}
 
--- a single fault, where there is one
+-- a single fault of the board, if there is one
 abbrev pub IsFault : RawBoard → Option Single → Type 0
 IsFault board None = Unit {0}
 IsFault board (Some single) = IsSingle board single

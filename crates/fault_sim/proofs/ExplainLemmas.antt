@@ -49,14 +49,14 @@ use Rattle.fault_sim.proofs.OrderLemmas.{place_single}
 use Rattle.fault_sim.proofs.DifferLemmas.{differing_observed, covered_there}
 use Rattle.fault_sim.proofs.SuspectLemmas.{PairAt, pair_at, net_order, net_below, has_stuck, has_open, has_earlier, has_later, pair_order, pair_below, has_pair}
 
--- the nets stand at their places among the covered nets, in order
+-- the nets are at their places among the covered nets, in order
 abbrev pub CanSuspect : PlanTables → FaultLists → List ℕ → Type 0
 CanSuspect plan lists [] = Unit {0}
 CanSuspect plan lists (n ∷ []) = covered_place plan n < length lists.nets
 CanSuspect plan lists (m ∷ n ∷ []) = (covered_place plan m < covered_place plan n) × (covered_place plan n < length lists.nets)
 CanSuspect plan lists (m ∷ n ∷ o ∷ nets) = Unit {0}
 
--- where a fault stands
+-- the place of a fault
 pub data PlaceOf (lists : FaultLists) (i : ℕ) (single : Single) : Type 0 where
   at_stuck : (m r net : ℕ) (value : Bool) → slice_get lists.nets m ≡ Some net → r < 2 → i ≡ 2 * m + r → StuckNet net value ≡ single → PlaceOf lists i single
   at_open : (m r : ℕ) (pin : PinRef) (value : Bool) → slice_get lists.pins m ≡ Some pin → r < 2 → i ≡ first_open lists + (2 * m + r) → OpenPin pin value ≡ single → PlaceOf lists i single
@@ -143,7 +143,7 @@ module _ (plan : PlanTables) (lists : FaultLists) (starts : AreStarts (length li
         by_first (inl less) = by_stuck less
         by_first (inr above) = by_second above (cases_lt i (2 * length lists.nets + 2 * length lists.pins))
 
--- a number stands once in a list that rises
+-- a number is at only one place of a rising list
 stands_once : (xs : List ℕ) → InOrder (λ (x y : ℕ). x < y) xs → (a b x y : ℕ) → slice_get xs a ≡ Some x → slice_get xs b ≡ Some y → x ≡ y → a ≡ b
 stands_once [] order a b x y ea eb same = cc ea
 stands_once (z ∷ xs) order zero zero x y ea eb same = refl
@@ -159,7 +159,7 @@ places_order (z ∷ xs) order zero (suc b) x y ea eb less = let first : z ≡ x 
 places_order (z ∷ xs) order (suc a) zero x y ea eb less = absurd (omega (arith, less))
 places_order (z ∷ xs) order (suc a) (suc b) x y ea eb less = places_order xs order.1 a b x y ea eb (omega (arith, less))
 
--- a fault of other nets leaves a net as it is
+-- a fault of other nets has no effect on a net
 plain_effect : (board : RawBoard) (plan : PlanTables) (pass : List Ctl) (single : Single) (n : ℕ) → n ≢ first_net single → n ≢ second_net single → effect_of board plan pass single n ≡ Plain
 plain_effect board plan pass (StuckNet net value) n a b = ap (λ (t : Bool). cond t (Constant value) Plain) (ne_eqb n net a)
 plain_effect board plan pass (OpenPin pin value) n a b = ap (λ (t : Bool). cond t (open_effect (place_of_driver (driver_in plan pass n)) pin.place value (pull_in board n)) Plain) (ne_eqb n pin.net a)
@@ -173,12 +173,12 @@ others_show board plan log single n within show a b x less =
     subst (λ (effect : Effect). ShowBy log (x * plan.width) plan.width (code_in plan n) (readers_in plan n) effect (place_of_driver (driver_in plan (get_or plan.passes x []) n)))
     (plain_effect board plan (get_or plan.passes x []) single n a b) (show x less n within)
 
--- where the nets that differ are nets of a fault, its effect is shown on all nets exactly where it is on its own
+-- if the nets that differ are the fault's own, its effect is shown on all nets exactly if it is shown on its own
 module _ (board : RawBoard) (plan : PlanTables) (log : List (List Bool)) (single : Single) (a b : ℕ) (first : a ≡ first_net single) (second : b ≡ second_net single) (nets : List ℕ) (differ : AreDiffering board plan log nets) where
   is_one : ℕ → Bool
   is_one n = (n == a) || (n == b)
 
-  -- the nets that differ are nets of a fault that is shown on all nets
+  -- the nets that differ are the fault's own, if its effect is shown on all nets
   pub are_own : ShowsAll board plan (Some single) log → list_all (λ n. (n == a) || (n == b)) nets ≡ true
   are_own show = all_from (λ n. (n == a) || (n == b)) nets (λ i n at. by_first n (has_contains nets n (has_at nets i n at)) (cases_eq n a))
     where
@@ -218,11 +218,11 @@ module _ (board : RawBoard) (plan : PlanTables) (lists : FaultLists) (starts : A
     (listed : listed_places plan lists ≡ places_of board)
     (singles : (i : ℕ) (single : Single) → slice_get (places_of board) i ≡ Some (Some single) → IsSingle board single) where
   module _ (nets : List ℕ) (differ : AreDiffering board plan log nets) where
-    -- the differing nets stand among the covered nets
+    -- the differing nets are among the covered nets
     stands : (n : ℕ) → Contains nets n → slice_get lists.nets (covered_place plan n) ≡ Some n
     stands n h = let e = (differ.exactly n).0 h in there n e.0 e.1
 
-    -- and are nets of each fault that explains the log
+    -- and they are the own nets of each fault that explains the log
     is_of : (single : Single) → IsSingle board single → Explains board single log → (n : ℕ) → Contains nets n → (n ≡ first_net single) ⊎ (n ≡ second_net single)
     is_of single is_single explains n h = by_first (cases_eq n (first_net single))
       where
@@ -393,7 +393,7 @@ module _ (board : RawBoard) (plan : PlanTables) (lists : FaultLists) (starts : A
   suspects_below (m ∷ n ∷ []) can i h = pair_below lists starts (covered_place plan m) (covered_place plan n) can.0 can.1 i h
   suspects_below (m ∷ n ∷ o ∷ nets) can i h = absurd h
 
-  -- how many they are
+  -- the number of suspects
   pins_counted : (n from count : ℕ) → from + count ≡ length lists.pins → length (flat_map (pin_suspects lists n) (range_with_len from count)) ≡ 2 * count_by (λ (pin : PinRef). pin.net == n) (drop from lists.pins)
   pins_counted n from zero e =
       let whole : from ≡ length lists.pins = omega (arith, e) in
@@ -458,7 +458,7 @@ module _ (board : RawBoard) (plan : PlanTables) (lists : FaultLists) (starts : A
         count_is = suspects_counted nets can;
       }
 
--- so for the log of a board's test
+-- the same for the log of a board's test
 module _ (board : RawBoard) (rules : IsBoard board) (plan : PlanTables) (p : IsPlanOf board plan) (passes : plan.passes ≡ passes_of board) (log : List (List Bool))
     (rows : length log ≡ length plan.passes * plan.width) (bits : All (λ row. length row ≡ data_bits board) log)
     (compared : CompareRows (code_row board (passes_of board)) (code_width (observed_count board (passes_of board))) (passes_of board) (compared_scans board (svf_row_scans board)))

@@ -54,7 +54,7 @@ module _ (board : RawBoard) (rules : IsBoard board) (plan : PlanTables) (p : IsP
       ∙ get_or_from_slice_get (map (λ (x : Net). readers_of board x.pins) board.nets) n (readers_of board net.pins) []
       (slice_get-map (λ (x : Net). readers_of board x.pins) board.nets n ∙ ap (λ (o : Option Net). option_map (λ (x : Net). readers_of board x.pins) o) is_net)
 
-  -- a net of which a pass observes by some driver has its code
+  -- a net that a pass observes has its code
   pub code_is : (x : ℕ) (pass : List Ctl) (place : ℕ) → slice_get plan.passes x ≡ Some pass → observing_driver board (holds pass) net ≡ Some place →
       code_in plan n ≡ code_of_net board plan.passes n
   code_is x pass place stands observing =
@@ -128,7 +128,7 @@ module _ (board : RawBoard) (rules : IsBoard board) (plan : PlanTables) (p : IsP
         abbrev safe_value : Bool
         safe_value = unwrap_or (safe_bit t.device entry.num) false
 
-        -- the cell where it carries no net's bit
+        -- the cell's bit if it carries no net's bit
         quiet_is : get_or plan.quiet.bits d.position false ≡ cond controls off safe_value
         quiet_is =
             ap (λ (l : List Bool). get_or l d.position false)

@@ -47,7 +47,7 @@ module _ (plan : PlanTables) (pass : List Ctl) (n : ℕ) where
       by_driver None = refl
       by_driver (Some d) = refl
 
-  -- its cell has the code exactly where the pass observes the net
+  -- its cell has the code exactly if the pass observes the net
   pub observes_is : observes_coded (enabled_driver plan pass n) ≡ observes_in plan pass n
   observes_is = by_driver (driver_in plan pass n)
     where
@@ -59,7 +59,7 @@ module _ (plan : PlanTables) (pass : List Ctl) (n : ℕ) where
       by_driver None = refl
       by_driver (Some d) = by_code (is_read_beside (readers_in plan n) d) (code_in plan n) (steady_in plan pass d)
 
--- two nets are paired exactly where some pass observes both
+-- two nets are paired exactly if some pass observes both
 module _ (plan : PlanTables) (a b : ℕ) where
   pub paired_at : (x : ℕ) → x < length plan.passes → (observes_in plan (get_or plan.passes x []) a && observes_in plan (get_or plan.passes x []) b) ≡ true → paired_in plan a b ≡ true
   paired_at x less both = any_at (λ pass. observes_in plan pass a && observes_in plan pass b) plan.passes x (get_or plan.passes x []) (slice_get-get_or plan.passes x [] less) both

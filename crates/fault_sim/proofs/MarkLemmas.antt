@@ -35,7 +35,7 @@ use Rattle.fault_sim.specs.Kept.{compared_in, expected_in}
 use Rattle.fault_sim.specs.inner.Marks.{HasExpected, MarkRows, AreMarks, are_marked}
 use Rattle.fault_sim.proofs.ShowLemmas.{ComparedCell, compared_cell}
 
--- numbers that agree wherever a third has a 1
+-- numbers that agree at each bit at which a third has a 1
 masked_same : (a b mask k : ℕ) → bit_and (bit_xor a b) mask ≡ 0 → digit_bit mask k ≡ true → digit_bit a k ≡ digit_bit b k
 masked_same a b mask k none on =
     let one : bit_at mask k ≡ 1 = eqb-true (bit_at mask k) 1 on in
@@ -45,14 +45,14 @@ masked_same a b mask k none on =
     let same : bit_at a k ≡ bit_at b k = omega (arith, sum, bit_at-lt a k, bit_at-lt b k) in
     ap (λ (n : ℕ). n == 1) same
 
--- neither of two numbers has a 1 where their union has none
+-- neither of two numbers has a 1 at a bit at which their union has none
 pub or_zeros : (a b : ℕ) → bit_or a b ≡ 0 → (a ≡ 0) × (b ≡ 0)
 or_zeros a b none = (same_from_bits a 0 (λ i. omega (arith, union i, bit_at-zero i)), same_from_bits b 0 (λ i. omega (arith, union i, bit_at-zero i)))
   where
     union : (i : ℕ) → max (bit_at a i) (bit_at b i) ≡ 0
     union i = sym (bit_at_or a b i) ∙ ap (λ (n : ℕ). bit_at n i) none ∙ bit_at-zero i
 
--- one digit more is looked at
+-- one digit more is marked
 module _ (start marks : List ℕ) (wrong : ℕ → ℕ) (k : ℕ) (left : (i : ℕ) → k ≤ i → get_or marks i 0 ≡ get_or start i 0) where
   pub marked_more : k < length marks → ((i : ℕ) → i < k → get_or marks i 0 ≡ 0 → (get_or start i 0 ≡ 0) × (wrong i ≡ 0)) → (i : ℕ) → i < k + 1 → get_or (set marks k (bit_or (get_or marks k 0) (wrong k))) i 0 ≡ 0 →
       (get_or start i 0 ≡ 0) × (wrong i ≡ 0)
@@ -146,7 +146,7 @@ module _ (board : RawBoard) (rules : IsBoard board) (plan : PlanTables) (p : IsP
         by_place y has true e = refl
         by_place y has false e = is_same_of_same (bit_in log (x * plan.width + j) y.position) (code_bit (code_in plan n) j) (bit_is y has e)
 
-  -- a net shows the expected bits where none of the digits of its cells has a mark
+  -- a net shows the expected bits if none of the digits of its cells has a mark
   unmarked_within : (n : ℕ) → n < length board.nets → are_marked marks (readers_in plan n) ≡ false → ShowsOn board plan None log n
   unmarked_within n within unmarked x less =
       let net = item_there board.nets n within in
@@ -159,7 +159,7 @@ module _ (board : RawBoard) (rules : IsBoard board) (plan : PlanTables) (p : IsP
       by_driver net is_net pass stands None e = tt
       by_driver net is_net pass stands (Some d) e = λ j j_less. cells_expected n unmarked x less net is_net pass stands d e j j_less
 
-  -- and so does a number that no net has
+  -- the same for a number that no net has
   pub unmarked_shows : (n : ℕ) → are_marked marks (readers_in plan n) ≡ false → ShowsOn board plan None log n
   unmarked_shows n unmarked = by_side (cases_lt n (length board.nets))
     where
@@ -173,7 +173,7 @@ module _ (board : RawBoard) (rules : IsBoard board) (plan : PlanTables) (p : IsP
           by_driver x None = tt
           by_driver x (Some d) = λ j less. refl
 
--- one pass more is gone through
+-- one pass more is marked
 pub pass_more : (board : RawBoard) (plan : PlanTables) (log : List (List Bool)) (x : ℕ) (old new : List ℕ) → AreMarks board plan log x old → MarkRows board plan log x plan.width old new → AreMarks board plan log (x + 1) new
 pass_more board plan log x old new are more at within unmarked pass less = by_pass (cases_eq pass x)
   where

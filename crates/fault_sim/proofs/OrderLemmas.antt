@@ -56,7 +56,7 @@ pub place_single : (board : RawBoard) → IsBoard board → (i : ℕ) (single : 
 place_single board rules i single e =
     single_is board rules single (has_contains (singles board) single (subst (λ (l : List Single). Has l single) (places_are board) (fault_listed (places_of board) i single e)))
 
--- the faults at some places, of which the first of the list has this number
+-- the faults at the places `numbers`; the first item of the list is at place `first`
 abbrev pub faults_from : List (Option Single) → ℕ → List ℕ → List Single
 faults_from places first numbers = filter_map (λ i. option_and_then (λ place. place) (slice_get places (i - first))) numbers
 

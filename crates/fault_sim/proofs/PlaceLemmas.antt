@@ -131,7 +131,7 @@ places_are board =
         ∙ ap (λ (l : List (Numbered × Numbered)). flat_map (λ pair. short_faults pair.0.0 pair.1.0) l)
         (pairs_covered (λ (net : Numbered). is_covered board net.1) q (λ x y on. paired_covered board x.1 y.1 on) (numbered_nets board))
 
--- what is at a place of items that give so many places each
+-- the item at a place, if each of the list's items gives the same number of places
 pub flat_at : {X Y : Type 0} (f : X → List Y) (w : ℕ) → ((x : X) → length (f x) ≡ w) → (xs : List X) (m : ℕ) (x : X) → slice_get xs m ≡ Some x → (r i : ℕ) → r < w → i ≡ m * w + r →
     slice_get (flat_map f xs) i ≡ slice_get (f x) r
 flat_at f w each [] m x e r i less at = cc e
@@ -277,7 +277,7 @@ length-four plan pair = by_test (paired_in plan pair.0 pair.1)
     by_test true = refl
     by_test false = refl
 
--- the fault that a place has, which may be none
+-- the fault of a place, if it has one
 abbrev pub at_once : Option (Option Single) → Option Single
 at_once place = option_and_then (λ fault. fault) place
 
@@ -302,7 +302,7 @@ open_observed plan (pin ∷ pins) zero = refl
 open_observed plan (pin ∷ pins) (suc zero) = refl
 open_observed plan (pin ∷ pins) (suc (suc i)) = open_observed plan pins i
 
--- two nets have the faults of their short where some pass observes both
+-- two nets have the faults of their short if some pass observes both
 pub short_there : (plan : PlanTables) (a b r : ℕ) (kind : Kind) → r < 4 → kind_rank kind ≡ r → at_once (slice_get (number_places plan (a, b)) r) ≡ where_observed plan (Some (Short a b kind))
 short_there plan a b r kind less rank = by_test (paired_in plan a b)
   where
@@ -310,7 +310,7 @@ short_there plan a b r kind less rank = by_test (paired_in plan a b)
     by_test true = ap at_once (slice_get-map (λ f. Some f) (short_faults a b) r ∙ ap (λ (o : Option Single). option_map (λ f. Some f) o) (short_fault a b r kind rank))
     by_test false = ap at_once (no_fault r less)
 
--- each place has one or none
+-- each place has one fault or none
 pub listed_there : (places : List (Option Single)) (i : ℕ) (fault : Option Single) → i < length places → fault ≡ listed_at places i → slice_get places i ≡ Some fault
 listed_there places i fault less e = let place = item_there places i less in place.1 ∙ ap Some (sym (e ∙ ap at_once place.1))
 

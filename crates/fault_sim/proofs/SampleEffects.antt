@@ -15,11 +15,11 @@ driven = record { source = Code 2; off = None }
 abbrev high : Feed
 high = record { source = Fixed true; off = None }
 
--- what a cell of two shorted nets reads in row 0, where 1 is expected
+-- the bit that a cell of two shorted nets reads in row 0, if 1 is expected
 abbrev short_bit : Option Feed → Option Feed → Option Bool → Kind → Bool
 short_bit first second pull kind = effect_bit (Shorted kind first second pull) 0 0 true
 
--- two driven nets read by the kind of their short
+-- two driven nets read a bit that depends on the kind of their short
 both_driven : map (short_bit (Some driven) (Some high) None) (And ∷ Or ∷ First ∷ Second ∷ []) ≡ false ∷ true ∷ false ∷ true ∷ []
 both_driven = refl
 

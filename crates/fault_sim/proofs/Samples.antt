@@ -53,7 +53,7 @@ three_starts = record { count = refl; each = each }
     each (suc (suc (suc zero))) le = refl
     each (suc (suc (suc (suc a)))) le = absurd (omega (arith, le))
 
--- three covered nets, the second and third of which have no pin that is tested: their pairs are numbered 0 and 1, 0 and 2, 1 and 2
+-- three covered nets, the second and third without a tested pin: their pairs are numbered 0 and 1, 0 and 2, 1 and 2
 abbrev three_nets : FaultLists
 three_nets = record { nets = 3 ∷ 5 ∷ 8 ∷ []; pins = record { net = 3; place = 1 } ∷ []; starts = 0 ∷ 2 ∷ 3 ∷ 3 ∷ []; few = omega arith; few_pins = omega arith; starts_are = three_starts }
 

@@ -333,7 +333,7 @@ module _ (board : RawBoard) (rules : IsBoard board) (plan : PlanTables) (p : IsP
       by_driver pass stands v is_v None e = tt
       by_driver pass stands v is_v (Some d) e = λ j less. cells_are_shown x pass stands j less shows n v is_v d e
 
--- the cells that read a net stand in a scan of data; a number that no net has is read by none
+-- the cells that read a net have positions in a data scan; no cell reads a number that no net has
 pub readers_inside : (board : RawBoard) → IsBoard board → (plan : PlanTables) → IsPlanOf board plan → (n : ℕ) → All (λ r. r.position < data_bits board) (readers_in plan n)
 readers_inside board rules plan p n = by_side (cases_lt n (length plan.readers))
   where

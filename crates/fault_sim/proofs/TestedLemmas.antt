@@ -301,7 +301,7 @@ filter_range p q a (suc n) same =
     ap (λ (b : Bool). cond b (a ∷ filter p (range_with_len (a + 1) n)) (filter p (range_with_len (a + 1) n))) (same a (omega arith) (omega arith))
     ∙ ap (λ (l : List ℕ). cond (q a) (a ∷ l) l) (filter_range p q (a + 1) n (λ k low high. same k (omega (arith, low)) (omega (arith, high))))
 
--- what is gathered of the numbers of nets is what is gathered of the numbered nets
+-- what is gathered from the numbers of nets is what is gathered from the numbered nets
 flat_numbers : {Y : Type 0} (f : ℕ → List Y) (g : Numbered → List Y) (a : ℕ) (nets : List Net) → ((k : ℕ) (net : Net) → slice_get nets k ≡ Some net → f (a + k) ≡ g (a + k, net)) →
     flat_map f (range_with_len a (length nets)) ≡ flat_map g (enumerate_from a nets)
 flat_numbers f g a [] same = refl

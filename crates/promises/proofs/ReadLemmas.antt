@@ -52,7 +52,7 @@ reads_long None before file after texts text each is long = absurd is
 reads_long (Some held) [] file after texts text each is long = long_of held [] file after texts text each is long
 reads_long (Some held) (first ∷ before) file after texts text each is long = long_of held (first ∷ before) file after texts text each is long
 
--- what was read of a store that tells is what it holds
+-- what was read from a store that tells its texts is what the store holds
 pub holds_read : (held : Text → Option Text) (files : List Wanted) (texts : List Text) → reading_of held files ≡ Some (Read texts) → HoldsEach (Some held) files texts
 holds_read held [] [] e = tt
 holds_read held [] (text ∷ texts) e = absurd cc
@@ -86,7 +86,7 @@ pub read_holds : (held : Held) → Tells held → (files : List Wanted) (texts :
 read_holds None (of_name, tells) files texts read = absurd cc
 read_holds (Some held) tells files texts read = holds_read held files texts read
 
--- where a file was too long, it is the first
+-- if a file is too long, it is the first
 after_first : (held : Text → Option Text) (first : Wanted) (text : Text) (files : List Wanted) (file : Wanted) → held first.name ≡ Some text → length text ≤ first.limit → IsTooLong (Some held) files file → IsTooLong (Some held) (first ∷ files) file
 after_first held first text files file is short long = record {
   before = first ∷ long.before;
@@ -126,7 +126,7 @@ pub read_long : (held : Held) → Tells held → (files : List Wanted) (file : W
 read_long None (of_name, tells) files file read = absurd cc
 read_long (Some held) tells files file read = long_held held files file read
 
--- the first file that is too long stands at one place
+-- the first file that is too long is at only one place
 same_cut : (held : Text → Option Text) (before others after behind : List Wanted) (file : Wanted) (texts found : List Text) (text : Text) → held file.name ≡ Some text → file.limit < length text → HoldsEach (Some held) before texts → HoldsEach (Some held) others found
     → before ++ file ∷ after ≡ others ++ file ∷ behind → others ≡ before
 same_cut held [] [] after behind file texts found text is long each also e = refl
@@ -156,7 +156,7 @@ pub long_cut : (held : Held) (before others after behind : List Wanted) (file : 
 long_cut None before others after behind file texts found text is long each read e = absurd is
 long_cut (Some held) before others after behind file texts found text is long each read e = same_cut held before others after behind file texts found text is long each (holds_read held others found read) e
 
--- a count of names that rose is that of one of them
+-- if some count of these names rose, it is that of one of them
 pub some_rose : (before now : Text → ℕ) (names : List Text) → SomeRose before now names → (name : Text) × Contains names name × Rose (before name) (now name)
 some_rose before now [] rose = absurd rose
 some_rose before now (name ∷ names) (inl rose) = (name, (zero, omega arith, refl), rose)

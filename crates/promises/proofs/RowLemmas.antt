@@ -9,12 +9,12 @@ use Rattle.bt_bits.specs.Hex.{digit_count, digit_bits, joined_bits, text_bits, c
 use Rattle.text_lines.specs.Words.{Word}
 use Rattle.response_log.specs.LogRows.{NumberedLine, bits_of_line, only_word}
 
--- bits, where there are some, are so many
+-- there are `n` bits, if there are bits
 abbrev AreMany : ℕ → Option (List Bool) → Type 0
 AreMany n bits = IfSome bits (λ b. length b ≡ n)
 
--- The bits of a digit, where it is one, are four. This is a record, so that the tests of a digit can be gone through without a word on what
--- each of them leaves.
+-- A digit has four bits, if it is one. This is a record, so that a proof can go through the tests of a digit without naming what each of
+-- them leaves.
 record AreFour (bits : Option (List Bool)) : Type 0 where
   four : AreMany 4 bits
 

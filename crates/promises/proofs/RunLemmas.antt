@@ -38,12 +38,12 @@ nothing_put run same = same_some (ap (λ (shown : Shown). shown.taken) same)
 nothing_noted : (run : Run) → notes_of run.new ≡ notes_of run.old → run.new.notes ≡ run.old.notes
 nothing_noted run same = same_some (ap (λ (shown : Shown). shown.taken) same)
 
--- two statuses are not one
+-- two different statuses are not the same
 pub apart : {s : Status} (a b : Status) → s ≡ a → s ≡ b → (a ≡ b → ⊥) → ⊥
 apart a b one other differ = differ (sym one ∙ other)
 
 module _ (run : Run) (is : IsRun run) (command : Command) (asks : Asks run command) where
-  -- what is said of the command of the words
+  -- what the clauses say about the command of the words
   pub here : (P : Command → Type 0) → IfSome (command_of run.words) P → P command
   here P all = subst (λ (c : Option Command). IfSome c P) (command_is run command asks) all
 
@@ -72,7 +72,7 @@ module _ (run : Run) (is : IsRun run) (command : Command) (asks : Asks run comma
       by_outcome (Ok text) given settles = absurd (not_both (one.outcome command reading (Ok text) (Err line) given fault))
       by_outcome (Err other) given settles = settles
 
-  -- and the text of none is put
+  -- and the text of none is written
   pub not_done : SayOne → (reading : Reading) (line : Text) → known_reading run.old.held (wanted_of command) ≡ Some reading → IsOutcome command reading (Err line) → run.status ≢ Done
   not_done one reading line known fault e =
       let told = done_here e in
@@ -100,12 +100,12 @@ module _ (run : Run) (is : IsRun run) (command : Command) (asks : Asks run comma
         let made = subst (λ (l : List Text). request_of command l ≡ Some request) (texts_are read.texts read.read) read.made in
         is_gives command texts (Ok text) (request, made, gives)
 
-    -- where a text was printed, or begun, the files give one
+    -- if a text was printed, or begun, the files give one
     pub gives_text : (run.status ≡ Done) ⊎ (run.status ≡ WriteFault) → (text : Text) × Gives command texts (Ok text)
     gives_text (inl e) = let told = done_here e in (told.text, given told.request told.text told.read told.gives)
     gives_text (inr e) = let told = cut_here e in (told.text, given told.request told.text told.read told.gives)
 
-    -- a command that puts a text of which P holds
+    -- a command that writes a text for which P holds
     pub prints : (request : Request) → request_of command texts ≡ Some request → (P : Text → Type 0) → ((line : Text) → Gives command texts (Err line) → ⊥) → ((text : Text) → Gives command texts (Ok text) → IsWorthFor request text → P text) → Prints run command P
     prints request made P sound worth = record {
       asks = λ e. (done_here e).read.asks;

@@ -56,7 +56,7 @@ chain_names = record { chain = codes "c"; bsdl = codes "b" ∷ [] }
 abbrev board_names : BoardNames
 board_names = record { chain = codes "c"; nets = codes "n"; bsdl = codes "b" ∷ [] }
 
--- the words of those names, which are asked for
+-- the words of these names, which are asked for
 abbrev chain_files : List Text
 chain_files = codes "c" ∷ codes "b" ∷ []
 
@@ -86,7 +86,7 @@ batch_words = codes "batch" ∷ codes "1" ∷ log_files
 abbrev groups_words : List Text
 groups_words = codes "groups" ∷ log_files
 
--- the text and one more end of a line, which the meaning of a test does not speak of
+-- the text and one more line end, of which the meaning of a test says nothing
 past : (text : Text) → text ++ 10 ∷ [] ≡ text → ⊥
 past text same =
     let more : length (text ++ 10 ∷ []) ≡ length text + 1 = length-append text (10 ∷ []) in
@@ -94,7 +94,7 @@ past text same =
     omega (arith, more, count)
 
 module _ (held : Held) where
-  -- runs that put this text
+  -- runs that wrote this text
   abbrev chain_run : Text → Run
   chain_run text = run_of chain_words held Done chain_files text []
 
@@ -226,7 +226,7 @@ module _ (held : Held) where
   other_summary : (board : RawBoard) → Denotes (made.chain_text 2) (made.net_text 2) (bsdl_text ∷ []) board → SumsUp (run_of (codes "make" ∷ codes "2" ∷ []) None Done [] (summary board ++ 10 ∷ []) []) → ⊥
   other_summary board denotes sums = let told = (sums 2 board (((codes "2", refl, refl), refl), tt) denotes).puts refl in past (summary board) (told.1 ∙ told.2)
 
--- Runs that put a text, or began one, though the files denote no board, or a board of which this is no log.
+-- Runs that wrote a text, or began one, although the files denote no board, or the log is not one of their board.
 module _ (held : Held) (lines nets : Text) (bsdl : List Text) (status : Status) (ended : (status ≡ Done) ⊎ (status ≡ WriteFault)) (text : Text) where
   module _ (log : Text) (each : HoldsEach held (files_of diagnose) (log ∷ lines ∷ nets ∷ bsdl)) where
     -- it may be one of another board
@@ -285,7 +285,7 @@ module _ (board : RawBoard) (log : List (List Bool)) where
   faults_out_of_order : (one other : Single) (pass : Bool) → (SinglePrecedes one other → ⊥) → IsDiagnosed board log pass (one ∷ other ∷ []) → ⊥
   faults_out_of_order one other pass none is = none (is.in_order 0 1 one (omega arith) (omega arith))
 
--- Boards of which there is no diagnosis.
+-- Boards without the responses that a diagnosis needs.
 module _ (board : RawBoard) where
   test_without_meaning : meaning (board_text board) ≡ None → HasResponses board → ⊥
   test_without_meaning none has =

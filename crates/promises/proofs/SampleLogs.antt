@@ -37,7 +37,7 @@ two_rows : Holds (codes "1\n2\n") both
 unfolding words_of
 two_rows = record { lines = refl; shape = both_shaped }
 
--- comments, a line without words, a carriage return, and no newline behind the last row
+-- comments, a line without words, a carriage return, and no newline after the last row
 with_comments : Holds (codes "# x\n\n1 # y\r\n2") both
 unfolding words_of
 with_comments = record { lines = refl; shape = both_shaped }
@@ -56,7 +56,7 @@ three_rows log holds =
     let wanted : length log ≡ 2 = holds.shape.rows in
     absurd (omega (arith, count, wanted))
 
--- a batch of two blocks with lines of all kinds, behind a comment
+-- a batch of two blocks with lines of all kinds, after a comment
 abbrev block : Text → Block
 block id = record { id = id; log = both }
 

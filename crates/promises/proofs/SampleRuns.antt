@@ -19,11 +19,11 @@ use Rattle.promises.specs.Promises.{FilesGive, FindsOutcome, RestsOnFiles, Tells
 use Rattle.promises.proofs.WordLemmas.{command_is, none_asked}
 use Rattle.promises.proofs.RunLemmas.{same_some}
 
--- ends of a store that tells this, with what was asked for, put and noted; no read and no write failed
+-- the ends of a store that tells this, with what was asked for, written and noted; no read and no write failed
 abbrev pub ends : Held → List Text → Text → Text → Ends
 ends held asked out notes = record { held = held; asked = asked; unread = λ name. 0; out = out; unwritten = 0; notes = notes; unnoted = 0 }
 
--- a run of these words that finds nothing asked for, put or noted, and leaves this
+-- a run of these words that starts with nothing asked for, written or noted, and leaves this
 abbrev pub run_of : List Text → Held → Status → List Text → Text → Text → Run
 run_of words held status asked out notes = record { words = words; old = ends held [] [] []; new = ends held asked out notes; status = status }
 
@@ -74,7 +74,7 @@ no_front : (one line : Text) → bytes_eq one one ≡ true → bytes_eq one [] �
 no_front one line same some differ zero is = apart one [] same some is
 no_front one line same some differ (suc count) is = apart one (take (suc count) line) same (differ count) is
 
--- the notes took no line, and none of one
+-- the notes took nothing, and so not this line
 none_noted : (words : List Text) (held : Held) (status : Status) (asked : List Text) (out line : Text) → bytes_eq [] line ≡ false → Notes (run_of words held status asked out []) line → ⊥
 none_noted words held status asked out line some (inl is) = apart [] line refl some is
 none_noted words held status asked out line some (inr (rose, cut)) = calm rose
@@ -84,7 +84,7 @@ neither : (status one other : Status) → (status ≡ one → ⊥) → (status �
 neither status one other first second (inl is) = first is
 neither status one other first second (inr is) = second is
 
--- A run in which a write of the notes failed.
+-- A run in which a write to the notes failed.
 
 abbrev unnoted : Run → Run
 unnoted run = record run { new = record run.new { unnoted = 1 } }
@@ -98,12 +98,12 @@ noted_whole line = inl refl
 noted_in_part : (line : Text) (count : ℕ) → Notes (unnoted (noting (take count line))) line
 noted_in_part line count = inr (inl (omega arith), (count, refl))
 
--- some first bytes, where no write failed
+-- some first bytes of the line, although no write failed
 noted_in_part_alone : Notes (noting (codes "us")) usage_line → ⊥
 noted_in_part_alone (inl is) = apart (codes "us") usage_line refl refl is
 noted_in_part_alone (inr (rose, cut)) = calm rose
 
--- what is none of its first bytes, where one failed
+-- bytes that the line does not begin with, although a write failed
 noted_other : Notes (unnoted (noting (codes "x"))) usage_line → ⊥
 noted_other (inl is) = apart (codes "x") usage_line refl refl is
 noted_other (inr (rose, (count, is))) = no_front (codes "x") usage_line refl refl (λ n. refl) count is
@@ -133,7 +133,7 @@ prints_more prints =
 prints_with_note : PrintsOne (run_of device_words empty Done b_asked (1 ∷ []) (1 ∷ [])) → ⊥
 prints_with_note prints = let count : 1 ≡ 0 = ap length (prints.silent refl) in absurd (omega (arith, count))
 
--- some of a line, where a write of the notes failed
+-- a part of a line, although only a write to the notes failed
 prints_with_part : PrintsOne (unnoted (run_of device_words empty Done b_asked (1 ∷ []) (codes "us"))) → ⊥
 prints_with_part prints = let count : 2 ≡ 0 = ap length (prints.silent refl) in absurd (omega (arith, count))
 
@@ -144,11 +144,11 @@ prints_refused prints = neither Refused Done NoMemory (λ e. cc) (λ e. cc) (pri
 prints_unwritten : PrintsOne (run_of device_words empty WriteFault b_asked [] []) → ⊥
 prints_unwritten prints = neither WriteFault Done NoMemory (λ e. cc) (λ e. cc) (prints.ends calm (λ name among rose. calm rose))
 
--- nor is a write of the notes one of the output
+-- nor does a failed write to the notes count as one to the output
 prints_unnoted : PrintsOne (unnoted (run_of device_words empty WriteFault b_asked [] [])) → ⊥
 prints_unnoted prints = neither WriteFault Done NoMemory (λ e. cc) (λ e. cc) (prints.ends calm (λ name among rose. calm rose))
 
--- A run of a store of which the read of this name failed once.
+-- A run on a store in which the read of this name failed once.
 
 abbrev failing : Text → Run → Run
 failing name run = record run { new = record run.new { unread = λ other. cond (bytes_eq name other) 1 0 } }
@@ -157,7 +157,7 @@ only_name : (name : Text) → Contains (codes "b" ∷ []) name → name ≡ code
 only_name name (zero, below, is) = sym is
 only_name name (suc k, below, is) = absurd (omega (arith, below))
 
--- no read of a file failed where only that of another one did
+-- no read of a file failed, if only that of another file did
 was_read : (name other : Text) → bytes_eq name other ≡ false → (file : Text) → file ≡ other → Rose 0 (cond (bytes_eq name file) 1 0) → ⊥
 was_read name other differ file is rose =
     let same : cond (bytes_eq name file) 1 0 ≡ 0 = ap (λ (n : Text). cond (bytes_eq name n) 1 0) is ∙ ap (λ (b : Bool). cond b 1 0) differ in
@@ -195,7 +195,7 @@ usage_that_read tells =
     let count : 1 ≡ 0 = ap (λ (unread : Text → ℕ). unread (codes "b")) (tells.1 nothing).2 in
     absurd (omega (arith, count))
 
--- the store held no file, and then tells no more what it holds
+-- the store held no file, and after the run it no longer tells what it holds
 abbrev forgotten : Run
 forgotten = let run = run_of [] empty Usage [] [] usage_line in record run { new = record run.new { held = None } }
 
@@ -281,7 +281,7 @@ module _ (text : Text) (short : length text ≤ 4194304) where
     refused_unasked : TellsFault (run_of device_words holding Refused [] [] line) → ⊥
     refused_unasked tells = let count : 0 ≡ 1 = ap length ((tells.1 device (text ∷ []) (on_text Refused [] [] line)).0 refl).0 in absurd (omega (arith, count))
 
-    -- also where a read of the file failed
+    -- the same if a read of the file failed
     fault_done : TellsFault (failing (codes "b") (run_of device_words holding Done b_asked [] [])) → ⊥
     fault_done tells = ((tells.1 device (text ∷ []) ((refl, refl), (refl, short, tt))).1 line gives).0 refl
 
@@ -304,8 +304,8 @@ module _ (text : Text) (short : length text ≤ 4194304) where
     refused_without_words : RestsOnFiles (run_of [] holding Refused b_asked [] line) → ⊥
     refused_without_words rests = let told = rests.2 refl in nothing_asked holding Refused b_asked [] line told.0 told.1
 
-  -- A file that describes a device has its listing printed, or begun where a write of the output failed. Nothing was put, or what no
-  -- listing begins with.
+  -- The listing of a device that a file describes is printed, or begun if a write of the output failed. Here the output took nothing, or
+  -- bytes with which no listing begins.
 
   -- a run in which a write of the output failed
   abbrev cut_after : List Text → Text → Text → Run
@@ -365,7 +365,7 @@ module _ (text : Text) (short : length text ≤ 4194304) where
     unwritten_without_words : RestsOnFiles (run_of [] holding WriteFault b_asked [] []) → ⊥
     unwritten_without_words rests = let told = rests.1 refl in nothing_asked holding WriteFault b_asked [] [] told.0 told.1
 
-    -- more was put than the listing, where the text describes one device
+    -- more was written than the listing, although the text describes only one device
     done_past_text : ((other : RawDevice) → IsDeviceText text (Ok other) → other ≡ described) → RestsOnFiles (run_of device_words holding Done b_asked (device_text described ++ 10 ∷ []) []) → ⊥
     done_past_text only rests =
         let told = rests.0 refl in
@@ -375,11 +375,11 @@ module _ (text : Text) (short : length text ≤ 4194304) where
         let count : length (device_text described ++ 10 ∷ []) ≡ length (device_text described) = ap length same in
         absurd (omega (arith, more, count))
 
-  -- The text gives an outcome, also where memory ran out.
+  -- The text gives an outcome even if memory ran out.
   something_given : FindsOutcome (run_of device_words holding NoMemory [] [] []) → (outcome : Result Text Text) × Gives device (text ∷ []) outcome
   something_given finds = finds.1 device (text ∷ []) (on_text NoMemory [] [] [])
 
--- A file that is longer than it may be is refused, and by its line.
+-- A file that is too long is refused, with its line.
 module _ (text : Text) (over : 4194304 < length text) where
   abbrev too_long : Held
   too_long = Some (λ name. Some text)
@@ -390,7 +390,7 @@ module _ (text : Text) (over : 4194304 < length text) where
   abbrev long_c : IsTooLong too_long (files_of chain) c_file
   long_c = record { before = []; after = b_file ∷ []; are = refl; texts = []; each = tt; text = text; holds = refl; long = over }
 
-  -- the file behind it was asked for
+  -- the file after it was asked for
   long_and_next : TellsLong (run_of chain_words too_long Refused (codes "c" ∷ codes "b" ∷ []) [] (long_line (codes "c") 4194304)) → ⊥
   long_and_next tells = let count : 2 ≡ 1 = ap length ((tells chain c_file ((refl, omega arith), refl) long_c).0 refl).0 in absurd (omega (arith, count))
 
@@ -400,7 +400,7 @@ module _ (text : Text) (over : 4194304 < length text) where
   long_without_note : TellsLong (run_of device_words too_long Refused b_asked [] []) → ⊥
   long_without_note tells = none_noted device_words too_long Refused b_asked [] (long_line (codes "b") 4194304) refl ((tells device b_file (refl, refl) long_b).0 refl).1
 
-  -- also where a read of the file failed
+  -- the same if a read of the file failed
   long_done : TellsLong (failing (codes "b") (run_of device_words too_long Done b_asked [] [])) → ⊥
   long_done tells = (tells device b_file (refl, refl) long_b).1 refl
 
@@ -413,7 +413,7 @@ module _ (text : Text) (over : 4194304 < length text) where
   long_as_unread : TellsLong (failing (codes "x") (run_of device_words too_long ReadFault [] [] (read_line (codes "x")))) → ⊥
   long_as_unread tells = neither ReadFault Refused NoMemory (λ e. cc) (λ e. cc) ((tells device b_file (refl, refl) long_b).3 (b_read device_words [] too_long ReadFault [] (read_line (codes "x"))))
 
--- On a store that holds no file nothing rests on files, but what `make` gives.
+-- With a store that holds no file, files give nothing, except for `make`.
 
 no_file_given : (run : Run) → run.old.held ≡ empty → (outcome : Result Text Text) → FilesGive run device outcome → ⊥
 no_file_given run none outcome (inl (texts, each, gives)) = by_texts texts (subst (λ (held : Held). HoldsEach held (files_of device) texts) none each)
@@ -456,7 +456,7 @@ nothing_found_otherwise finds =
     let told = finds.0 device (refl, refl) (b_read device_words b_asked empty ReadFault [] []) (λ e. cc) in
     no_file_given (failing (codes "x") (run_of device_words empty ReadFault b_asked [] [])) refl told.0 told.1
 
--- Where memory ran out.
+-- Memory ran out.
 
 memory_with_text : TellsMemory (run_of device_words empty NoMemory [] (1 ∷ []) memory_line) → ⊥
 memory_with_text tells = let count : 1 ≡ 0 = ap length (tells refl).0 in absurd (omega (arith, count))
@@ -555,7 +555,7 @@ other_file tells =
         let more : length (before ++ file ∷ after) ≡ length before + suc (length after) = length-append before (file ∷ after) in
         absurd (omega (arith, count, more))
 
--- the first file is not held, and the second was asked for behind it
+-- the store does not hold the first file, and the second was asked for after it
 first_not_held : TellsUnread (unread svf_words (codes "c" ∷ codes "n" ∷ []) [] (read_line (codes "n"))) → ⊥
 first_not_held tells = let told = tells refl in by_before told.3 told.5 told.8 (told.10 (λ name. None) refl)
   where

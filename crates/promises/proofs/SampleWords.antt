@@ -15,7 +15,7 @@ board_names = record { chain = codes "c"; nets = codes "n"; bsdl = codes "b" ∷
 abbrev board_words : List Text
 board_words = codes "c" ∷ codes "n" ∷ codes "b" ∷ []
 
--- `svf` with so many BSDL files
+-- `svf` with `count` BSDL files
 abbrev tested : ℕ → List Text
 tested count = codes "svf" ∷ codes "c" ∷ codes "n" ∷ replicate count (codes "b")
 

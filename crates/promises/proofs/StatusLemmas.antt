@@ -69,7 +69,7 @@ tells_long run is one command file asks long =
         let cut = long_cut run.old.held long.before asked.before long.after asked.after file long.texts asked.found long.text long.holds long.long long.each asked.read (sym wanted ∙ asked.are) in
         (subst (λ (l : List Wanted). AsksFor run (map (λ f. f.name) l ++ file.name ∷ [])) cut asked.asked, subst (λ (t : Text). Notes run t) line_is (noted run told.line told.noted))
 
--- the words ask for a command where the status is neither Usage nor NoMemory
+-- the words ask for a command if the status is neither Usage nor NoMemory
 some_asked : (run : Run) → IsRun run → (status : Status) → run.status ≡ status → status ≢ Usage → status ≢ NoMemory → (command : Command) × Asks run command
 some_asked run is status e not_usage not_memory = by_command (command_of run.words) refl
   where
@@ -118,7 +118,7 @@ tells_memory run is e = (
   λ command asks. here run is command asks (λ c. AsksSome c run.old.asked run.new.asked) (is.memory_asks e),
 )
 
--- what each of these three statuses tells of the files
+-- what each of these three statuses implies about the files
 module _ (run : Run) (is : IsRun run) (tells : Tells run.old.held) where
   held_texts : (command : Command) (texts : List Text) → IsRead run.old.held (wanted_of command) (Read texts) → HoldsEach run.old.held (files_of command) texts
   held_texts command texts read = subst (λ (files : List Wanted). HoldsEach run.old.held files texts) (sym (files_are command)) (read_holds run.old.held tells (wanted_of command) texts read)

@@ -33,7 +33,7 @@ parsed_is (Batch workers log names) words (number, is, (are, few)) =
 pub command_is : (run : Run) (command : Command) → Asks run command → command_of run.words ≡ Some command
 command_is run command (are, plain) = ap (λ (b : Bool). if b then parsed run.words else None) plain ∙ parsed_is command run.words are
 
--- And the other way round: the words of which the grammar makes a command are its words.
+-- And the other way round: if the grammar makes a command of words, they are its words.
 
 few : (n : ℕ) → nat_le n 255 ≡ true → n ≤ 255
 few n test = grind (arith, common_steps)
@@ -55,7 +55,7 @@ then_board front (chain ∷ nets ∷ names) = by_count (nat_le (length names) 25
     by_count true test = (refl, few (length names) test)
     by_count false test = tt
 
--- where there is a command, these are its words
+-- if there is a command, these are its words
 abbrev AreOf : List Text → Option Command → Type 0
 AreOf words command = IfSome command (λ c. AreWords c words)
 
@@ -78,7 +78,7 @@ of_make (number ∷ []) = by_number (number_of 255 number) refl
     by_number (Some parts) is = (number, is, refl)
 of_make (number ∷ other ∷ others) = tt
 
--- the words of a command of a number of workers, a log and a board
+-- the words of a command with a number of workers, a log and a board
 abbrev AreWorked : (ℕ → Text → BoardNames → Command) → Text → Type 0
 AreWorked command name =
     (number log : Text) (words : List Text) (workers : ℕ) (names : BoardNames) → number_of 64 number ≡ Some workers → ThenBoard (name ∷ number ∷ log ∷ []) names (name ∷ number ∷ log ∷ words) → AreWords (command workers log names) (name ∷ number ∷ log ∷ words)
@@ -150,7 +150,7 @@ asks_for run command is = by_plain (list_all is_plain run.words) refl is
     by_plain true plain is = (subst (AreOf run.words) is (parsed_words run.words), plain)
     by_plain false plain is = absurd cc
 
--- so the grammar makes no command of words that ask for none, and they ask for none where it makes none
+-- so the grammar makes no command of words that ask for none, and if it makes none, the words ask for none
 pub none_asked : (run : Run) → command_of run.words ≡ None → AsksNothing run
 none_asked run none command asks =
     let bad : ◌≡◌ {A = Option Command} None (Some command) = sym none ∙ command_is run command asks in

@@ -153,7 +153,7 @@ FindsGroups run =
     × ((groups : List (List ℕ)) → AreGroups board groups → (other : List (List Bool)) × Explain board other groups)
     × ((groups : List (List ℕ)) (one other : List (List Bool)) → Explain board one groups → Explain board other groups → AgreeOn board (walk_row_list board) one other))
 
--- and a text is printed, or begun, only where the files denote a board and the log is one of its walking test
+-- and a text is printed, or begun, only if the files denote a board and the log is one of its walking test
 abbrev pub RestsOnWalkLog : Run → Type 0
 RestsOnWalkLog run =
     (name : Text) (names : BoardNames) (log chain nets : Text) (bsdl : List Text) →

@@ -31,7 +31,7 @@ pins_more words i x old now within read fresh added kept differ known = (
       (seen_step (λ s. are_one (seen s) (seen m)) words i x (cond (are_one (seen x) (seen m)) true (list_any (λ s. are_one (seen s) (seen m)) (take i words))) (list_any (λ s. are_one (seen s) (seen m)) (take i words)) within read refl refl ∙ among),
 )
 
--- the same of the word at the place, whatever default is read with
+-- the same for the word at this place, whatever the default of the look-up is
 pins_at : (words : List MarkedWord) (i : ℕ) (d : MarkedWord) (old now : MarkedWord → Bool) → i < length words →
     old (get_or words i d) ≡ false → ((m : MarkedWord) → are_one (seen (get_or words i d)) (seen m) ≡ true → now m ≡ true) → ((m : MarkedWord) → old m ≡ true → now m ≡ true) →
     first_repeated (λ a b. are_one (seen a) (seen b)) words ≡ repeated_from (λ a b. are_one (seen a) (seen b)) (take i words) (drop i words) →

@@ -1,4 +1,4 @@
--- Where no two words have one pin, each word stands.
+-- If no two words have the same pin, each word counts.
 use Rattle.std.proofs.Common.{◌≡◌, map, sym, ap, ◌∙◌}
 use Rattle.first_places.specs.Places.{first_repeated}
 use Rattle.board_lines.specs.declared.names.Naming.TheVariants.{Inert}

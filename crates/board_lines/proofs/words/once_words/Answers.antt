@@ -1,4 +1,4 @@
--- The keys are lent words.
+-- The keys are borrowed words.
 use Rattle.std.proofs.Common.{◌∙◌, map, ap}
 use Rattle.std.proofs.lemmas.Result.{IfOk-weaker}
 use Rattle.board_lines.specs.NetWords.{lent_word, same_place}
