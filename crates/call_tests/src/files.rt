@@ -9,7 +9,7 @@ use std::alloc::{AllocError, Global};
 // A text, and the message for its first faulty line, or nothing.
 type Answer = (&'static [u8], &'static str);
 
-static CHAIN_FILES: [Answer; 8] = [
+static CHAIN_FILES: [Answer; 22] = [
     (b"", ""),
     (b"# DEVICE\nINERT R1\nSUPPLY V.CC\nLINK R1 1 a_2", ""),
     (b"DEVICE U1 drv -\r\n\tBYPASS U2 3 # short\n\nPULL N 1", ""),
@@ -18,9 +18,26 @@ static CHAIN_FILES: [Answer; 8] = [
     (b"INERT U.1", "line 1: word not allowed"),
     (b"LINK R1 1 2-", "line 1: word not allowed"),
     (b"BYPASS U1 +3", "line 1: number not allowed"),
+    // A part has no dot. The other words may have one.
+    (b"DEVICE U1 D.RV P.Q", ""),
+    (b"DEVICE U.1 DRV -", "line 1: word not allowed"),
+    (b"DEVICE U1 DRV P\x7f", "line 1: word not allowed"),
+    (b"DEVICE U1 DR\xc3\xa9 -", "line 1: word not allowed"),
+    (b"DEVICE U1 DRV", "line 1: no statement"),
+    (b"DEVICE U1 DRV - -", "line 1: no statement"),
+    // A wrong number of words comes before a wrong word, and a wrong word before a wrong number.
+    (b"DEVICE U.1 DRV", "line 1: no statement"),
+    (b"BYPASS U.1 300", "line 1: word not allowed"),
+    (b"PULL N\x01 2", "line 1: word not allowed"),
+    (b"PULL N 2", "line 1: number not allowed"),
+    (b"PULL N 01", "line 1: number not allowed"),
+    (b"PULL N", "line 1: no statement"),
+    // A vertical tab and a form feed are no blanks here.
+    (b"SUPPLY\x0bV", "line 1: no statement"),
+    (b"SUPPLY V\x0c", "line 1: word not allowed"),
 ];
 
-static NET_FILES: [Answer; 10] = [
+static NET_FILES: [Answer; 15] = [
     (b"", ""),
     (b"NET N1 U1.1 U2.1\nNET N2", ""),
     (b"NET N.1 U1.1.2 # and more\n", ""),
@@ -31,6 +48,15 @@ static NET_FILES: [Answer; 10] = [
     (b"NET N1 .1", "line 1: word not allowed"),
     (b"NET N1 U1.", "line 1: word not allowed"),
     (b"NET N1 U1.1\nNET N\xff", "line 2: word not allowed"),
+    (b"NET ~! !.~ ~.!", ""),
+    (b"NET N1 U1..1 U1.1.", ""),
+    (b"NETS N1 U1.", "line 1: no statement"),
+    (b"NET N1 U1.1\x0bU2.1", "line 1: word not allowed"),
+    // 66 words
+    (
+        b"NET N A.1 A.2 A.3 A.4 A.5 A.6 A.7 A.8 A.9 A.10 A.11 A.12 A.13 A.14 A.15 A.16 A.17 A.18 A.19 A.20 A.21 A.22 A.23 A.24 A.25 A.26 A.27 A.28 A.29 A.30 A.31 A.32 A.33 A.34 A.35 A.36 A.37 A.38 A.39 A.40 A.41 A.42 A.43 A.44 A.45 A.46 A.47 A.48 A.49 A.50 A.51 A.52 A.53 A.54 A.55 A.56 A.57 A.58 A.59 A.60 A.61 A.62 A.63 A.64",
+        "",
+    ),
 ];
 
 // Returns the chain file of a text of fewer than 1,000 bytes.
@@ -66,6 +92,19 @@ fn chain_files(rt: HostRuntime) -> Result<(), Missed> {
         expect(row, holds)?;
     }
     Ok(())
+}
+
+// Returns whether a file with a net whose name has this many letters is a net file.
+fn has_long_name(alloc: Global, letters: usize) -> Result<bool, AllocError> {
+    let mut text = String::from_str(alloc, "NET ")?;
+    text.push_str(&"N".repeat(alloc, letters)?)?;
+    Ok(nets_of(alloc, text.as_bytes()).is_ok())
+}
+
+#[test]
+fn words_have_up_to_255_bytes(rt: HostRuntime) -> Result<(), Missed> {
+    expect(0, has_long_name(rt.alloc(), 255)?)?;
+    expect(1, !has_long_name(rt.alloc(), 256)?)
 }
 
 #[test]

@@ -32,6 +32,26 @@ fn every_form_of_token(rt: HostRuntime) -> Result<(), CaseFault> {
     tokens_hold(rt.alloc(), &FORMS)
 }
 
+// Blanks, and the first and last byte of the marks, each beside a byte that is none.
+static LETTERS: [(Source, Result<(), LexFault>, usize); 9] = [
+    (Bytes(b"a\x0bb\x0cc\td e\rf\ng"), Ok(()), 7),
+    (Bytes(b"\x08"), Err(Byte(1)), 0),
+    (Bytes(b"\x0e"), Err(Byte(1)), 0),
+    (Bytes(b"\x1f"), Err(Byte(1)), 0),
+    (Bytes(b"!~"), Ok(()), 2),
+    (Bytes(b"\x7f"), Err(Byte(1)), 0),
+    // A word may have a byte of its own, but not as its first one.
+    (Bytes(b"a_1 _a 1a"), Ok(()), 5),
+    // A string may hold any byte but a quote and the ends of lines.
+    (Bytes(b"\"\x00\x0b\xff\""), Ok(()), 1),
+    (Bytes(b"-- \x00\xff\"\r\na"), Ok(()), 1),
+];
+
+#[test]
+fn blanks_and_marks(rt: HostRuntime) -> Result<(), CaseFault> {
+    lexings_hold(rt.alloc(), &LETTERS)
+}
+
 static BAD_PLACES: [(Source, Result<(), LexFault>, usize); 8] = [
     (Bytes(b""), Ok(()), 0),
     (Bytes(b" \t\r\n-- \x07\n--"), Ok(()), 0),
