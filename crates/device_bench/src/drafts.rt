@@ -66,8 +66,11 @@ pub fn rules_hold(alloc: Global, cases: &[(Change, (u32, u32))]) -> Result<(), C
     Ok(())
 }
 
-/// Tries two changes at a time: the rule that is named and the item.
-pub fn orders_hold(alloc: Global, cases: &[([Change; 2], (u32, u32))]) -> Result<(), CaseFault> {
+/// Tries the changes of each case together: the rule that is named and the item.
+pub fn orders_hold(
+    alloc: Global,
+    cases: &[(&'static [Change], (u32, u32))],
+) -> Result<(), CaseFault> {
     for (case, (changes, (rule, item))) in cases.iter().enumerate() {
         expect_rule(alloc, case, &changed(changes), *rule, *item)?;
     }
