@@ -26,7 +26,8 @@ use Rattle.plan_tables.specs.declared.tables.HeldCell.{HeldCell}
 use Rattle.net_pins.specs.declared.nets.ReaderCell.{ReaderCell}
 use Rattle.tap_defs.specs.chain.ScanRows.{AreRowsOf}
 use Rattle.plan_tables.specs.Tables.{first_position, AreFirsts, IsHeldCell, held_cell, pass_cells_of}
-use Rattle.plan_tables.specs.declared.tables.PassTables.{PassTables}
+use Rattle.plan_tables.specs.declared.tables.DriverCell.{DriverCell}
+use Rattle.plan_tables.specs.declared.controls.DriverTable.{DriverTable}
 use Rattle.plan_tables.specs.declared.tables.PlanTables.{PlanTables}
 use Rattle.plan_tables.specs.inner.Laid.{laid, quiet_bits}
 use Rattle.plan_tables.specs.inner.Codes.{AreCodes, seen_in}
@@ -194,13 +195,9 @@ is_plan board rules plan plannable quiet readers_are drivers_are firsts tables s
         ∙ ap (λ (b : Bool). cond b (suc (count_by (λ b. b) (take n seen))) 0) here
         ∙ ap (λ (k : ℕ). cond (p net) (suc k) 0) before
 
--- the nets and their codes are few
-pub seen_most : (board : RawBoard) → IsBoard board → (readers : List (List ReaderCell)) (tables : PassTables) (passes : List (List Ctl)) (seen : List Bool) → readers ≡ all_readers board →
-    seen ≡ seen_in board (length readers) tables.steady tables.by_control passes → (length seen ≡ length board.nets) × (length seen ≤ most_nets)
-seen_most board rules readers tables passes seen readers_are seen_is =
-    let same : length seen ≡ length board.nets = ap (λ (l : List Bool). length l) seen_is ∙ length-seen_in board (length readers) tables.steady tables.by_control passes
-    ∙ ap (λ (l : List (List ReaderCell)). length l) readers_are ∙ length-map board.nets (λ (net : Net). readers_of board net.pins) in
-    (same, omega (arith, same, rules.nets_most))
-
-pub count_most : (seen : List Bool) (codes : NetCodes) → AreCodes seen codes → length seen ≤ most_nets → codes.count ≤ most_nets
-count_most seen codes are most = omega (arith, are.count_is, count_by-le-length (λ b. b) seen, most)
+-- the codes are few
+pub count_most : (board : RawBoard) → IsBoard board → (steady : List DriverCell) (table : DriverTable) (passes : List (List Ctl)) (codes : NetCodes) →
+    AreCodes (seen_in board (length board.nets) steady table passes) codes → codes.count ≤ most_nets
+count_most board rules steady table passes codes are =
+    let seen : List Bool = seen_in board (length board.nets) steady table passes in
+    omega (arith, are.count_is, count_by-le-length (λ b. b) seen, length-seen_in board (length board.nets) steady table passes, rules.nets_most)

@@ -3,4 +3,5 @@ pub mod Building
 pub mod Codes
 pub mod Laid
 pub mod QuietBits
+pub mod Rows
 pub mod Steady

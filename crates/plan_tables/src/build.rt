@@ -2,47 +2,153 @@
 ghost use Rattle.std.specs.Prelude.{◌≡◌, ◌<◌, ◌≤◌, ◌^◌, length, IfOk};
 ghost use Rattle.net_pins.specs.Tables.{AreNetPins};
 ghost use Rattle.plan_tables.specs.Tables.{pass_cells_of};
-ghost use Rattle.plan_tables.specs.inner.Building.{observers};
+ghost use Rattle.plan_tables.specs.inner.Building.{table_of};
+ghost use Rattle.plan_tables.specs.inner.Codes.{AreCodes, seen_in};
 ghost use Rattle.plan_tables.specs.inner.Laid.{laid, quiet_bits};
+ghost use Rattle.plan_tables.specs.inner.Rows.{AreBoardRows};
 ghost use Rattle.plan_tables.specs.Plans.{ArePlannable, IsPlanOf};
-ghost use Rattle.plan_tables.specs.inner.Steady.{ArePassTables};
+ghost use Rattle.plan_tables.specs.inner.Steady.{ArePassTables, moving, steady_cells};
 
-use crate::codes::{number_nets, seen_nets};
-use crate::controls::driver_table;
+use crate::codes::{NetCodes, net_codes};
+use crate::controls::{DriverTable, driver_table};
 use crate::instructions::{Instruction, instruction_rows};
 use crate::observers::{Observer, net_observers};
 use crate::placed::PlacedBoard;
 use crate::quiet::quiet_row;
-use crate::rows::row_of;
-use crate::tables::{PassTables, PlanTables};
-use crate::uses::{moving, steady_cells, uses_of};
+use crate::tables::{BoardRows, PassTables, PlanTables};
+use crate::uses::{Uses, moving, steady_cells, uses_of};
 use board_defs::{Board, Items, Setting};
 use bt_bits::Row;
 use counting_codes::width;
 use net_pins::NetPins;
 use std::alloc::{AllocError, Global};
 
-// Makes the tables of driver cells for the passes.
+// The driver cells of all passes of a plan, and the codes of the nets.
+#[derive(Drop)]
+struct PassParts {
+    cells: PassTables,
+    codes: NetCodes,
+}
+
+// What a plan has beside the pins and the passes that it takes over.
+#[derive(Drop)]
+struct PlanParts {
+    rows: BoardRows,
+    passes: PassParts,
+}
+
+// Makes the rows that all passes share.
+fn board_rows(alloc: Global, board: &Board) -> Result<BoardRows, AllocError>
+    ensures { IfOk result (λ rows. AreBoardRows board.now rows) }
+{
+    let quiet = quiet_row(alloc, board)?;
+    let preload = instruction_rows(alloc, Instruction::Preload, board)?;
+    let extest = instruction_rows(alloc, Instruction::Extest, board)?;
+    Ok(BoardRows {
+        quiet,
+        preload,
+        extest,
+    })
+}
+
+// Makes the driver table of the observers that are not the same in all passes.
+fn moving_table(
+    alloc: Global,
+    uses: &Uses,
+    passes: u32,
+    observers: &[Observer],
+    bits: usize,
+) -> Result<DriverTable, AllocError>
+    ensures { IfOk result (λ table. table ≡ table_of (moving uses.now passes observers.now) bits) }
+{
+    let others = moving(alloc, uses, passes, observers)?;
+    driver_table(alloc, others.as_slice(), bits)
+}
+
+// Splits the observers into the cells that all passes share and a table of the others.
+fn cells_by(
+    alloc: Global,
+    uses: &Uses,
+    passes: u32,
+    observers: &[Observer],
+    bits: usize,
+) -> Result<PassTables, AllocError>
+    ensures { IfOk result (λ tables. (tables.steady ≡ steady_cells uses.now passes observers.now) × (tables.by_control ≡ table_of (moving uses.now passes observers.now) bits)) }
+{
+    let steady = steady_cells(alloc, uses, passes, observers)?;
+    let by_control = moving_table(alloc, uses, passes, observers, bits)?;
+    Ok(PassTables { steady, by_control })
+}
+
+// Makes the driver cells of the passes.
 fn pass_tables(
     alloc: Global,
     placed: &PlacedBoard,
+    pins: &NetPins,
     quiet: &Row,
-    drivers: &[Observer],
     passes: &[Setting],
 ) -> Result<PassTables, AllocError>
+    requires pins { AreNetPins placed.now.board.now pins.now }
     requires quiet { quiet.now.bits ≡ laid (quiet_bits placed.now.board.now) placed.now.board.now }
-    requires drivers { drivers.now ≡ observers placed.now.board.now placed.now.board.now.nets }
     requires few { length passes.now < 2 ^ 32 }
     requires plannable { ArePlannable placed.now.board.now passes.now }
     ensures { IfOk result (λ tables. ArePassTables placed.now.board.now passes.now tables.steady (pass_cells_of placed.now.board.now quiet.now.bits tables.by_control)) }
 {
     let _ = placed.board.raw();
-    let count = passes.len() as u32;
+    let bits = placed.board.dr_bits() as usize;
+    let observers = net_observers(alloc, placed.board, pins)?;
     let uses = uses_of(alloc, placed, quiet, passes)?;
-    let steady = steady_cells(alloc, &uses, count, drivers)?;
-    let others = moving(alloc, &uses, count, drivers)?;
-    let by_control = driver_table(alloc, others.as_slice(), placed.board.dr_bits() as usize)?;
-    Ok(PassTables { steady, by_control })
+    cells_by(
+        alloc,
+        &uses,
+        passes.len() as u32,
+        observers.as_slice(),
+        bits,
+    )
+}
+
+// Makes the driver cells of the passes, and numbers the nets that they observe.
+fn pass_parts(
+    alloc: Global,
+    board: &Board,
+    pins: &NetPins,
+    quiet: &Row,
+    passes: &[Setting],
+) -> Result<PassParts, AllocError>
+    requires pins { AreNetPins board.now pins.now }
+    requires quiet { quiet.now.bits ≡ laid (quiet_bits board.now) board.now }
+    requires few { length passes.now < 2 ^ 32 }
+    requires plannable { ArePlannable board.now passes.now }
+    ensures cells { IfOk result (λ parts. ArePassTables board.now passes.now parts.cells.steady (pass_cells_of board.now quiet.now.bits parts.cells.by_control)) }
+    ensures codes { IfOk result (λ parts. AreCodes (seen_in board.now (length board.now.nets) parts.cells.steady parts.cells.by_control passes.now) parts.codes) }
+{
+    let nets = board.raw().nets.len();
+    let placed = PlacedBoard {
+        board,
+        firsts: pins.tables.firsts.as_slice(),
+    };
+    let cells = pass_tables(alloc, &placed, pins, quiet, passes)?;
+    let codes = net_codes(alloc, &placed, nets, &cells, passes)?;
+    Ok(PassParts { cells, codes })
+}
+
+// Makes the parts of a plan. The pins and the passes are lent, so no exit of this function drops them.
+fn plan_parts(
+    alloc: Global,
+    board: &Board,
+    pins: &NetPins,
+    passes: &[Setting],
+) -> Result<PlanParts, AllocError>
+    requires pins { AreNetPins board.now pins.now }
+    requires few { length passes.now < 2 ^ 32 }
+    requires plannable { ArePlannable board.now passes.now }
+    ensures rows { IfOk result (λ parts. AreBoardRows board.now parts.rows) }
+    ensures cells { IfOk result (λ parts. ArePassTables board.now passes.now parts.passes.cells.steady (pass_cells_of board.now parts.rows.quiet.bits parts.passes.cells.by_control)) }
+    ensures codes { IfOk result (λ parts. AreCodes (seen_in board.now (length board.now.nets) parts.passes.cells.steady parts.passes.cells.by_control passes.now) parts.passes.codes) }
+{
+    let rows = board_rows(alloc, board)?;
+    let passes = pass_parts(alloc, board, pins, &rows.quiet, passes)?;
+    Ok(PlanParts { rows, passes })
 }
 
 /// Makes the tables of the plan of these passes from the pins of the board's nets.
@@ -60,37 +166,27 @@ pub fn tables_of(
     ensures width { IfOk result (λ tables. tables.width ≤ 14) }
 {
     let _ = board.raw();
-    let observers = net_observers(alloc, board, &pins)?;
+    let parts = plan_parts(alloc, board, &pins, passes.as_slice())?;
     let NetPins {
-        tables: parts,
+        tables: finding,
         drivers,
-        readers: read,
+        readers,
     } = pins;
-    let placed = PlacedBoard {
-        board,
-        firsts: parts.firsts.as_slice(),
-    };
-    let bits = quiet_row(alloc, board)?;
-    let quiet = row_of(alloc, &bits)?;
-    let readers = read.as_slice();
-    let settings = passes.as_slice();
-    let tables = pass_tables(alloc, &placed, &quiet, observers.as_slice(), settings)?;
-    let seen = seen_nets(alloc, &placed, readers.len(), &tables, settings)?;
-    let codes = number_nets(alloc, &seen)?;
-    let width = width(codes.count);
-    let preload = instruction_rows(alloc, Instruction::Preload, board)?;
-    let extest = instruction_rows(alloc, Instruction::Extest, board)?;
+    let PlanParts {
+        rows,
+        passes: PassParts { cells, codes },
+    } = parts;
     Ok(PlanTables {
         passes,
-        width,
+        width: width(codes.count),
         codes: codes.codes,
-        preload,
-        extest,
-        quiet,
-        steady: tables.steady,
-        firsts: parts.firsts,
-        by_control: tables.by_control,
-        readers: read,
+        preload: rows.preload,
+        extest: rows.extest,
+        quiet: rows.quiet,
+        steady: cells.steady,
+        firsts: finding.firsts,
+        by_control: cells.by_control,
+        readers,
         drivers,
     })
 }

@@ -50,8 +50,8 @@ fn mark_passes(placed: &PlacedBoard, table: &DriverTable, passes: &[Setting], fl
     }
 }
 
-/// Returns, for each of the first `nets` nets, whether a driver cell of it is steady or belongs to a pass.
-pub fn seen_nets(
+// Which of so many nets have a driver cell among the steady ones or those of a pass.
+fn seen_nets(
     alloc: Global,
     placed: &PlacedBoard,
     nets: usize,
@@ -67,8 +67,8 @@ pub fn seen_nets(
     Ok(seen)
 }
 
-/// Numbers the nets that are observed, from 1 in net order. Every other net has code 0.
-pub fn number_nets(alloc: Global, seen: &[bool]) -> Result<NetCodes, AllocError>
+// Numbers the nets that are observed from 1, in net order.
+fn number_nets(alloc: Global, seen: &[bool]) -> Result<NetCodes, AllocError>
     requires { length seen.now ≤ most_nets }
     ensures { IfOk result (λ codes. AreCodes seen.now codes) }
 {
@@ -84,4 +84,20 @@ pub fn number_nets(alloc: Global, seen: &[bool]) -> Result<NetCodes, AllocError>
         codes: Items::of(codes),
         count,
     })
+}
+
+/// Numbers the nets that some pass observes from 1, in net order. Every other net has the code 0. The board has `nets` nets.
+pub fn net_codes(
+    alloc: Global,
+    placed: &PlacedBoard,
+    nets: usize,
+    tables: &PassTables,
+    passes: &[Setting],
+) -> Result<NetCodes, AllocError>
+    requires few { nets ≤ most_nets }
+    requires cells { All (λ pass. (c : ControlRecord) → holds pass c ≡ true → c.cell < cell_count (device_at placed.now.board.now c.part)) passes.now }
+    ensures { IfOk result (λ codes. AreCodes (seen_in placed.now.board.now nets tables.now.steady tables.now.by_control passes.now) codes) }
+{
+    let seen = seen_nets(alloc, placed, nets, tables, passes)?;
+    number_nets(alloc, &seen)
 }

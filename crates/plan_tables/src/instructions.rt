@@ -80,6 +80,24 @@ fn push_capture(length: u32, tdo: &mut Vec<bool>, mask: &mut Vec<bool>) -> Resul
     push_same(length - 2, false, mask)
 }
 
+// Stores the bits of a scan.
+fn stored(
+    alloc: Global,
+    tdi: &[bool],
+    tdo: &[bool],
+    mask: &[bool],
+) -> Result<StoredRows, AllocError>
+    requires tdi { length tdi.now ≤ most_bits }
+    requires tdo { length tdo.now ≤ most_bits }
+    requires mask { length mask.now ≤ most_bits }
+    ensures { IfOk result (λ rows. (rows.tdi.bits ≡ tdi.now) × (rows.tdo.bits ≡ tdo.now) × (rows.mask.bits ≡ mask.now)) }
+{
+    let tdi = row_of(alloc, tdi)?;
+    let tdo = row_of(alloc, tdo)?;
+    let mask = row_of(alloc, mask)?;
+    Ok(StoredRows { tdi, tdo, mask })
+}
+
 fn rows_of(
     alloc: Global,
     instruction: Instruction,
@@ -97,11 +115,7 @@ fn rows_of(
         push_code(instruction, kind, &mut tdi)?;
         push_capture(kind.instruction_length(), &mut tdo, &mut mask)?;
     }
-    Ok(StoredRows {
-        tdi: row_of(alloc, &tdi)?,
-        tdo: row_of(alloc, &tdo)?,
-        mask: row_of(alloc, &mask)?,
-    })
+    stored(alloc, &tdi, &tdo, &mask)
 }
 
 /// Returns the rows of a scan that loads this instruction into each described part, and BYPASS into the others.

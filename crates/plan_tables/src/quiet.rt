@@ -7,7 +7,9 @@ ghost use Rattle.tap_defs.specs.chain.ShiftRegister.{filled};
 ghost use Rattle.plan_tables.specs.inner.Laid.{laid, part_laid, quiet_bits};
 ghost use Rattle.plan_tables.specs.inner.QuietBits.{safe_value_in, is_driver, disable_value_in, set_some, set_by, quiet_values};
 
+use crate::rows::row_of;
 use board_defs::{Board, Cell, Part, PartKind, PinAt, RawBoard, RawDevice};
+use bt_bits::Row;
 use std::alloc::{AllocError, Global};
 
 /// A cell of a device, and its bit.
@@ -159,7 +161,7 @@ fn push_part(
     }
 }
 
-fn row_of(alloc: Global, raw: &RawBoard, chain: &[Part]) -> Result<Vec<bool>, AllocError>
+fn board_bits(alloc: Global, raw: &RawBoard, chain: &[Part]) -> Result<Vec<bool>, AllocError>
     requires chain { chain.now ≡ raw.now.chain }
     requires few { length chain.now ≤ most_parts }
     ensures { IfOk result (λ quiet. quiet.items ≡ laid (quiet_bits raw.now) raw.now) }
@@ -171,11 +173,11 @@ fn row_of(alloc: Global, raw: &RawBoard, chain: &[Part]) -> Result<Vec<bool>, Al
     Ok(quiet)
 }
 
-/// Returns the quiet row, in which each cell that controls a driver has the disable value, and every other cell its
-/// safe value.
-pub fn quiet_row(alloc: Global, board: &Board) -> Result<Vec<bool>, AllocError>
-    ensures { IfOk result (λ quiet. quiet.items ≡ laid (quiet_bits board.now) board.now) }
+/// Makes the quiet row: each cell that controls a driver holds the disable value, and every other cell its safe value.
+pub fn quiet_row(alloc: Global, board: &Board) -> Result<Row, AllocError>
+    ensures { IfOk result (λ quiet. quiet.bits ≡ laid (quiet_bits board.now) board.now) }
 {
     let raw = board.raw();
-    row_of(alloc, raw, raw.chain.as_slice())
+    let bits = board_bits(alloc, raw, raw.chain.as_slice())?;
+    row_of(alloc, &bits)
 }

@@ -21,7 +21,15 @@ pub struct DriverCell {
     pub position: u32,
 }
 
-/// The driver cells that are the same in all passes, and those that a pass has because of its controls.
+/// The rows that all passes of a plan share: the quiet row and the two instruction scans.
+#[derive(Drop)]
+pub struct BoardRows {
+    pub quiet: Row,
+    pub preload: StoredRows,
+    pub extest: StoredRows,
+}
+
+/// The driver cells that are the same in all passes, and those that a pass has by its controls.
 #[derive(Drop)]
 pub struct PassTables {
     pub steady: Items<DriverCell>,

@@ -1,5 +1,6 @@
 use Rattle.std.proofs.Common.{◌≡◌, List, length, get_or, sym, ap, ◌∙◌, subst}
 use Rattle.std.proofs.lemmas.Option.{slice_get-get_or}
+use Rattle.std.proofs.lemmas.Result.{IfOk-weaker}
 use Rattle.plan_tables.specs.declared.controls.DriverTable.{DriverTable}
 use Rattle.plan_tables.specs.declared.observers.Observer.{Observer}
 use Rattle.plan_tables.specs.declared.tables.DriverCell.{DriverCell}
@@ -25,15 +26,14 @@ returns c =
     let quiet = c.args.quiet.now.bits in
     let passes = c.args.passes.now in
     let uses = c.in_ok-uses.uses in
-    let bits = c.dr_bits.result in
-    let steady_is : c.in_ok-steady.steady ≡ steady_cells uses (length passes) (observers board board.nets) =
-    c.in_ok-steady.ensures
-    ∙ ap (λ (o : List Observer). steady_cells uses (length passes) o) c.requires.drivers in
-    let others_are : c.as_slice.result.now ≡ moving uses (length passes) (observers board board.nets) =
-    c.as_slice.ensures ∙ c.in_ok-others.ensures
-    ∙ ap (λ (o : List Observer). moving uses (length passes) o) c.requires.drivers in
-    let table_is : c.in_ok-by_control.by_control ≡ table_of (moving uses (length passes) (observers board board.nets)) bits =
-    c.in_ok-by_control.ensures ∙ ap (λ (o : List Observer). table_of o bits) others_are in
-    subst (λ (s : List DriverCell). ArePassTables board passes s (pass_cells_of board quiet c.in_ok-by_control.by_control)) (sym steady_is)
-    (subst (λ (t : DriverTable). ArePassTables board passes (steady_cells uses (length passes) (observers board board.nets)) (pass_cells_of board quiet t)) (sym table_is)
-    (tables_are board c.raw.ensures.rules quiet c.requires.quiet passes c.requires.plannable bits c.dr_bits.ensures uses c.in_ok-uses.ensures))
+    let bits = c.dr_bits-bits.result in
+    let own : List Observer = c.as_slice.result.now in
+    let drivers : own ≡ observers board board.nets = c.as_slice.ensures ∙ c.in_ok-observers.ensures in
+    let are : ArePassTables board passes (steady_cells uses (length passes) own) (pass_cells_of board quiet (table_of (moving uses (length passes) own) bits)) =
+    subst (λ (o : List Observer). ArePassTables board passes (steady_cells uses (length passes) o) (pass_cells_of board quiet (table_of (moving uses (length passes) o) bits))) (sym drivers)
+    (tables_are board c.raw.ensures.rules quiet c.requires.quiet passes c.requires.plannable bits c.dr_bits-bits.ensures uses c.in_ok-uses.ensures) in
+    IfOk-weaker c.cells_by.result _ _
+    (λ tables is.
+    subst (λ (s : List DriverCell). ArePassTables board passes s (pass_cells_of board quiet tables.by_control)) (sym is.0)
+    (subst (λ (t : DriverTable). ArePassTables board passes (steady_cells uses (length passes) own) (pass_cells_of board quiet t)) (sym is.1) are))
+    c.cells_by.ensures
