@@ -26,6 +26,8 @@ use Rattle.tap_defs.proofs.board.WidthLemmas.{width_is}
 use Rattle.net_pins.specs.declared.nets.NetDriver.{NetDriver}
 use Rattle.plan_tables.specs.declared.tables.DriverCell.{DriverCell}
 use Rattle.net_pins.specs.declared.nets.ReaderCell.{ReaderCell}
+use Rattle.net_pins.specs.declared.pins.NetPins.{NetPins}
+use Rattle.net_pins.specs.Tables.{AreNetPins}
 use Rattle.plan_tables.specs.declared.tables.PlanTables.{PlanTables}
 use Rattle.plan_tables.specs.Assigned.{assigned}
 use Rattle.plan_tables.specs.Building.{enabled_in, is_read_beside, drivers_of, readers_of}
@@ -56,6 +58,14 @@ some_width board plan p = by_width plan.width p.width_is
         absurd (omega (arith, enough, none))
     by_width (suc w) e = omega arith
 
+-- the first setting of a walk's passes
+pub first_setting : {X : Type 0} (settings : List X) (o : Option X) → settings ≡ option_to_list o → slice_get settings 0 ≡ o
+first_setting settings o are = ap (λ l. slice_get l 0) are ∙ by_setting o
+  where
+    by_setting : {X : Type 0} (o : Option X) → slice_get (option_to_list o) 0 ≡ o
+    by_setting None = refl
+    by_setting (Some x) = refl
+
 -- the rows of a plan that a walk takes its own from
 module _ (board : RawBoard) (plan : PlanTables) (p : IsPlanOf board plan) where
   pub first_shifted : tdi_bits (joined (row_bits board (scan_of_pass board plan 0 0))) ≡ tdi_of board (first_row board plan)
@@ -65,53 +75,53 @@ module _ (board : RawBoard) (plan : PlanTables) (p : IsPlanOf board plan) where
   pub first_marked : mask_bits (joined (row_bits board (scan_of_pass board plan 0 1))) ≡ mask_of board (first_row board plan)
   first_marked = mask_laid board (scan_of_pass board plan 0 1) ∙ sym (mask_laid board (record { now = quiet_row; before = first_row board plan }))
 
--- the nets and the cells of a walk by the tables of its plan
-module _ (board : RawBoard) (rules : IsBoard board) (plan : PlanTables) (p : IsPlanOf board plan) (walk : List Ctl) where
-  drivers_at : (n : ℕ) (net : Net) → slice_get board.nets n ≡ Some net → get_or plan.drivers n [] ≡ drivers_of board net
+-- the nets and the cells of a walk by the pins of its board's nets
+module _ (board : RawBoard) (rules : IsBoard board) (pins : NetPins) (p : AreNetPins board pins) (walk : List Ctl) where
+  drivers_at : (n : ℕ) (net : Net) → slice_get board.nets n ≡ Some net → get_or pins.drivers n [] ≡ drivers_of board net
   drivers_at n net e =
       ap (λ (l : List (List NetDriver)). get_or l n []) p.drivers_are
       ∙ get_or_from_slice_get (map (drivers_of board) board.nets) n (drivers_of board net) [] (slice_get-map (drivers_of board) board.nets n ∙ ap (λ (o : Option Net). option_map (drivers_of board) o) e)
 
-  readers_at : (n : ℕ) (net : Net) → slice_get board.nets n ≡ Some net → get_or plan.readers n [] ≡ readers_of board net.pins
+  readers_at : (n : ℕ) (net : Net) → slice_get board.nets n ≡ Some net → get_or pins.readers n [] ≡ readers_of board net.pins
   readers_at n net e =
       ap (λ (l : List (List ReaderCell)). get_or l n []) p.readers_are
       ∙ get_or_from_slice_get (map (λ (x : Net). readers_of board x.pins) board.nets) n (readers_of board net.pins) [] (slice_get-map (λ (x : Net). readers_of board x.pins) board.nets n ∙ ap (λ (o : Option Net). option_map (λ (x : Net). readers_of board x.pins) o) e)
 
-  pub observer_is : (n : ℕ) (net : Net) → slice_get board.nets n ≡ Some net → Observed board (holds walk) net (observer_in plan walk n)
+  pub observer_is : (n : ℕ) (net : Net) → slice_get board.nets n ≡ Some net → Observed board (holds walk) net (observer_in pins walk n)
   observer_is n net e =
-      subst (λ (l : List NetDriver). Observed board (holds walk) net (option_and_then (λ d. cond (is_read_beside (get_or plan.readers n []) d) (Some d) None) (enabled_in (holds walk) l))) (sym (drivers_at n net e))
+      subst (λ (l : List NetDriver). Observed board (holds walk) net (option_and_then (λ d. cond (is_read_beside (get_or pins.readers n []) d) (Some d) None) (enabled_in (holds walk) l))) (sym (drivers_at n net e))
       (subst (λ (l : List ReaderCell). Observed board (holds walk) net (option_and_then (λ d. cond (is_read_beside l d) (Some d) None) (enabled_in (holds walk) (drivers_of board net)))) (sym (readers_at n net e))
       (observed board (holds walk) net))
 
-  observes_is : (n : ℕ) (net : Net) → slice_get board.nets n ≡ Some net → is_some (observer_in plan walk n) ≡ is_walked board walk net
-  observes_is n net e = by_observer (observer_in plan walk n) (observer_is n net e)
+  observes_is : (n : ℕ) (net : Net) → slice_get board.nets n ≡ Some net → is_some (observer_in pins walk n) ≡ is_walked board walk net
+  observes_is n net e = by_observer (observer_in pins walk n) (observer_is n net e)
     where
       by_observer : (o : Option NetDriver) → Observed board (holds walk) net o → is_some o ≡ is_some (observing_driver board (holds walk) net)
       by_observer None h = sym (ap (λ (x : Option ℕ). is_some x) h)
       by_observer (Some d) h = sym (ap (λ (x : Option ℕ). is_some x) h.0)
 
   -- the nets that the setting observes are the walk nets
-  pub nets_are : walk_setting board ≡ Some walk → nets_in plan walk (length board.nets) ≡ walk_nets board
+  pub nets_are : walk_setting board ≡ Some walk → nets_in pins walk (length board.nets) ≡ walk_nets board
   nets_are is = same 0 board.nets (λ i net e. let z : 0 + i ≡ i = omega arith in ap (λ (k : ℕ). slice_get board.nets k) z ∙ e)
     where
-      test : (n : ℕ) (net : Net) → slice_get board.nets n ≡ Some net → is_some (observer_in plan walk n) ≡ is_walk_net board (walk_setting board) (slice_get board.nets n)
+      test : (n : ℕ) (net : Net) → slice_get board.nets n ≡ Some net → is_some (observer_in pins walk n) ≡ is_walk_net board (walk_setting board) (slice_get board.nets n)
       test n net e =
           observes_is n net e
           ∙ sym (ap (λ (o : Option (List Ctl)). is_walk_net board o (slice_get board.nets n)) is ∙ ap (λ (o : Option Net). is_walk_net board (Some walk) o) e)
 
       same : (k : ℕ) (xs : List Net) → ((i : ℕ) (net : Net) → slice_get xs i ≡ Some net → slice_get board.nets (k + i) ≡ Some net) →
-          filter (λ n. is_some (observer_in plan walk n)) (range_with_len k (length xs)) ≡ filter (λ n. is_walk_net board (walk_setting board) (slice_get board.nets n)) (range_with_len k (length xs))
+          filter (λ n. is_some (observer_in pins walk n)) (range_with_len k (length xs)) ≡ filter (λ n. is_walk_net board (walk_setting board) (slice_get board.nets n)) (range_with_len k (length xs))
       same k [] at = refl
       same k (net ∷ xs) at =
           let z : k + 0 ≡ k = omega arith in
           let e : slice_get board.nets k ≡ Some net = sym (ap (λ (i : ℕ). slice_get board.nets i) z) ∙ at 0 net refl in
-          ap (λ (b : Bool). cond b (k ∷ filter (λ n. is_some (observer_in plan walk n)) (range_with_len (k + 1) (length xs))) (filter (λ n. is_some (observer_in plan walk n)) (range_with_len (k + 1) (length xs)))) (test k net e)
+          ap (λ (b : Bool). cond b (k ∷ filter (λ n. is_some (observer_in pins walk n)) (range_with_len (k + 1) (length xs))) (filter (λ n. is_some (observer_in pins walk n)) (range_with_len (k + 1) (length xs)))) (test k net e)
           ∙ ap (λ (l : List ℕ). cond (is_walk_net board (walk_setting board) (slice_get board.nets k)) (k ∷ l) l)
           (same (k + 1) xs (λ i x f. let y : k + 1 + i ≡ k + suc i = omega arith in ap (λ (j : ℕ). slice_get board.nets j) y ∙ at (suc i) x f))
 
   -- the cells of a walk net
-  pub cells_are : (n : ℕ) → WalkedBy board walk n → AreNetCells board walk n (cells_in plan walk n)
-  cells_are n w = by_observer (observer_in plan walk n) (observer_is n w.net w.is_net)
+  pub cells_are : (n : ℕ) → WalkedBy board walk n → AreNetCells board walk n (cells_in pins walk n)
+  cells_are n w = by_observer (observer_in pins walk n) (observer_is n w.net w.is_net)
     where
       position_is : (d : NetDriver) → DriverAt board 0 w.net.pins d → d.place ≡ w.driver → (e : DriverCell) → IsDriverCell board walk e → e.net ≡ n → d.position ≡ e.position
       position_is d a place e s of_net =
@@ -129,7 +139,7 @@ module _ (board : RawBoard) (rules : IsBoard board) (plan : PlanTables) (p : IsP
           a.position_is ∙ ap (λ (x : Rattle.board_defs.specs.declared.board.PinAt.PinAt). Rattle.plan_tables.specs.Tables.first_position board x.part + a.entry.num) at
           ∙ ap (λ (x : Rattle.board_defs.specs.declared.device.Cell.Cell). Rattle.plan_tables.specs.Tables.first_position board s.at.part + x.num) entry ∙ sym s.position_is
 
-      by_observer : (o : Option NetDriver) → Observed board (holds walk) w.net o → AreNetCells board walk n (cells_by plan n o)
+      by_observer : (o : Option NetDriver) → Observed board (holds walk) w.net o → AreNetCells board walk n (cells_by pins n o)
       by_observer None h = let bad : None ≡ Some w.driver = sym h ∙ w.observing in cc bad
       by_observer (Some d) h =
           let places : Some d.place ≡ Some w.driver = sym h.0 ∙ w.observing in
@@ -140,8 +150,8 @@ module _ (board : RawBoard) (rules : IsBoard board) (plan : PlanTables) (p : IsP
           (subst (λ (i : ℕ). let c : NetCells = record { driver = d.position; compared = positions_beside i (readers_of board w.net.pins) } in AreNetCells board walk n c) (sym place) made)
 
 -- the tables of a walk, from what each of them is
-module _ (board : RawBoard) (rules : IsBoard board) (plan : PlanTables) (p : IsPlanOf board plan) (passes : plan.passes ≡ option_to_list (walk_setting board)) (t : WalkTables) (is_plan : t.plan ≡ plan)
-    (nets : t.nets ≡ nets_by plan (slice_get plan.passes 0) (length board.nets)) (cells : t.cells ≡ cells_of plan (slice_get plan.passes 0) t.nets) (rows_made : AreMade board plan t.cells t.rows) where
+module _ (board : RawBoard) (rules : IsBoard board) (plan : PlanTables) (p : IsPlanOf board plan) (passes : plan.passes ≡ option_to_list (walk_setting board)) (t : WalkTables) (is_plan : t.plan ≡ plan) (pins : NetPins) (q : AreNetPins board pins)
+    (nets : t.nets ≡ nets_by pins (walk_setting board) (length board.nets)) (cells : t.cells ≡ cells_of pins (walk_setting board) t.nets) (rows_made : AreMade board plan t.cells t.rows) where
   plan_is : IsPlanOf board t.plan
   plan_is = subst (λ (q : PlanTables). IsPlanOf board q) (sym is_plan) p
 
@@ -159,10 +169,10 @@ module _ (board : RawBoard) (rules : IsBoard board) (plan : PlanTables) (p : IsP
     some = omega (arith, ap (λ (l : List (List Ctl)). length l) one_pass)
 
     walk_nets_are : t.nets ≡ walk_nets board
-    walk_nets_are = nets ∙ ap (λ (l : List (List Ctl)). nets_by plan (slice_get l 0) (length board.nets)) one_pass ∙ nets_are board rules plan p walk is
+    walk_nets_are = nets ∙ ap (λ (o : Option (List Ctl)). nets_by pins o (length board.nets)) is ∙ nets_are board rules pins q walk is
 
-    cells_all : t.cells ≡ map (cells_in plan walk) t.nets
-    cells_all = cells ∙ ap (λ (l : List (List Ctl)). cells_of plan (slice_get l 0) t.nets) one_pass
+    cells_all : t.cells ≡ map (cells_in pins walk) t.nets
+    cells_all = cells ∙ ap (λ (o : Option (List Ctl)). cells_of pins o t.nets) is
 
     walk_cells : CellsOf board walk
     walk_cells = cells_of_plan board plan walk p one_pass
@@ -171,20 +181,20 @@ module _ (board : RawBoard) (rules : IsBoard board) (plan : PlanTables) (p : IsP
     at_place : (i n : ℕ) → slice_get t.nets i ≡ Some n → WalkedBy board walk n
     at_place i n e = (walk_at board walk is i n (sym (ap (λ (l : List ℕ). slice_get l i) walk_nets_are) ∙ e)).by
 
-    cells_there : (i n : ℕ) → slice_get t.nets i ≡ Some n → slice_get t.cells i ≡ Some (cells_in plan walk n)
+    cells_there : (i n : ℕ) → slice_get t.nets i ≡ Some n → slice_get t.cells i ≡ Some (cells_in pins walk n)
     cells_there i n e =
         ap (λ (l : List NetCells). slice_get l i) cells_all
-        ∙ slice_get-map (cells_in plan walk) t.nets i
-        ∙ ap (λ (o : Option ℕ). option_map (cells_in plan walk) o) e
+        ∙ slice_get-map (cells_in pins walk) t.nets i
+        ∙ ap (λ (o : Option ℕ). option_map (cells_in pins walk) o) e
 
     each : (i n : ℕ) (c : NetCells) → slice_get t.nets i ≡ Some n → slice_get t.cells i ≡ Some c → AreNetCells board walk n c
     each i n c e f =
-        let two : Some (cells_in plan walk n) ≡ Some c = sym (cells_there i n e) ∙ f in
-        let same : cells_in plan walk n ≡ c = cc two in
-        subst (λ (x : NetCells). AreNetCells board walk n x) same (cells_are board rules plan p walk n (at_place i n e))
+        let two : Some (cells_in pins walk n) ≡ Some c = sym (cells_there i n e) ∙ f in
+        let same : cells_in pins walk n ≡ c = cc two in
+        subst (λ (x : NetCells). AreNetCells board walk n x) same (cells_are board rules pins q walk n (at_place i n e))
 
     count : length t.cells ≡ length t.nets
-    count = ap (λ (l : List NetCells). length l) cells_all ∙ length-map t.nets (cells_in plan walk)
+    count = ap (λ (l : List NetCells). length l) cells_all ∙ length-map t.nets (cells_in pins walk)
 
     bits : ℕ → Bool
     bits n = net_code_bit board plan.passes 0 n
@@ -200,7 +210,7 @@ module _ (board : RawBoard) (rules : IsBoard board) (plan : PlanTables) (p : IsP
     cover d s =
         let place : ℕ = count_by (is_walked board walk) (take d.net board.nets) in
         let net = ap (λ (l : List ℕ). slice_get l place) walk_nets_are ∙ place_of_walk board walk is d.net (record { net = s.net; is_net = s.is_net; driver = d.place; observing = s.observing }) in
-        let c : NetCells = cells_in plan walk d.net in
+        let c : NetCells = cells_in pins walk d.net in
         let a = each place d.net c net (cells_there place d.net net) in
         (c, has_at t.cells place c (cells_there place d.net net), a.driver_is ∙ (one_driver board walk a.driver d a.is_driver s a.of_net).1)
 
@@ -223,7 +233,7 @@ module _ (board : RawBoard) (rules : IsBoard board) (plan : PlanTables) (p : IsP
       by_setting None e = record {
         plan = plan_is;
         passes = passes_are;
-        nets = nets ∙ ap (λ (l : List (List Ctl)). nets_by plan (slice_get l 0) (length board.nets)) (passes ∙ ap (λ (o : Option (List Ctl)). option_to_list o) e) ∙ sym (no_nets board e);
+        nets = nets ∙ ap (λ (o : Option (List Ctl)). nets_by pins o (length board.nets)) e ∙ sym (no_nets board e);
         tables = λ walk is. let bad : None ≡ Some walk = sym e ∙ is in cc bad;
       }
       by_setting (Some walk) e = record {

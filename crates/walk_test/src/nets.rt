@@ -1,18 +1,22 @@
-// The tables of a walk.
-ghost use Rattle.std.specs.Prelude.{◌≡◌, ◌++◌, ◌∷◌, ◌==◌, [], if◌then◌else◌, not, is_some, map, length, Some, None, slice_get, IfOk, OnOk};
+// The parts of a walk.
+ghost use Rattle.std.specs.Prelude.{◌≡◌, ◌<◌, ◌^◌, ◌++◌, ◌∷◌, ◌==◌, [], if◌then◌else◌, not, is_some, map, length, Some, None, slice_get, slice_index_or, IfOk, OnOk};
 ghost use Rattle.std.specs.Option.{option_to_list};
 ghost use Rattle.std.specs.List.{list_any};
+ghost use Rattle.board_defs.specs.Passes.{passes_of};
+ghost use Rattle.board_defs.specs.Pins.{data_bits};
 ghost use Rattle.board_defs.specs.Settings.{holds};
+ghost use Rattle.net_pins.specs.Tables.{AreNetPins};
 ghost use Rattle.plan_tables.specs.Building.{is_on, enabled_in, is_read_beside};
-ghost use Rattle.scan_planner.specs.Plans.{IsPlanOf};
+ghost use Rattle.scan_planner.specs.Plans.{ArePlannable, IsPlanOf};
 ghost use Rattle.walk_test.specs.WalkTest.{walk_setting};
-ghost use Rattle.walk_test.specs.Tables.{IsWalkOf};
-ghost use Rattle.walk_test.specs.inner.Tables.{observer_in, positions_beside, cells_by, cells_in, nets_in, nets_by, cells_of, cleared, AreMade};
+ghost use Rattle.walk_test.specs.inner.Tables.{observer_in, positions_beside, cells_by, cells_in, nets_in, nets_by, cells_of, cleared, AreMade, HasRoom};
 
-use crate::tables::{NetCells, WalkParts, WalkRows, WalkTables};
+use crate::setting::walk_settings;
+use crate::tables::{NetCells, WalkParts, WalkRows};
 use board_defs::{Board, Ctl, Items, Setting};
 use bt_bits::Row;
-use scan_planner::{NetDriver, Plan, ReaderCell};
+use net_pins::{BoardPins, NetDriver, NetPins, ReaderCell};
+use scan_planner::Plan;
 use std::alloc::{AllocError, Global};
 
 fn is_on(ctl: Option<Ctl>, walk: &Setting) -> bool
@@ -52,20 +56,42 @@ fn where_read(driver: NetDriver, readers: &[ReaderCell]) -> Option<NetDriver>
     }
 }
 
-// The driver by which the walk setting observes a net.
-fn observer(plan: &Plan, walk: &Setting, net: u32) -> Option<NetDriver>
-    ensures { result ≡ observer_in plan.now walk.now net }
+// The items of net `n` in a table that has a list for each net. Past the end there are none.
+fn items_at<T>(rows: &[Items<T>], n: u32) -> &[T]
+    ensures { result.now ≡ slice_index_or rows.now n [] }
 {
-    match enabled(plan.drivers(net), walk) {
-        None => None,
-        Some(driver) => where_read(driver, plan.readers(net)),
+    match rows.get(n as usize) {
+        None => &[],
+        Some(row) => row.as_slice(),
     }
 }
 
-fn observes(plan: &Plan, walk: &Setting, net: u32) -> bool
-    ensures { result ≡ is_some (observer_in plan.now walk.now net) }
+fn drivers_at(pins: &NetPins, net: u32) -> &[NetDriver]
+    ensures { result.now ≡ slice_index_or pins.now.drivers net [] }
 {
-    observer(plan, walk, net).is_some()
+    items_at(pins.drivers.as_slice(), net)
+}
+
+fn readers_at(pins: &NetPins, net: u32) -> &[ReaderCell]
+    ensures { result.now ≡ slice_index_or pins.now.readers net [] }
+{
+    items_at(pins.readers.as_slice(), net)
+}
+
+// The driver by which the walk setting observes a net.
+fn observer(pins: &NetPins, walk: &Setting, net: u32) -> Option<NetDriver>
+    ensures { result ≡ observer_in pins.now walk.now net }
+{
+    match enabled(drivers_at(pins, net), walk) {
+        None => None,
+        Some(driver) => where_read(driver, readers_at(pins, net)),
+    }
+}
+
+fn observes(pins: &NetPins, walk: &Setting, net: u32) -> bool
+    ensures { result ≡ is_some (observer_in pins.now walk.now net) }
+{
+    observer(pins, walk, net).is_some()
 }
 
 fn push_beside(positions: &mut Vec<u32>, reader: ReaderCell, place: u32) -> Result<(), AllocError>
@@ -94,11 +120,11 @@ fn positions_beside(
 
 fn net_cells(
     alloc: Global,
-    plan: &Plan,
+    pins: &NetPins,
     net: u32,
     driver: Option<NetDriver>,
 ) -> Result<NetCells, AllocError>
-    ensures { IfOk result (λ cells. cells ≡ cells_by plan.now net driver) }
+    ensures { IfOk result (λ cells. cells ≡ cells_by pins.now net driver) }
 {
     match driver {
         None => Ok(NetCells {
@@ -106,7 +132,7 @@ fn net_cells(
             compared: Items::of(Vec::new(alloc)),
         }),
         Some(driver) => {
-            let compared = positions_beside(alloc, driver.place, plan.readers(net))?;
+            let compared = positions_beside(alloc, driver.place, readers_at(pins, net))?;
             Ok(NetCells {
                 driver: driver.position,
                 compared,
@@ -126,12 +152,17 @@ fn push_if(nets: &mut Vec<u32>, n: u32, is_one: bool) -> Result<(), AllocError>
 }
 
 // The nets that the walk setting observes, of so many.
-fn nets_in(alloc: Global, plan: &Plan, walk: &Setting, count: u32) -> Result<Vec<u32>, AllocError>
-    ensures { IfOk result (λ nets. nets.items ≡ nets_in plan.now walk.now count) }
+fn nets_in(
+    alloc: Global,
+    pins: &NetPins,
+    walk: &Setting,
+    count: u32,
+) -> Result<Vec<u32>, AllocError>
+    ensures { IfOk result (λ nets. nets.items ≡ nets_in pins.now walk.now count) }
 {
     let mut nets = Vec::new(alloc);
     for n in 0..count {
-        push_if(&mut nets, n, observes(plan, walk, n))?;
+        push_if(&mut nets, n, observes(pins, walk, n))?;
     }
     Ok(nets)
 }
@@ -139,15 +170,15 @@ fn nets_in(alloc: Global, plan: &Plan, walk: &Setting, count: u32) -> Result<Vec
 // The cells of each of these nets.
 fn all_cells(
     alloc: Global,
-    plan: &Plan,
+    pins: &NetPins,
     walk: &Setting,
     nets: &[u32],
 ) -> Result<Vec<NetCells>, AllocError>
-    ensures { IfOk result (λ all. all.items ≡ map (cells_in plan.now walk.now) nets.now) }
+    ensures { IfOk result (λ all. all.items ≡ map (cells_in pins.now walk.now) nets.now) }
 {
     let mut all = Vec::new(alloc);
     for n in nets {
-        all.push(net_cells(alloc, plan, *n, observer(plan, walk, *n))?)?;
+        all.push(net_cells(alloc, pins, *n, observer(pins, walk, *n))?)?;
     }
     Ok(all)
 }
@@ -166,97 +197,109 @@ fn clear_drivers(cells: &[NetCells], row: &mut Row)
 // The nets that the first of these settings observes, of so many, where there is a setting.
 fn first_nets(
     alloc: Global,
-    plan: &Plan,
+    pins: &NetPins,
     passes: &[Setting],
     count: u32,
 ) -> Result<Vec<u32>, AllocError>
-    ensures { IfOk result (λ nets. nets.items ≡ nets_by plan.now (slice_get passes.now 0) count) }
+    ensures { IfOk result (λ nets. nets.items ≡ nets_by pins.now (slice_get passes.now 0) count) }
 {
     match passes.first() {
         None => Ok(Vec::new(alloc)),
-        Some(walk) => nets_in(alloc, plan, walk, count),
+        Some(walk) => nets_in(alloc, pins, walk, count),
     }
 }
 
 // The walk nets.
-fn walk_nets(alloc: Global, board: &Board, plan: &Plan) -> Result<Items<u32>, AllocError>
-    ensures { IfOk result (λ nets. nets ≡ nets_by plan.now (slice_get plan.now.passes 0) (length board.now.nets)) }
+fn walk_nets(
+    alloc: Global,
+    board: &Board,
+    pins: &NetPins,
+    passes: &[Setting],
+) -> Result<Items<u32>, AllocError>
+    ensures { IfOk result (λ nets. nets ≡ nets_by pins.now (slice_get passes.now 0) (length board.now.nets)) }
 {
     let count = board.raw().nets.len() as u32;
-    Ok(Items::of(first_nets(alloc, plan, plan.passes(), count)?))
+    Ok(Items::of(first_nets(alloc, pins, passes, count)?))
 }
 
 // The cells of these nets while the first of the settings is on, where there is a setting.
 fn first_cells(
     alloc: Global,
-    plan: &Plan,
+    pins: &NetPins,
     passes: &[Setting],
     nets: &[u32],
 ) -> Result<Vec<NetCells>, AllocError>
-    ensures { IfOk result (λ all. all.items ≡ cells_of plan.now (slice_get passes.now 0) nets.now) }
+    ensures { IfOk result (λ all. all.items ≡ cells_of pins.now (slice_get passes.now 0) nets.now) }
 {
     match passes.first() {
         None => Ok(Vec::new(alloc)),
-        Some(walk) => all_cells(alloc, plan, walk, nets),
+        Some(walk) => all_cells(alloc, pins, walk, nets),
     }
 }
 
 // The cells of the walk nets.
-fn walk_cells(alloc: Global, plan: &Plan, nets: &[u32]) -> Result<Items<NetCells>, AllocError>
-    ensures { IfOk result (λ cells. cells ≡ cells_of plan.now (slice_get plan.now.passes 0) nets.now) }
+fn walk_cells(
+    alloc: Global,
+    pins: &NetPins,
+    passes: &[Setting],
+    nets: &[u32],
+) -> Result<Items<NetCells>, AllocError>
+    ensures { IfOk result (λ cells. cells ≡ cells_of pins.now (slice_get passes.now 0) nets.now) }
 {
-    Ok(Items::of(first_cells(alloc, plan, plan.passes(), nets)?))
+    Ok(Items::of(first_cells(alloc, pins, passes, nets)?))
 }
 
-// What the rows of a walk share, by its plan and the cells of its nets: the first row of the pass, in which no walk net carries 1, and
-// where it is compared. Without a pass they are empty.
-fn walk_rows(
-    alloc: Global,
-    board: &Board,
-    plan: &Plan,
-    cells: &[NetCells],
-) -> Result<WalkRows, AllocError>
-    requires { IsPlanOf board.now plan.now }
-    ensures { IfOk result (λ rows. AreMade board.now plan.now cells.now rows) }
+// Makes empty rows with room for a scan of data.
+fn blank_rows(alloc: Global, board: &Board) -> Result<WalkRows, AllocError>
+    ensures { IfOk result (HasRoom (data_bits board.now)) }
 {
     let len = board.dr_bits();
-    let mut still = Row::with_room(alloc, len)?;
-    let mut expected = Row::with_room(alloc, len)?;
-    let mut mask = Row::with_room(alloc, len)?;
-    if plan.pass_count() == 0 {
-        return Ok(WalkRows { still, mask });
-    }
-    plan.fill_shifted(board, 0, 0, &mut still);
-    clear_drivers(cells, &mut still);
-    plan.fill_compared(board, 0, 0, &mut expected, &mut mask);
+    let still = Row::with_room(alloc, len)?;
+    let mask = Row::with_room(alloc, len)?;
     Ok(WalkRows { still, mask })
 }
 
-// The walk nets, their cells, and the rows that all scans are made from. The plan is lent, so no exit here lets it go.
-fn walk_parts(alloc: Global, board: &Board, plan: &Plan) -> Result<WalkParts, AllocError>
-    requires { IsPlanOf board.now plan.now }
-    ensures nets { IfOk result (λ parts. parts.nets ≡ nets_by plan.now (slice_get plan.now.passes 0) (length board.now.nets)) }
-    ensures cells { IfOk result (λ parts. parts.cells ≡ cells_of plan.now (slice_get plan.now.passes 0) parts.nets) }
-    ensures rows { IfOk result (λ parts. AreMade board.now plan.now parts.cells parts.rows) }
+/// Makes the parts of a walk from the pins of its board's nets and the first pass of its test. The rows are still empty: `fill_rows`
+/// fills them from the plan. Nothing fails after the plan is made, so no exit drops a plan.
+pub fn walk_parts(
+    alloc: Global,
+    board: &Board,
+    pins: &NetPins,
+    passes: &[Setting],
+) -> Result<WalkParts, AllocError>
+    requires pins { AreNetPins board.now pins.now }
+    requires passes { slice_get passes.now 0 ≡ slice_get (passes_of board.now) 0 }
+    ensures settings { IfOk result (λ parts. parts.settings.items ≡ option_to_list (walk_setting board.now)) }
+    ensures few { IfOk result (λ parts. length parts.settings.items < 2 ^ 32) }
+    ensures plannable { IfOk result (λ parts. ArePlannable board.now parts.settings.items) }
+    ensures nets { IfOk result (λ parts. parts.nets ≡ nets_by pins.now (walk_setting board.now) (length board.now.nets)) }
+    ensures cells { IfOk result (λ parts. parts.cells ≡ cells_of pins.now (walk_setting board.now) parts.nets) }
+    ensures rows { IfOk result (λ parts. HasRoom (data_bits board.now) parts.rows) }
 {
-    let nets = walk_nets(alloc, board, plan)?;
-    let cells = walk_cells(alloc, plan, nets.as_slice())?;
-    let rows = walk_rows(alloc, board, plan, cells.as_slice())?;
-    Ok(WalkParts { nets, cells, rows })
+    let settings = walk_settings(alloc, &BoardPins::of(board, &pins.tables), passes)?;
+    let nets = walk_nets(alloc, board, pins, &settings)?;
+    let cells = walk_cells(alloc, pins, &settings, nets.as_slice())?;
+    let rows = blank_rows(alloc, board)?;
+    Ok(WalkParts {
+        settings,
+        nets,
+        cells,
+        rows,
+    })
 }
 
-/// Returns the tables of a walk. The passes of `plan` are the walk setting, if the board has one.
-pub fn tables_of(alloc: Global, board: &Board, plan: Plan) -> Result<WalkTables, AllocError>
-    requires plan { IsPlanOf board.now plan }
-    requires passes { plan.passes ≡ option_to_list (walk_setting board.now) }
-    ensures { IfOk result (λ tables. IsWalkOf board.now tables) }
+/// Fills the rows of a walk from its plan and the cells of its nets: the first row of the pass, in which no walk net carries 1, and where
+/// it is compared. The rows have room for a scan of data. Without a pass they stay unchanged.
+pub fn fill_rows(board: &Board, plan: &Plan, cells: &[NetCells], rows: &mut WalkRows)
+    requires plan { IsPlanOf board.now plan.now }
+    requires room { HasRoom (data_bits board.now) rows.old }
+    ensures { AreMade board.now plan.now cells.now rows.new }
 {
-    let _rules = board.raw();
-    let parts = walk_parts(alloc, board, &plan)?;
-    Ok(WalkTables {
-        plan,
-        nets: parts.nets,
-        cells: parts.cells,
-        rows: parts.rows,
-    })
+    if plan.pass_count() == 0 {
+        return;
+    }
+    // `still` takes the expected bits, which nothing needs, until the next call fills it.
+    plan.fill_compared(board, 0, 0, &mut rows.still, &mut rows.mask);
+    plan.fill_shifted(board, 0, 0, &mut rows.still);
+    clear_drivers(cells, &mut rows.still);
 }

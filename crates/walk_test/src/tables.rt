@@ -1,5 +1,5 @@
 // What a walk keeps.
-use board_defs::Items;
+use board_defs::{Items, Setting};
 use bt_bits::Row;
 use scan_planner::Plan;
 
@@ -18,9 +18,11 @@ pub struct WalkRows {
     pub mask: Row,
 }
 
-/// What a walk keeps besides its plan: the walk nets and the cells of each, and the rows from which all scans are made.
+/// What a walk is made of beside the pins of the board's nets: the passes of its plan, the walk nets and the cells of each, and the rows
+/// that all scans are made from.
 #[derive(Drop)]
 pub struct WalkParts {
+    pub settings: Vec<Setting>,
     pub nets: Items<u32>,
     pub cells: Items<NetCells>,
     pub rows: WalkRows,

@@ -7,12 +7,11 @@ ghost use Rattle.walk_test.specs.Tables.{IsWalkOf, scan_count};
 ghost use Rattle.walk_test.specs.Scans.{FillsWalk};
 
 use crate::filling::fill_scan;
-use crate::nets::tables_of;
-use crate::setting::walk_settings;
-use crate::tables::WalkTables;
+use crate::nets::{fill_rows, walk_parts};
+use crate::tables::{WalkParts, WalkTables};
 use board_defs::{Board, Setting};
 use bt_bits::Row;
-use net_pins::{BoardPins, NetPins};
+use net_pins::NetPins;
 use scan_planner::Plan;
 use std::alloc::{AllocError, Global};
 use std::marker::Model;
@@ -61,10 +60,23 @@ impl Walk {
         ensures { IfOk result (λ walk. IsWalkOf board.now walk) }
     {
         let _rules = board.raw();
-        let settings = walk_settings(alloc, &BoardPins::of(board, &pins.tables), passes)?;
+        let parts = walk_parts(alloc, board, &pins, passes)?;
+        let WalkParts {
+            settings,
+            nets,
+            cells,
+            mut rows,
+        } = parts;
         let plan = Plan::of(alloc, board, pins, settings)?;
-        let tables = tables_of(alloc, board, plan)?;
-        Ok(Walk { tables })
+        fill_rows(board, &plan, cells.as_slice(), &mut rows);
+        Ok(Walk {
+            tables: WalkTables {
+                plan,
+                nets,
+                cells,
+                rows,
+            },
+        })
     }
 
     /// Returns the numbers of the walk nets, in net order.

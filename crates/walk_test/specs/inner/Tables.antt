@@ -1,5 +1,5 @@
--- Terms for the proofs alone. What a walk keeps of a board: its plan, its nets with their cells, and what all rows share.
-use Rattle.std.specs.Prelude.{◌≡◌, ℕ, zero, suc, ◌<◌, ◌==◌, Bool, false, not, if◌then◌else◌, List, [], length, map, filter, Option, Some, None, is_some, option_and_then, slice_get, slice_index_or}
+-- What serves the proofs alone. What a walk keeps of a board: its plan, its nets with their cells, and what all rows share.
+use Rattle.std.specs.Prelude.{◌≡◌, ℕ, zero, suc, ◌<◌, ◌≤◌, ◌==◌, Bool, false, not, if◌then◌else◌, List, [], length, map, filter, Option, Some, None, is_some, option_and_then, slice_get, slice_index_or}
 use Rattle.std.specs.List.{range_with_len}
 use Rattle.board_defs.specs.declared.board.RawBoard.{RawBoard}
 use Rattle.board_defs.specs.declared.board.Ctl.{Ctl}
@@ -9,6 +9,7 @@ use Rattle.tap_defs.specs.board.TestRows.{TestRow, quiet_row, code_row}
 use Rattle.tap_defs.specs.board.BoardScans.{row_bits, walk_row, row_now, row_before}
 use Rattle.net_pins.specs.declared.nets.NetDriver.{NetDriver}
 use Rattle.net_pins.specs.declared.nets.ReaderCell.{ReaderCell}
+use Rattle.net_pins.specs.declared.pins.NetPins.{NetPins}
 use Rattle.plan_tables.specs.declared.tables.PlanTables.{PlanTables}
 use Rattle.plan_tables.specs.Assigned.{assigned}
 use Rattle.plan_tables.specs.Building.{enabled_in, is_read_beside}
@@ -30,43 +31,48 @@ first_row board plan = code_row board plan.passes (slice_index_or plan.passes 0 
 abbrev pub cleared : List Bool → List NetCells → List Bool
 cleared bits cells = assigned (λ c. c.driver) (λ c. false) bits cells
 
--- the driver by which a setting observes a net, from the tables of a plan
-abbrev pub observer_in : PlanTables → List Ctl → ℕ → Option NetDriver
-observer_in plan walk n =
-    option_and_then (λ d. if is_read_beside (slice_index_or plan.readers n []) d then Some d else None) (enabled_in (holds walk) (slice_index_or plan.drivers n []))
+-- the driver by which a setting observes a net, by the pins of a board
+abbrev pub observer_in : NetPins → List Ctl → ℕ → Option NetDriver
+observer_in pins walk n =
+    option_and_then (λ d. if is_read_beside (slice_index_or pins.readers n []) d then Some d else None) (enabled_in (holds walk) (slice_index_or pins.drivers n []))
 
 -- the positions of the cells that read a pin other than the one at this place
 abbrev pub positions_beside : ℕ → List ReaderCell → List ℕ
 positions_beside place readers = map (λ r. r.position) (filter (λ r. not (r.place == place)) readers)
 
 -- the cells of a net that is observed by this driver
-abbrev pub cells_by : PlanTables → ℕ → Option NetDriver → NetCells
-cells_by plan n None = record { driver = 0; compared = [] }
-cells_by plan n (Some d) = record { driver = d.position; compared = positions_beside d.place (slice_index_or plan.readers n []) }
+abbrev pub cells_by : NetPins → ℕ → Option NetDriver → NetCells
+cells_by pins n None = record { driver = 0; compared = [] }
+cells_by pins n (Some d) = record { driver = d.position; compared = positions_beside d.place (slice_index_or pins.readers n []) }
 
--- the cells of a net, from the tables of a plan
-abbrev pub cells_in : PlanTables → List Ctl → ℕ → NetCells
-cells_in plan walk n = cells_by plan n (observer_in plan walk n)
+-- the cells of a net by the pins of a board
+abbrev pub cells_in : NetPins → List Ctl → ℕ → NetCells
+cells_in pins walk n = cells_by pins n (observer_in pins walk n)
 
--- the nets below `count` that a setting observes, from the tables of a plan
-abbrev pub nets_in : PlanTables → List Ctl → ℕ → List ℕ
-nets_in plan walk count = filter (λ n. is_some (observer_in plan walk n)) (range_with_len 0 count)
+-- the nets that a setting observes, of so many, by the pins of a board
+abbrev pub nets_in : NetPins → List Ctl → ℕ → List ℕ
+nets_in pins walk count = filter (λ n. is_some (observer_in pins walk n)) (range_with_len 0 count)
 
--- the same, if there is a setting; without one there are none
-abbrev pub nets_by : PlanTables → Option (List Ctl) → ℕ → List ℕ
-nets_by plan None count = []
-nets_by plan (Some walk) count = nets_in plan walk count
+-- the same where there is a setting
+abbrev pub nets_by : NetPins → Option (List Ctl) → ℕ → List ℕ
+nets_by pins None count = []
+nets_by pins (Some walk) count = nets_in pins walk count
 
-abbrev pub cells_of : PlanTables → Option (List Ctl) → List ℕ → List NetCells
-cells_of plan None nets = []
-cells_of plan (Some walk) nets = map (cells_in plan walk) nets
+abbrev pub cells_of : NetPins → Option (List Ctl) → List ℕ → List NetCells
+cells_of pins None nets = []
+cells_of pins (Some walk) nets = map (cells_in pins walk) nets
 
 -- the rows of a walk, as they are made from its plan and the cells of its nets
 pub record AreMade (board : RawBoard) (plan : PlanTables) (cells : List NetCells) (rows : WalkRows) : Type 0 where
   pub still : 0 < length plan.passes → rows.still.bits ≡ cleared (tdi_of board (first_row board plan)) cells
   pub mask : 0 < length plan.passes → rows.mask.bits ≡ mask_of board (first_row board plan)
 
--- the controls of the walk setting, or none if the board has no pass
+-- both rows have room for this number of bits
+pub record HasRoom (bits : ℕ) (rows : WalkRows) : Type 0 where
+  pub still : bits ≤ rows.still.room
+  pub mask : bits ≤ rows.mask.room
+
+-- the controls of the walk setting, and none where the board has no pass
 abbrev pub walk_controls : Option (List Ctl) → List Ctl
 walk_controls None = []
 walk_controls (Some walk) = walk

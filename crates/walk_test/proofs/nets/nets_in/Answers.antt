@@ -5,10 +5,10 @@ use Rattle.walk_test.proofs.nets.nets_in.Goals as goal
 
 pub loop-n-preserved : goal.loop-n-preserved
 loop-n-preserved c =
-    let plan = c.args.plan.now in
+    let pins = c.args.pins.now in
     let walk = c.args.walk.now in
     let n = c.loop-n.n in
     c.in_ok-push_if.ensures
     ∙ ap (λ (l : List ℕ). l ++ cond c.observes.result (n ∷ []) []) c.loop-n.invariant
-    ∙ ap (λ (b : Bool). nets_in plan walk n ++ cond b (n ∷ []) []) c.observes.ensures
-    ∙ sym (filter_below_more (λ m. is_some (observer_in plan walk m)) n)
+    ∙ ap (λ (b : Bool). nets_in pins walk n ++ cond b (n ∷ []) []) c.observes.ensures
+    ∙ sym (filter_below_more (λ m. is_some (observer_in pins walk m)) n)
