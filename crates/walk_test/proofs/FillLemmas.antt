@@ -5,7 +5,7 @@ use Rattle.std.specs.Option.{option_to_list}
 use Rattle.std.specs.List.{list_any, range_with_len}
 use Rattle.std.proofs.lemmas.Bool.{cases_lt, lt-ltb, le-ltb, eq-eqb}
 use Rattle.std.proofs.lemmas.List.{length-map, length-replicate, get_or-replicate}
-use Rattle.std.proofs.lemmas.Option.{slice_get_within, slice_get-get_or, get_or_from_slice_get, slice_get-map}
+use Rattle.std.proofs.lemmas.Option.{none-some, slice_get_within, slice_get-get_or, get_or_from_slice_get, slice_get-map}
 use Rattle.lists.proofs.ListLemmas.{item_there, none_of_zeros}
 use Rattle.board_defs.specs.declared.board.Net.{Net}
 use Rattle.board_defs.specs.declared.board.RawBoard.{RawBoard}
@@ -140,7 +140,7 @@ module _ (board : RawBoard) (rules : IsBoard board) (pins : NetPins) (p : AreNet
           ∙ ap (λ (x : Rattle.board_defs.specs.declared.device.Cell.Cell). Rattle.plan_tables.specs.Tables.first_position board s.at.part + x.num) entry ∙ sym s.position_is
 
       by_observer : (o : Option NetDriver) → Observed board (holds walk) w.net o → AreNetCells board walk n (cells_by pins n o)
-      by_observer None h = let bad : None ≡ Some w.driver = sym h ∙ w.observing in cc bad
+      by_observer None h = absurd (none-some w.driver (sym h ∙ w.observing))
       by_observer (Some d) h =
           let places : Some d.place ≡ Some w.driver = sym h.0 ∙ w.observing in
           let place : d.place ≡ w.driver = cc places in
@@ -234,7 +234,7 @@ module _ (board : RawBoard) (rules : IsBoard board) (plan : PlanTables) (p : IsP
         plan = plan_is;
         passes = passes_are;
         nets = nets ∙ ap (λ (o : Option (List Ctl)). nets_by pins o (length board.nets)) e ∙ sym (no_nets board e);
-        tables = λ walk is. let bad : None ≡ Some walk = sym e ∙ is in cc bad;
+        tables = λ walk is. absurd (none-some walk (sym e ∙ is));
       }
       by_setting (Some walk) e = record {
         plan = plan_is;
@@ -501,7 +501,7 @@ module _ (board : RawBoard) (rules : IsBoard board) (t : WalkTables) (w : IsWalk
   none_there j none = by_side (cases_lt j (length t.cells))
     where
       by_side : (j < length t.cells) ⊎ (length t.cells ≤ j) → length t.nets ≤ j
-      by_side (inl less) = let c = item_there t.cells j less in let bad : None ≡ Some c.0 = sym none ∙ c.1 in cc bad
+      by_side (inl less) = let c = item_there t.cells j less in absurd (none-some c.0 (sym none ∙ c.1))
       by_side (inr past) = omega (arith, past, cells_count board rules t w some)
 
   pub driver_there : (j : ℕ) (c : NetCells) → slice_get t.cells j ≡ Some c → c.driver < length t.rows.still.bits
