@@ -50,7 +50,7 @@ fn mark_passes(placed: &PlacedBoard, table: &DriverTable, passes: &[Setting], fl
     }
 }
 
-// Which of so many nets have a driver cell among the steady ones or those of a pass.
+// Returns, for each of the first `nets` nets, whether a driver cell of it is steady or belongs to a pass.
 fn seen_nets(
     alloc: Global,
     placed: &PlacedBoard,
@@ -67,7 +67,7 @@ fn seen_nets(
     Ok(seen)
 }
 
-// Numbers the nets that are observed from 1, in net order.
+// Numbers the nets that are observed, from 1 in net order. Every other net has code 0.
 fn number_nets(alloc: Global, seen: &[bool]) -> Result<NetCodes, AllocError>
     requires { length seen.now ≤ most_nets }
     ensures { IfOk result (λ codes. AreCodes seen.now codes) }
@@ -86,7 +86,7 @@ fn number_nets(alloc: Global, seen: &[bool]) -> Result<NetCodes, AllocError>
     })
 }
 
-/// Numbers the nets that some pass observes from 1, in net order. Every other net has the code 0. The board has `nets` nets.
+/// Numbers the nets that some pass observes, from 1 in net order. Every other net has code 0. The board has `nets` nets.
 pub fn net_codes(
     alloc: Global,
     placed: &PlacedBoard,

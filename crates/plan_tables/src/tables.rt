@@ -29,7 +29,7 @@ pub struct BoardRows {
     pub extest: StoredRows,
 }
 
-/// The driver cells that are the same in all passes, and those that a pass has by its controls.
+/// The driver cells that are the same in all passes, and those that a pass has because of its controls.
 #[derive(Drop)]
 pub struct PassTables {
     pub steady: Items<DriverCell>,

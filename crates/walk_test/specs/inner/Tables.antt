@@ -1,4 +1,4 @@
--- What serves the proofs alone. What a walk keeps of a board: its plan, its nets with their cells, and what all rows share.
+-- Terms for the proofs alone. What a walk keeps of a board: its plan, its nets with their cells, and what all rows share.
 use Rattle.std.specs.Prelude.{◌≡◌, ℕ, zero, suc, ◌<◌, ◌≤◌, ◌==◌, Bool, false, not, if◌then◌else◌, List, [], length, map, filter, Option, Some, None, is_some, option_and_then, slice_get, slice_index_or}
 use Rattle.std.specs.List.{range_with_len}
 use Rattle.board_defs.specs.declared.board.RawBoard.{RawBoard}
@@ -31,7 +31,7 @@ first_row board plan = code_row board plan.passes (slice_index_or plan.passes 0 
 abbrev pub cleared : List Bool → List NetCells → List Bool
 cleared bits cells = assigned (λ c. c.driver) (λ c. false) bits cells
 
--- the driver by which a setting observes a net, by the pins of a board
+-- the driver by which a setting observes a net, from the pins of a board
 abbrev pub observer_in : NetPins → List Ctl → ℕ → Option NetDriver
 observer_in pins walk n =
     option_and_then (λ d. if is_read_beside (slice_index_or pins.readers n []) d then Some d else None) (enabled_in (holds walk) (slice_index_or pins.drivers n []))
@@ -45,15 +45,15 @@ abbrev pub cells_by : NetPins → ℕ → Option NetDriver → NetCells
 cells_by pins n None = record { driver = 0; compared = [] }
 cells_by pins n (Some d) = record { driver = d.position; compared = positions_beside d.place (slice_index_or pins.readers n []) }
 
--- the cells of a net by the pins of a board
+-- the cells of a net, from the pins of a board
 abbrev pub cells_in : NetPins → List Ctl → ℕ → NetCells
 cells_in pins walk n = cells_by pins n (observer_in pins walk n)
 
--- the nets that a setting observes, of so many, by the pins of a board
+-- the nets below `count` that a setting observes, from the pins of a board
 abbrev pub nets_in : NetPins → List Ctl → ℕ → List ℕ
 nets_in pins walk count = filter (λ n. is_some (observer_in pins walk n)) (range_with_len 0 count)
 
--- the same where there is a setting
+-- the same, if there is a setting; without one there are none
 abbrev pub nets_by : NetPins → Option (List Ctl) → ℕ → List ℕ
 nets_by pins None count = []
 nets_by pins (Some walk) count = nets_in pins walk count
@@ -72,7 +72,7 @@ pub record HasRoom (bits : ℕ) (rows : WalkRows) : Type 0 where
   pub still : bits ≤ rows.still.room
   pub mask : bits ≤ rows.mask.room
 
--- the controls of the walk setting, and none where the board has no pass
+-- the controls of the walk setting, or none if the board has no pass
 abbrev pub walk_controls : Option (List Ctl) → List Ctl
 walk_controls None = []
 walk_controls (Some walk) = walk
