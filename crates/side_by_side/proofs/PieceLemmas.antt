@@ -1,4 +1,4 @@
--- Where pieces begin, and how what is said of each piece is said of all items.
+-- Where pieces begin, and how a statement on each piece becomes one on all items.
 use Rattle.std.proofs.Common.{◌≡◌, ℕ, zero, suc, ◌+◌, ◌*◌, ◌/◌, ◌<◌, ◌≤◌, inl, inr, List, [], ◌∷◌, length, Result, Ok, Err, sym, ap, ◌∙◌, refl, append-nil, subst, arith}
 use Rattle.std.specs.Prelude.{slice_index_or}
 use Rattle.std.proofs.Math.Nat.{div-mul-le_self, mul-div_left, mul-le-mul_right}
@@ -24,7 +24,7 @@ only_answer : {A : Type 0} (P : ℕ → A → Type 0) (answer : A) (number : ℕ
 only_answer P answer zero none less holds = holds
 only_answer P answer (suc number) none less holds = absurd (omega (arith, less))
 
--- what a single piece gives is what all pieces give together
+-- a single piece gives what all pieces give together
 pub of_one_piece : {V T E : Type 0} (view : V → List T) (Gives : Piece → Result V E → Type 0) (IsRefusal : E → Type 0) (items : ℕ) (answer : Result V E) →
     Gives (piece_of items 1 0) answer → GivesTogether view Gives IsRefusal items 1 answer
 of_one_piece view Gives IsRefusal items (Ok v) gives =
@@ -32,9 +32,9 @@ of_one_piece view Gives IsRefusal items (Ok v) gives =
 of_one_piece view Gives IsRefusal items (Err fault) gives =
     inr (record { answers = Err fault ∷ []; count = refl; each = λ number none less. only_answer (λ n answer. Gives (piece_of items 1 n) answer) (Err fault) number none less gives; is = refl })
 
--- `Says from to said`: this is said of the items from one up to but without another
+-- `Says from to said` is a statement on the items `from..to`
 module _ {T E : Type 0} (items : ℕ) (Says : ℕ → ℕ → Result (List T) E → Type 0) where
-  -- no item gives an empty list, and what is said of items and then of those behind them is said of both
+  -- no item gives an empty list, and statements on two neighboring ranges give one on both
   pub record IsOfRanges : Type 0 where
     pub nothing : (i : ℕ) → Says i i (Ok [])
     pub both : (from middle to : ℕ) (said later : Result (List T) E) → from ≤ middle → middle ≤ to → to ≤ items → Says from middle said → Says middle to later → Says from to (said_then said later)
