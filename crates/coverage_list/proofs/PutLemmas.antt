@@ -1,4 +1,4 @@
--- Lemmas on a list of texts that is put one after the other: what is still to be put completes the whole.
+-- Lemmas on a list of texts that are written in turn: the texts that are left complete the whole.
 use Rattle.std.proofs.Common.{◌≡◌, ℕ, ◌+◌, ◌-◌, ◌<◌, ◌≤◌, zero, suc, append_assoc, List, [], ◌++◌, refl, sym, ◌∙◌, ap, Result, Ok, Err, IsErr, arith}
 use Rattle.std.specs.List.{flat_map, range_with_len}
 use Rattle.bt_base.specs.Puts.{Shown}

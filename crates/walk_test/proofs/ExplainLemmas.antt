@@ -1,4 +1,4 @@
--- A set of groups explains a log exactly where each compared cell of a walk net reads in each row whether the net that carries 1 is joined
+-- A set of groups explains a log if and only if each compared cell of a walk net reads in each row whether the net that carries 1 is joined
 -- with its own.
 use Rattle.std.proofs.Common.{◌≡◌, ◌≢◌, ◌⊎◌, inl, inr, ℕ, zero, suc, ◌+◌, ◌*◌, ◌<◌, ◌≤◌, ◌==◌, Bool, true, false, List, [], ◌∷◌, length, take, get_or, Option, Some, None, is_some, refl, sym, ◌∙◌, ap, subst, arith}
 use Rattle.std.specs.Prelude.{◌↔◌, slice_get, count_by, All, Contains}

@@ -1,4 +1,4 @@
--- Rows of a log that are read one after the other: what the first ones tell of the next, and all of them of the labels.
+-- Rows of a log that are read in turn: what the first rows imply for the next one, and all rows for the labels.
 use Rattle.std.proofs.Common.{◌≡◌, ◌⊎◌, inl, inr, ℕ, suc, ◌+◌, ◌<◌, ◌≤◌, ◌==◌, ◌^◌, Bool, true, false, cond, List, [], ◌∷◌, length, map, take, get_or, Decides, Some, nat_lt, replicate, refl, sym, ap, ◌∙◌, subst, arith}
 use Rattle.std.specs.Prelude.{slice_get, All, Contains}
 use Rattle.std.specs.Bool.{OnFalse, OnTrue}

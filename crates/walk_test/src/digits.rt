@@ -1,11 +1,11 @@
-// Rows by the values of their digits, compared many at a time.
+// Rows by the values of their digits, which are compared many at a time.
 ghost use Rattle.std.specs.Prelude.{◌≡◌, ℕ, ◌+◌, ◌*◌, ◌/◌, ◌≤◌, ◌<◌, ◌^◌, false, length, slice_index_or, ◌↔◌, IsTrue};
 ghost use Rattle.std.specs.Bool.{OnTrue};
 ghost use Rattle.walk_test.specs.inner.Digits.{is_one, differing, AreClear};
 
 use bt_bits::digit_bit;
 
-// How many digits are gone through before a test ends the loop. Most digits of a row are 0.
+// The number of digits that are read before a test may end the loop. Most digits of a row are 0.
 const BLOCK: usize = 64;
 
 /// A row as the values of its digits, and as many digits with a 1 for each compared bit of the row.
@@ -16,7 +16,7 @@ pub struct MaskedRow<'a> {
     ghost long: { length mask.now ≡ length digits.now },
 }
 
-// The digit at a place, and 0 past the end.
+// Returns the digit at a place, or 0 past the end.
 #[inline]
 fn digit_at(digits: &[u8], place: usize) -> u8
     ensures { result ≡ slice_index_or digits.now place 0 }
@@ -37,7 +37,7 @@ impl MaskedRow<'_> {
         digit_bit(digit_at(self.mask, at / 4), bit) && digit_bit(digit_at(self.digits, at / 4), bit)
     }
 
-    // Whether the digits from one place up to another read no compared 1.
+    // Returns whether the digits `from..to` have no compared 1.
     #[inline]
     fn are_clear(&self, from: usize, to: usize) -> bool
         requires { to ≤ length self.now.digits.now }
@@ -50,7 +50,7 @@ impl MaskedRow<'_> {
         ones == 0
     }
 
-    // The end of the blocks of so many digits from a place on that read no compared 1.
+    // Skips blocks of `block` digits that have no compared 1, from `from` on. Returns where they end.
     #[inline]
     fn blocks_end(&self, from: usize, block: usize) -> usize
         requires from { from ≤ length self.now.digits.now }
@@ -66,8 +66,7 @@ impl MaskedRow<'_> {
         k
     }
 
-    // The first place from one on whose digit reads a compared 1, or the number of digits. It is looked for block by block, and then digit
-    // by digit.
+    // Skips digits that have no compared 1, from `from` on: first block by block, and then digit by digit. Returns where they end.
     fn next_marked(&self, from: usize) -> usize
         requires { from ≤ length self.now.digits.now }
         ensures past { from ≤ result }

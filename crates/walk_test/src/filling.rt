@@ -14,7 +14,7 @@ use bt_bits::Row;
 use std::marker::Model;
 use tap_defs::{ScanRows, Shape};
 
-// A board with a walk of it that has a pass: what fills the scans after the EXTEST codes.
+// A board with a walk of it that has a pass. It fills the scans after the EXTEST codes.
 #[derive(Drop)]
 struct RowFiller<'a> {
     board: &'a Board,
@@ -33,14 +33,14 @@ impl<'a> Model for RowFiller<'a> {
     ghost invariant = { λ a. IsWalkOf a.board.now a.tables.now × (0 < length a.tables.now.plan.passes) };
 }
 
-// The cells of the walk net at a place, where there is one.
+// Returns the cells of walk net `j`, if there is one.
 fn cells_at(tables: &WalkTables, j: usize) -> Option<&NetCells>
     ensures { option_copied result ≡ slice_get tables.now.cells j }
 {
     tables.cells.as_slice().get(j)
 }
 
-// The same of the place before, and none before the first.
+// Returns the cells of the walk net before walk net `j`, if there is one.
 fn cells_before(tables: &WalkTables, j: usize) -> Option<&NetCells>
     ensures { option_copied result ≡ cells_before tables.now.cells j }
 {
@@ -68,7 +68,7 @@ impl<'a> RowFiller<'a> {
         RowFiller { board, tables }
     }
 
-    // Shifts row `j` in, in which the walk net at place `j` carries 1, or the quiet row after the last.
+    // Fills `tdi` with row `j`, in which walk net `j` carries 1, or with the quiet row after the last net.
     fn shift(&self, j: usize, tdi: &mut Row)
         requires { data_bits self.now.board ≤ tdi.old.room }
         ensures bits { tdi.new.bits ≡ shifted_in self.now j }
@@ -84,8 +84,8 @@ impl<'a> RowFiller<'a> {
         }
     }
 
-    // Compares what scan `j` captures with the row before row `j`: the cells of the walk net that carries 1 in that
-    // row are to read 1, and all others that are compared 0. Before row 0 there is none, and nothing is compared.
+    // Fills `tdo` and `mask` for scan `j`, which captures while row `j - 1` is in the latches: the compared cells of the walk net that
+    // carries 1 in that row should read 1, and all other compared cells 0. Scan 0 compares nothing.
     fn compare(&self, j: usize, tdo: &mut Row, mask: &mut Row)
         requires row { j ≤ length self.now.tables.nets }
         requires tdo_room { data_bits self.now.board ≤ tdo.old.room }
@@ -107,7 +107,7 @@ impl<'a> RowFiller<'a> {
         }
     }
 
-    // Scan `j` of those after the EXTEST codes.
+    // Fills the three rows with scan `j` of those after the EXTEST codes.
     fn fill(&self, j: usize, rows: &mut ScanRows) -> Shape
         requires row { j ≤ length self.now.tables.nets }
         requires room { EachHasRoom (IsRoom self.now.board) rows.old }

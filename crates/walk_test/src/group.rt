@@ -22,7 +22,7 @@ impl Model for Group {
 }
 
 impl Group {
-    // The group of these nets.
+    // Returns the group of these nets.
     pub(crate) fn of(nets: Vec<u32>) -> Group
         requires { Rise nets.items }
         ensures { result ≡ nets.items }

@@ -17,7 +17,7 @@ use response_log::Log;
 use std::alloc::{AllocError, Global};
 use tap_defs::board_law::{logs_by_rows, rows_compared, scans_in_turn};
 
-// The nets with each label that is the place of a net, in order.
+// Returns, for each place of a net, the nets that have this place as their label, in order.
 fn all_members(alloc: Global, nets: &[u32], labels: &[u32]) -> Result<Vec<Items<u32>>, AllocError>
     requires { length labels.now ≡ length nets.now }
     ensures { IfOk result (λ lists. lists.items ≡ map (members nets.now labels.now) (range_with_len 0 (length labels.now))) }
@@ -29,7 +29,7 @@ fn all_members(alloc: Global, nets: &[u32], labels: &[u32]) -> Result<Vec<Items<
     Ok(lists)
 }
 
-// Adds these nets as a group, where they are two or more.
+// Adds these nets as a group if they are two or more.
 fn push_group(groups: &mut Vec<Group>, nets: Vec<u32>) -> Result<(), AllocError>
     requires { Rise nets.items }
     ensures { OnOk result (groups.new.items ≡ groups.old.items ++ where_several nets.items) }
@@ -40,7 +40,7 @@ fn push_group(groups: &mut Vec<Group>, nets: Vec<u32>) -> Result<(), AllocError>
     Ok(())
 }
 
-// The groups among lists of nets.
+// Returns the groups among lists of nets: the lists with two nets or more.
 fn groups_among(alloc: Global, lists: Vec<Items<u32>>) -> Result<Vec<Group>, AllocError>
     requires { All Rise lists.items }
     ensures { IfOk result (λ groups. groups.items ≡ flat_map where_several lists.items) }
@@ -52,7 +52,7 @@ fn groups_among(alloc: Global, lists: Vec<Items<u32>>) -> Result<Vec<Group>, All
     Ok(groups)
 }
 
-// The groups of all labels, which are places of the nets.
+// Returns the groups of nets with equal labels. Each label is the place of a net.
 fn groups_by(alloc: Global, nets: &[u32], labels: &[u32]) -> Result<Vec<Group>, AllocError>
     requires rise { Rise nets.now }
     requires labels { length labels.now ≡ length nets.now }

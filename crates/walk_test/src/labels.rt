@@ -30,7 +30,7 @@ pub fn row_at(firsts: &[u32], at: u32, none: u32) -> u32
     }
 }
 
-// Whether all compared positions of a net have one first row.
+// Returns whether all compared positions of a net have the same first row.
 fn is_even(firsts: &[u32], net: &NetCells, none: u32) -> bool
     ensures { result ≡ is_even none firsts.now net.now }
 {
@@ -47,7 +47,7 @@ fn are_even(firsts: &[u32], nets: &[NetCells], none: u32) -> bool
     nets.iter().all(|net| is_even(firsts, net, none))
 }
 
-// The labels of nets by the first row of each position.
+// Returns the labels of nets, given the first row of each position.
 fn labels_in(
     alloc: Global,
     firsts: &[u32],

@@ -11,7 +11,7 @@ use board_defs::Board;
 use bt_base::{PutFault, Sink};
 use bt_bits::Line;
 
-// The name of a net; empty for a number that no net has.
+// Returns the name of net `n`, or nothing if the board has no net `n`.
 fn net_name(board: &Board, n: u32) -> &[u8]
     ensures { result.now ≡ net_name board.now n }
 {
@@ -46,7 +46,7 @@ fn put_nets<K: Sink>(
     Ok(())
 }
 
-// Puts a group of these nets.
+// Writes a group of these nets.
 fn put_members<K: Sink>(
     board: &Board,
     nets: &[u32],
@@ -84,7 +84,7 @@ fn put_groups<K: Sink>(
     Ok(())
 }
 
-// Puts how many groups there are, and each of them.
+// Writes the number of groups, and each group.
 fn put_all<K: Sink>(
     board: &Board,
     groups: &[Group],

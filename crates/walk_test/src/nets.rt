@@ -45,7 +45,7 @@ fn is_read_beside(readers: &[ReaderCell], place: u32) -> bool
     readers.iter().any(|r| r.place != place)
 }
 
-// The driver, where some of these cells reads another pin.
+// Returns the driver if one of these cells reads a pin other than its own.
 fn where_read(driver: NetDriver, readers: &[ReaderCell]) -> Option<NetDriver>
     ensures { result ≡ (if is_read_beside readers.now driver then Some driver else None) }
 {
@@ -56,7 +56,7 @@ fn where_read(driver: NetDriver, readers: &[ReaderCell]) -> Option<NetDriver>
     }
 }
 
-// The items of net `n` in a table that has a list for each net. Past the end there are none.
+// Returns the items of net `n` in a table that has a list for each net. Past the end there are none.
 fn items_at<T>(rows: &[Items<T>], n: u32) -> &[T]
     ensures { result.now ≡ slice_index_or rows.now n [] }
 {
@@ -78,7 +78,7 @@ fn readers_at(pins: &NetPins, net: u32) -> &[ReaderCell]
     items_at(pins.readers.as_slice(), net)
 }
 
-// The driver by which the walk setting observes a net.
+// Returns the driver by which the walk setting observes a net, if it does.
 fn observer(pins: &NetPins, walk: &Setting, net: u32) -> Option<NetDriver>
     ensures { result ≡ observer_in pins.now walk.now net }
 {
@@ -103,7 +103,7 @@ fn push_beside(positions: &mut Vec<u32>, reader: ReaderCell, place: u32) -> Resu
     Ok(())
 }
 
-// The positions of the cells that read another pin than the one at this place.
+// Returns the positions of the cells that read a pin other than the one at this place.
 fn positions_beside(
     alloc: Global,
     place: u32,
@@ -141,7 +141,7 @@ fn net_cells(
     }
 }
 
-// Adds a number where it is one of those that are wanted.
+// Adds a number if it is wanted.
 fn push_if(nets: &mut Vec<u32>, n: u32, is_one: bool) -> Result<(), AllocError>
     ensures { OnOk result (nets.new.items ≡ nets.old.items ++ (if is_one then n ∷ [] else [])) }
 {
@@ -151,7 +151,7 @@ fn push_if(nets: &mut Vec<u32>, n: u32, is_one: bool) -> Result<(), AllocError>
     Ok(())
 }
 
-// The nets that the walk setting observes, of so many.
+// Returns the nets below `count` that the walk setting observes.
 fn nets_in(
     alloc: Global,
     pins: &NetPins,
@@ -167,7 +167,7 @@ fn nets_in(
     Ok(nets)
 }
 
-// The cells of each of these nets.
+// Returns the cells of each of these nets.
 fn all_cells(
     alloc: Global,
     pins: &NetPins,
@@ -194,7 +194,7 @@ fn clear_drivers(cells: &[NetCells], row: &mut Row)
     }
 }
 
-// The nets that the first of these settings observes, of so many, where there is a setting.
+// Returns the nets below `count` that the first of these settings observes, or none if there is no setting.
 fn first_nets(
     alloc: Global,
     pins: &NetPins,
@@ -209,7 +209,7 @@ fn first_nets(
     }
 }
 
-// The walk nets.
+// Returns the walk nets.
 fn walk_nets(
     alloc: Global,
     board: &Board,
@@ -222,7 +222,7 @@ fn walk_nets(
     Ok(Items::of(first_nets(alloc, pins, passes, count)?))
 }
 
-// The cells of these nets while the first of the settings is on, where there is a setting.
+// Returns the cells of these nets while the first of the settings is on, or none if there is no setting.
 fn first_cells(
     alloc: Global,
     pins: &NetPins,
@@ -237,7 +237,7 @@ fn first_cells(
     }
 }
 
-// The cells of the walk nets.
+// Returns the cells of the walk nets.
 fn walk_cells(
     alloc: Global,
     pins: &NetPins,

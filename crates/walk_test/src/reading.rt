@@ -1,4 +1,4 @@
-// The rows of a log, read one after the other for the first one in which each compared position reads 1.
+// Reads the rows of a log in order, and finds for each compared position the first row in which it reads 1.
 ghost use Rattle.std.specs.Prelude.{◌≡◌, ℕ, ◌<◌, nat_lt, length, map, slice_index_or, ◌↔◌, IsTrue, MatchBool};
 ghost use Rattle.std.specs.Bool.{OnFalse, OnTrue};
 ghost use Rattle.bt_bits.specs.Hex.{digit_count};
@@ -9,8 +9,8 @@ use crate::digits::MaskedRow;
 use crate::labels::{first_of, row_at};
 use crate::walk_log::WalkLog;
 
-// Gives row `j` to each compared position that reads 1 in it, and tells whether none of them had a row before. A position without a
-// row has `none` in its place. Where one had a row, nothing is said of what is given.
+// Notes row `j` for each compared position that reads 1 in it. Returns whether none of them had a row before. A position without a
+// row has `none` in its place. If one had a row, `firsts` may have been changed in part.
 fn mark_row(firsts: &mut [u32], row: &MaskedRow<'_>, j: u32, none: u32) -> bool
     requires { length row.now.digits.now ≡ digit_count (length firsts.old) }
     ensures fresh { IsTrue result ↔ IsFresh row.now.digits.now row.now.mask.now none firsts.old (length firsts.old) }
@@ -29,7 +29,8 @@ fn mark_row(firsts: &mut [u32], row: &MaskedRow<'_>, j: u32, none: u32) -> bool
     true
 }
 
-// Whether the position `at` is compared and reads 1 in row `j`, and no such position had a row before. All of them then have row `j`.
+// Returns whether position `at` is compared and reads 1 in row `j`, and no position that does so had a row before. If so, all of them
+// have row `j` now.
 fn start_group(log: &WalkLog<'_>, firsts: &mut [u32], at: u32, j: u32, none: u32) -> bool
     requires row { j < length log.now.log }
     requires firsts { length firsts.old ≡ length log.now.mask }
@@ -40,7 +41,7 @@ fn start_group(log: &WalkLog<'_>, firsts: &mut [u32], at: u32, j: u32, none: u32
     row.is_one(at as usize) && mark_row(firsts, &row, j, none)
 }
 
-// Whether two rows of a log read the same wherever a position is compared.
+// Returns whether two rows of a log read the same at each compared position.
 fn are_same_rows(log: &WalkLog<'_>, j: u32, other: u32) -> bool
     requires row { j < length log.now.log }
     requires other { other < length log.now.log }
@@ -49,8 +50,8 @@ fn are_same_rows(log: &WalkLog<'_>, j: u32, other: u32) -> bool
     log.row(j).is_alike(log.row(other).digits)
 }
 
-// Reads row `j`, that of the net with position `at`. Where the position reads 1 in an earlier row, row `j` is to read what that one
-// does. Else a group starts with the net.
+// Reads row `j`, in which the net with position `at` carries 1, and returns whether it agrees with the earlier rows. If the position
+// reads 1 in an earlier row, row `j` should read what that row does. Otherwise a group starts with the net.
 fn read_row(log: &WalkLog<'_>, firsts: &mut [u32], at: u32, j: u32, none: u32) -> bool
     requires row { j < length log.now.log }
     requires firsts { length firsts.old ≡ length log.now.mask }

@@ -13,7 +13,7 @@ use net_pins::BoardPins;
 use scan_planner::law::useful_planned;
 use std::alloc::{AllocError, Global};
 
-// The control, where it is the cell of this number and disables at the pull.
+// Returns the control if it is cell `num` and disables at the pull.
 fn own_switch(part: u32, num: u32, pull: Option<bool>, control: Control) -> Option<Ctl>
     ensures { result ≡ own_switch part num pull (Some control) }
 {
@@ -25,7 +25,7 @@ fn own_switch(part: u32, num: u32, pull: Option<bool>, control: Control) -> Opti
     }
 }
 
-// The control of a pin with this driving entry, on a net with this pull, where it is a switching driver.
+// Returns the control of a pin with this driving entry, on a net with this pull, if the pin is a switching driver.
 fn entry_switch(part: u32, pull: Option<bool>, entry: Cell) -> Option<Ctl>
     ensures { result ≡ entry_switch part pull (Some entry) }
 {
@@ -35,7 +35,7 @@ fn entry_switch(part: u32, pull: Option<bool>, entry: Cell) -> Option<Ctl>
     }
 }
 
-// The control of a pin on a net with this pull, where the pin is a switching driver.
+// Returns the control of a pin on a net with this pull, if the pin is a switching driver.
 fn pin_switch(board: &BoardPins<'_>, pull: Option<bool>, pin: &NetPin) -> Option<Ctl>
     ensures { result ≡ pin_switch board.now pull pin.now.at }
 {
@@ -72,7 +72,7 @@ fn add_pins(
     Ok(())
 }
 
-// The same of net `n`, none of whose pins is a switching driver where it is guarded.
+// Adds the controls of the switching drivers of net `n`. A guarded net has none.
 fn add_net(
     board: &BoardPins<'_>,
     n: usize,
@@ -87,7 +87,7 @@ fn add_net(
     add_pins(board, net.pull, net.pins.as_slice(), setting)
 }
 
-// The controls of all switching drivers.
+// Returns the controls of all switching drivers.
 fn switching_of(alloc: Global, board: &BoardPins<'_>) -> Result<Setting, AllocError>
     ensures { IfOk result (λ setting. setting ≡ all_switching board.now board.now.nets) }
 {
@@ -108,7 +108,7 @@ fn push_unless(controls: &mut Vec<Ctl>, c: Ctl, is_left_out: bool) -> Result<(),
     Ok(())
 }
 
-// The controls that a set does not hold.
+// Returns the controls that the set does not hold.
 fn others(alloc: Global, controls: &[Ctl], set: &Setting) -> Result<Vec<Ctl>, AllocError>
     ensures { IfOk result (λ left. left.items ≡ filter (λ c. not (holds set.now c)) controls.now) }
 {
@@ -119,7 +119,7 @@ fn others(alloc: Global, controls: &[Ctl], set: &Setting) -> Result<Vec<Ctl>, Al
     Ok(left)
 }
 
-// A pass without the controls of switching drivers.
+// Returns a pass without the controls of switching drivers.
 fn without_switching(
     alloc: Global,
     board: &BoardPins<'_>,

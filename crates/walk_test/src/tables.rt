@@ -1,4 +1,4 @@
-// What a walk keeps.
+// The tables of a walk.
 use board_defs::{Items, Setting};
 use bt_bits::Row;
 use scan_planner::Plan;

@@ -1,4 +1,4 @@
-// A log of the walking test, beside the walk nets whose rows it has.
+// A log of the walking test, with the walk nets whose rows it has.
 ghost use Rattle.std.specs.Prelude.{◌≡◌, ◌<◌, ◌^◌, [], length, slice_index_or, All, IfOk};
 ghost use Rattle.bt_bits.specs.Digits.{digits_of};
 ghost use Rattle.response_log.specs.Kept.{AreRowDigits};
@@ -31,7 +31,7 @@ impl<'a> Model for WalkLog<'a> {
     ghost invariant = { λ a. AreLoggedNets (logged_nets a.log.now a.nets.now a.mask.bits) };
 }
 
-// A row of so many bits, those of them 1 that are compared.
+// Returns a row of `len` bits in which the compared bits are 1.
 fn compared_row(alloc: Global, nets: &[NetCells], len: u32) -> Result<Row, AllocError>
     ensures { IfOk result (λ row. row.bits ≡ compared_bits len nets.now) }
 {
