@@ -1,6 +1,8 @@
 // Texts with two faults, each of which comes right after the other in the order of refusals: the first one is reported.
 use run_bench::Text::{Cells, Numbered, Plain};
-use run_bench::{CHAIN, Case, Ending, NETS, Row, RowFault, Rows, Run, Table, Text, tables_hold};
+use run_bench::{
+    CHAIN, Case, Ending, Line, NETS, Row, RowFault, Rows, Run, SCANS, Table, Text, tables_hold,
+};
 
 // Files, BSDL texts and the parts of the chain.
 const FILES: [Case; 7] = [
@@ -87,6 +89,13 @@ const BOARDS: [Case; 10] = [
         "drv",
         "n line 2 word 4: no such pin\n",
     ),
+];
+
+// The order of the BSDL texts does not matter, nor does a text that no part names.
+const ANY_ORDER: [Line; 3] = [
+    ("svf c n drv rcv", Ending::Scans(SCANS)),
+    ("svf c n rcv drv", Ending::Scans(SCANS)),
+    ("svf c n ts rcv bi drv", Ending::Scans(SCANS)),
 ];
 
 // 256 parts, one more than a chain may have.
@@ -188,7 +197,12 @@ const LOGS: [Row; 2] = [
     },
 ];
 
-static FILE_TABLES: [Table; 2] = [
+static FILE_TABLES: [Table; 3] = [
+    Table {
+        name: "BSDL texts may come in any order",
+        texts: &[],
+        rows: Rows::Lines(&ANY_ORDER),
+    },
     Table {
         name: "files come in the order of the words, and then parts",
         texts: &[("bad", Plain("entity")), ("worse", Plain("\u{1}"))],
