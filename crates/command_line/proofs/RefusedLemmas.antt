@@ -1,4 +1,4 @@
--- What `clap` does not accept is no command.
+-- Words that `clap` does not accept form no command.
 use Rattle.std.proofs.Common.{◌≡◌, ℕ, Bool, true, false, List, [], ◌∷◌, codes, Option, None, refl, ◌∙◌, ap}
 use Rattle.std.specs.Prelude.{option_map, if◌then◌else◌}
 use Rattle.std.specs.List.{list_all}
@@ -6,7 +6,7 @@ use Rattle.std.specs.Str.{bytes_eq}
 use Rattle.command_line.specs.inner.App.{is_accepted, has_one, is_one, has_two, has_three, has_four}
 use Rattle.command_line.specs.Words.{Text, ChainNames, BoardNames, Command, Chain, Ident, Cover, Svf, Walk, Diagnose, Batch, is_plain, command_of, parsed, chain_of, device_of, board_of, make_of, worked_of, groups_of, board_called, log_called}
 
--- there is a command only where this is accepted
+-- the words form a command only if they are accepted
 abbrev OnlyWhere : Bool → Option Command → Type 0
 OnlyWhere accepted command = accepted ≡ false → command ≡ None
 

@@ -1,4 +1,4 @@
--- A command and its names without where its words lie in memory.
+-- A command of the program as a command of the definitions: its words as lists of bytes, without their places in memory.
 use Rattle.std.specs.Prelude.{map, string_bytes}
 use Rattle.command_line.specs.declared.command.Command.{Command as Lent}
 use Rattle.command_line.specs.declared.command.Command.TheVariants as lent

@@ -20,22 +20,22 @@ most_made = 255
 abbrev pub most_workers : ℕ
 most_workers = 64
 
--- the names of the texts of a chain: a chain file and BSDL texts
+-- the file names of a chain: a chain file and BSDL files
 pub record ChainNames : Type 0 where
   pub chain : Text
   pub bsdl : List Text
 
--- the names of the texts of a board: a chain file, a net file and BSDL texts
+-- the file names of a board: a chain file, a net file and BSDL files
 pub record BoardNames : Type 0 where
   pub chain : Text
   pub nets : Text
   pub bsdl : List Text
 
--- What a command line asks for: the length test or the identity test of a chain, each with the names of the chain's texts; the listing of
--- a device, with the name of a BSDL text; the coverage list, the test or the walking test of a board, each with the names of the board's
--- texts; the summary of a board that is made, with the number of its parts; the diagnosis of a board, with the number of workers, the name
--- of a response log and the names of the board's texts; its groups of shorted nets, with the name of a response log and those names; or the
--- diagnoses of many boards, with the same as that of one.
+-- A command. The length test and the identity test of a chain have the file names of the chain. The listing of a device has the name of a
+-- BSDL file. The coverage list, the test and the walking test of a board have the file names of the board. The summary of a generated board
+-- has the number of its parts. The diagnosis of a board has the number of workers, the name of a response log and the file names of the
+-- board, and so have the diagnoses of many boards. The groups of shorted nets have the name of a response log and the file names of the
+-- board.
 pub data Command : Type 0 where
   Chain : ChainNames → Command
   Ident : ChainNames → Command
@@ -48,20 +48,20 @@ pub data Command : Type 0 where
   Groups : Text → BoardNames → Command
   Batch : ℕ → Text → BoardNames → Command
 
--- a word is not empty and does not begin with `-`
+-- the word is not empty and does not begin with `-`
 abbrev pub is_plain : Text → Bool
 is_plain [] = false
 is_plain (b ∷ bs) = not (b == 45)
 
--- what has these BSDL names, where they are not too many
+-- the value, if its BSDL names are not too many
 abbrev pub with_names : {A : Type 0} → List Text → A → Option A
 with_names names value = if nat_le (length names) most_names then Some value else None
 
--- a number is in this range, whose ends belong to it
+-- n is from `least` to `most`, both included
 abbrev pub is_within : ℕ → ℕ → ℕ → Bool
 is_within least most n = nat_le least n && nat_le n most
 
--- the number of a word of 1 to 20 decimal digits, where its value is from 1 to `most`
+-- the value of a word of 1 to 20 decimal digits, if it is from 1 to `most`
 abbrev pub number_of : ℕ → Text → Option ℕ
 number_of most word =
     if list_all is_ascii_digit word && is_within 1 20 (length word) && is_within 1 most (digits_value 10 word) then Some (digits_value 10 word) else None
@@ -106,14 +106,14 @@ abbrev pub groups_of : List Text → Option Command
 groups_of [] = None
 groups_of (log ∷ names) = option_map (Groups log) (board_of names)
 
--- the command of this name that is about a response log
+-- the command with this name and these words, if it works on a response log
 unfoldable pub log_called : Text → List Text → Option Command
 log_called word rest =
     if bytes_eq (codes "diagnose") word then diagnose_of rest else
     if bytes_eq (codes "groups") word then groups_of rest else
     if bytes_eq (codes "batch") word then batch_of rest else None
 
--- the command of this name that is about a board
+-- the command with this name and these words, if it works on a board or a response log
 unfoldable pub board_called : Text → List Text → Option Command
 board_called word rest =
     if bytes_eq (codes "cover") word then option_map Cover (board_of rest) else
@@ -128,19 +128,19 @@ parsed (word ∷ rest) =
     if bytes_eq (codes "ident") word then option_map Ident (chain_of rest) else
     if bytes_eq (codes "device") word then device_of rest else board_called word rest
 
--- the command of these words, where they are in the grammar
+-- the command that the words form, if the grammar has it
 abbrev pub command_of : List Text → Option Command
 command_of words = if list_all is_plain words then parsed words else None
 
--- the names of the texts of a chain, in their order
+-- the file names of a chain, in order
 abbrev pub chain_names : ChainNames → List Text
 chain_names names = names.chain ∷ names.bsdl
 
--- the names of the texts of a board, in their order
+-- the file names of a board, in order
 abbrev pub board_names : BoardNames → List Text
 board_names names = names.chain ∷ names.nets ∷ names.bsdl
 
--- the names of the texts that a command reads, in their order
+-- the names of the files that a command reads, in order
 abbrev pub names_of : Command → List Text
 names_of (Chain names) = chain_names names
 names_of (Ident names) = chain_names names
@@ -153,7 +153,7 @@ names_of (Diagnose workers log names) = log ∷ board_names names
 names_of (Groups log names) = log ∷ board_names names
 names_of (Batch workers log names) = log ∷ board_names names
 
--- the number of a command is in its range: that of the parts of a board that is to be made, or of the workers of diagnoses
+-- the number in a command is in its range: the number of parts of a generated board, or the number of workers
 abbrev pub HasNumber : Command → Type 0
 HasNumber (Make parts) = (1 ≤ parts) × (parts ≤ most_made)
 HasNumber (Diagnose workers log names) = (1 ≤ workers) × (workers ≤ most_workers)

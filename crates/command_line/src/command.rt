@@ -1,79 +1,79 @@
-// What a command line asks for.
+// The commands of the command line.
 ghost use Rattle.std.specs.Prelude.{◌≤◌, length};
 ghost use Rattle.command_line.specs.Words.{most_names};
 
-/// The most names of BSDL texts.
+/// The largest number of BSDL files that a command takes.
 pub const MOST_NAMES: usize = 255;
 
-/// The names of BSDL texts, at most 255.
+/// The names of the BSDL files, at most 255.
 #[derive(Clone, Copy)]
 pub struct BsdlNames<'a> {
     pub names: &'a [String],
     ghost few: { length names.now ≤ most_names },
 }
 
-/// The names of the texts of a chain.
+/// The file names of a chain.
 #[derive(Clone, Copy)]
 pub struct ChainNames<'a> {
     /// The chain file.
     pub chain: &'a str,
-    /// The BSDL texts.
+    /// The BSDL files.
     pub bsdl: BsdlNames<'a>,
 }
 
-/// The names of the texts of a board.
+/// The file names of a board.
 #[derive(Clone, Copy)]
 pub struct BoardNames<'a> {
     /// The chain file.
     pub chain: &'a str,
     /// The net file.
     pub nets: &'a str,
-    /// The BSDL texts.
+    /// The BSDL files.
     pub bsdl: BsdlNames<'a>,
 }
 
-/// What a command line asks for, with the names of its texts.
+/// A command, with the names of the files that it reads.
 #[derive(Clone, Copy)]
 pub enum Command<'a> {
-    /// The text that tests the length of the chain.
+    /// Writes the test of the length of a chain.
     Chain(ChainNames<'a>),
-    /// The text that tests the identity of the devices in the chain.
+    /// Writes the test of the identification codes of the devices in a chain.
     Ident(ChainNames<'a>),
-    /// The listing of a device.
+    /// Lists a device.
     Device {
         bsdl: &'a str,
     },
-    /// The coverage list of a board.
+    /// Writes the coverage list of a board.
     Cover(BoardNames<'a>),
-    /// The text that tests a board.
+    /// Writes the test of a board.
     Svf(BoardNames<'a>),
-    /// The text of the walking test of a board.
+    /// Writes the walking test of a board.
     Walk(BoardNames<'a>),
-    /// The summary of a board that is made, of this many parts, from 1 to 255.
+    /// Summarizes a generated board with this number of parts, from 1 to 255.
     Make(u32),
-    /// The diagnosis of a board.
+    /// Diagnoses a board.
     Diagnose {
         /// The number of workers, from 1 to 64.
         workers: u32,
         /// The response log.
         log: &'a str,
-        /// The names of the texts of the board.
+        /// The file names of the board.
         board: BoardNames<'a>,
     },
-    /// The groups of shorted nets of a board.
+    /// Finds the groups of shorted nets of a board.
     Groups {
         /// The response log of the walking test.
         log: &'a str,
-        /// The names of the texts of the board.
+        /// The file names of the board.
         board: BoardNames<'a>,
     },
-    /// The diagnoses of many boards.
+    /// Diagnoses many boards of the same design.
     Batch {
         /// The number of workers, from 1 to 64.
         workers: u32,
-        /// The response logs of the boards, one after the other.
+        /// The file with the response logs of the boards.
         log: &'a str,
-        /// The names of the texts that the boards have in common.
+        /// The file names of the design.
         board: BoardNames<'a>,
     },
 }

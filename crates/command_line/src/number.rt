@@ -1,4 +1,4 @@
-// Numbers among the words.
+// Reads the numbers among the words.
 ghost use Rattle.std.specs.Prelude.{◌≡◌};
 ghost use Rattle.std.specs.Char.{is_ascii_digit};
 ghost use Rattle.std.specs.List.{list_all};
@@ -7,7 +7,8 @@ ghost use Rattle.command_line.specs.Words.{number_of};
 /// The most digits of a number.
 const MOST_DIGITS: usize = 20;
 
-/// The number of a word of 1 to 20 decimal digits, where its value is from 1 to `most`.
+/// Returns the value of a word of 1 to 20 decimal digits, or `None` if it isn't from 1 to `most`. Any other word gives
+/// `None`, too.
 pub fn number_of(most: u32, word: &str) -> Option<u32>
     ensures { result ≡ number_of most word.now }
 {
@@ -24,7 +25,7 @@ pub fn number_of(most: u32, word: &str) -> Option<u32>
     }
 }
 
-// Whether a word has decimal digits alone: std's `parse` also takes a sign.
+// Returns whether the word has only decimal digits. This is tested because `parse` of std also takes a sign.
 fn are_digits(word: &str) -> bool
     ensures { result ≡ list_all is_ascii_digit word.now }
 {

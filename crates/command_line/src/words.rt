@@ -1,4 +1,4 @@
-// The command of the words.
+// Reads the words of a command line.
 ghost use Rattle.std.specs.Prelude.{◌≡◌, ◌∷◌, List, map, true, false, string_bytes, IfOk, IfSome, option_map};
 ghost use Rattle.std.specs.List.{list_all};
 ghost use Rattle.clap.specs.Simple.{App, app_of, with_rule, with_subcommand};
@@ -20,7 +20,8 @@ const MOST_MADE: u32 = 255;
 // The most workers of a diagnosis.
 const MOST_WORKERS: u32 = 64;
 
-/// The command of the words, where they are in the grammar. It fails only for want of memory.
+/// Returns the command that the words form, or `None` if the grammar has no such command. The only error is a lack of
+/// memory.
 pub fn command_of<'a>(alloc: Global, words: &'a [String]) -> Result<Option<Command<'a>>, AllocError>
     ensures command { IfOk result (λ c. option_map command_view c ≡ command_of (map string_bytes words.entry.now)) }
     ensures number { IfOk result (λ c. IfSome c (λ c. HasNumber (command_view c))) }
@@ -32,7 +33,7 @@ pub fn command_of<'a>(alloc: Global, words: &'a [String]) -> Result<Option<Comma
     }
 }
 
-// Whether no word is empty or begins with `-`.
+// Returns whether no word is empty and none begins with `-`.
 fn are_plain(words: &[String]) -> bool
     ensures { result ≡ list_all is_plain (map string_bytes words.now) }
 {
@@ -51,7 +52,7 @@ fn is_plain(word: &str) -> bool
     !word.is_empty() && !word.starts_with('-')
 }
 
-// The command of words that `clap` accepts.
+// Returns the command that these words form. The words are those that `clap` accepted.
 fn parsed<'a>(words: &'a [String]) -> Option<Command<'a>>
     ensures { option_map command_view result ≡ parsed (map string_bytes words.entry.now) }
 {
@@ -61,7 +62,7 @@ fn parsed<'a>(words: &'a [String]) -> Option<Command<'a>>
     }
 }
 
-// The command of this name with these words.
+// Returns the command with this name and these words.
 fn command_called<'a>(name: &str, words: &'a [String]) -> Option<Command<'a>>
     ensures { option_map command_view result ≡ parsed (name.now ∷ map string_bytes words.entry.now) }
 {
@@ -76,7 +77,7 @@ fn command_called<'a>(name: &str, words: &'a [String]) -> Option<Command<'a>>
     }
 }
 
-// The command of this name that is about a board, with these words.
+// Returns the command with this name and these words, if it works on a board.
 #[tactic(auto, unfolding(crate::specs::Words::board_called))]
 fn board_called<'a>(name: &str, words: &'a [String]) -> Option<Command<'a>>
     ensures { option_map command_view result ≡ board_called name.now (map string_bytes words.entry.now) }
@@ -94,7 +95,7 @@ fn board_called<'a>(name: &str, words: &'a [String]) -> Option<Command<'a>>
     }
 }
 
-// The command of this name that is about a response log, with these words.
+// Returns the command with this name and these words, if it works on a response log.
 #[tactic(auto, unfolding(crate::specs::Words::log_called))]
 fn log_called<'a>(name: &str, words: &'a [String]) -> Option<Command<'a>>
     ensures { option_map command_view result ≡ log_called name.now (map string_bytes words.entry.now) }
@@ -110,7 +111,7 @@ fn log_called<'a>(name: &str, words: &'a [String]) -> Option<Command<'a>>
     }
 }
 
-// The names of the texts of a chain, where these words are such names.
+// Returns the file names of a chain, if the words are such names.
 fn chain_of<'a>(words: &'a [String]) -> Option<ChainNames<'a>>
     ensures { option_map chain_view result ≡ chain_of (map string_bytes words.entry.now) }
 {
@@ -123,7 +124,7 @@ fn chain_of<'a>(words: &'a [String]) -> Option<ChainNames<'a>>
     }
 }
 
-// `device` with these words.
+// Returns the command `device` with these words.
 fn device_of<'a>(words: &'a [String]) -> Option<Command<'a>>
     ensures { option_map command_view result ≡ device_of (map string_bytes words.entry.now) }
 {
@@ -133,7 +134,7 @@ fn device_of<'a>(words: &'a [String]) -> Option<Command<'a>>
     }
 }
 
-// The names of the texts of a board, where these words are such names.
+// Returns the file names of a board, if the words are such names.
 fn board_of<'a>(words: &'a [String]) -> Option<BoardNames<'a>>
     ensures { option_map board_view result ≡ board_of (map string_bytes words.entry.now) }
 {
@@ -146,7 +147,7 @@ fn board_of<'a>(words: &'a [String]) -> Option<BoardNames<'a>>
     }
 }
 
-// `make` with these words.
+// Returns the command `make` with these words.
 fn make_of<'a>(words: &'a [String]) -> Option<Command<'a>>
     ensures { option_map command_view result ≡ make_of (map string_bytes words.entry.now) }
 {
@@ -155,7 +156,7 @@ fn make_of<'a>(words: &'a [String]) -> Option<Command<'a>>
     Some(Command::Make(parts))
 }
 
-// `diagnose` with these words.
+// Returns the command `diagnose` with these words.
 fn diagnose_of<'a>(words: &'a [String]) -> Option<Command<'a>>
     ensures { option_map command_view result ≡ diagnose_of (map string_bytes words.entry.now) }
 {
@@ -171,7 +172,7 @@ fn diagnose_of<'a>(words: &'a [String]) -> Option<Command<'a>>
     })
 }
 
-// `groups` with these words.
+// Returns the command `groups` with these words.
 fn groups_of<'a>(words: &'a [String]) -> Option<Command<'a>>
     ensures { option_map command_view result ≡ groups_of (map string_bytes words.entry.now) }
 {
@@ -182,7 +183,7 @@ fn groups_of<'a>(words: &'a [String]) -> Option<Command<'a>>
     Some(Command::Groups { log, board })
 }
 
-// `batch` with these words.
+// Returns the command `batch` with these words.
 fn batch_of<'a>(words: &'a [String]) -> Option<Command<'a>>
     ensures { option_map command_view result ≡ batch_of (map string_bytes words.entry.now) }
 {
@@ -198,7 +199,7 @@ fn batch_of<'a>(words: &'a [String]) -> Option<Command<'a>>
     })
 }
 
-// The argument of one name that has to be there.
+// Returns an argument that is one required name.
 fn name_arg<'a>(alloc: Global, id: &'a str) -> Arg<'a>
     ensures rule { rule_of result ≡ name_rule id.entry.now }
     ensures local { result.global ≡ false }
@@ -206,7 +207,7 @@ fn name_arg<'a>(alloc: Global, id: &'a str) -> Arg<'a>
     Arg::new(alloc, id).required(true).action(ArgAction::Set)
 }
 
-// The argument that takes any number of names of BSDL texts.
+// Returns the argument that takes any number of BSDL file names.
 fn names_arg<'a>(alloc: Global) -> Arg<'a>
     ensures rule { rule_of result ≡ names_rule }
     ensures local { result.global ≡ false }
@@ -228,7 +229,7 @@ fn with_name<'a>(
     Ok(command)
 }
 
-// Adds any number of names of BSDL texts after the other arguments of a command.
+// Adds the argument for any number of BSDL file names, after the other arguments of the command.
 fn with_names<'a>(
     alloc: Global,
     command: clap::Command<'a>,
@@ -241,7 +242,7 @@ fn with_names<'a>(
     Ok(command)
 }
 
-// A command that is about a chain.
+// Returns a command that works on a chain.
 fn chain_command<'a>(alloc: Global, name: &'a str) -> Result<clap::Command<'a>, AllocError>
     ensures app { IfOk result (λ c. app_of c ≡ chain_app name.entry.now) }
     ensures local { IfOk result (λ c. (fields_of c).has_globals ≡ false) }
@@ -250,7 +251,7 @@ fn chain_command<'a>(alloc: Global, name: &'a str) -> Result<clap::Command<'a>, 
     with_names(alloc, command)
 }
 
-// A command that takes one word.
+// Returns a command that takes one word.
 fn single_command<'a>(
     alloc: Global,
     name: &'a str,
@@ -262,7 +263,7 @@ fn single_command<'a>(
     with_name(alloc, clap::Command::new(alloc, name), id)
 }
 
-// The command with the arguments that name the texts of a board behind its own.
+// Adds the arguments for the file names of a board, after the other arguments of the command.
 fn with_board<'a>(
     alloc: Global,
     command: clap::Command<'a>,
@@ -276,7 +277,7 @@ fn with_board<'a>(
     with_names(alloc, command)
 }
 
-// A command that is about a board.
+// Returns a command that works on a board.
 fn board_command<'a>(alloc: Global, name: &'a str) -> Result<clap::Command<'a>, AllocError>
     ensures app { IfOk result (λ c. app_of c ≡ board_app name.entry.now) }
     ensures local { IfOk result (λ c. (fields_of c).has_globals ≡ false) }
@@ -284,7 +285,7 @@ fn board_command<'a>(alloc: Global, name: &'a str) -> Result<clap::Command<'a>, 
     with_board(alloc, clap::Command::new(alloc, name))
 }
 
-// A command of workers that is about a response log of a board.
+// Returns a command that works on a response log of a board, by a number of workers.
 fn log_command<'a>(alloc: Global, name: &'a str) -> Result<clap::Command<'a>, AllocError>
     ensures app { IfOk result (λ c. app_of c ≡ log_app name.entry.now) }
     ensures local { IfOk result (λ c. (fields_of c).has_globals ≡ false) }
@@ -294,7 +295,7 @@ fn log_command<'a>(alloc: Global, name: &'a str) -> Result<clap::Command<'a>, Al
     with_board(alloc, command)
 }
 
-// A command that is about a response log of a board, by one worker.
+// Returns a command that works on a response log of a board, by one worker.
 fn groups_command<'a>(alloc: Global, name: &'a str) -> Result<clap::Command<'a>, AllocError>
     ensures app { IfOk result (λ c. app_of c ≡ groups_app name.entry.now) }
     ensures local { IfOk result (λ c. (fields_of c).has_globals ≡ false) }
@@ -303,7 +304,7 @@ fn groups_command<'a>(alloc: Global, name: &'a str) -> Result<clap::Command<'a>,
     with_board(alloc, command)
 }
 
-// The command above the others.
+// Returns the top command, without its subcommands.
 fn top_command<'a>(alloc: Global) -> clap::Command<'a>
     ensures app { app_of result ≡ top_app }
     ensures local { (fields_of result).has_globals ≡ false }
@@ -315,66 +316,64 @@ fn top_command<'a>(alloc: Global) -> clap::Command<'a>
         .disable_help_subcommand(true)
 }
 
-// Adds a subcommand, or passes on that it was not made. It takes the result, so that no other function drops a command at an exit.
+// Adds a subcommand to a command, or passes on the error if one of the two was not made. It takes both results, so that
+// its callers need no `?` and never drop a command: each such exit costs its proof several seconds.
 fn with_made<'a>(
-    command: clap::Command<'a>,
+    command: Result<clap::Command<'a>, AllocError>,
     made: Result<clap::Command<'a>, AllocError>,
 ) -> Result<clap::Command<'a>, AllocError>
-    requires top { (fields_of command).has_globals ≡ false }
+    requires top { IfOk command (λ c. (fields_of c).has_globals ≡ false) }
     requires made { IfOk made (λ s. (fields_of s).has_globals ≡ false) }
-    ensures app { IfOk result (λ c. (app : App) → IfOk made.entry (λ s. app_of s ≡ app) → app_of c ≡ with_subcommand (app_of command.entry) app.top) }
+    ensures app { (top app : App) → IfOk command.entry (λ c. app_of c ≡ top) → IfOk made.entry (λ s. app_of s ≡ app) → IfOk result (λ c. app_of c ≡ with_subcommand top app.top) }
     ensures local { IfOk result (λ c. (fields_of c).has_globals ≡ false) }
 {
+    let command = command?;
     let subcommand = made?;
-    let command = command.subcommand(subcommand)?;
-    Ok(command)
+    command.subcommand(subcommand)
 }
 
-// The command with the subcommands that are about a chain or a device.
+// Returns the top command with the subcommands that work on a chain or a device.
 fn part_commands<'a>(alloc: Global) -> Result<clap::Command<'a>, AllocError>
     ensures app { IfOk result (λ c. app_of c ≡ parts_app) }
     ensures local { IfOk result (λ c. (fields_of c).has_globals ≡ false) }
 {
-    let command = with_made(top_command(alloc), chain_command(alloc, "chain"))?;
-    let command = with_made(command, chain_command(alloc, "ident"))?;
-    let parts = with_made(command, single_command(alloc, "device", "BSDL"))?;
-    Ok(parts)
+    let command = Ok(top_command(alloc));
+    let command = with_made(command, chain_command(alloc, "chain"));
+    let command = with_made(command, chain_command(alloc, "ident"));
+    with_made(command, single_command(alloc, "device", "BSDL"))
 }
 
-// The command with these subcommands, and those that are about a board.
+// Returns that command with the subcommands that work on a board, too.
 fn board_commands<'a>(alloc: Global) -> Result<clap::Command<'a>, AllocError>
     ensures app { IfOk result (λ c. app_of c ≡ boards_app) }
     ensures local { IfOk result (λ c. (fields_of c).has_globals ≡ false) }
 {
-    let parts = part_commands(alloc)?;
-    let command = with_made(parts, board_command(alloc, "cover"))?;
-    let command = with_made(command, board_command(alloc, "svf"))?;
-    let boards = with_made(command, board_command(alloc, "walk"))?;
-    Ok(boards)
+    let command = part_commands(alloc);
+    let command = with_made(command, board_command(alloc, "cover"));
+    let command = with_made(command, board_command(alloc, "svf"));
+    with_made(command, board_command(alloc, "walk"))
 }
 
-// The command with these subcommands, and those that are about a response log.
+// Returns that command with the subcommands that work on a response log, too.
 fn log_commands<'a>(alloc: Global) -> Result<clap::Command<'a>, AllocError>
     ensures app { IfOk result (λ c. app_of c ≡ logs_app) }
     ensures local { IfOk result (λ c. (fields_of c).has_globals ≡ false) }
 {
-    let boards = board_commands(alloc)?;
-    let command = with_made(boards, log_command(alloc, "diagnose"))?;
-    let command = with_made(command, groups_command(alloc, "groups"))?;
-    let logs = with_made(command, log_command(alloc, "batch"))?;
-    Ok(logs)
+    let command = board_commands(alloc);
+    let command = with_made(command, log_command(alloc, "diagnose"));
+    let command = with_made(command, groups_command(alloc, "groups"));
+    with_made(command, log_command(alloc, "batch"))
 }
 
-// The command with its subcommands.
+// Returns the top command with all its subcommands.
 fn whole_command<'a>(alloc: Global) -> Result<clap::Command<'a>, AllocError>
     ensures { IfOk result (λ c. app_of c ≡ btest_app) }
 {
-    let logs = log_commands(alloc)?;
-    let whole = with_made(logs, single_command(alloc, "make", "NUMBER"))?;
-    Ok(whole)
+    let command = log_commands(alloc);
+    with_made(command, single_command(alloc, "make", "NUMBER"))
 }
 
-// Whether `clap` accepts plain words.
+// Returns whether `clap` accepts the words, none of which is empty or begins with `-`.
 fn is_accepted(alloc: Global, words: &[String]) -> Result<bool, AllocError>
     requires { list_all is_plain (map string_bytes words.now) ≡ true }
     ensures { IfOk result (λ b. b ≡ is_accepted (map string_bytes words.now)) }

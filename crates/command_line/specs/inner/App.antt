@@ -5,60 +5,60 @@ use Rattle.clap.specs.Walk.{Rule, Text}
 use Rattle.clap.specs.Simple.{App, new_app, new_rule, on_top, with_rule, with_subcommand}
 use Rattle.clap.specs.declared.builder.action.ArgAction.TheVariants.{Set, Append}
 
--- one name, which has to be there
+-- one required name
 abbrev pub name_rule : Text → Rule
 name_rule id = record (new_rule id) { required = true; action = Some Set }
 
--- any number of names of BSDL texts
+-- any number of BSDL file names
 abbrev pub names_rule : Rule
 names_rule = record (new_rule (codes "BSDL")) { action = Some Append }
 
--- what is made of a chain: a chain file, and any number of BSDL texts
+-- a command that works on a chain: a chain file and any number of BSDL files
 abbrev pub chain_app : Text → App
 chain_app name = with_rule (with_rule (new_app name) (name_rule (codes "CHAIN"))) names_rule
 
--- what takes one word: a BSDL text or a number
+-- a command that takes one word: a BSDL file or a number
 abbrev pub single_app : Text → Text → App
 single_app name id = with_rule (new_app name) (name_rule id)
 
--- with the texts of a board: a chain file, a net file, and any number of BSDL texts
+-- the command with the files of a board: a chain file, a net file and any number of BSDL files
 abbrev pub with_board : App → App
 with_board app = with_rule (with_rule (with_rule app (name_rule (codes "CHAIN"))) (name_rule (codes "NETS"))) names_rule
 
--- what is made of a board
+-- a command that works on a board
 abbrev pub board_app : Text → App
 board_app name = with_board (new_app name)
 
--- what workers make of a response log: their number, the log, and the texts of its board
+-- a command that works on a response log, by a number of workers: their number, the log and the files of the board
 abbrev pub log_app : Text → App
 log_app name = with_board (with_rule (with_rule (new_app name) (name_rule (codes "WORKERS"))) (name_rule (codes "LOG")))
 
--- what is made of a response log: the log, and the texts of its board
+-- a command that works on a response log, by one worker: the log and the files of the board
 abbrev pub groups_app : Text → App
 groups_app name = with_board (with_rule (new_app name) (name_rule (codes "LOG")))
 
 abbrev pub top_app : App
 top_app = on_top (λ s. record s { no_binary_name = true; subcommand_required = true; disable_help_flag = true; disable_help_subcommand = true }) (new_app (codes "btest"))
 
--- the command with the subcommands that are about a chain or a device
+-- the top command with the subcommands that work on a chain or a device
 abbrev pub parts_app : App
 parts_app =
     with_subcommand (with_subcommand (with_subcommand top_app (chain_app (codes "chain")).top) (chain_app (codes "ident")).top)
     (single_app (codes "device") (codes "BSDL")).top
 
--- and with those that are about a board
+-- that command with the subcommands that work on a board, too
 abbrev pub boards_app : App
 boards_app =
     with_subcommand (with_subcommand (with_subcommand parts_app (board_app (codes "cover")).top) (board_app (codes "svf")).top)
     (board_app (codes "walk")).top
 
--- and with those that are about a response log
+-- that command with the subcommands that work on a response log, too
 abbrev pub logs_app : App
 logs_app =
     with_subcommand (with_subcommand (with_subcommand boards_app (log_app (codes "diagnose")).top) (groups_app (codes "groups")).top)
     (log_app (codes "batch")).top
 
--- and with the one that makes a board
+-- that command with the subcommand that generates a board, too
 abbrev pub btest_app : App
 btest_app = with_subcommand logs_app (single_app (codes "make") (codes "NUMBER")).top
 
