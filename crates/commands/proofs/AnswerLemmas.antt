@@ -1,5 +1,5 @@
--- What a command does with what it finds.
-use Rattle.std.proofs.Common.{◌≡◌, ℕ, List, Result, Ok, Err, refl, subst, inl, inr}
+-- How a command answers what it finds.
+use Rattle.std.proofs.Common.{◌≡◌, ℕ, Result, Ok, Err, refl, subst, inl, inr}
 use Rattle.std.specs.Prelude.{IfSome}
 use Rattle.bt_base.specs.Puts.{Puts, Shown, Takes}
 use Rattle.btest_core.specs.Answers.{input_told}
@@ -33,17 +33,17 @@ answers_fault IsFound text_of IsWorth shown (input.Device text fault) is = (is, 
 answers_fault IsFound text_of IsWorth shown (input.Link fault) is = (is, refl)
 answers_fault IsFound text_of IsWorth shown (input.NoIdent line) is = (is, refl)
 
--- a value was found, and its text was put whole
+-- a text was written whole
 pub takes_by : {T E : Type 0} {x : T} {r : Result T E} (old new : Shown) (text : Text) → Puts old new text r → r ≡ Ok x → Takes old new text
 takes_by {T} {E} {x} {r} old new text puts ok = (subst (λ (q : Result T E). Puts old new text q) ok puts).whole
 
--- its text was cut short
+-- a text was cut short
 pub cut_short : {T E : Type 0} {e : E} {r : Result T E} (old new : Shown) (text : Text) → Puts old new text r → r ≡ Err e → IsPutInPart text old new
 cut_short {T} {E} {e} {r} old new text puts err =
     let short = subst (λ (q : Result T E). Puts old new text q) err puts in
     record { rose = short.cause; bytes = short.cut.0; takes = short.cut.1 }
 
--- a text was put, or not
+-- three cases: a text was written whole, it was cut short, or memory ran out
 by_put : (P : Result (Unit {0}) Unput → Type 0) (text : Text) (old new : Shown) (result : Result (Unit {0}) Unput) → PutsText text old new result → (Takes old new text → P (Ok tt)) → (IsPutInPart text old new → P (Err unput.Write)) → (new ≡ old → P (Err unput.Memory)) → P result
 by_put P text old new (Ok done) takes whole cut none = whole takes
 by_put P text old new (Err (unput.Input fault)) bad whole cut none = absurd bad
@@ -52,13 +52,13 @@ by_put P text old new (Err (unput.Batch rows fault)) bad whole cut none = absurd
 by_put P text old new (Err unput.Write) short whole cut none = cut short
 by_put P text old new (Err unput.Memory) same whole cut none = none same
 
--- the text of a value that was found was put, or not
+-- the text of a value that was found is the answer
 pub text_answers : {A : Type 0} (IsFound : Result A InputFault → Type 0) (text_of : A → Text) (IsWorth : Text → Type 0) (value : A) → IsFound (Ok value) → (old new : Shown) (result : Result (Unit {0}) Unput) → PutsText (text_of value) old new result
     → IsWorth (text_of value) → Answers IsFound text_of IsWorth old new result
 text_answers IsFound text_of IsWorth value found old new result put worth =
     by_put (Answers IsFound text_of IsWorth old new) (text_of value) old new result put (λ takes. record { value = value; found = found; takes = takes; worth = worth }) (λ cut. record { rose = cut.rose; value = value; found = found; bytes = cut.bytes; takes = cut.takes }) (λ same. same)
 
--- the same where one of the texts holds logs
+-- like `text_answers`, if one of the texts holds logs
 pub text_judged : {A : Type 0} (IsFound : Result A TextFault → Type 0) (text_of : A → Text) (IsWorth : Text → Type 0) (value : A) → IsFound (Ok value) → (old new : Shown) (result : Result (Unit {0}) Unput) → PutsText (text_of value) old new result
     → IsWorth (text_of value) → LogAnswers IsFound text_of IsWorth old new result
 text_judged IsFound text_of IsWorth value found old new result put worth =
@@ -76,7 +76,7 @@ no_board texts (input.Device number fault) is = is
 no_board texts (input.Link fault) is = is
 no_board texts (input.NoIdent line) is = is
 
--- then nothing is put
+-- then nothing is written
 pub no_board_answers : (texts : BoardTexts) (text_of : RawBoard → Text) (IsWorth : Text → Type 0) (shown : Shown) (failure : Unput) → NoBoard texts failure → Answers (IsBoardOf texts) text_of IsWorth shown shown (Err failure)
 no_board_answers texts text_of IsWorth shown (unput.Input fault) is = (is, refl)
 no_board_answers texts text_of IsWorth shown (unput.Log rows fault) is = absurd is
@@ -84,7 +84,7 @@ no_board_answers texts text_of IsWorth shown (unput.Batch rows fault) is = absur
 no_board_answers texts text_of IsWorth shown unput.Write is = absurd is
 no_board_answers texts text_of IsWorth shown unput.Memory is = refl
 
--- the same beside a text of logs
+-- like `no_board_answers`, if one of the texts holds logs
 pub no_board_judged : {L E A : Type 0} (judging : Judging L E A) (text_of : RawBoard × A → Text) (texts : LogTexts) (IsWorth : Text → Type 0) (shown : Shown) (failure : Unput) → NoBoard texts.board failure
     → LogAnswers (IsJudgedOf judging texts) text_of IsWorth shown shown (Err failure)
 no_board_judged judging text_of texts IsWorth shown (unput.Input fault) is = (inl is, refl)
@@ -93,7 +93,7 @@ no_board_judged judging text_of texts IsWorth shown (unput.Batch rows fault) is 
 no_board_judged judging text_of texts IsWorth shown unput.Write is = absurd is
 no_board_judged judging text_of texts IsWorth shown unput.Memory is = refl
 
--- what a text says of a board, as what it says of the board that others denote
+-- an answer about a board is one about the board that the texts denote
 pub judged_denoted : {L E A : Type 0} (judging : Judging L E A) (text_of : RawBoard × A → Text) (P : Text → RawBoard → Text → Type 0) (texts : LogTexts) (board : RawBoard) → IsBoardOf texts.board (Ok board)
     → (old new : Shown) (result : Result (Unit {0}) Unput) → AnswersOn judging text_of P texts.log board old new result → JudgedAnswers judging text_of P texts old new result
 judged_denoted judging text_of P texts board denoted old new (Ok done) put =
@@ -105,12 +105,12 @@ judged_denoted judging text_of P texts board denoted old new (Err unput.Write) c
     record { rose = cut.rose; value = (board, cut.value); found = (denoted, cut.found); bytes = cut.bytes; takes = cut.takes }
 judged_denoted judging text_of P texts board denoted old new (Err unput.Memory) same = same
 
--- what is said of the bytes of texts is said of the texts
-pub of_two : (P : Text → List Text → Type 0) {a b : Text} {l m : List Text} → a ≡ b → l ≡ m → P a l → P b m
-of_two P {a} {b} {l} {m} first others is = subst (λ (t : Text). P t m) first (subst (P a) others is)
+-- a fact about two values is one about their equals, and so is one about three
+pub of_two : {A B : Type 0} (P : A → B → Type 0) {a b : A} {c d : B} → a ≡ b → c ≡ d → P a c → P b d
+of_two {A} {B} P {a} {b} {c} {d} first second is = subst (λ (x : A). P x d) first (subst (P a) second is)
 
-pub of_three : (P : Text → Text → List Text → Type 0) {a b c d : Text} {l m : List Text} → a ≡ b → c ≡ d → l ≡ m → P a c l → P b d m
-of_three P {a} {b} {c} {d} {l} {m} first second others is = subst (λ (t : Text). P t d m) first (of_two (P a) second others is)
+pub of_three : {A B C : Type 0} (P : A → B → C → Type 0) {a b : A} {c d : B} {e f : C} → a ≡ b → c ≡ d → e ≡ f → P a c e → P b d f
+of_three {A} {B} {C} P {a} {b} {c} {d} {e} {f} first second third is = subst (λ (x : A). P x d f) first (of_two (P a) second third is)
 
 -- a log is wrong
 pub log_wrong : {A : Type 0} (IsFound : Result A TextFault → Type 0) (text_of : A → Text) (IsWorth : Text → Type 0) (shown : Shown) (rows : ℕ) (said : LogAnswer) (fault : LogFault) → IfSome (log_told fault) (λ f. said ≡ Err f) → ((f : LogFault) → said ≡ Err f → IsFound (Err (Log rows f)))

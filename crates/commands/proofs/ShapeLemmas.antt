@@ -1,4 +1,4 @@
--- How many rows a log of a walking test has.
+-- The number of rows of a log of a walking test.
 use Rattle.std.proofs.Common.{◌≡◌, ◌∙◌, ℕ, suc, ◌+◌, Bool, true, false, cond, List, [], ◌∷◌, length, Option, Some, None, refl, ap, sym, arith}
 use Rattle.std.specs.Prelude.{count_by, filter, slice_get}
 use Rattle.std.specs.List.{range_with_len}
@@ -18,7 +18,7 @@ none_kept : (q : ℕ → Bool) (numbers : List ℕ) → ((n : ℕ) → q n ≡ f
 none_kept q [] none = refl
 none_kept q (n ∷ numbers) none = ap (λ (b : Bool). cond b (n ∷ filter q numbers) (filter q numbers)) (none n) ∙ none_kept q numbers none
 
--- numbers from k on, of which a test keeps those whose items another one keeps
+-- `q` keeps the numbers from k on whose items `p` keeps
 module _ {X : Type 0} (p : X → Bool) (q : ℕ → Bool) where
   kept_count : (k : ℕ) (xs : List X) → ((i : ℕ) (x : X) → slice_get xs i ≡ Some x → q (k + i) ≡ p x) → length (filter q (range_with_len k (length xs))) ≡ count_by p xs
   kept_count k [] tests = refl

@@ -22,27 +22,27 @@ use Rattle.btest_core.specs.declared.fault.InputFault.{InputFault}
 use Rattle.btest_core.specs.BoardRead.{IsBoardRead, Denotes}
 use Rattle.command_line.specs.Words.{Text}
 
--- the first fault of the texts of a board, that of a log of which so many rows are wanted, or that of a batch of such logs
+-- the first fault of the texts of a board, of a log, or of a batch of logs. The number is that of the rows that each log must have.
 pub data TextFault : Type 0 where
   Input : InputFault → TextFault
   Log : ℕ → LogFault → TextFault
   Batch : ℕ → BatchFault → TextFault
 
--- how logs are read and judged: how many rows a log of the board has, what a text holds for a board or how it is wrong, and what is
--- found in what it holds
+-- How logs are read and judged. `row_count` is the number of rows of a log of the board. `read` gives what a text holds for a board, or its
+-- cause of failure. `wrong` makes a fault of that. `Finds` says what is found in what the text holds.
 pub record Judging (L E A : Type 0) : Type 1 where
   pub row_count : RawBoard → ℕ
   pub read : Text → RawBoard → Result L E
   pub wrong : ℕ → E → TextFault
   pub Finds : RawBoard → L → A → Type 0
 
--- the text holds what is judged, and this is found in it
+-- the text can be read, and this is found in it
 pub record IsJudged {L E A : Type 0} (judging : Judging L E A) (text : Text) (board : RawBoard) (found : A) : Type 0 where
   pub contents : L
   pub holds : judging.read text board ≡ Ok contents
   pub finds : judging.Finds board contents found
 
--- the text is wrong for the board, and this is its fault
+-- the text can't be read for the board, and this is its fault
 pub record IsWrong {L E A : Type 0} (judging : Judging L E A) (text : Text) (board : RawBoard) (fault : TextFault) : Type 0 where
   pub cause : E
   pub fails : judging.read text board ≡ Err cause
@@ -53,19 +53,20 @@ abbrev pub OnBoard : {L E A : Type 0} → Judging L E A → Text → RawBoard �
 OnBoard judging text board (Ok found) = IsJudged judging text board found
 OnBoard judging text board (Err fault) = IsWrong judging text board fault
 
--- the first fault of the texts that are to denote a board
+-- this is the first fault of texts that denote no board
 abbrev pub IsInputFault : Text → Text → List Text → TextFault → Type 0
 IsInputFault chain nets texts (Input fault) = IsBoardRead chain nets texts (Err fault)
 IsInputFault chain nets texts (Log rows fault) = ⊥
 IsInputFault chain nets texts (Batch rows fault) = ⊥
 
--- what a text says of the board that the others denote, with this board, or the first fault: that of the text after all others
+-- what a text says of the board that the other texts denote, together with the board; or the first fault. A fault of the text of logs comes
+-- after those of all others.
 abbrev pub OnDenoted : {L E A : Type 0} → Judging L E A → Text → Text → Text → List Text → Result (RawBoard × A) TextFault → Type 0
 OnDenoted judging text chain nets texts (Ok (board, found)) = Denotes chain nets texts board × OnBoard judging text board (Ok found)
 OnDenoted judging text chain nets texts (Err fault) =
     IsInputFault chain nets texts fault ⊎ ((board : RawBoard) × Denotes chain nets texts board × OnBoard judging text board (Err fault))
 
--- how many rows a log of the board's test has
+-- the number of rows of a log of the board's test
 abbrev pub test_rows : RawBoard → ℕ
 test_rows board = length (passes_of board) * code_width (observed_count board (passes_of board))
 
@@ -73,7 +74,7 @@ test_rows board = length (passes_of board) * code_width (observed_count board (p
 abbrev pub test_log : Text → RawBoard → Result (List (List Bool)) LogFault
 test_log text board = log_rows text (test_rows board) (data_bits board)
 
--- a log of the board's test, whether it passes, and the single faults that explain it
+-- a log of the board's test is judged: whether the board passes, and the single faults that explain the log
 abbrev pub diagnosing : Judging (List (List Bool)) LogFault (Bool × List Single)
 diagnosing = record { row_count = test_rows; read = test_log; wrong = Log; Finds = λ board rows found. IsDiagnosis board rows found.0 found.1 }
 
@@ -84,14 +85,14 @@ diagnosis_text (board, found) = diag_text board found.0 found.1
 abbrev pub test_blocks : Text → RawBoard → Result (List Block) BatchFault
 test_blocks text board = batch_of text (test_rows board) (data_bits board)
 
--- a batch of logs of the board's test, and a verdict on each
+-- a batch of logs of the board's test is judged: a verdict on each log
 abbrev pub judging_each : Judging (List Block) BatchFault (List Block × List Verdict)
 judging_each = record { row_count = test_rows; read = test_blocks; wrong = Batch; Finds = λ board blocks found. (found.0 ≡ blocks) × AreVerdicts board blocks found.1 }
 
 abbrev pub verdicts_text : RawBoard × (List Block × List Verdict) → Text
 verdicts_text (board, found) = batch_text board found.0 found.1
 
--- how many rows a log of the board's walking test has
+-- the number of rows of a log of the board's walking test
 abbrev pub walk_rows : RawBoard → ℕ
 walk_rows board = length (walk_nets board)
 
@@ -99,7 +100,7 @@ walk_rows board = length (walk_nets board)
 abbrev pub walk_log : Text → RawBoard → Result (List (List Bool)) LogFault
 walk_log text board = log_rows text (walk_rows board) (data_bits board)
 
--- a log of the board's walking test, and the set of groups that explains it, where one does
+-- a log of the board's walking test is judged: the set of groups that explains it, if there is one
 abbrev pub grouping : Judging (List (List Bool)) LogFault (Option (List (List ℕ)))
 grouping = record { row_count = walk_rows; read = walk_log; wrong = Log; Finds = AreFound }
 

@@ -1,4 +1,4 @@
--- What is asked for, with the texts that it is asked of.
+-- The commands with their texts.
 use Rattle.std.specs.Prelude.{List, [], ◌∷◌, Option, Some, None}
 use Rattle.command_line.specs.Words.{Text, Command, Chain, Ident, Device, Cover, Svf, Walk, Make, Diagnose, Groups, Batch}
 use Rattle.commands.specs.declared.request.Request.{Request}
@@ -7,19 +7,19 @@ use Rattle.commands.specs.declared.texts.BoardTexts.{BoardTexts}
 use Rattle.commands.specs.declared.texts.ChainTexts.{ChainTexts}
 use Rattle.commands.specs.declared.texts.LogTexts.{LogTexts}
 
--- a chain file and BSDL texts
+-- the texts of a chain
 abbrev pub chain_texts : Text → List Text → ChainTexts
 chain_texts chain bsdl = record { chain = chain; bsdl = bsdl }
 
--- a chain file, a net file and BSDL texts
+-- the texts of a board
 abbrev pub board_texts : Text → Text → List Text → BoardTexts
 board_texts chain nets bsdl = record { chain = chain; nets = nets; bsdl = bsdl }
 
--- a text of logs, and those of the board that they are of
+-- a text of logs, and the texts of the board that they belong to
 abbrev pub log_texts : Text → Text → Text → List Text → LogTexts
 log_texts log chain nets bsdl = record { log = log; board = board_texts chain nets bsdl }
 
--- a command with its texts, of which there is one for each of its names, in their order
+-- a command with its texts: one for each of its file names, in order
 abbrev pub request_of : Command → List Text → Option Request
 request_of (Chain names) (chain ∷ bsdl) = Some (request.Chain (chain_texts chain bsdl))
 request_of (Ident names) (chain ∷ bsdl) = Some (request.Ident (chain_texts chain bsdl))

@@ -1,4 +1,4 @@
--- What `make` says of a generated board.
+-- The summary of a generated board, which `make` writes.
 use Rattle.std.specs.Prelude.{ℕ, [], ◌∷◌, length, codes, decimal, min}
 use Rattle.bt_base.specs.Counts.{last_count}
 use Rattle.line_printer.specs.Prints.{line_of}
@@ -8,14 +8,14 @@ use Rattle.tap_defs.specs.board.BoardScans.{board_text, svf_scans}
 use Rattle.coverage_list.specs.CoverText.{covered}
 use Rattle.command_line.specs.Words.{Text}
 
--- the line of these counts
+-- the line with these counts
 abbrev pub counts_line : ℕ → ℕ → ℕ → ℕ → ℕ → ℕ → Text
 counts_line devices nets covered passes scans bytes =
     line_of (codes "DEVICES " ∷ decimal devices ∷ codes " NETS " ∷ decimal nets ∷ codes " COVERED " ∷ decimal covered ∷ codes " PASSES " ∷ decimal passes
     ∷ codes " SCANS " ∷ decimal scans ∷ codes " BYTES " ∷ decimal bytes ∷ [])
 
--- the devices of a board, its nets, those that are covered, and the passes, the scans and the bytes of its test: a text that is longer
--- than the greatest number of 64 bits counts as that
+-- the numbers of devices, nets and covered nets of a board, and of passes, scans and bytes of its test. A text that is longer than the
+-- largest number of 64 bits counts as that number.
 abbrev pub summary_text : RawBoard → Text
 summary_text board =
     counts_line (length board.chain) (length board.nets) (length (covered board)) (length (passes_of board)) (length (svf_scans board)) (min (length (board_text board)) last_count)

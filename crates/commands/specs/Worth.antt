@@ -1,4 +1,4 @@
--- What a text is worth that a command puts.
+-- What holds for the text that a command writes.
 use Rattle.std.specs.Prelude.{◌≡◌, ◌↔◌, ℕ, Bool, true, List, [], Option, Some, Ok, All, IsTrue}
 use Rattle.tap_defs.specs.chain.ChainTest.{IsChainTest}
 use Rattle.tap_defs.specs.board.BoardTest.{IsBoardTest, IsHarmless}
@@ -42,23 +42,23 @@ pub record TestsChain (texts : ChainTexts) (text : Text) : Type 0 where
   pub bounds : AreLengths lengths
   pub tests : IsChainTest lengths text
 
--- the listing is that of the device which this text describes, which keeps the rules of a device
+-- the listing is that of the device which the text describes. The device keeps the rules of a device.
 pub record ListsDevice (text listing : Text) : Type 0 where
   pub device : RawDevice
   pub described : IsDeviceText text (Ok device)
   pub rules : IsDevice device
   pub is : listing ≡ device_text device
 
--- the text is a coverage list of the board that these texts denote, which keeps the rules of a board: of all its nets, pins and pairs the
--- list says what is true of all safe settings
+-- the text is a coverage list of the board that these texts denote. The board keeps the rules of a board. What the list says of the nets,
+-- pins and pairs is true of all safe settings.
 pub record ListsCover (texts : BoardTexts) (text : Text) : Type 0 where
   pub board : RawBoard
   pub denoted : Denotes texts.chain texts.nets texts.bsdl board
   pub rules : IsBoard board
   pub lists : IsCoverList board text
 
--- the text tests the board which these texts denote: it has a meaning; it passes where nothing is faulty; after its reset it is quiet under
--- every fault set; and it fails under every nonempty fault set that is observable
+-- the text tests the board that these texts denote. It has a meaning. It passes if nothing is faulty. After its reset it is quiet under every
+-- fault set. It fails under every nonempty fault set that is observable.
 pub record TestsBoard (texts : BoardTexts) (text : Text) : Type 0 where
   pub board : RawBoard
   pub denoted : Denotes texts.chain texts.nets texts.bsdl board
@@ -71,36 +71,36 @@ pub record TestsIdents (texts : ChainTexts) (text : Text) : Type 0 where
   pub bounds : ArePatterns patterns
   pub tests : IsIdentTest patterns text
 
--- the text may be applied to the board which these texts denote: it has a meaning, it passes where nothing is faulty, and after its reset it
--- is quiet under every fault set
+-- the text may be applied to the board that these texts denote. It has a meaning. It passes if nothing is faulty. After its reset it is quiet
+-- under every fault set.
 pub record WalksBoard (texts : BoardTexts) (text : Text) : Type 0 where
   pub board : RawBoard
   pub denoted : Denotes texts.chain texts.nets texts.bsdl board
   pub harmless : IsHarmless board text
 
--- the board passes by a log of its test exactly where every compared bit is the expected one, and then no single fault explains the log;
--- and the faults are exactly the single faults that explain the log, each once and in order
+-- `pass` holds exactly if every compared bit of the log is the expected one, and then no single fault explains the log. The faults are exactly
+-- the single faults that explain the log, each once and in order.
 pub record IsRight (board : RawBoard) (rows : List (List Bool)) (pass : Bool) (faults : List Single) : Type 0 where
   pub passes : IsTrue pass ↔ (IsExpected board (svf_row_scans board) rows)
   pub lists : ListsExplaining board rows faults
   pub none : pass ≡ true → faults ≡ []
 
--- the text of the board's test has a meaning: the clocks of the scans that a log of it, and what explains a log, speak of
+-- the text of the board's test means the clocks of the scans that its logs, and what explains a log, refer to
 abbrev pub TestMeans : RawBoard → Type 0
 TestMeans board = meaning (board_text board) ≡ Some (test_clocks (svf_scans board))
 
--- the same of the walking test
+-- the text of the walking test means the clocks of its scans
 abbrev pub WalkMeans : RawBoard → Type 0
 WalkMeans board = meaning (board_walk_text board) ≡ Some (test_clocks (walk_scans board))
 
--- each single fault of the board has one response to the board's test: it explains some log, and any two logs that it explains have the
--- same compared bits
+-- Each single fault of the board has one response to the board's test. It explains some log, and any two logs that it explains have the same
+-- compared bits.
 pub record RespondOnce (board : RawBoard) : Type 0 where
   pub some : (single : Single) → IsSingle board single → (log : List (List Bool)) × Explains board single log
   pub one : (single : Single) (log other : List (List Bool)) → Explains board single log → Explains board single other → AgreeOn board (svf_row_scans board) log other
 
--- the text is the diagnosis of a log of the test of a board: a row for each compared SDR statement of the test, in their order, and in each
--- row a bit for each position
+-- The text is the diagnosis of a log of the test of a board. The log has a row for each compared SDR statement of the test, in their order.
+-- Each row has a bit for each position.
 pub record Diagnoses (log : Text) (board : RawBoard) (text : Text) : Type 0 where
   pub means : TestMeans board
   pub respond : RespondOnce board
@@ -112,7 +112,7 @@ pub record Diagnoses (log : Text) (board : RawBoard) (text : Text) : Type 0 wher
   pub right : IsRight board rows pass faults
   pub is : text ≡ diag_text board pass faults
 
--- the text has, for each block of a batch of such logs, its title and the diagnosis of its log by itself
+-- for each block of a batch of such logs, the text has its title and the diagnosis of its log by itself
 pub record DiagnosesEach (log : Text) (board : RawBoard) (text : Text) : Type 0 where
   pub means : TestMeans board
   pub respond : RespondOnce board
@@ -123,9 +123,9 @@ pub record DiagnosesEach (log : Text) (board : RawBoard) (text : Text) : Type 0 
   pub right : EachPair (λ block verdict. IsRight board block.log verdict.pass verdict.faults) blocks verdicts
   pub is : text ≡ batch_text board blocks verdicts
 
--- the text names the groups of a log of the walking test of a board, which has a row for each of its compared SDR statements: exactly the
--- set of groups that explains the log, and none where no set does. Each set of groups explains some log, and any two such logs have the
--- same compared bits
+-- The text names the groups of a log of the walking test of a board. The log has a row for each compared SDR statement of the test. The groups
+-- are exactly the set that explains the log, and there are none if no set does. Each set of groups explains some log, and any two logs that
+-- it explains have the same compared bits.
 pub record FindsGroups (log : Text) (board : RawBoard) (text : Text) : Type 0 where
   pub means : WalkMeans board
   pub rows : List (List Bool)
@@ -137,12 +137,12 @@ pub record FindsGroups (log : Text) (board : RawBoard) (text : Text) : Type 0 wh
   pub one : (groups : List (List ℕ)) (one other : List (List Bool)) → Explain board one groups → Explain board other groups → AgreeOn board (walk_row_list board) one other
   pub is : text ≡ groups_text board found
 
--- P of the board that these texts denote
+-- P holds for the board that these texts denote
 abbrev pub OfDenoted : (RawBoard → Text → Type 0) → BoardTexts → Text → Type 0
 OfDenoted P texts text = (board : RawBoard) × Denotes texts.chain texts.nets texts.bsdl board × P board text
 
--- what the text is worth that is put for a request: a test, as what it tests, and a list, as what is true; a summary says no more than what
--- it is
+-- What holds for the text that is written for a request. A test tests something, and what a list says is true. Nothing is stated of a
+-- summary.
 abbrev pub IsWorthFor : Request → Text → Type 0
 IsWorthFor (Chain texts) text = TestsChain texts text
 IsWorthFor (Ident texts) text = TestsIdents texts text

@@ -2,6 +2,7 @@
 ghost use Rattle.std.specs.Prelude.{◌≡◌, ◌≤◌, [], ◌∷◌, length, min, IfOk};
 ghost use Rattle.bt_base.specs.Counts.{last_count};
 ghost use Rattle.line_printer.specs.Prints.{Prints};
+ghost use Rattle.board_defs.specs.Passes.{passes_of};
 ghost use Rattle.tap_defs.specs.board.BoardScans.{pass_text};
 ghost use Rattle.net_classes.specs.Kept.{AreClasses};
 ghost use Rattle.net_pins.specs.Tables.{AreNetPins};
@@ -33,7 +34,7 @@ use scan_planner::Plan;
 use std::alloc::{AllocError, Global};
 use tap_defs::board_law::scans_placed;
 
-/// What is counted of a board and of its test.
+/// The numbers in the summary of a board and its test.
 #[derive(Clone, Copy)]
 struct Counts {
     devices: u32,
@@ -44,20 +45,19 @@ struct Counts {
     bytes: u64,
 }
 
-/// Puts the summary of the generated board with this number. All memory is taken before the first put.
+/// Writes the summary of the generated board with `number` parts. All memory is allocated before the first write.
 pub fn summary<K: Sink>(alloc: Global, number: u32, out: &mut K) -> Result<(), Unput>
     requires some { 1 ≤ number }
     requires few { number ≤ 255 }
     ensures { Answers (IsBoardRead (chain_text number) (net_text number) (bsdl_text ∷ [])) summary_text Nothing (K.shown out.old) (K.shown out.new) result }
 {
-    let board = match generated_board(alloc, number) {
-        Ok(board) => board,
-        Err(fault) => return Err(unput_by(fault)),
-    };
-    put_summary(alloc, &board, out)
+    match generated_board(alloc, number) {
+        Ok(board) => put_summary(alloc, &board, out),
+        Err(fault) => Err(unput_by(fault)),
+    }
 }
 
-// Puts the summary of a board.
+// Writes the summary of a board.
 fn put_summary<K: Sink>(alloc: Global, board: &Board, out: &mut K) -> Result<(), Unput>
     ensures { PutsText (summary_text board.now) (K.shown out.old) (K.shown out.new) result }
 {
@@ -66,7 +66,7 @@ fn put_summary<K: Sink>(alloc: Global, board: &Board, out: &mut K) -> Result<(),
     answer_by(put_counts(&counts, &mut line, out))
 }
 
-// The generated board with this number.
+// Returns the generated board with `number` parts.
 fn generated_board(alloc: Global, number: u32) -> Result<Board, InputFault>
     requires some { 1 ≤ number }
     requires few { number ≤ 255 }
@@ -78,21 +78,21 @@ fn generated_board(alloc: Global, number: u32) -> Result<Board, InputFault>
     read_board(alloc, &chain, &nets, &texts)
 }
 
-// How many parts the chain has.
+// Returns the number of parts in the chain.
 fn device_count(board: &Board) -> u32
     ensures { result ≡ length board.now.chain }
 {
     board.raw().chain.len() as u32
 }
 
-// How many nets the board has.
+// Returns the number of nets of the board.
 fn net_count(board: &Board) -> u32
     ensures { result ≡ length board.now.nets }
 {
     board.raw().nets.len() as u32
 }
 
-// How many bytes the text of the board's test has, which is written to be counted alone.
+// Returns the number of bytes of the text of the board's test. The text is written to a sink that only counts.
 fn text_bytes(alloc: Global, board: &Board, plan: &Plan) -> Result<u64, AllocError>
     requires { IsPlanOf board.now plan.now }
     ensures { IfOk result (λ bytes. bytes ≡ min (length (pass_text board.now plan.now.passes plan.now.width)) last_count) }
@@ -104,7 +104,7 @@ fn text_bytes(alloc: Global, board: &Board, plan: &Plan) -> Result<u64, AllocErr
     Ok(counter.count())
 }
 
-// The counts of a board and of its test.
+// Counts a board and its test.
 fn board_counts(alloc: Global, board: &Board) -> Result<Counts, AllocError>
     ensures { IfOk result (λ counts. counts_line counts.devices counts.nets counts.covered counts.passes counts.scans counts.bytes ≡ summary_text board.now) }
 {
@@ -112,7 +112,7 @@ fn board_counts(alloc: Global, board: &Board) -> Result<Counts, AllocError>
     classed_counts(alloc, board, &classes, pins)
 }
 
-// The same by the board's classes and the pins of its nets.
+// Like `board_counts`, but takes the board's classes and the pins of its nets.
 fn classed_counts(
     alloc: Global,
     board: &Board,
@@ -124,12 +124,27 @@ fn classed_counts(
     ensures { IfOk result (λ counts. counts_line counts.devices counts.nets counts.covered counts.passes counts.scans counts.bytes ≡ summary_text board.now) }
 {
     let plan = plan_by(alloc, board, pins, classes)?;
-    let bytes = text_bytes(alloc, board, &plan)?;
-    scans_placed();
-    Ok(counts_of(board, classes, &plan, bytes))
+    planned_counts(alloc, board, classes, &plan)
 }
 
-// The counts of a board and of the test that a plan makes, whose text has so many bytes.
+// Like `board_counts`, but takes the board's classes and the plan of its test.
+fn planned_counts(
+    alloc: Global,
+    board: &Board,
+    classes: &Classes,
+    plan: &Plan,
+) -> Result<Counts, AllocError>
+    requires classes { AreClasses board.now classes.now }
+    requires plan { IsPlanOf board.now plan.now }
+    requires passes { plan.now.passes ≡ passes_of board.now }
+    ensures { IfOk result (λ counts. counts_line counts.devices counts.nets counts.covered counts.passes counts.scans counts.bytes ≡ summary_text board.now) }
+{
+    let bytes = text_bytes(alloc, board, plan)?;
+    scans_placed();
+    Ok(counts_of(board, classes, plan, bytes))
+}
+
+// Returns the counts of a board and of the test that a plan makes. The text of the test has `bytes` bytes.
 fn counts_of(board: &Board, classes: &Classes, plan: &Plan, bytes: u64) -> Counts
     requires { AreClasses board.now classes.now }
     ensures devices { result.devices ≡ length board.now.chain }
@@ -149,7 +164,7 @@ fn counts_of(board: &Board, classes: &Classes, plan: &Plan, bytes: u64) -> Count
     }
 }
 
-// Puts the line of counts.
+// Writes the line of counts.
 fn put_counts<K: Sink>(counts: &Counts, line: &mut Line, out: &mut K) -> Result<(), PutFault>
     ensures { Prints (K.shown out.old) (K.shown out.new) [] []
         (counts_line counts.now.devices counts.now.nets counts.now.covered counts.now.passes counts.now.scans counts.now.bytes) result }

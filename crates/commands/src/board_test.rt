@@ -32,20 +32,20 @@ use tap_defs::board_law::{board_texts_test, one_log, rows_compared, scans_in_tur
 use tap_defs::chain_law::texts_mean;
 use tap_defs::{Shape, StoredRows};
 
-/// Puts the text that tests the board of these texts. All memory is
-/// taken before the first put.
+/// Writes the test of the board that the texts denote. All memory is allocated before the first write.
 pub fn svf<K: Sink>(alloc: Global, texts: &BoardTexts, out: &mut K) -> Result<(), Unput>
     ensures { BoardAnswers board_text TestsBoard texts.now (K.shown out.old) (K.shown out.new) result }
 {
-    let planned = match planned_board(alloc, texts) {
-        Ok(planned) => planned,
-        Err(failure) => return Err(failure),
-    };
-    tests_board(planned.board());
-    put_test(alloc, &planned, out)
+    match planned_board(alloc, texts) {
+        Ok(planned) => {
+            tests_board(planned.board());
+            put_test(alloc, &planned, out)
+        }
+        Err(failure) => Err(failure),
+    }
 }
 
-// Puts the test of a board by its plan.
+// Writes the test of a board by its plan.
 fn put_test<K: Sink>(alloc: Global, planned: &Planned, out: &mut K) -> Result<(), Unput>
     ensures { PutsText (board_text planned.now.board) (K.shown out.old) (K.shown out.new) result }
 {
@@ -54,7 +54,7 @@ fn put_test<K: Sink>(alloc: Global, planned: &Planned, out: &mut K) -> Result<()
     answer_by(write_test(board, plan, &mut rows, out))
 }
 
-// What the text of the board's test is worth.
+// States that the text of the board's test tests the board. Does nothing.
 fn tests_board(board: &Board)
     ensures { IsBoardTest board.now (board_text board.now) }
 {
@@ -62,7 +62,7 @@ fn tests_board(board: &Board)
     board_texts_test();
 }
 
-/// What the text of any scans of data of the board means.
+/// States what the text of any data scans of the board means. Does nothing.
 pub fn test_means(board: &Board)
     ensures { (scans : List RowScan) → meaning (svf_text (board_scans board.now scans)) ≡ Some (test_clocks (board_scans board.now scans)) }
 {
@@ -70,8 +70,8 @@ pub fn test_means(board: &Board)
     texts_mean();
 }
 
-/// A log with the rows and the bits of the board's test has a row for each compared SDR statement of it, in their order, and
-/// in each row a bit for each position.
+/// States that a log with the rows and bits of the board's test has a row for each compared SDR statement of the test, in
+/// their order, and that each row has a bit for each position. Does nothing.
 pub fn test_logs_shaped(board: &Board)
     ensures { (log : List (List Bool)) → HasSize (test_rows board.now) (data_bits board.now) log → HasShape board.now (svf_row_scans board.now) log }
 {
@@ -80,7 +80,7 @@ pub fn test_logs_shaped(board: &Board)
     rows_compared();
 }
 
-/// Each single fault of a board has one response to the board's test.
+/// States that each single fault of a board has one response to the board's test. Does nothing.
 pub fn singles_respond(board: &Board)
     ensures { RespondOnce board.now }
 {
@@ -89,14 +89,14 @@ pub fn singles_respond(board: &Board)
     scans_in_turn();
 }
 
-/// How many bits the longer scan of the board has.
+/// Returns the number of bits of the board's longer scan.
 pub fn longest_scan(board: &Board) -> u32
     ensures { IsRoom board.now result }
 {
     board.ir_bits().max(board.dr_bits())
 }
 
-/// What the scans of a test are made in: their rows, and the rows of a whole pass.
+/// The rows that the scans of a test are made in, and the rows of a whole pass.
 #[derive(Drop)]
 pub struct TestRows {
     pub rows: Rows,
@@ -104,7 +104,7 @@ pub struct TestRows {
 }
 
 impl TestRows {
-    /// Rows with room for the scans of a board.
+    /// Allocates rows with room for the scans of a board.
     pub fn for_board(alloc: Global, board: &Board) -> Result<TestRows, AllocError>
         ensures room { IfOk result (λ made. EachStoredHasRoom (IsRoom board.now) made.rows.scan) }
         ensures kept { IfOk result (λ made. (plan : PlanRecord) → AreKept board.now plan made.kept) }
@@ -116,7 +116,7 @@ impl TestRows {
     }
 }
 
-/// Puts the test that a plan makes.
+/// Writes the test that a plan makes.
 pub fn write_test<K: Sink>(
     board: &Board,
     plan: &Plan,
@@ -131,7 +131,7 @@ pub fn write_test<K: Sink>(
     write_scans(board, plan, &mut made.kept, &mut made.rows, out)
 }
 
-// The same in these rows.
+// Like `write_test`, but takes the two parts of the rows by themselves.
 #[tactic(auto, unfolding(tap_defs::specs::chain::Text::svf_text))]
 fn write_scans<K: Sink>(
     board: &Board,
@@ -154,7 +154,8 @@ fn write_scans<K: Sink>(
     write_tail(out)
 }
 
-// Puts scan `k` of a plan. The rows hold the scan before it where `held` has the kind of that scan, and then this one.
+// Writes scan `k` of a plan. If `held` has a kind of scan, the rows hold the scan before it, which has that kind. Then the
+// rows hold scan `k`, and `held` has its kind.
 fn write_scan_at<K: Sink>(
     board: &Board,
     plan: &Plan,
@@ -181,7 +182,8 @@ fn write_scan_at<K: Sink>(
     write_scan(shape, &scan.tdi, &scan.tdo, &scan.mask, line, out)
 }
 
-// Fills the rows with scan `k` of a plan, from the scan before it where they hold that.
+// Fills the rows with scan `k` of a plan and returns its kind. If `before` has a kind of scan, the rows hold the scan before
+// it, and only what differs is written.
 fn fill_at(
     board: &Board,
     plan: &Plan,

@@ -5,6 +5,8 @@ ghost use Rattle.board_defs.specs.Pins.{data_bits};
 ghost use Rattle.tap_defs.specs.board.BoardTest.{IsHarmless};
 ghost use Rattle.tap_defs.specs.board.Explaining.{HasShape};
 ghost use Rattle.tap_defs.specs.chain.Text.{scan_text};
+ghost use Rattle.net_classes.specs.Kept.{AreClasses};
+ghost use Rattle.net_pins.specs.Tables.{AreNetPins};
 ghost use Rattle.scan_planner.specs.Plans.{IsRoom};
 ghost use Rattle.walk_test.specs.Tables.{IsWalkOf, scan_count};
 ghost use Rattle.walk_test.specs.WalkTest.{board_walk_text, walk_row_list, walk_scans};
@@ -23,6 +25,8 @@ use crate::unput::{Unput, answer_by};
 use board_defs::Board;
 use bt_base::{PutFault, Sink};
 use driver_passes::first_pass;
+use net_classes::Classes;
+use net_pins::NetPins;
 use std::alloc::{AllocError, Global};
 use std::marker::Model;
 use svf_writer::{write_head, write_scan, write_tail};
@@ -30,7 +34,7 @@ use tap_defs::board_law::{rows_compared, statements_compared};
 use walk_test::Walk;
 use walk_test::law::{scans_counted, walk_harmless};
 
-/// A board, and its walking test. Seen as both.
+/// A board and its walking test. Clauses see it as the pair.
 #[derive(Drop)]
 pub struct Walked {
     pub board: Board,
@@ -49,14 +53,28 @@ impl Model for Walked {
 }
 
 impl Walked {
-    /// The board.
+    /// Returns the board.
     pub fn board(&self) -> &Board
         ensures { result.now ≡ self.now.board }
     {
         &self.board
     }
 
-    // How many scans the walking test has.
+    /// Returns the number of rows of a log of the board's walking test.
+    pub fn log_rows(&self) -> u64
+        ensures { result ≡ walk_rows self.now.board }
+    {
+        self.walk.nets().len() as u64
+    }
+
+    /// Returns the number of bits in each row of such a log.
+    pub fn log_bits(&self) -> u32
+        ensures { result ≡ data_bits self.now.board }
+    {
+        self.board.dr_bits()
+    }
+
+    // Returns the number of scans of the walking test.
     fn scans(&self) -> u64
         ensures count { result ≡ scan_count self.now.walk }
         ensures scans { result ≡ length (walk_scans self.now.board) }
@@ -66,21 +84,28 @@ impl Walked {
     }
 }
 
-/// The board of these texts with its walking test, or why there is none.
+/// Reads the board that the texts denote and makes its walking test. The error is the first fault of the texts, or a lack of
+/// memory.
 pub fn walked_board(alloc: Global, texts: &BoardTexts) -> Result<Walked, Unput>
     ensures denoted { IfOk result (λ walked. IsBoardOf texts.now (Ok walked.board)) }
     ensures none { IfErr result (NoBoard texts.now) }
 {
-    let board = match board_of(alloc, texts) {
-        Ok(board) => board,
-        Err(failure) => return Err(failure),
-    };
+    match board_of(alloc, texts) {
+        Ok(board) => Ok(with_walk(alloc, board)?),
+        Err(failure) => Err(failure),
+    }
+}
+
+// Returns the board with its walking test.
+fn with_walk(alloc: Global, board: Board) -> Result<Walked, AllocError>
+    ensures { IfOk result (λ walked. walked.board ≡ board) }
+{
     let walk = walk_of(alloc, &board)?;
     Ok(Walked { board, walk })
 }
 
-/// A log with the rows and the bits of the board's walking test has a row for each compared SDR statement of it, in their
-/// order, and in each row a bit for each position.
+/// States that a log with the rows and bits of the board's walking test has a row for each compared SDR statement of the
+/// test, in their order, and that each row has a bit for each position. Does nothing.
 pub fn walk_logs_shaped(board: &Board)
     ensures { (log : List (List Bool)) → HasSize (walk_rows board.now) (data_bits board.now) log → HasShape board.now (walk_row_list board.now) log }
 {
@@ -89,28 +114,43 @@ pub fn walk_logs_shaped(board: &Board)
     statements_compared();
 }
 
-// The walking test of a board.
+// Returns the walking test of the board.
 fn walk_of(alloc: Global, board: &Board) -> Result<Walk, AllocError>
     ensures { IfOk result (λ walk. IsWalkOf board.now walk) }
 {
     let ClassesWithPins { classes, pins } = ClassesWithPins::of(alloc, board)?;
-    let first = first_pass(alloc, board, &classes)?;
+    walk_by(alloc, board, &classes, pins)
+}
+
+// Like `walk_of`, but takes the board's classes and the pins of its nets.
+fn walk_by(
+    alloc: Global,
+    board: &Board,
+    classes: &Classes,
+    pins: NetPins,
+) -> Result<Walk, AllocError>
+    requires classes { AreClasses board.now classes.now }
+    requires pins { AreNetPins board.now pins }
+    ensures { IfOk result (λ walk. IsWalkOf board.now walk) }
+{
+    let first = first_pass(alloc, board, classes)?;
     Walk::of(alloc, board, pins, &first)
 }
 
-/// Puts the walking test of the board of these texts. All memory is taken before the first put.
+/// Writes the walking test of the board that the texts denote. All memory is allocated before the first write.
 pub fn walk<K: Sink>(alloc: Global, texts: &BoardTexts, out: &mut K) -> Result<(), Unput>
     ensures { BoardAnswers board_walk_text WalksBoard texts.now (K.shown out.old) (K.shown out.new) result }
 {
-    let walked = match walked_board(alloc, texts) {
-        Ok(walked) => walked,
-        Err(failure) => return Err(failure),
-    };
-    is_harmless(walked.board());
-    put_walk(alloc, &walked, out)
+    match walked_board(alloc, texts) {
+        Ok(walked) => {
+            is_harmless(walked.board());
+            put_walk(alloc, &walked, out)
+        }
+        Err(failure) => Err(failure),
+    }
 }
 
-// Puts the walking test of a board.
+// Writes the walking test of a board.
 fn put_walk<K: Sink>(alloc: Global, walked: &Walked, out: &mut K) -> Result<(), Unput>
     ensures { PutsText (board_walk_text walked.now.board) (K.shown out.old) (K.shown out.new) result }
 {
@@ -118,7 +158,7 @@ fn put_walk<K: Sink>(alloc: Global, walked: &Walked, out: &mut K) -> Result<(), 
     answer_by(write_walk(walked, &mut rows, out))
 }
 
-// What the text of the walking test is worth.
+// States that the text of the walking test is harmless. Does nothing.
 fn is_harmless(board: &Board)
     ensures { IsHarmless board.now (board_walk_text board.now) }
 {
@@ -126,7 +166,7 @@ fn is_harmless(board: &Board)
     walk_harmless();
 }
 
-// Puts a walking test.
+// Like `put_walk`, but makes the scans in these rows.
 #[tactic(auto, unfolding(tap_defs::specs::chain::Text::svf_text))]
 fn write_walk<K: Sink>(walked: &Walked, rows: &mut Rows, out: &mut K) -> Result<(), PutFault>
     requires { EachStoredHasRoom (IsRoom walked.now.board) rows.old.scan }
@@ -139,7 +179,7 @@ fn write_walk<K: Sink>(walked: &Walked, rows: &mut Rows, out: &mut K) -> Result<
     write_tail(out)
 }
 
-// Puts scan `k` of a walking test.
+// Writes scan `k` of a walking test.
 fn write_walk_scan<K: Sink>(
     walked: &Walked,
     k: u64,

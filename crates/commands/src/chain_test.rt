@@ -8,6 +8,7 @@ ghost use Rattle.btest_core.specs.BoardRead.{AreChainLengths, AreLengths};
 ghost use Rattle.commands.specs.Worth.{TestsChain};
 ghost use Rattle.commands.specs.Answers.{ChainAnswers};
 ghost use Rattle.commands.specs.inner.Rows.{EachStoredHasRoom};
+ghost use Rattle.commands.specs.inner.Unput.{PutsText};
 
 use crate::rows::Rows;
 use crate::texts::ChainTexts;
@@ -18,21 +19,29 @@ use std::alloc::Global;
 use svf_writer::{write_chain, write_head, write_tail};
 use tap_defs::chain_law::chain_tests;
 
-/// Puts the text that tests the length of the chain of a chain file and BSDL texts. All memory is
-/// taken before the first put.
+/// Writes the test of the length of the chain that the texts describe. All memory is allocated before the first write.
 pub fn chain<K: Sink>(alloc: Global, texts: &ChainTexts, out: &mut K) -> Result<(), Unput>
     ensures { ChainAnswers AreChainLengths chain_text TestsChain texts.now (K.shown out.old) (K.shown out.new) result }
 {
-    let lengths = match read_chain(alloc, texts.chain.as_bytes(), texts.bsdl.as_slice()) {
-        Ok(lengths) => lengths,
-        Err(fault) => return Err(unput_by(fault)),
-    };
-    let mut rows = Rows::with_room(alloc, longest_scan(&lengths))?;
-    tests_length(&lengths);
-    answer_by(write_test(&lengths, &mut rows, out))
+    match read_chain(alloc, texts.chain.as_bytes(), texts.bsdl.as_slice()) {
+        Ok(lengths) => {
+            tests_length(&lengths);
+            put_test(alloc, &lengths, out)
+        }
+        Err(fault) => Err(unput_by(fault)),
+    }
 }
 
-// What the text of the chain test is worth.
+// Writes the test of a chain whose instruction registers have these lengths.
+fn put_test<K: Sink>(alloc: Global, lengths: &[u32], out: &mut K) -> Result<(), Unput>
+    requires { AreLengths lengths.now }
+    ensures { PutsText (chain_text lengths.now) (K.shown out.old) (K.shown out.new) result }
+{
+    let mut rows = Rows::with_room(alloc, longest_scan(lengths))?;
+    answer_by(write_test(lengths, &mut rows, out))
+}
+
+// States that the text of the chain test tests the length of the chain. Does nothing.
 fn tests_length(lengths: &[u32])
     requires { AreLengths lengths.now }
     ensures { IsChainTest lengths.now (chain_text lengths.now) }
@@ -41,7 +50,7 @@ fn tests_length(lengths: &[u32])
     chain_tests();
 }
 
-// How many bits the longer scan of the chain test has.
+// Returns the number of bits of the longer scan of the chain test.
 fn longest_scan(lengths: &[u32]) -> u32
     requires { AreLengths lengths.now }
     ensures { IsRoom lengths.now result }
@@ -56,7 +65,7 @@ fn instruction_bits(lengths: &[u32]) -> u32
     lengths.iter().sum()
 }
 
-// Puts the chain test.
+// Like `put_test`, but makes the scans in these rows.
 #[tactic(auto, unfolding(tap_defs::specs::chain::Text::svf_text))]
 fn write_test<K: Sink>(lengths: &[u32], rows: &mut Rows, out: &mut K) -> Result<(), PutFault>
     requires lengths { AreLengths lengths.now }

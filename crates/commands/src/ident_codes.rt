@@ -8,6 +8,7 @@ ghost use Rattle.btest_core.specs.IdentsRead.{AreIdents};
 ghost use Rattle.commands.specs.Worth.{TestsIdents};
 ghost use Rattle.commands.specs.Answers.{ChainAnswers};
 ghost use Rattle.commands.specs.inner.Rows.{EachStoredHasRoom};
+ghost use Rattle.commands.specs.inner.Unput.{PutsText};
 
 use crate::rows::Rows;
 use crate::texts::ChainTexts;
@@ -19,24 +20,35 @@ use ident_test::law::ident_tests;
 use ident_test::write_ident;
 use std::alloc::Global;
 
-// The most bits of the scan that reads the codes: 32 for each of at most 255 parts (IEEE 1149.1-1990, section 11).
+// The largest number of bits of the scan that reads the codes: 32 for each of at most 255 parts (IEEE 1149.1-1990,
+// section 11).
 const MOST_CODE_BITS: u32 = 8160;
 
-/// Puts the text that tests the identification codes of the parts of a chain file and BSDL texts. All
-/// memory is taken before the first put.
+/// Writes the test of the identification codes of the parts that the texts describe. All memory is allocated before the
+/// first write.
 pub fn ident<K: Sink>(alloc: Global, texts: &ChainTexts, out: &mut K) -> Result<(), Unput>
     ensures { ChainAnswers AreIdents ident_text TestsIdents texts.now (K.shown out.old) (K.shown out.new) result }
 {
-    let patterns = match read_idents(alloc, texts.chain.as_bytes(), texts.bsdl.as_slice()) {
-        Ok(patterns) => patterns,
-        Err(fault) => return Err(unput_by(fault)),
-    };
-    let mut rows = Rows::with_room(alloc, MOST_CODE_BITS)?;
-    tests_codes(&patterns);
-    answer_by(write_test(&patterns, &mut rows, out))
+    match read_idents(alloc, texts.chain.as_bytes(), texts.bsdl.as_slice()) {
+        Ok(patterns) => {
+            tests_codes(&patterns);
+            put_test(alloc, &patterns, out)
+        }
+        Err(fault) => Err(unput_by(fault)),
+    }
 }
 
-// Puts the identity test.
+// Writes the test of these identification codes.
+fn put_test<K: Sink>(alloc: Global, patterns: &[Option<Code>], out: &mut K) -> Result<(), Unput>
+    requires patterns { ArePatterns patterns.now }
+    requires room { length (ident_bits patterns.now) ≤ most_parts * 32 }
+    ensures { PutsText (ident_text patterns.now) (K.shown out.old) (K.shown out.new) result }
+{
+    let mut rows = Rows::with_room(alloc, MOST_CODE_BITS)?;
+    answer_by(write_test(patterns, &mut rows, out))
+}
+
+// Like `put_test`, but makes the scans in these rows.
 fn write_test<K: Sink>(
     patterns: &[Option<Code>],
     rows: &mut Rows,
@@ -57,7 +69,7 @@ fn write_test<K: Sink>(
     )
 }
 
-// What the text of the identity test is worth, and how many bits its scan has at most.
+// States that the text of the test tests the codes, and how many bits its scan has at most. Does nothing.
 fn tests_codes(patterns: &[Option<Code>])
     requires { ArePatterns patterns.now }
     ensures tests { IsIdentTest patterns.now (ident_text patterns.now) }

@@ -1,4 +1,4 @@
-//! The commands: each puts what it gives for its texts, or says why it puts nothing.
+//! The commands. Each reads its texts and writes its output, or says why it wrote none or not all of it.
 #![tactic(auto)]
 
 mod board_cover;

@@ -1,22 +1,29 @@
 // The command `batch`.
-ghost use Rattle.std.specs.Prelude.{◌≤◌};
-ghost use Rattle.commands.specs.LogRead.{judging_each, verdicts_text};
+ghost use Rattle.std.specs.Prelude.{◌≡◌, ◌≤◌, All, Ok, length};
+ghost use Rattle.diagnoser.specs.Diagnosis.{IsNamed};
+ghost use Rattle.board_defs.specs.Pins.{data_bits};
+ghost use Rattle.response_log.specs.LogRows.{HasSize};
+ghost use Rattle.batch_diag.specs.BatchText.{batch_text};
+ghost use Rattle.command_line.specs.Words.{Text};
+ghost use Rattle.commands.specs.LogRead.{judging_each, test_blocks, test_rows, verdicts_text};
 ghost use Rattle.commands.specs.Worth.{DiagnosesEach};
 ghost use Rattle.commands.specs.Answers.{AnswersOn, JudgedAnswers};
+ghost use Rattle.commands.specs.inner.Unput.{PutsText};
 
 use crate::board_test::{singles_respond, test_logs_shaped, test_means};
 use crate::planned::{Planned, planned_board};
 use crate::texts::{LogTexts, ShortText};
 use crate::unput::{Unput, answer_by, unput_by_batch};
-use batch_diag::{blocks_by, diagnose_all, write_batch};
+use batch_diag::{Block, Verdict, blocks_by, diagnose_all, write_batch};
+use board_defs::Board;
 use bt_base::{Gate, Sink};
 use bt_bits::Line;
 use diagnoser::law::{explaining_listed, passing_unexplained};
 use std::alloc::Global;
 use std::thread::Threads;
 
-/// Puts the diagnoses of a batch of logs of the test of the board of these texts, which so many workers make, 1 to 64.
-/// All memory is taken before the first put.
+/// Writes the diagnoses of a batch of logs of the test of the board that the texts denote. `workers` threads make them, 1 to
+/// 64. All memory is allocated before the first write.
 pub fn batch<R: Threads + Sync, K: Sink, G: Gate>(
     rt: &R,
     alloc: Global,
@@ -29,15 +36,29 @@ pub fn batch<R: Threads + Sync, K: Sink, G: Gate>(
     requires few { workers ≤ 64 }
     ensures { JudgedAnswers judging_each verdicts_text DiagnosesEach texts (K.shown out.old) (K.shown out.new) result }
 {
-    let LogTexts { log, board } = texts;
-    let planned = match planned_board(alloc, &board) {
-        Ok(planned) => planned,
-        Err(failure) => return Err(failure),
-    };
-    put_batch(rt, alloc, &planned, &log, workers, gate, out)
+    batch_of(rt, alloc, &texts, workers, gate, out)
 }
 
-// Puts the diagnoses of a batch of logs of the board's test.
+// Writes the diagnoses of a batch of logs of the test of the board that the texts denote.
+fn batch_of<R: Threads + Sync, K: Sink, G: Gate>(
+    rt: &R,
+    alloc: Global,
+    texts: &LogTexts,
+    workers: u32,
+    gate: &G,
+    out: &mut K,
+) -> Result<(), Unput>
+    requires some { 1 ≤ workers }
+    requires few { workers ≤ 64 }
+    ensures { JudgedAnswers judging_each verdicts_text DiagnosesEach texts.now (K.shown out.old) (K.shown out.new) result }
+{
+    match planned_board(alloc, &texts.board) {
+        Ok(planned) => put_batch(rt, alloc, &planned, &texts.log, workers, gate, out),
+        Err(failure) => Err(failure),
+    }
+}
+
+// Writes the diagnoses of a batch of logs of the board's test.
 fn put_batch<R: Threads + Sync, K: Sink, G: Gate>(
     rt: &R,
     alloc: Global,
@@ -51,25 +72,51 @@ fn put_batch<R: Threads + Sync, K: Sink, G: Gate>(
     requires few { workers ≤ 64 }
     ensures { AnswersOn judging_each verdicts_text DiagnosesEach text.now planned.now.board (K.shown out.old) (K.shown out.new) result }
 {
+    let (rows, bits) = (planned.log_rows(), planned.log_bits());
+    match blocks_by(rt, alloc, text.as_bytes(), rows, bits, workers) {
+        Ok(blocks) => put_blocks(rt, alloc, planned, &blocks, workers, gate, out),
+        Err(fault) => Err(unput_by_batch(rows, fault)),
+    }
+}
+
+// Writes the diagnoses of the blocks of a batch of logs of the board's test.
+fn put_blocks<R: Threads + Sync, K: Sink, G: Gate>(
+    rt: &R,
+    alloc: Global,
+    planned: &Planned,
+    blocks: &[Block],
+    workers: u32,
+    gate: &G,
+    out: &mut K,
+) -> Result<(), Unput>
+    requires some { 1 ≤ workers }
+    requires few { workers ≤ 64 }
+    requires size { All (λ block. HasSize (test_rows planned.now.board) (data_bits planned.now.board) block.log) blocks.now }
+    ensures { (text : Text) → test_blocks text planned.now.board ≡ Ok blocks.now → AnswersOn judging_each verdicts_text DiagnosesEach text planned.now.board (K.shown out.old) (K.shown out.new) result }
+{
     let Planned { board, plan } = planned;
-    let blocks = match blocks_by(
-        rt,
-        alloc,
-        text.as_bytes(),
-        plan.rows(),
-        board.dr_bits(),
-        workers,
-    ) {
-        Ok(blocks) => blocks,
-        Err(fault) => return Err(unput_by_batch(plan.rows(), fault)),
-    };
-    let verdicts = diagnose_all(rt, alloc, board, plan, &blocks, workers, gate)?;
-    let mut line = Line::new(alloc)?;
+    let verdicts = diagnose_all(rt, alloc, board, plan, blocks, workers, gate)?;
     let _rules = board.raw();
     test_means(board);
     test_logs_shaped(board);
     singles_respond(board);
     explaining_listed();
     passing_unexplained();
-    answer_by(write_batch(board, &blocks, &verdicts, &mut line, out))
+    put_verdicts(alloc, board, blocks, &verdicts, out)
+}
+
+// Writes the verdicts on the blocks.
+fn put_verdicts<K: Sink>(
+    alloc: Global,
+    board: &Board,
+    blocks: &[Block],
+    verdicts: &[Verdict],
+    out: &mut K,
+) -> Result<(), Unput>
+    requires count { length verdicts.now ≡ length blocks.now }
+    requires named { All (λ verdict. All (IsNamed board.now) verdict.faults) verdicts.now }
+    ensures { PutsText (batch_text board.now blocks.now verdicts.now) (K.shown out.old) (K.shown out.new) result }
+{
+    let mut line = Line::new(alloc)?;
+    answer_by(write_batch(board, blocks, verdicts, &mut line, out))
 }

@@ -1,33 +1,51 @@
 // The command `groups`.
-ghost use Rattle.std.specs.Prelude.{◌≡◌, option_map};
-ghost use Rattle.commands.specs.LogRead.{grouping, grouping_text};
+ghost use Rattle.std.specs.Prelude.{◌≡◌, Ok, option_map};
+ghost use Rattle.board_defs.specs.Pins.{data_bits};
+ghost use Rattle.response_log.specs.LogRows.{HasSize};
+ghost use Rattle.walk_test.specs.GroupText.{groups_text};
+ghost use Rattle.command_line.specs.Words.{Text};
+ghost use Rattle.commands.specs.LogRead.{grouping, grouping_text, walk_log, walk_rows};
 ghost use Rattle.commands.specs.Worth.{FindsGroups};
 ghost use Rattle.commands.specs.Answers.{AnswersOn, JudgedAnswers};
+ghost use Rattle.commands.specs.inner.Unput.{PutsText};
 
 use crate::board_test::test_means;
 use crate::board_walk::{Walked, walk_logs_shaped, walked_board};
-use crate::texts::{LogTexts, ShortText};
+use crate::texts::{BoardTexts, LogTexts, ShortText};
 use crate::unput::{Unput, answer_by, unput_by_log};
+use board_defs::Board;
 use bt_base::Sink;
 use bt_bits::Line;
-use response_log::log_of;
+use response_log::{Log, log_of};
 use std::alloc::Global;
 use walk_test::law::{groups_respond, one_set};
 use walk_test::{Group, write_groups};
 
-/// Puts the groups of a log of the walking test of the board of these texts. All memory is taken before the first put.
+/// Writes the groups that explain a log of the walking test of the board that the texts denote. All memory is allocated
+/// before the first write.
 pub fn groups<K: Sink>(alloc: Global, texts: LogTexts, out: &mut K) -> Result<(), Unput>
     ensures { JudgedAnswers grouping grouping_text FindsGroups texts (K.shown out.old) (K.shown out.new) result }
 {
     let LogTexts { log, board } = texts;
-    let walked = match walked_board(alloc, &board) {
-        Ok(walked) => walked,
-        Err(failure) => return Err(failure),
-    };
-    put_groups(alloc, &walked, log, out)
+    groups_of(alloc, &board, log, out)
 }
 
-// The groups, where there are some.
+// Writes the groups of a log of the walking test of the board that the texts denote.
+fn groups_of<K: Sink>(
+    alloc: Global,
+    texts: &BoardTexts,
+    log: ShortText,
+    out: &mut K,
+) -> Result<(), Unput>
+    ensures { JudgedAnswers grouping grouping_text FindsGroups (record { log = log; board = texts.now }) (K.shown out.old) (K.shown out.new) result }
+{
+    match walked_board(alloc, texts) {
+        Ok(walked) => put_groups(alloc, &walked, log, out),
+        Err(failure) => Err(failure),
+    }
+}
+
+// Lends the groups, if there are any.
 fn lent(found: &Option<Vec<Group>>) -> Option<&[Group]>
     ensures { option_map (λ groups. groups.now) result ≡ option_map (λ groups. groups.items) found.now }
 {
@@ -37,7 +55,7 @@ fn lent(found: &Option<Vec<Group>>) -> Option<&[Group]>
     }
 }
 
-// Puts the groups of a log of the board's walking test, which is read over its text.
+// Writes the groups of a log of the board's walking test. The log takes the memory of its text.
 fn put_groups<K: Sink>(
     alloc: Global,
     walked: &Walked,
@@ -46,18 +64,37 @@ fn put_groups<K: Sink>(
 ) -> Result<(), Unput>
     ensures { AnswersOn grouping grouping_text FindsGroups text walked.now.board (K.shown out.old) (K.shown out.new) result }
 {
+    let (rows, bits) = (walked.log_rows(), walked.log_bits());
+    match log_of(alloc, text.into_bytes(), rows, bits) {
+        Ok(log) => put_grouped(alloc, walked, &log, out),
+        Err(fault) => Err(unput_by_log(rows, fault)),
+    }
+}
+
+// Writes the groups of a log of the board's walking test.
+fn put_grouped<K: Sink>(alloc: Global, walked: &Walked, log: &Log, out: &mut K) -> Result<(), Unput>
+    requires size { HasSize (walk_rows walked.now.board) (data_bits walked.now.board) log.now }
+    ensures { (text : Text) → walk_log text walked.now.board ≡ Ok log.now → AnswersOn grouping grouping_text FindsGroups text walked.now.board (K.shown out.old) (K.shown out.new) result }
+{
     let Walked { board, walk } = walked;
-    let rows = walk.nets().len() as u64;
-    let log = match log_of(alloc, text.into_bytes(), rows, board.dr_bits()) {
-        Ok(log) => log,
-        Err(fault) => return Err(unput_by_log(rows, fault)),
-    };
-    let found = walk_test::groups(alloc, board, walk, &log)?;
-    let mut line = Line::new(alloc)?;
+    let found = walk_test::groups(alloc, board, walk, log)?;
     let _rules = board.raw();
     test_means(board);
     walk_logs_shaped(board);
     groups_respond();
     one_set();
-    answer_by(write_groups(board, lent(&found), &mut line, out))
+    put_found(alloc, board, &found, out)
+}
+
+// Writes the groups that were found in a log.
+fn put_found<K: Sink>(
+    alloc: Global,
+    board: &Board,
+    found: &Option<Vec<Group>>,
+    out: &mut K,
+) -> Result<(), Unput>
+    ensures { PutsText (groups_text board.now (option_map (λ groups. groups.items) found.now)) (K.shown out.old) (K.shown out.new) result }
+{
+    let mut line = Line::new(alloc)?;
+    answer_by(write_groups(board, lent(found), &mut line, out))
 }

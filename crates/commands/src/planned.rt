@@ -1,10 +1,12 @@
-// The board that texts denote, with its classes, the pins of its nets and the plan of its test.
+// The board that texts denote, its classes, the pins of its nets, and the plan of its test.
 ghost use Rattle.std.specs.Prelude.{◌≡◌, Ok, IfOk, IfErr};
 ghost use Rattle.board_defs.specs.Passes.{passes_of};
+ghost use Rattle.board_defs.specs.Pins.{data_bits};
 ghost use Rattle.net_classes.specs.Kept.{AreClasses};
 ghost use Rattle.net_pins.specs.Tables.{AreNetPins};
 ghost use Rattle.scan_planner.specs.Plans.{IsPlanOf};
 ghost use Rattle.commands.specs.Answers.{IsBoardOf};
+ghost use Rattle.commands.specs.LogRead.{test_rows};
 ghost use Rattle.commands.specs.inner.Unput.{NoBoard};
 
 use crate::texts::BoardTexts;
@@ -17,7 +19,7 @@ use scan_planner::Plan;
 use std::alloc::{AllocError, Global};
 use std::marker::Model;
 
-/// A board, and the plan that its passes make of its test. Seen as both.
+/// A board and the plan of its test, which has the passes of the board. Clauses see it as the pair.
 #[derive(Drop)]
 pub struct Planned {
     pub board: Board,
@@ -36,15 +38,29 @@ impl Model for Planned {
 }
 
 impl Planned {
-    /// The board.
+    /// Returns the board.
     pub fn board(&self) -> &Board
         ensures { result.now ≡ self.now.board }
     {
         &self.board
     }
+
+    /// Returns the number of rows of a log of the board's test.
+    pub fn log_rows(&self) -> u64
+        ensures { result ≡ test_rows self.now.board }
+    {
+        self.plan.rows()
+    }
+
+    /// Returns the number of bits in each row of such a log.
+    pub fn log_bits(&self) -> u32
+        ensures { result ≡ data_bits self.now.board }
+    {
+        self.board.dr_bits()
+    }
 }
 
-/// The classes of a board, and what stands on its nets, by the same pin tables.
+/// The classes of a board and the pins of its nets, made from the same pin tables.
 #[derive(Drop)]
 pub struct ClassesWithPins {
     pub classes: Classes,
@@ -52,7 +68,7 @@ pub struct ClassesWithPins {
 }
 
 impl ClassesWithPins {
-    /// The classes of the board, and what stands on its nets.
+    /// Finds the classes of the board and the pins of its nets.
     pub fn of(alloc: Global, board: &Board) -> Result<ClassesWithPins, AllocError>
         ensures classes { IfOk result (λ known. AreClasses board.now known.classes) }
         ensures pins { IfOk result (λ known. AreNetPins board.now known.pins) }
@@ -63,7 +79,7 @@ impl ClassesWithPins {
     }
 }
 
-/// The board of these texts, or why there is none.
+/// Reads the board that the texts denote. The error is the first fault of the texts, or a lack of memory.
 pub fn board_of(alloc: Global, texts: &BoardTexts) -> Result<Board, Unput>
     ensures denoted { IfOk result (λ board. IsBoardOf texts.now (Ok board)) }
     ensures none { IfErr result (NoBoard texts.now) }
@@ -75,20 +91,26 @@ pub fn board_of(alloc: Global, texts: &BoardTexts) -> Result<Board, Unput>
     }
 }
 
-/// The board of these texts with the plan of its test, or why there is none.
+/// Reads the board that the texts denote and plans its test. The error is the first fault of the texts, or a lack of memory.
 pub fn planned_board(alloc: Global, texts: &BoardTexts) -> Result<Planned, Unput>
     ensures denoted { IfOk result (λ planned. IsBoardOf texts.now (Ok planned.board)) }
     ensures none { IfErr result (NoBoard texts.now) }
 {
-    let board = match board_of(alloc, texts) {
-        Ok(board) => board,
-        Err(failure) => return Err(failure),
-    };
+    match board_of(alloc, texts) {
+        Ok(board) => Ok(with_plan(alloc, board)?),
+        Err(failure) => Err(failure),
+    }
+}
+
+// Returns the board with the plan of its test.
+fn with_plan(alloc: Global, board: Board) -> Result<Planned, AllocError>
+    ensures { IfOk result (λ planned. planned.board ≡ board) }
+{
     let plan = board_plan(alloc, &board)?;
     Ok(Planned { board, plan })
 }
 
-// The plan of the board's passes.
+// Returns the plan of the board's passes.
 fn board_plan(alloc: Global, board: &Board) -> Result<Plan, AllocError>
     ensures plan { IfOk result (λ plan. IsPlanOf board.now plan) }
     ensures passes { IfOk result (λ plan. plan.passes ≡ passes_of board.now) }

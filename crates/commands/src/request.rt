@@ -1,37 +1,37 @@
-// What is asked for, with the texts that it is asked of.
+// The commands with their texts.
 use crate::texts::{BoardTexts, ChainTexts, LogTexts, ShortText};
 
-/// A command with its texts, as they were read.
+/// A command with the contents of its files.
 #[derive(Drop)]
 pub enum Request {
-    /// The text that tests the length of a chain.
+    /// Writes the test of the length of a chain.
     Chain(ChainTexts),
-    /// The text that tests the identity of the devices in a chain.
+    /// Writes the test of the identification codes of the devices in a chain.
     Ident(ChainTexts),
-    /// The listing of the device that a BSDL text describes.
+    /// Lists the device that a BSDL text describes.
     Device(ShortText),
-    /// The coverage list of a board.
+    /// Writes the coverage list of a board.
     Cover(BoardTexts),
-    /// The text that tests a board.
+    /// Writes the test of a board.
     Svf(BoardTexts),
-    /// The text of the walking test of a board.
+    /// Writes the walking test of a board.
     Walk(BoardTexts),
-    /// The summary of a board that is made, of this many parts, from 1 to 255.
+    /// Summarizes a generated board with this number of parts, from 1 to 255.
     Make(u32),
-    /// The diagnosis of a board.
+    /// Diagnoses a board.
     Diagnose {
         /// The number of workers, from 1 to 64.
         workers: u32,
-        /// A response log, and the texts of the board.
+        /// A response log and the texts of the board.
         texts: LogTexts,
     },
-    /// The groups of shorted nets of a board, by a response log of its walking test.
+    /// Finds the groups of shorted nets of a board, by a response log of its walking test.
     Groups(LogTexts),
-    /// The diagnoses of many boards.
+    /// Diagnoses many boards of the same design.
     Batch {
         /// The number of workers, from 1 to 64.
         workers: u32,
-        /// The response logs of the boards, one after the other, and the texts that the boards have in common.
+        /// The response logs of the boards in one text, and the texts of the design.
         texts: LogTexts,
     },
 }

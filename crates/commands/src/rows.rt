@@ -1,4 +1,4 @@
-// What scans are made in and printed from.
+// The rows that scans are made in and printed from.
 ghost use Rattle.std.specs.Prelude.{◌≡◌, IfOk};
 ghost use Rattle.commands.specs.inner.Rows.{EachStoredHasRoom};
 
@@ -6,7 +6,7 @@ use bt_bits::{Line, Row};
 use std::alloc::{AllocError, Global};
 use tap_defs::StoredRows;
 
-/// The rows of a scan and the line in which texts are made, taken once for a whole text.
+/// The rows of a scan, and the line in which output is put together. They are allocated once for a whole output.
 #[derive(Drop)]
 pub struct Rows {
     pub scan: StoredRows,
@@ -14,7 +14,7 @@ pub struct Rows {
 }
 
 impl Rows {
-    /// Rows with room for so many bits.
+    /// Allocates rows with room for `room` bits each.
     pub fn with_room(alloc: Global, room: u32) -> Result<Rows, AllocError>
         ensures { IfOk result (λ rows. EachStoredHasRoom (λ bits. bits ≡ room) rows.scan) }
     {

@@ -1,4 +1,4 @@
-// The texts that a command is given, none of which has 2^32 bytes or more.
+// The texts of a command. Each has fewer than 2^32 bytes.
 ghost use Rattle.std.specs.Prelude.{◌≡◌, ◌<◌, ◌^◌, All, length, map};
 
 use std::marker::Model;
@@ -20,7 +20,7 @@ impl Model for ShortText {
 }
 
 impl ShortText {
-    /// The text of these bytes, which it takes over.
+    /// Makes a text of the bytes.
     pub fn of(bytes: Vec<u8>) -> ShortText
         requires { length bytes.items < 2 ^ 32 }
         ensures { result ≡ bytes.items }
@@ -28,7 +28,7 @@ impl ShortText {
         ShortText { bytes }
     }
 
-    /// The bytes of the text.
+    /// Returns the bytes of the text.
     pub fn as_bytes(&self) -> &[u8]
         ensures bytes { result.now ≡ self.now }
         ensures short { length result.now < 2 ^ 32 }
@@ -36,7 +36,7 @@ impl ShortText {
         &self.bytes
     }
 
-    /// The bytes of the text, which it gives up.
+    /// Returns the bytes and gives up the text.
     pub fn into_bytes(self) -> Vec<u8>
         ensures bytes { result.items ≡ self }
         ensures short { length result.items < 2 ^ 32 }
@@ -45,7 +45,7 @@ impl ShortText {
     }
 }
 
-/// Fewer than 2^32 such texts.
+/// Fewer than 2^32 texts of fewer than 2^32 bytes each.
 #[derive(Drop)]
 pub struct ShortTexts {
     texts: Vec<Vec<u8>>,
@@ -62,7 +62,7 @@ impl Model for ShortTexts {
 }
 
 impl ShortTexts {
-    /// These texts, which it takes over.
+    /// Makes a value of these texts.
     pub fn of(texts: Vec<Vec<u8>>) -> ShortTexts
         requires each { All (λ text. length text.items < 2 ^ 32) texts.items }
         requires few { length texts.items < 2 ^ 32 }
@@ -71,7 +71,7 @@ impl ShortTexts {
         ShortTexts { texts }
     }
 
-    /// The texts in order.
+    /// Returns the texts in order.
     pub fn as_slice(&self) -> &[Vec<u8>]
         ensures texts { map (λ text. text.items) result.now ≡ self.now }
         ensures each { All (λ text. length text.items < 2 ^ 32) result.now }
@@ -81,14 +81,14 @@ impl ShortTexts {
     }
 }
 
-/// A chain file and BSDL texts.
+/// The texts of a chain: a chain file and BSDL files.
 #[derive(Drop)]
 pub struct ChainTexts {
     pub chain: ShortText,
     pub bsdl: ShortTexts,
 }
 
-/// A chain file, a net file and BSDL texts.
+/// The texts of a board: a chain file, a net file and BSDL files.
 #[derive(Drop)]
 pub struct BoardTexts {
     pub chain: ShortText,
@@ -96,7 +96,7 @@ pub struct BoardTexts {
     pub bsdl: ShortTexts,
 }
 
-/// A text of logs, and the texts of the board that they are of.
+/// A text of one or more response logs, and the texts of the board that they belong to.
 #[derive(Drop)]
 pub struct LogTexts {
     pub log: ShortText,

@@ -1,4 +1,4 @@
-// Why a command put no whole text.
+// Why a command did not write its whole output.
 ghost use Rattle.std.specs.Prelude.{◌≡◌};
 ghost use Rattle.bt_base.specs.Puts.{Puts, Shown};
 ghost use Rattle.command_line.specs.Words.{Text};
@@ -11,18 +11,18 @@ use btest_core::InputFault;
 use response_log::LogFault;
 use std::alloc::AllocError;
 
-/// Why a command put no whole text.
+/// Why a command did not write its whole output.
 #[derive(Drop)]
 pub enum Unput {
     /// The first fault of the texts.
     Input(InputFault),
-    /// The first fault of a response log, of which so many rows are wanted.
+    /// The first fault of a response log that must have `rows` rows.
     Log { rows: u64, fault: LogFault },
-    /// The first fault of a batch of response logs, of which so many rows are wanted each.
+    /// The first fault of a batch of response logs that must have `rows` rows each.
     Batch { rows: u64, fault: BatchFault },
-    /// The defined text was not put whole.
+    /// The sink failed before it took the whole output.
     Write,
-    /// There was not enough memory.
+    /// There was not enough memory. Nothing was written.
     Memory,
 }
 
@@ -34,7 +34,7 @@ impl From<AllocError> for Unput {
     }
 }
 
-/// Why nothing is put where the texts have this fault.
+/// Returns why nothing is written if the texts have this fault.
 pub fn unput_by(fault: InputFault) -> Unput
     ensures { result ≡ unput_of fault }
 {
@@ -44,7 +44,7 @@ pub fn unput_by(fault: InputFault) -> Unput
     }
 }
 
-/// Why nothing is put where a log of which so many rows are wanted has this fault.
+/// Returns why nothing is written if a log that must have `rows` rows has this fault.
 pub fn unput_by_log(rows: u64, fault: LogFault) -> Unput
     ensures { result ≡ unput_log rows fault }
 {
@@ -54,7 +54,7 @@ pub fn unput_by_log(rows: u64, fault: LogFault) -> Unput
     }
 }
 
-/// Why nothing is put where a batch of logs of which so many rows are wanted has this fault.
+/// Returns why nothing is written if a batch of logs that must have `rows` rows each has this fault.
 pub fn unput_by_batch(rows: u64, fault: BatchFault) -> Unput
     ensures { result ≡ unput_batch rows fault }
 {
@@ -64,7 +64,7 @@ pub fn unput_by_batch(rows: u64, fault: BatchFault) -> Unput
     }
 }
 
-/// What a command answers where a text was put, or was cut short.
+/// Returns the answer of a command whose output was written or cut short.
 pub fn answer_by(put: Result<(), PutFault>) -> Result<(), Unput>
     ensures { (text : Text) (old new : Shown) → Puts old new text put → PutsText text old new result }
 {

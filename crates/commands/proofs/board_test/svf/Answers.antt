@@ -11,8 +11,8 @@ pub returns-in-Err : goal.returns-in-Err
 returns-in-Err g c =
     no_board_answers c.args.texts.now board_text (TestsBoard c.args.texts.now) (g.K.Sink.shown c.args.out.now) c.in-Err.failure c.in-Err.ensures.none
 
-pub returns : goal.returns
-returns g c =
+pub returns-in-Ok : goal.returns-in-Ok
+returns-in-Ok g c =
     let board = c.in-Ok.planned.board in
     text_answers (IsBoardOf c.args.texts.now) board_text (TestsBoard c.args.texts.now) board c.in-Ok.ensures.denoted (g.K.Sink.shown c.args.out.now) (g.K.Sink.shown c.put_test.new.out) c.put_test.result c.put_test.ensures
     (record { board = board; denoted = c.in-Ok.ensures.denoted; tests = subst (λ (b : RawBoard). IsBoardTest b (board_text b)) c.board.ensures c.tests_board.ensures })

@@ -9,7 +9,7 @@ use Rattle.scan_planner.specs.Plans.{IsRoom}
 use Rattle.commands.specs.inner.Rows.{EachStoredHasRoom, HoldScan}
 use Rattle.commands.proofs.board_test.write_scans.Given as goal
 
--- the head and the scans so far were put; the rows hold the last of these, where there is one, and keep their room
+-- The head and the scans so far were written. If there is a last one, the rows hold it. The rows keep their room.
 abbrev pub invariant-loop-k : goal.invariant-loop-k
 invariant-loop-k g l = record {
   put : Puts {T = Unit {0}} {E = PutFault} (g.K.Sink.shown l.fn.out) (g.K.Sink.shown l.out) (head_text ++ scan_texts (take l.k (test_scans l.board l.plan.passes l.plan.width))) (Ok tt);

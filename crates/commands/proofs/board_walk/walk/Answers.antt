@@ -11,8 +11,8 @@ pub returns-in-Err : goal.returns-in-Err
 returns-in-Err g c =
     no_board_answers c.args.texts.now board_walk_text (WalksBoard c.args.texts.now) (g.K.Sink.shown c.args.out.now) c.in-Err.failure c.in-Err.ensures.none
 
-pub returns : goal.returns
-returns g c =
+pub returns-in-Ok : goal.returns-in-Ok
+returns-in-Ok g c =
     let board = c.in-Ok.walked.board in
     text_answers (IsBoardOf c.args.texts.now) board_walk_text (WalksBoard c.args.texts.now) board c.in-Ok.ensures.denoted (g.K.Sink.shown c.args.out.now) (g.K.Sink.shown c.put_walk.new.out) c.put_walk.result c.put_walk.ensures
     (record { board = board; denoted = c.in-Ok.ensures.denoted; harmless = subst (λ (b : RawBoard). IsHarmless b (board_walk_text b)) c.board.ensures c.is_harmless.ensures })

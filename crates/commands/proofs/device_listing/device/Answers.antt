@@ -13,10 +13,10 @@ returns-in-Err g c =
     rw c.unput_by.ensures
     (answers_fault (IsDeviceText c.args.text.now) device_text (ListsDevice c.args.text.now) (g.K.Sink.shown c.args.out.now) c.in-Err.fault is)
 
-pub returns : goal.returns
-returns g c =
+pub returns-in-Ok : goal.returns-in-Ok
+returns-in-Ok g c =
     let device = c.in-Ok.device in
     let described = subst (λ (text : List ℕ). IsDeviceText text (Ok device)) c.as_bytes.ensures.bytes c.in-Ok.ensures in
     let rules = c.inputs_keep_rules.ensures.device c.args.text.now device described in
-    text_answers _ _ _ device described _ _ _ (c.answer_by.ensures _ _ _ c.write_device.ensures)
+    text_answers _ _ _ device described _ _ _ c.put_listing.ensures
     (record { device = device; described = described; rules = rules; is = refl })

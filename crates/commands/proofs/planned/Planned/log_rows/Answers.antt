@@ -1,0 +1,7 @@
+use Rattle.std.proofs.Common.{◌∙◌}
+use Rattle.commands.proofs.TestLemmas.{rows_are}
+use Rattle.commands.proofs.planned.Planned.log_rows.Goals as goal
+
+pub returns : goal.returns
+returns c =
+    rw (← c.self.view_is) (c.rows.ensures ∙ rows_are c.self.inside.board c.self.inside.plan c.self.invariant.plan c.self.invariant.passes)
