@@ -24,7 +24,11 @@ pub fn cover<K: Sink>(alloc: Global, texts: &BoardTexts, out: &mut K) -> Result<
     inputs_keep_rules();
     lists_are_true();
     match board_of(alloc, texts) {
-        Ok(board) => put_cover(alloc, &board, out),
+        Ok(board) => {
+            let put = put_cover(alloc, &board, out);
+            drop(board);
+            put
+        }
         Err(failure) => Err(failure),
     }
 }

@@ -52,7 +52,11 @@ pub fn summary<K: Sink>(alloc: Global, number: u32, out: &mut K) -> Result<(), U
     ensures { Answers (IsBoardRead (chain_text number) (net_text number) (bsdl_text ∷ [])) summary_text Nothing (K.shown out.old) (K.shown out.new) result }
 {
     match generated_board(alloc, number) {
-        Ok(board) => put_summary(alloc, &board, out),
+        Ok(board) => {
+            let put = put_summary(alloc, &board, out);
+            drop(board);
+            put
+        }
         Err(fault) => Err(unput_by(fault)),
     }
 }
@@ -124,7 +128,9 @@ fn classed_counts(
     ensures { IfOk result (λ counts. counts_line counts.devices counts.nets counts.covered counts.passes counts.scans counts.bytes ≡ summary_text board.now) }
 {
     let plan = plan_by(alloc, board, pins, classes)?;
-    planned_counts(alloc, board, classes, &plan)
+    let counts = planned_counts(alloc, board, classes, &plan);
+    drop(plan);
+    counts
 }
 
 // Like `board_counts`, but takes the board's classes and the plan of its test.

@@ -39,7 +39,9 @@ pub fn svf<K: Sink>(alloc: Global, texts: &BoardTexts, out: &mut K) -> Result<()
     match planned_board(alloc, texts) {
         Ok(planned) => {
             tests_board(planned.board());
-            put_test(alloc, &planned, out)
+            let put = put_test(alloc, &planned, out);
+            drop(planned);
+            put
         }
         Err(failure) => Err(failure),
     }

@@ -144,7 +144,9 @@ pub fn walk<K: Sink>(alloc: Global, texts: &BoardTexts, out: &mut K) -> Result<(
     match walked_board(alloc, texts) {
         Ok(walked) => {
             is_harmless(walked.board());
-            put_walk(alloc, &walked, out)
+            let put = put_walk(alloc, &walked, out);
+            drop(walked);
+            put
         }
         Err(failure) => Err(failure),
     }

@@ -53,7 +53,11 @@ fn batch_of<R: Threads + Sync, K: Sink, G: Gate>(
     ensures { JudgedAnswers judging_each verdicts_text DiagnosesEach texts.now (K.shown out.old) (K.shown out.new) result }
 {
     match planned_board(alloc, &texts.board) {
-        Ok(planned) => put_batch(rt, alloc, &planned, &texts.log, workers, gate, out),
+        Ok(planned) => {
+            let put = put_batch(rt, alloc, &planned, &texts.log, workers, gate, out);
+            drop(planned);
+            put
+        }
         Err(failure) => Err(failure),
     }
 }

@@ -69,7 +69,11 @@ fn diagnosis_of<R: Threads + Sync, K: Sink, G: Gate>(
     ensures { JudgedAnswers diagnosing diagnosis_text Diagnoses (record { log = log; board = texts.now }) (K.shown out.old) (K.shown out.new) result }
 {
     match planned_board(alloc, texts) {
-        Ok(planned) => put_diagnosis(rt, alloc, &planned, log, workers, gate, out),
+        Ok(planned) => {
+            let put = put_diagnosis(rt, alloc, &planned, log, workers, gate, out);
+            drop(planned);
+            put
+        }
         Err(failure) => Err(failure),
     }
 }

@@ -40,7 +40,11 @@ fn groups_of<K: Sink>(
     ensures { JudgedAnswers grouping grouping_text FindsGroups (record { log = log; board = texts.now }) (K.shown out.old) (K.shown out.new) result }
 {
     match walked_board(alloc, texts) {
-        Ok(walked) => put_groups(alloc, &walked, log, out),
+        Ok(walked) => {
+            let put = put_groups(alloc, &walked, log, out);
+            drop(walked);
+            put
+        }
         Err(failure) => Err(failure),
     }
 }

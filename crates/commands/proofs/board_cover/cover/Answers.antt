@@ -11,5 +11,5 @@ pub returns-in-Ok : goal.returns-in-Ok
 returns-in-Ok g c =
     let board = c.in-Ok.board in
     let rules = c.inputs_keep_rules.ensures.board c.args.texts.now.chain c.args.texts.now.nets c.args.texts.now.bsdl board c.in-Ok.ensures.denoted in
-    text_answers _ _ _ board c.in-Ok.ensures.denoted _ _ _ c.put_cover.ensures
+    text_answers _ _ _ board c.in-Ok.ensures.denoted _ _ _ c.put_cover-put.ensures
     (record { board = board; denoted = c.in-Ok.ensures.denoted; rules = rules; lists = c.lists_are_true.ensures board rules })

@@ -13,4 +13,4 @@ returns-in-Err g c =
     (answers_fault (IsBoardRead (chain_text c.args.number) (net_text c.args.number) (bsdl_text ∷ [])) summary_text Nothing (g.K.Sink.shown c.args.out.now) c.in-Err.fault c.in-Err.ensures)
 
 pub returns-in-Ok : goal.returns-in-Ok
-returns-in-Ok g c = text_answers _ _ _ c.in-Ok.board c.in-Ok.ensures _ _ _ c.put_summary.ensures tt
+returns-in-Ok g c = text_answers _ _ _ c.in-Ok.board c.in-Ok.ensures _ _ _ c.put_summary-put.ensures tt

@@ -14,5 +14,5 @@ returns-in-Err g c =
 pub returns-in-Ok : goal.returns-in-Ok
 returns-in-Ok g c =
     let board = c.in-Ok.planned.board in
-    text_answers (IsBoardOf c.args.texts.now) board_text (TestsBoard c.args.texts.now) board c.in-Ok.ensures.denoted (g.K.Sink.shown c.args.out.now) (g.K.Sink.shown c.put_test.new.out) c.put_test.result c.put_test.ensures
+    text_answers (IsBoardOf c.args.texts.now) board_text (TestsBoard c.args.texts.now) board c.in-Ok.ensures.denoted (g.K.Sink.shown c.args.out.now) (g.K.Sink.shown c.put_test-put.new.out) c.put_test-put.result c.put_test-put.ensures
     (record { board = board; denoted = c.in-Ok.ensures.denoted; tests = subst (λ (b : RawBoard). IsBoardTest b (board_text b)) c.board.ensures c.tests_board.ensures })

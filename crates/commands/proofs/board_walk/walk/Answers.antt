@@ -14,5 +14,5 @@ returns-in-Err g c =
 pub returns-in-Ok : goal.returns-in-Ok
 returns-in-Ok g c =
     let board = c.in-Ok.walked.board in
-    text_answers (IsBoardOf c.args.texts.now) board_walk_text (WalksBoard c.args.texts.now) board c.in-Ok.ensures.denoted (g.K.Sink.shown c.args.out.now) (g.K.Sink.shown c.put_walk.new.out) c.put_walk.result c.put_walk.ensures
+    text_answers (IsBoardOf c.args.texts.now) board_walk_text (WalksBoard c.args.texts.now) board c.in-Ok.ensures.denoted (g.K.Sink.shown c.args.out.now) (g.K.Sink.shown c.put_walk-put.new.out) c.put_walk-put.result c.put_walk-put.ensures
     (record { board = board; denoted = c.in-Ok.ensures.denoted; harmless = subst (λ (b : RawBoard). IsHarmless b (board_walk_text b)) c.board.ensures c.is_harmless.ensures })

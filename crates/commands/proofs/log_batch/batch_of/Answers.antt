@@ -10,4 +10,4 @@ returns-in-Err g c =
 
 pub returns-in-Ok : goal.returns-in-Ok
 returns-in-Ok g c =
-    judged_denoted judging_each verdicts_text DiagnosesEach c.args.texts.now c.in-Ok.planned.board c.in-Ok.ensures.denoted (g.K.Sink.shown c.args.out.now) (g.K.Sink.shown c.put_batch.new.out) c.put_batch.result c.put_batch.ensures
+    judged_denoted judging_each verdicts_text DiagnosesEach c.args.texts.now c.in-Ok.planned.board c.in-Ok.ensures.denoted (g.K.Sink.shown c.args.out.now) (g.K.Sink.shown c.put_batch-put.new.out) c.put_batch-put.result c.put_batch-put.ensures

@@ -12,4 +12,4 @@ returns-in-Err g c =
 pub returns-in-Ok : goal.returns-in-Ok
 returns-in-Ok g c =
     let texts : LogTexts = record { log = c.args.log; board = c.args.texts.now } in
-    judged_denoted diagnosing diagnosis_text Diagnoses texts c.in-Ok.planned.board c.in-Ok.ensures.denoted (g.K.Sink.shown c.args.out.now) (g.K.Sink.shown c.put_diagnosis.new.out) c.put_diagnosis.result c.put_diagnosis.ensures
+    judged_denoted diagnosing diagnosis_text Diagnoses texts c.in-Ok.planned.board c.in-Ok.ensures.denoted (g.K.Sink.shown c.args.out.now) (g.K.Sink.shown c.put_diagnosis-put.new.out) c.put_diagnosis-put.result c.put_diagnosis-put.ensures

@@ -12,4 +12,4 @@ returns-in-Err g c =
 pub returns-in-Ok : goal.returns-in-Ok
 returns-in-Ok g c =
     let texts : LogTexts = record { log = c.args.log; board = c.args.texts.now } in
-    judged_denoted grouping grouping_text FindsGroups texts c.in-Ok.walked.board c.in-Ok.ensures.denoted (g.K.Sink.shown c.args.out.now) (g.K.Sink.shown c.put_groups.new.out) c.put_groups.result c.put_groups.ensures
+    judged_denoted grouping grouping_text FindsGroups texts c.in-Ok.walked.board c.in-Ok.ensures.denoted (g.K.Sink.shown c.args.out.now) (g.K.Sink.shown c.put_groups-put.new.out) c.put_groups-put.result c.put_groups-put.ensures
