@@ -38,7 +38,9 @@ fn put_cover<K: Sink>(alloc: Global, board: &Board, out: &mut K) -> Result<(), U
     ensures { PutsText (cover_text board.now) (K.shown out.old) (K.shown out.new) result }
 {
     let classes = classify(alloc, board)?;
-    put_list(alloc, board, &classes, out)
+    let put = put_list(alloc, board, &classes, out);
+    drop(classes);
+    put
 }
 
 // Writes the coverage list of the board, by its classes.

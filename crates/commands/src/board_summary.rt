@@ -113,7 +113,9 @@ fn board_counts(alloc: Global, board: &Board) -> Result<Counts, AllocError>
     ensures { IfOk result (λ counts. counts_line counts.devices counts.nets counts.covered counts.passes counts.scans counts.bytes ≡ summary_text board.now) }
 {
     let ClassesWithPins { classes, pins } = ClassesWithPins::of(alloc, board)?;
-    classed_counts(alloc, board, &classes, pins)
+    let counts = classed_counts(alloc, board, &classes, pins);
+    drop(classes);
+    counts
 }
 
 // Like `board_counts`, but takes the board's classes and the pins of its nets.

@@ -119,7 +119,9 @@ fn walk_of(alloc: Global, board: &Board) -> Result<Walk, AllocError>
     ensures { IfOk result (λ walk. IsWalkOf board.now walk) }
 {
     let ClassesWithPins { classes, pins } = ClassesWithPins::of(alloc, board)?;
-    walk_by(alloc, board, &classes, pins)
+    let walk = walk_by(alloc, board, &classes, pins);
+    drop(classes);
+    walk
 }
 
 // Like `walk_of`, but takes the board's classes and the pins of its nets.

@@ -22,7 +22,11 @@ pub fn device<K: Sink>(alloc: Global, text: &ShortText, out: &mut K) -> Result<(
 {
     inputs_keep_rules();
     match read_device(alloc, text.as_bytes()) {
-        Ok(device) => put_listing(alloc, &device, out),
+        Ok(device) => {
+            let put = put_listing(alloc, &device, out);
+            drop(device);
+            put
+        }
         Err(fault) => Err(unput_by(fault)),
     }
 }

@@ -116,5 +116,7 @@ fn board_plan(alloc: Global, board: &Board) -> Result<Plan, AllocError>
     ensures passes { IfOk result (λ plan. plan.passes ≡ passes_of board.now) }
 {
     let ClassesWithPins { classes, pins } = ClassesWithPins::of(alloc, board)?;
-    plan_by(alloc, board, pins, &classes)
+    let plan = plan_by(alloc, board, pins, &classes);
+    drop(classes);
+    plan
 }

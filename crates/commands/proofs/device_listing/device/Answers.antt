@@ -18,5 +18,5 @@ returns-in-Ok g c =
     let device = c.in-Ok.device in
     let described = subst (λ (text : List ℕ). IsDeviceText text (Ok device)) c.as_bytes.ensures.bytes c.in-Ok.ensures in
     let rules = c.inputs_keep_rules.ensures.device c.args.text.now device described in
-    text_answers _ _ _ device described _ _ _ c.put_listing.ensures
+    text_answers _ _ _ device described _ _ _ c.put_listing-put.ensures
     (record { device = device; described = described; rules = rules; is = refl })
