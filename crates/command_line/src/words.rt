@@ -215,31 +215,30 @@ fn names_arg<'a>(alloc: Global) -> Arg<'a>
     Arg::new(alloc, "BSDL").action(ArgAction::Append)
 }
 
-// Adds a required name to a command.
+// Adds a required name to a command. Like the next functions, it takes the command as a result and passes on an error, so
+// that its callers need no `?`: each such exit costs the proof of a caller several seconds.
 fn with_name<'a>(
     alloc: Global,
-    command: clap::Command<'a>,
+    command: Result<clap::Command<'a>, AllocError>,
     id: &'a str,
 ) -> Result<clap::Command<'a>, AllocError>
-    requires { (fields_of command).has_globals ≡ false }
-    ensures app { IfOk result (λ c. app_of c ≡ with_rule (app_of command.entry) (name_rule id.entry.now)) }
+    requires { IfOk command (λ c. (fields_of c).has_globals ≡ false) }
+    ensures app { (app : App) → IfOk command.entry (λ c. app_of c ≡ app) → IfOk result (λ c. app_of c ≡ with_rule app (name_rule id.entry.now)) }
     ensures local { IfOk result (λ c. (fields_of c).has_globals ≡ false) }
 {
-    let command = command.arg(name_arg(alloc, id))?;
-    Ok(command)
+    command?.arg(name_arg(alloc, id))
 }
 
 // Adds the argument for any number of BSDL file names, after the other arguments of the command.
 fn with_names<'a>(
     alloc: Global,
-    command: clap::Command<'a>,
+    command: Result<clap::Command<'a>, AllocError>,
 ) -> Result<clap::Command<'a>, AllocError>
-    requires { (fields_of command).has_globals ≡ false }
-    ensures app { IfOk result (λ c. app_of c ≡ with_rule (app_of command.entry) names_rule) }
+    requires { IfOk command (λ c. (fields_of c).has_globals ≡ false) }
+    ensures app { (app : App) → IfOk command.entry (λ c. app_of c ≡ app) → IfOk result (λ c. app_of c ≡ with_rule app names_rule) }
     ensures local { IfOk result (λ c. (fields_of c).has_globals ≡ false) }
 {
-    let command = command.arg(names_arg(alloc))?;
-    Ok(command)
+    command?.arg(names_arg(alloc))
 }
 
 // Returns a command that works on a chain.
@@ -247,7 +246,8 @@ fn chain_command<'a>(alloc: Global, name: &'a str) -> Result<clap::Command<'a>, 
     ensures app { IfOk result (λ c. app_of c ≡ chain_app name.entry.now) }
     ensures local { IfOk result (λ c. (fields_of c).has_globals ≡ false) }
 {
-    let command = with_name(alloc, clap::Command::new(alloc, name), "CHAIN")?;
+    let command = Ok(clap::Command::new(alloc, name));
+    let command = with_name(alloc, command, "CHAIN");
     with_names(alloc, command)
 }
 
@@ -260,20 +260,20 @@ fn single_command<'a>(
     ensures app { IfOk result (λ c. app_of c ≡ single_app name.entry.now id.entry.now) }
     ensures local { IfOk result (λ c. (fields_of c).has_globals ≡ false) }
 {
-    with_name(alloc, clap::Command::new(alloc, name), id)
+    with_name(alloc, Ok(clap::Command::new(alloc, name)), id)
 }
 
 // Adds the arguments for the file names of a board, after the other arguments of the command.
 fn with_board<'a>(
     alloc: Global,
-    command: clap::Command<'a>,
+    command: Result<clap::Command<'a>, AllocError>,
 ) -> Result<clap::Command<'a>, AllocError>
-    requires { (fields_of command).has_globals ≡ false }
-    ensures app { IfOk result (λ c. app_of c ≡ with_board (app_of command.entry)) }
+    requires { IfOk command (λ c. (fields_of c).has_globals ≡ false) }
+    ensures app { (app : App) → IfOk command.entry (λ c. app_of c ≡ app) → IfOk result (λ c. app_of c ≡ with_board app) }
     ensures local { IfOk result (λ c. (fields_of c).has_globals ≡ false) }
 {
-    let command = with_name(alloc, command, "CHAIN")?;
-    let command = with_name(alloc, command, "NETS")?;
+    let command = with_name(alloc, command, "CHAIN");
+    let command = with_name(alloc, command, "NETS");
     with_names(alloc, command)
 }
 
@@ -282,7 +282,7 @@ fn board_command<'a>(alloc: Global, name: &'a str) -> Result<clap::Command<'a>, 
     ensures app { IfOk result (λ c. app_of c ≡ board_app name.entry.now) }
     ensures local { IfOk result (λ c. (fields_of c).has_globals ≡ false) }
 {
-    with_board(alloc, clap::Command::new(alloc, name))
+    with_board(alloc, Ok(clap::Command::new(alloc, name)))
 }
 
 // Returns a command that works on a response log of a board, by a number of workers.
@@ -290,8 +290,9 @@ fn log_command<'a>(alloc: Global, name: &'a str) -> Result<clap::Command<'a>, Al
     ensures app { IfOk result (λ c. app_of c ≡ log_app name.entry.now) }
     ensures local { IfOk result (λ c. (fields_of c).has_globals ≡ false) }
 {
-    let command = with_name(alloc, clap::Command::new(alloc, name), "WORKERS")?;
-    let command = with_name(alloc, command, "LOG")?;
+    let command = Ok(clap::Command::new(alloc, name));
+    let command = with_name(alloc, command, "WORKERS");
+    let command = with_name(alloc, command, "LOG");
     with_board(alloc, command)
 }
 
@@ -300,7 +301,8 @@ fn groups_command<'a>(alloc: Global, name: &'a str) -> Result<clap::Command<'a>,
     ensures app { IfOk result (λ c. app_of c ≡ groups_app name.entry.now) }
     ensures local { IfOk result (λ c. (fields_of c).has_globals ≡ false) }
 {
-    let command = with_name(alloc, clap::Command::new(alloc, name), "LOG")?;
+    let command = Ok(clap::Command::new(alloc, name));
+    let command = with_name(alloc, command, "LOG");
     with_board(alloc, command)
 }
 
@@ -316,8 +318,7 @@ fn top_command<'a>(alloc: Global) -> clap::Command<'a>
         .disable_help_subcommand(true)
 }
 
-// Adds a subcommand to a command, or passes on the error if one of the two was not made. It takes both results, so that
-// its callers need no `?` and never drop a command: each such exit costs its proof several seconds.
+// Adds a subcommand to a command. It takes both as results and passes on an error.
 fn with_made<'a>(
     command: Result<clap::Command<'a>, AllocError>,
     made: Result<clap::Command<'a>, AllocError>,
