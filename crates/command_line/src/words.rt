@@ -374,16 +374,24 @@ fn whole_command<'a>(alloc: Global) -> Result<clap::Command<'a>, AllocError>
     with_made(command, single_command(alloc, "make", "NUMBER"))
 }
 
-// Returns whether `clap` accepts the words, none of which is empty or begins with `-`.
+// Returns whether `clap` accepts the words, none of which is empty or begins with `-`. The calls of `drop` make its proof
+// short.
 fn is_accepted(alloc: Global, words: &[String]) -> Result<bool, AllocError>
     requires { list_all is_plain (map string_bytes words.now) ≡ true }
     ensures { IfOk result (λ b. b ≡ is_accepted (map string_bytes words.now)) }
 {
     match whole_command(alloc)?.try_get_matches_from(words) {
-        Ok(_) => Ok(true),
-        Err(error) => match error.kind() {
-            ErrorKind::OutOfMemory => Err(AllocError),
-            _ => Ok(false),
-        },
+        Ok(matches) => {
+            drop(matches);
+            Ok(true)
+        }
+        Err(error) => {
+            let kind = error.kind();
+            drop(error);
+            match kind {
+                ErrorKind::OutOfMemory => Err(AllocError),
+                _ => Ok(false),
+            }
+        }
     }
 }
