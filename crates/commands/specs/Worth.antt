@@ -57,8 +57,8 @@ pub record ListsCover (texts : BoardTexts) (text : Text) : Type 0 where
   pub rules : IsBoard board
   pub lists : IsCoverList board text
 
--- the text tests the board that these texts denote. It has a meaning. It passes if nothing is faulty. After its reset it is quiet under every
--- fault set. It fails under every nonempty fault set that is observable.
+-- the text tests the board that these texts denote. It has a meaning. It passes if nothing is faulty. After its reset it is quiet under
+-- every fault set. It fails under every nonempty fault set that is observable.
 pub record TestsBoard (texts : BoardTexts) (text : Text) : Type 0 where
   pub board : RawBoard
   pub denoted : Denotes texts.chain texts.nets texts.bsdl board
@@ -71,15 +71,15 @@ pub record TestsIdents (texts : ChainTexts) (text : Text) : Type 0 where
   pub bounds : ArePatterns patterns
   pub tests : IsIdentTest patterns text
 
--- the text may be applied to the board that these texts denote. It has a meaning. It passes if nothing is faulty. After its reset it is quiet
--- under every fault set.
+-- the text may be applied to the board that these texts denote. It has a meaning. It passes if nothing is faulty. After its reset it is
+-- quiet under every fault set.
 pub record WalksBoard (texts : BoardTexts) (text : Text) : Type 0 where
   pub board : RawBoard
   pub denoted : Denotes texts.chain texts.nets texts.bsdl board
   pub harmless : IsHarmless board text
 
--- `pass` holds exactly if every compared bit of the log is the expected one, and then no single fault explains the log. The faults are exactly
--- the single faults that explain the log, each once and in order.
+-- `pass` holds exactly if every compared bit of the log is the expected one, and then no single fault explains the log. The faults are
+-- exactly the single faults that explain the log, each once and in order.
 pub record IsRight (board : RawBoard) (rows : List (List Bool)) (pass : Bool) (faults : List Single) : Type 0 where
   pub passes : IsTrue pass ↔ (IsExpected board (svf_row_scans board) rows)
   pub lists : ListsExplaining board rows faults
@@ -93,8 +93,8 @@ TestMeans board = meaning (board_text board) ≡ Some (test_clocks (svf_scans bo
 abbrev pub WalkMeans : RawBoard → Type 0
 WalkMeans board = meaning (board_walk_text board) ≡ Some (test_clocks (walk_scans board))
 
--- Each single fault of the board has one response to the board's test. It explains some log, and any two logs that it explains have the same
--- compared bits.
+-- Each single fault of the board has one response to the board's test. It explains some log, and any two logs that it explains have the
+-- same compared bits.
 pub record RespondOnce (board : RawBoard) : Type 0 where
   pub some : (single : Single) → IsSingle board single → (log : List (List Bool)) × Explains board single log
   pub one : (single : Single) (log other : List (List Bool)) → Explains board single log → Explains board single other → AgreeOn board (svf_row_scans board) log other
@@ -123,9 +123,9 @@ pub record DiagnosesEach (log : Text) (board : RawBoard) (text : Text) : Type 0 
   pub right : EachPair (λ block verdict. IsRight board block.log verdict.pass verdict.faults) blocks verdicts
   pub is : text ≡ batch_text board blocks verdicts
 
--- The text names the groups of a log of the walking test of a board. The log has a row for each compared SDR statement of the test. The groups
--- are exactly the set that explains the log, and there are none if no set does. Each set of groups explains some log, and any two logs that
--- it explains have the same compared bits.
+-- The text names the groups of a log of the walking test of a board. The log has a row for each compared SDR statement of the test. The
+-- groups are exactly the set that explains the log, and there are none if no set does. Each set of groups explains some log, and any two
+-- logs that it explains have the same compared bits.
 pub record FindsGroups (log : Text) (board : RawBoard) (text : Text) : Type 0 where
   pub means : WalkMeans board
   pub rows : List (List Bool)

@@ -1,4 +1,6 @@
 //! The commands. Each reads its texts and writes its output, or says why it wrote none or not all of it.
+//!
+//! Boards, plans and other large values are dropped by calls of `drop`, which makes the proofs short (docs/PROVING.md, "Time").
 #![tactic(auto)]
 
 mod board_cover;
