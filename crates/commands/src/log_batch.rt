@@ -62,7 +62,7 @@ fn batch_of<R: Threads + Sync, K: Sink, G: Gate>(
     }
 }
 
-// Writes the diagnoses of a batch of logs of the board's test.
+// Reads a batch of logs of the board's test and writes their diagnoses.
 fn put_batch<R: Threads + Sync, K: Sink, G: Gate>(
     rt: &R,
     alloc: Global,
@@ -83,7 +83,7 @@ fn put_batch<R: Threads + Sync, K: Sink, G: Gate>(
     }
 }
 
-// Writes the diagnoses of the blocks of a batch of logs of the board's test.
+// Diagnoses the blocks of a batch of logs of the board's test, and writes the diagnoses.
 fn put_blocks<R: Threads + Sync, K: Sink, G: Gate>(
     rt: &R,
     alloc: Global,

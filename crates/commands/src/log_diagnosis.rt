@@ -78,7 +78,7 @@ fn diagnosis_of<R: Threads + Sync, K: Sink, G: Gate>(
     }
 }
 
-// Writes the diagnosis of a log of the board's test. The log takes the memory of its text.
+// Reads a log of the board's test and writes its diagnosis. The log is made in the memory of its text.
 fn put_diagnosis<R: Threads + Sync, K: Sink, G: Gate>(
     rt: &R,
     alloc: Global,
@@ -99,7 +99,7 @@ fn put_diagnosis<R: Threads + Sync, K: Sink, G: Gate>(
     }
 }
 
-// Writes the diagnosis of a log of the board's test.
+// Diagnoses a log of the board's test and writes the diagnosis.
 fn put_judged<R: Threads + Sync, K: Sink, G: Gate>(
     rt: &R,
     alloc: Global,

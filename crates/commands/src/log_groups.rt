@@ -59,7 +59,7 @@ fn lent(found: &Option<Vec<Group>>) -> Option<&[Group]>
     }
 }
 
-// Writes the groups of a log of the board's walking test. The log takes the memory of its text.
+// Reads a log of the board's walking test and writes its groups. The log is made in the memory of its text.
 fn put_groups<K: Sink>(
     alloc: Global,
     walked: &Walked,
@@ -75,7 +75,7 @@ fn put_groups<K: Sink>(
     }
 }
 
-// Writes the groups of a log of the board's walking test.
+// Finds the groups that explain a log of the board's walking test, and writes them.
 fn put_grouped<K: Sink>(alloc: Global, walked: &Walked, log: &Log, out: &mut K) -> Result<(), Unput>
     requires size { HasSize (walk_rows walked.now.board) (data_bits walked.now.board) log.now }
     ensures { (text : Text) → walk_log text walked.now.board ≡ Ok log.now → AnswersOn grouping grouping_text FindsGroups text walked.now.board (K.shown out.old) (K.shown out.new) result }
