@@ -2,7 +2,7 @@
 PREFIX ?= /usr/local
 PROGRAM := crates/btest/out/btest
 
-.PHONY: help demo build test check profile check-tools bench stress figures install package
+.PHONY: help demo build test check profile weaken check-tools bench stress figures install package
 
 help:
 	@echo 'make demo                runs the program on an example board and shows what it prints: one to three minutes'
@@ -12,6 +12,7 @@ help:
 	@echo 'make package             makes a Debian package and a tar.gz of them, in out/'
 	@echo 'make check CRATE=NAME    proves one crate, and those below it where they have changed'
 	@echo 'make profile CRATE=NAME  lists the functions of a crate by the seconds that their proofs take'
+	@echo 'make weaken CRATE=NAME   weakens each public clause of a crate and says which proof refuses that, after make test'
 	@echo 'make check-tools         tries the programs of tools/ and the examples of the documents: about a minute'
 	@echo 'make bench               prints times of the proved program on large inputs'
 	@echo 'make stress              puts the proved program to hostile use: ten minutes. docs/RELIABILITY.md says what it tries'
@@ -50,6 +51,11 @@ check:
 profile:
 	@test -n '$(CRATE)' || { echo 'make profile CRATE=NAME, with a name of crates.txt'; exit 2; }
 	@python3 -B scripts/profile-crate.py $(CRATE)
+
+# Which proof needs each public clause of one crate: WITH='plan.width' tries those with this in their title.
+weaken:
+	@test -n '$(CRATE)' || { echo 'make weaken CRATE=NAME, with a name of crates.txt'; exit 2; }
+	@python3 -B scripts/weaken.py $(CRATE) $(WITH)
 
 # The programs beside btest and the examples of the documents; those of btest where the proved program is there.
 check-tools:
