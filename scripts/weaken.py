@@ -37,7 +37,7 @@ from typing import Any, Dict, Iterator, List, NamedTuple, Optional, Set, Tuple
 import build
 
 PARTS = ("src", "specs", "proofs")
-TOPS = ("btest", "promises")
+TOPS = ("btest", "promises", "outer_calls")
 FULL = "_in_full"
 FUNCTION = re.compile(r"( *)pub fn (\w+)")
 CLAUSE = re.compile(r" *(requires|ensures|ghost)\b ?(\w*)")
@@ -45,7 +45,7 @@ IMPL = re.compile(r"impl(?:<.*?>)? (\w+)(?:<.*>)? \{")
 RECORD = re.compile(r"pub record (\w+)")
 FIELD = re.compile(r"  pub (\w+) :")
 REFUSED = re.compile(r"fn (\S+): (not proved|no proof|could not tell)")
-ERROR = re.compile(r"(\S+\.(?:rt|antt):\d+:\d+): (?!note|warning|help)(.*)")
+ERROR = re.compile(r"(\S+\.(?:rt|antt):\d+:\d+): (?!note|warning|help)(.*(?:\n  .*)?)")
 
 
 class Form(NamedTuple):
@@ -143,17 +143,17 @@ def parameters(head: str) -> List[str]:
     return [it for it in found if it]
 
 
-def clauses_of(lines: List[str], at: int, indent: str) -> Optional[Tuple[int, int]]:
-    """Returns where the clauses of the function at a line begin, and where they end."""
-    first = None
+def clauses_of(lines: List[str], at: int, indent: str) -> Tuple[int, int]:
+    """Returns where the clauses of the function at a line begin and end, or zeros."""
+    first = 0
     for place in range(at, len(lines)):
         if lines[place] in (f"{indent}{{", f"{indent}{{}}"):
-            return (first, place) if first else None
-        if first is None and CLAUSE.match(lines[place]):
+            return (first, place) if first else (0, 0)
+        if not first and CLAUSE.match(lines[place]):
             first = place
-        elif first is None and lines[place].endswith(("{", ";")):
-            return None
-    return None
+        elif not first and lines[place].endswith(("{", ";")):
+            break
+    return (0, 0)
 
 
 def functions_of(text: str) -> Iterator[Function]:
@@ -162,17 +162,16 @@ def functions_of(text: str) -> Iterator[Function]:
     for at, line in enumerate(lines):
         block, found = IMPL.match(line), FUNCTION.match(line)
         holder = block[1] if block else "" if line == "}" else holder
-        ends = clauses_of(lines, at, found[1]) if found else None
-        if not found or not ends:
+        first, body = clauses_of(lines, at, found[1]) if found else (0, 0)
+        if not found or not body:
             continue
         clauses: List[List[str]] = []
-        body = ends[1]
-        for it in lines[ends[0] : body]:
+        for it in lines[first:body]:
             if CLAUSE.match(it) and len(it) - len(it.lstrip()) == len(found[1]) + 4:
                 clauses.append([])
             clauses[-1].append(it)
         last = body if lines[body].endswith("}") else lines.index(f"{found[1]}}}", body)
-        yield Function(found[2], holder, found[1], lines[at : ends[0]], clauses, at, last)
+        yield Function(found[2], holder, found[1], lines[at:first], clauses, at, last)
 
 
 def weaker(clause: List[str]) -> Iterator[Tuple[str, List[str]]]:
@@ -325,10 +324,8 @@ class Room:
         """Returns the weaker forms of all clauses of a crate."""
         found: List[Form] = []
         for part, of in (("src", forms_of_functions), ("specs", forms_of_records)):
-            for at, _, files in sorted(os.walk(f"{self.folder(name)}/{part}")):
-                for file in sorted(files):
-                    path = os.path.relpath(f"{at}/{file}", self.folder(name))
-                    found += of(path, read(f"{at}/{file}"))
+            for path in self.files(name, (part,)):
+                found += of(os.path.relpath(path, self.folder(name)), read(path))
         return found
 
     def weakens(self, name: str, form: Form) -> None:
@@ -343,12 +340,18 @@ class Room:
             self.moves_proof(folder, form)
 
     def gives_less(self, name: str, form: Form, fields: List[str]) -> None:
-        """Takes a field out of the literals of a crate that names the record."""
-        for path in sorted(self.naming(name, form, PARTS[1:])):
+        """Takes a field out of the literals of a crate that give it."""
+        for path in self.files(name, PARTS[1:]):
             old = read(path)
             new = without_field(old, fields, form.clause)
             if new != old:
                 write(path, new)
+
+    def files(self, name: str, parts: Tuple[str, ...] = PARTS) -> Iterator[str]:
+        """Returns the files of a crate."""
+        for part in parts:
+            for at, _, files in sorted(os.walk(f"{self.folder(name)}/{part}")):
+                yield from (f"{at}/{it}" for it in sorted(files) if it.endswith((".rt", ".antt")))
 
     def moves_proof(self, folder: str, form: Form) -> None:
         """Puts the proof of the function under its new name."""
@@ -364,17 +367,12 @@ class Room:
                     old = r"(proofs\.[\w.+]*\b" + form.owner + r")\.(?=G(?:oals|iven)\b)"
                     write(f"{new}/{file}", re.sub(old, rf"\1{FULL}.", read(f"{new}/{file}")))
 
-    def naming(self, name: str, form: Form, parts: Tuple[str, ...] = PARTS) -> List[str]:
+    def naming(self, name: str, form: Form) -> List[str]:
         """Returns the files of a crate that name the function or the record."""
         word = rf"\b{form.owner}\b" if form.is_field else rf"\b{form.owner}\("
         if form.holder:
             word = rf"(?:\.|\b{form.holder}::){form.owner}\("
-        found = []
-        for part in parts:
-            for at, _, files in os.walk(f"{self.folder(name)}/{part}"):
-                paths = [f"{at}/{file}" for file in files if file.endswith((".rt", ".antt"))]
-                found += [it for it in paths if re.search(word, read(it))]
-        return found
+        return [it for it in self.files(name) if re.search(word, read(it))]
 
     def modules(self, name: str, form: Form) -> Optional[List[str]]:
         """Returns the modules that name it, nothing for the whole crate, or None if none does."""
@@ -400,7 +398,7 @@ class Room:
 def said_by(name: str, text: str) -> str:
     """Returns the functions of a crate that a check refused, or else its first error."""
     refused = [it[1] for it in REFUSED.finditer(text)]
-    errors = [f"{it[1]}: {it[2]}" for it in ERROR.finditer(text)]
+    errors = [" ".join(it[0].split()) for it in ERROR.finditer(text)]
     more = f" and {len(refused) - 3} more" if len(refused) > 3 else ""
     if refused:
         return f"{', '.join(refused[:3])}{more}" + f" ({errors[0]})" * bool(errors)
