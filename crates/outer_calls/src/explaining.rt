@@ -1,0 +1,54 @@
+//! Whether a log passes, what explains it, and the places of single faults, as `fault_sim` answers.
+ghost use Rattle.std.specs.Prelude.{◌≡◌, ◌↔◌, ◌*◌, ◌<◌, length, All, IsTrue, slice_get, Some};
+ghost use Rattle.board_defs.specs.declared.board.RawBoard.{RawBoard};
+ghost use Rattle.board_defs.specs.BoardRules.{IsBoard};
+ghost use Rattle.board_defs.specs.Faults.{IsSingle};
+ghost use Rattle.board_defs.specs.Passes.{passes_of};
+ghost use Rattle.board_defs.specs.Pins.{data_bits};
+ghost use Rattle.scan_planner.specs.Plans.{IsPlanOf};
+ghost use Rattle.tap_defs.specs.board.BoardScans.{svf_row_scans};
+ghost use Rattle.tap_defs.specs.board.Explaining.{Explains, IsExpected};
+ghost use Rattle.fault_sim.specs.Places.{IsUniverse, place_count, places_of};
+
+use board_defs::{Board, Single};
+use fault_sim::Universe;
+use response_log::Log;
+use scan_planner::Plan;
+
+/// Returns whether every compared bit of the log is the expected one.
+pub fn is_pass(board: &Board, plan: &Plan, log: &Log) -> bool
+    requires plan { IsPlanOf board.now plan.now }
+    requires passes { plan.now.passes ≡ passes_of board.now }
+    requires rows { length log.now ≡ length plan.now.passes * plan.now.width }
+    requires bits { All (λ row. length row ≡ data_bits board.now) log.now }
+    ensures { IsTrue result ↔ IsExpected board.now (svf_row_scans board.now) log.now }
+{
+    fault_sim::is_pass(board, plan, log)
+}
+
+/// Returns whether the fault explains the log.
+pub fn matches(board: &Board, plan: &Plan, fault: Single, log: &Log) -> bool
+    requires plan { IsPlanOf board.now plan.now }
+    requires passes { plan.now.passes ≡ passes_of board.now }
+    requires fault { IsSingle board.now fault }
+    requires rows { length log.now ≡ length plan.now.passes * plan.now.width }
+    requires bits { All (λ row. length row ≡ data_bits board.now) log.now }
+    ensures { IsTrue result ↔ Explains board.now fault log.now }
+{
+    fault_sim::matches(board, plan, fault, log)
+}
+
+/// Returns the number of places of the board's single faults.
+pub fn place_count(universe: &Universe) -> u64
+    ensures { result ≡ place_count universe.now }
+{
+    universe.places()
+}
+
+/// Returns the single fault at place `i`, or None if the place is one of two covered nets that are not paired.
+pub fn fault_at(universe: &Universe, plan: &Plan, i: u64) -> Option<Single>
+    requires { i < place_count universe.now }
+    ensures { (board : RawBoard) → IsBoard board → IsPlanOf board plan.now → plan.now.passes ≡ passes_of board → IsUniverse board universe.now → slice_get (places_of board) i ≡ Some result }
+{
+    universe.at(plan, i)
+}

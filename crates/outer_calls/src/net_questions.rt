@@ -1,0 +1,72 @@
+//! The six questions of `net_classes` to the classes of a board.
+ghost use Rattle.std.specs.Prelude.{◌≡◌, ◌≢◌, ◌↔◌, ◌<◌, length, IsTrue, MatchOption};
+ghost use Rattle.board_defs.specs.Pins.{IsCell, IsOnBoard};
+ghost use Rattle.board_defs.specs.Coverage.{AreTogether, ArePaired, IsCovered, IsReason, IsTestedDriver, IsTestedReceiver, IsUseful};
+ghost use Rattle.board_defs.specs.Decided.{are_paired, are_together, is_tested_driver, is_tested_receiver, is_useful, reason_of};
+ghost use Rattle.net_classes.specs.Kept.{AreClasses};
+ghost use Rattle.net_classes.specs.inner.Kept.{OfNet};
+
+use board_defs::{Board, Ctl, PinRef, Reason};
+use net_classes::Classes;
+
+/// Returns why the net is not covered, by the first reason that holds, or None if it is covered.
+pub fn reason(classes: &Classes, board: &Board, net: u32) -> Option<Reason>
+    requires classes { AreClasses board.now classes.now }
+    requires net { net < length board.now.nets }
+    ensures decided { OfNet board.now net (λ found. result ≡ reason_of board.now found) }
+    ensures meant { OfNet board.now net (λ found. MatchOption result (IsCovered board.now net) (λ reason. IsReason board.now net found reason)) }
+{
+    classes.reason(board, net)
+}
+
+/// Returns whether the control is useful.
+pub fn usable(classes: &Classes, board: &Board, c: Ctl) -> bool
+    requires classes { AreClasses board.now classes.now }
+    requires cell { IsCell board.now c }
+    ensures decided { result ≡ is_useful board.now c }
+    ensures meant { IsTrue result ↔ IsUseful board.now c }
+{
+    classes.usable(board, c)
+}
+
+/// Returns whether the setting of the two controls is safe.
+pub fn together(classes: &Classes, board: &Board, a: Ctl, b: Ctl) -> bool
+    requires classes { AreClasses board.now classes.now }
+    requires first { IsCell board.now a }
+    requires second { IsCell board.now b }
+    ensures decided { result ≡ are_together board.now a b }
+    ensures meant { IsTrue result ↔ AreTogether board.now a b }
+{
+    classes.together(board, a, b)
+}
+
+/// Returns whether some safe setting enables the driver and observes its net.
+pub fn driver_tested(classes: &Classes, board: &Board, pin: PinRef) -> bool
+    requires classes { AreClasses board.now classes.now }
+    requires pin { IsOnBoard board.now pin }
+    ensures decided { OfNet board.now pin.net (λ net. result ≡ is_tested_driver board.now net pin.place) }
+    ensures meant { IsTrue result ↔ IsTestedDriver board.now pin.net pin.place }
+{
+    classes.driver_tested(board, pin)
+}
+
+/// Returns whether some safe setting observes the net of the receiver by a driver on another pin.
+pub fn receiver_tested(classes: &Classes, board: &Board, pin: PinRef) -> bool
+    requires classes { AreClasses board.now classes.now }
+    requires pin { IsOnBoard board.now pin }
+    ensures decided { OfNet board.now pin.net (λ net. result ≡ is_tested_receiver board.now net pin.place) }
+    ensures meant { IsTrue result ↔ IsTestedReceiver board.now pin.net pin.place }
+{
+    classes.receiver_tested(board, pin)
+}
+
+/// Returns whether the two nets differ and one safe setting observes both.
+pub fn paired(classes: &Classes, board: &Board, a: u32, b: u32) -> bool
+    requires classes { AreClasses board.now classes.now }
+    requires first { a < length board.now.nets }
+    requires second { b < length board.now.nets }
+    ensures decided { a ≢ b → OfNet board.now a (λ one. OfNet board.now b (λ two. result ≡ are_paired board.now one two)) }
+    ensures meant { IsTrue result ↔ ArePaired board.now a b }
+{
+    classes.paired(board, a, b)
+}
