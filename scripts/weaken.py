@@ -400,9 +400,9 @@ def said_by(name: str, text: str) -> str:
     refused = [it[1] for it in REFUSED.finditer(text)]
     errors = [" ".join(it[0].split()) for it in ERROR.finditer(text)]
     more = f" and {len(refused) - 3} more" if len(refused) > 3 else ""
-    if refused:
-        return f"{', '.join(refused[:3])}{more}" + f" ({errors[0]})" * bool(errors)
-    return errors[0] if errors else f"{name}, which does not compile"
+    if not refused:
+        return errors[0] if errors else f"{name}, which does not compile"
+    return f"{', '.join(refused[:3])}{more}" + (f" ({errors[0]})" if errors else "")
 
 
 def outcome(room: Room, name: str, form: Form) -> str:
