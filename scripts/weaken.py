@@ -12,11 +12,11 @@ under the name NAME_in_full, and NAME calls it and states the weaker clauses. So
 function stays as it is, and only callers can refuse the form. A field is taken out of its record
 and out of each literal that gives it.
 
-First it checks the crate, and then each crate directly above it that names the function or the
-record, from below, until a proof is refused. Of a crate above it checks the modules that have the
-name. It prints what refuses each form, or that nothing does, with the seconds. A form that nothing
-refuses is a clause that no proof of the program needs: a test, a sample or a must-fail edit has to
-guard it. The exit status is then 1.
+First it checks the crate, and then the crates above it, from below, until a proof is refused: those
+directly above that name the function, or all that name the record or the field. Of a crate above it
+checks the modules that have the name. It prints what refuses each form, or that nothing does, with
+the seconds. A form that nothing refuses is a clause that no proof needs, so a must-fail edit, a
+sample or a caller, as those in outer_calls, has to guard it. The exit status is then 1.
 
 With --checked DIR the sources and the built libraries are those of DIR, in which `rt ci` proved
 them. Otherwise `rt ci` first proves the crates of this checkout in out/weaken-checked, except what
@@ -368,8 +368,8 @@ class Room:
                     write(f"{new}/{file}", re.sub(old, rf"\1{FULL}.", read(f"{new}/{file}")))
 
     def naming(self, name: str, form: Form) -> List[str]:
-        """Returns the files of a crate that name the function or the record."""
-        word = rf"\b{form.owner}\b" if form.is_field else rf"\b{form.owner}\("
+        """Returns the files of a crate that name the function, or the record or its field."""
+        word = rf"\b{form.owner}\b|\.{form.clause}\b" if form.is_field else rf"\b{form.owner}\("
         if form.holder:
             word = rf"(?:\.|\b{form.holder}::){form.owner}\("
         return [it for it in self.files(name) if re.search(word, read(it))]
@@ -409,7 +409,8 @@ def outcome(room: Room, name: str, form: Form) -> str:
     """Tries a weaker form and returns who refuses it."""
     room.weakens(name, form)
     tried = []
-    for each in [name, *(it for it in room.order if name in room.below[it])]:
+    above = room.under if form.is_field else room.below.__getitem__
+    for each in [name, *(it for it in room.order if name in above(it))]:
         only = [] if each == name else room.modules(each, form)
         if only is None:
             continue
