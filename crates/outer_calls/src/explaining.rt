@@ -1,5 +1,5 @@
 //! Whether a log passes, what explains it, and the places of single faults, as `fault_sim` answers.
-ghost use Rattle.std.specs.Prelude.{◌≡◌, ◌↔◌, ◌*◌, ◌<◌, length, All, IsTrue, slice_get, Some};
+ghost use Rattle.std.specs.Prelude.{◌≡◌, ◌↔◌, ◌*◌, ◌<◌, length, All, IfOk, IsTrue, slice_get, Some};
 ghost use Rattle.board_defs.specs.declared.board.RawBoard.{RawBoard};
 ghost use Rattle.board_defs.specs.BoardRules.{IsBoard};
 ghost use Rattle.board_defs.specs.Faults.{IsSingle};
@@ -9,11 +9,13 @@ ghost use Rattle.scan_planner.specs.Plans.{IsPlanOf};
 ghost use Rattle.tap_defs.specs.board.BoardScans.{svf_row_scans};
 ghost use Rattle.tap_defs.specs.board.Explaining.{Explains, IsExpected};
 ghost use Rattle.fault_sim.specs.Places.{IsUniverse, place_count, places_of};
+ghost use Rattle.fault_sim.specs.Suspects.{AreSuspects};
 
 use board_defs::{Board, Single};
-use fault_sim::Universe;
+use fault_sim::{Suspects, Universe};
 use response_log::Log;
 use scan_planner::Plan;
+use std::alloc::{AllocError, Global};
 
 /// Returns whether every compared bit of the log is the expected one.
 pub fn is_pass(board: &Board, plan: &Plan, log: &Log) -> bool
@@ -51,4 +53,22 @@ pub fn fault_at(universe: &Universe, plan: &Plan, i: u64) -> Option<Single>
     ensures { (board : RawBoard) → IsBoard board → IsPlanOf board plan.now → plan.now.passes ≡ passes_of board → IsUniverse board universe.now → slice_get (places_of board) i ≡ Some result }
 {
     universe.at(plan, i)
+}
+
+/// Returns the places whose faults may explain the log.
+pub fn suspects(
+    alloc: Global,
+    board: &Board,
+    plan: &Plan,
+    universe: &Universe,
+    log: &Log,
+) -> Result<Suspects, AllocError>
+    requires plan { IsPlanOf board.now plan.now }
+    requires passes { plan.now.passes ≡ passes_of board.now }
+    requires universe { IsUniverse board.now universe.now }
+    requires rows { length log.now ≡ length plan.now.passes * plan.now.width }
+    requires bits { All (λ row. length row ≡ data_bits board.now) log.now }
+    ensures { IfOk result (λ suspects. AreSuspects board.now plan.now universe.now log.now suspects) }
+{
+    Suspects::new(alloc, board, plan, universe, log)
 }

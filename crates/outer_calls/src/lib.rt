@@ -4,3 +4,4 @@
 
 pub mod explaining;
 pub mod net_questions;
+pub mod plans;
