@@ -39,6 +39,7 @@ import build
 PARTS = ("src", "specs", "proofs")
 TOPS = ("btest", "promises", "outer_calls")
 FULL = "_in_full"
+MOST = 240  # characters of a message
 FUNCTION = re.compile(r"( *)pub fn (\w+)")
 CLAUSE = re.compile(r" *(requires|ensures|ghost)\b ?(\w*)")
 IMPL = re.compile(r"impl(?:<.*?>)? (\w+)(?:<.*>)? \{")
@@ -398,7 +399,7 @@ class Room:
 def said_by(name: str, text: str) -> str:
     """Returns the functions of a crate that a check refused, or else its first error."""
     refused = [it[1] for it in REFUSED.finditer(text)]
-    errors = [" ".join(it[0].split()) for it in ERROR.finditer(text)]
+    errors = [" ".join(it[0].split())[:MOST] for it in ERROR.finditer(text)]
     more = f" and {len(refused) - 3} more" if len(refused) > 3 else ""
     if not refused:
         return errors[0] if errors else f"{name}, which does not compile"
