@@ -10,7 +10,7 @@ mod text;
 
 pub use bench::Bench;
 pub use board::{CHAIN, NETS, SCANS};
-pub use devices::{BI, BUF2, BUF2_LISTING, DRV, DRV1, RCV, RCV1, TS};
+pub use devices::{BI, BUF2, BUF2_LISTING, DEVICES, DRV, DRV1, RCV, RCV1, TS};
 pub use row::{
     Case, Change, Ending, Line, Named, Row, RowFault, Rows, Run, Table, Trouble, expect,
     sixty_devices_hold, tables_hold,
