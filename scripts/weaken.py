@@ -7,10 +7,10 @@ A clause is an `ensures` of a public function, or a field of a record in specs/.
 clauses that have it in their title, as --list prints it: `meet`, `IsPlanOf.width`, `"meet: (A"`.
 
 The script tries these weaker forms of a clause: nothing in its place, and for `A <-> B` also
-`A -> B` and `B -> A`. It works in a copy, the room out/weaken. There a function keeps its proof
-under the name NAME_in_full, and NAME calls it and states the weaker clauses. So the proof of the
-function stays as it is, and only callers can refuse the form. A field is taken out of its record
-and out of each literal that gives it.
+`A -> B` and `B -> A`. It works in a copy, the room, which is among the temporary files if --room
+doesn't name it. There a function keeps its proof under the name NAME_in_full, and NAME calls it and
+states the weaker clauses. So the proof of the function stays as it is, and only callers can refuse
+the form. A field is taken out of its record and out of each literal that gives it.
 
 First it checks the crate, and then the crates above it, from below, until a proof is refused: those
 directly above that name the function, or all that name the record or the field. Of a crate above it
@@ -19,9 +19,9 @@ the seconds. A form that nothing refuses is a clause that no proof needs, so a m
 sample or a caller, as those in outer_calls, has to guard it. The exit status is then 1.
 
 With --checked DIR the sources and the built libraries are those of DIR, in which `rt ci` proved
-them. Otherwise `rt ci` first proves the crates of this checkout in out/weaken-checked, except what
-it has proved on this machine before. The first check of a crate takes as long as its proof. The
-room keeps what was checked, so that a later check only takes what a form changes.
+them. Otherwise `rt ci` first proves the crates of this checkout in a copy beside the room, except
+what it has proved on this machine before. The first check of a crate takes as long as its proof.
+The room keeps what was checked, some gigabytes, so that a later check takes what a form changes.
 """
 import argparse
 import functools
@@ -31,11 +31,14 @@ import re
 import shutil
 import subprocess
 import sys
+import tempfile
 import time
 from typing import Any, Dict, Iterator, List, NamedTuple, Optional, Set, Tuple
 
 import build
 
+# Outside the checkout, where `rt ci` refuses a second crates.txt.
+ROOM = f"{tempfile.gettempdir()}/btest-weaken{build.TOP.replace('/', '-')}"
 PARTS = ("src", "specs", "proofs")
 TOPS = ("btest", "promises", "outer_calls")
 FULL = "_in_full"
@@ -251,7 +254,7 @@ def without_field(text: str, fields: List[str], field: str) -> str:
 
 def proved() -> str:
     """Proves the crates of this checkout in a copy, and returns the copy."""
-    top = f"{build.TOP}/out/weaken-checked"
+    top = f"{ROOM}-checked"
     shutil.rmtree(top, ignore_errors=True)
     build.copy_to(top, {name: line for it in TOPS for name, line in build.needed(it).items()})
     if subprocess.run(["rt", "ci"], cwd=top, check=False).returncode:
@@ -437,7 +440,7 @@ def main() -> int:
     words.add_argument("crate", metavar="CRATE", help="a crate, as crates.txt names it")
     words.add_argument("words", metavar="WORD", nargs="*", help="chooses clauses")
     words.add_argument("--checked", metavar="DIR", help="a checkout that `rt ci` proved")
-    words.add_argument("--room", metavar="DIR", default=f"{build.TOP}/out/weaken", help="the copy")
+    words.add_argument("--room", metavar="DIR", default=ROOM, help="the copy")
     words.add_argument("--jobs", type=int, default=1, help="of each check (1)")
     words.add_argument("--list", action="store_true", help="prints the clauses and tries none")
     given = words.parse_args()
