@@ -3,8 +3,9 @@
 
 usage: weaken.py CRATE [WORD..] [--checked DIR] [--room DIR] [--jobs N] [--list]
 
-A clause is an `ensures` of a public function, or a field of a record in specs/. A WORD chooses the
-clauses that have it in their title, as --list prints it: `meet`, `IsPlanOf.width`, `"meet: (A"`.
+A clause is an `ensures` of a public function that is no method of a trait, or a field of a record
+in specs/. A WORD chooses the forms that have it in their title, as --list prints them: `meet`,
+`IsPlanOf.width`, `"meet: (A"`.
 
 The script tries these weaker forms of a clause: nothing in its place, and for `A <-> B` also
 `A -> B` and `B -> A`. It works in a copy, the room, which is among the temporary files if --room
@@ -433,19 +434,19 @@ def outcome(room: Room, name: str, form: Form) -> str:
 
 
 def main() -> int:
-    """Tries the clauses that the words choose."""
+    """Tries the forms that the words choose."""
     words = argparse.ArgumentParser(
         description=__doc__, formatter_class=argparse.RawDescriptionHelpFormatter
     )
     words.add_argument("crate", metavar="CRATE", help="a crate, as crates.txt names it")
-    words.add_argument("words", metavar="WORD", nargs="*", help="chooses clauses")
+    words.add_argument("words", metavar="WORD", nargs="*", help="chooses forms")
     words.add_argument("--checked", metavar="DIR", help="a checkout that `rt ci` proved")
     words.add_argument("--room", metavar="DIR", default=ROOM, help="the copy")
     words.add_argument("--jobs", type=int, default=1, help="of each check (1)")
-    words.add_argument("--list", action="store_true", help="prints the clauses and tries none")
+    words.add_argument("--list", action="store_true", help="prints the forms and tries none")
     given = words.parse_args()
-    checked = os.path.abspath(given.checked) if given.checked else proved()
-    room = Room(os.path.abspath(given.room), checked, given.jobs)
+    checked = given.checked or (build.TOP if given.list else proved())
+    room = Room(os.path.abspath(given.room), os.path.abspath(checked), given.jobs)
     if given.crate not in room.order:
         words.error(f"{given.crate} is no crate of the program")
     room.lays_out()
