@@ -20,6 +20,11 @@ TWO_DRIVERS = r"printf 'DEVICE U1 DRV -\nDEVICE U2 DRV -\n' >board.chain; printf
 LARGE = r"head -c 60000000 /dev/zero | tr '\0' '#' >large; ulimit -v 40000; "
 COUNTS = 'DEVICES 2 NETS 72 COVERED 72 PASSES 2 SCANS 19 BYTES 2373\n'
 
+# 70 more BSDL texts, which no part names.
+MANY = r'for i in $(seq 10 79); do sed "s/DRV/D$i/g" driver.bsd >more$i.bsd; done; '
+# A pipe is read to its end once: a second opening would wait for a second writer.
+PIPE = 'mkfifo pipe; cat board.chain >pipe & '
+
 # What is tried, the commands, the exit status, standard output and standard error. They run in a folder with the files of README.md,
 # of which driver.bsd is longer than one read of a file takes.
 ROWS = [
@@ -31,6 +36,16 @@ ROWS = [
      'board.nets line 1 word 4: two drivers always on\n'),
     ('no words', 'btest', 2, '', USAGE),
     ('words that are no command', 'btest svf board.chain', 2, '', USAGE),
+    ('a command with a blank behind it', SVF.replace('svf', "'svf '"), 2, '', USAGE),
+    ('a command with a blank before it', SVF.replace('svf', "' svf'"), 2, '', USAGE),
+    ('a name with blanks at its ends', "cp board.chain ' board.chain '; " + SVF.replace('board.chain', "' board.chain '"), 0,
+     (HERE / 'stdout').read_text(), ''),
+    ('a name that lacks a blank', "cp board.chain ' part.chain'; " + SVF.replace('board.chain', 'part.chain'), 3, '',
+     'cannot read part.chain\n'),
+    ('a name with a blank too many', SVF.replace('board.chain', "' board.chain'"), 3, '', 'cannot read  board.chain\n'),
+    ('74 words', MANY + SVF + ' more*.bsd', 0, (HERE / 'stdout').read_text(), ''),
+    ('a name of 4,000 bytes', SVF.replace('board.chain', './' * 1994 + 'board.chain'), 0, (HERE / 'stdout').read_text(), ''),
+    ('a file that can be read only once', PIPE + SVF.replace('board.chain', 'pipe'), 0, (HERE / 'stdout').read_text(), ''),
     ('a word that is not UTF-8', r'btest chain "$(printf "\377")"', 2, '', USAGE),
     ('a file that is not there', 'rm receiver.bsd; ' + SVF, 3, '', 'cannot read receiver.bsd\n'),
     ('a folder in place of a file', 'btest chain .', 3, '', 'cannot read .\n'),
