@@ -22,6 +22,7 @@ COUNTS = 'DEVICES 2 NETS 72 COVERED 72 PASSES 2 SCANS 19 BYTES 2373\n'
 
 # 70 more BSDL texts, which no part names.
 MANY = r'for i in $(seq 10 79); do sed "s/DRV/D$i/g" driver.bsd >more$i.bsd; done; '
+LONG_CHAIN = 'for i in $(seq 255); do echo "BYPASS U$i 255"; done >long; '
 # A pipe is read to its end once: a second opening would wait for a second writer.
 PIPE = 'mkfifo pipe; cat board.chain >pipe & '
 
@@ -53,6 +54,7 @@ ROWS = [
     ('a closed standard output', SVF + ' >&-', 4, '', 'cannot write\n'),
     ('too little memory', LARGE + SVF.replace('svf', 'groups large', 1), 5, '', 'out of memory\n'),
     ('as little memory, and no log', LARGE + 'btest make 2', 0, COUNTS, ''),
+    ('a chain of 255 parts, and as little memory', LONG_CHAIN + 'ulimit -v 40000; btest chain long >text', 0, '', ''),
     ('a closed standard error', 'btest chain . 2>&-', 3, '', ''),
 ]
 
