@@ -99,6 +99,19 @@ class Hostile(unittest.TestCase):
                     with self.assertRaises(Refused, msg=text[:end]):
                         READERS[name](text[:end])
 
+    def test_protel_cut_at_every_byte(self) -> None:
+        """A Protel netlist that is cut off is refused, or has the nets before the cut, whole."""
+        text = b"[\nR1\nF (0603\n10K [1%\n]\n(\nA\nR1-1\n)\n[\nR2\nF\n]1K]\n]\n(\nB(0)\nR2-1\n)\n"
+        whole = protel.read(text).text()
+        self.assertEqual(whole, "NET A R1.1\nNET B(0) R2.1\n")
+        found = set()
+        for end in range(len(text)):
+            try:
+                found.add(protel.read(text[:end]).text())
+            except Refused as why:
+                self.assertLessEqual(why.line, text[:end].count(b"\n") + 1)
+        self.assertEqual(found, {"", "NET A R1.1\n", whole})
+
     def test_changed(self) -> None:
         """Bytes are changed, left out, put in and copied."""
         source = random.Random(56)

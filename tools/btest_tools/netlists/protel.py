@@ -1,4 +1,9 @@
-"""Reads Protel netlists, which Altium and others export: parts in [ ], nets in ( )."""
+"""Reads Protel netlists, which Altium and others export: parts in [ ], nets in ( ).
+
+The brackets of a part are alone in their lines, so a bracket beside other text belongs to that
+text, as in the type `10K [1%`. In a net, and in a part that begins beside other text, a bracket
+of the text must have its other in the same line.
+"""
 
 from __future__ import annotations
 
@@ -7,13 +12,14 @@ from typing import Dict, List, Optional, Set
 
 from btest_tools.netlists.net_file import Net, Nets, last_line, numbered_lines, refuse, shown
 
-# What a part or a net has on one line. Names may hold brackets, in pairs.
+# What a part or a net has on one line, if its bracket is not alone. Names may hold pairs.
 WITHIN = {
     b"[": re.compile(rb"(?:[^][]+|\[[^][]*\])*"),
     b"(": re.compile(rb"(?:[^()]+|\([^()]*\))*"),
 }
 END = {b"[": b"]", b"(": b")"}
 BRACKET = re.compile(rb"[][()]")
+ALONE = (b"[", b"(", b")")  # lines that no part has between its brackets
 SECOND = re.compile(rb"\s*PROTEL\s+NETLIST\s+2", re.I)
 NODE = re.compile(rb"(.+)-([^-\s]+)", re.S)
 # The kinds of pins in the second form of the netlist.
@@ -31,11 +37,15 @@ class _Reading:
         self._names: Dict[bytes, int] = {}  # names that look like a pin, with their lines
         self._open = b""  # the bracket that is open, its line, and what came in it
         self._line = 0
+        self._has_lines = False  # the bracket of a part is alone in its line
         self._has_name = False
         self._net: Optional[Net] = None
 
     def take(self, number: int, line: bytes) -> None:
         """Reads a line, which may open and close several brackets."""
+        if self._has_lines:
+            self._part_line(number, line.strip())
+            return
         at = 0
         while True:
             if self._open:
@@ -55,14 +65,30 @@ class _Reading:
                     return
                 if bracket[0] in b"])":
                     refuse(number, f"a bracket has no other in its line: {shown(line.strip())}")
-                self._open, self._line = bracket[0], number
-                self._has_name, self._net = False, None
+                self._begin(number, line, bracket[0])
+                if self._has_lines:
+                    return
                 at = bracket.end() - 1
             at += 1
 
+    def _begin(self, number: int, line: bytes, bracket: bytes) -> None:
+        self._open, self._line = bracket, number
+        self._has_lines = line.strip() == b"["
+        self._has_name, self._net = False, None
+
+    def _part_line(self, number: int, line: bytes) -> None:
+        """Reads a line of a part whose brackets are alone in their lines."""
+        if line == b"]":
+            self._close(number)
+        elif line in ALONE:
+            refuse(number, f"the bracket in line {self._line} is not closed before {shown(line)}")
+        else:
+            self._within(number, line)
+
     def _within(self, number: int, line: bytes) -> None:
         if self._open == b"[":
-            if line and not self._has_name:
+            is_title = self._is_second and line == b"DESIGNATOR"
+            if line and not is_title and not self._has_name:
                 self._parts.add(line)
                 self._has_name = True
         elif self._net:
@@ -71,8 +97,9 @@ class _Reading:
                 self.nets.add(self._net, part, pin, number)
         elif line:
             self._net = self.nets.begin(line, number)
-            if NODE.fullmatch(line):
-                self._names[line] = number
+            nodes = self._nodes(line)
+            if all(map(NODE.fullmatch, nodes)):
+                self._names[nodes[0]] = number
         elif number > self._line:
             refuse(number, "a net without a name")
 
@@ -85,7 +112,7 @@ class _Reading:
     def _close(self, number: int) -> None:
         if self._open == b"(" and not self._net:
             refuse(number, "a net without a name")
-        self._open = b""
+        self._open, self._has_lines = b"", False
 
     def end(self, number: int) -> Nets:
         """Returns the nets after the last line."""
