@@ -154,19 +154,23 @@ class Ipc356(Boards):
     """Netlists by IPC-D-356."""
 
     def test_units(self) -> None:
-        rest = "      A01X+012700Y-025400X0500Y0100R090S1"
-        for units, x, y, width in (
-            ("", 32.26, 64.516, 1.27),  # of 0.0001 inch where nothing is said
-            ("P  UNITS CUST 0\n", 32.258, 64.516, 1.27),
-            ("P  UNITS CUST 1\n", 12.7, 25.4, 0.5),
-            ("P  UNITS CUST 2\n", 32.258, 64.516, 1.27),
+        rest = "      A01X+012700Y-025400X0500Y0100R{angle}S1"
+        for units, angle, x, y, width in (
+            ("", "090", 32.258, 64.516, 1.27),  # of 0.0001 inch where nothing is said
+            ("P  UNITS CUST\n", "090", 32.258, 64.516, 1.27),
+            ("P  UNITS CUST 0\n", "090", 32.258, 64.516, 1.27),
+            ("P  UNITS CUST 1\n", "090", 12.7, 25.4, 0.5),
+            ("P  UNITS CUST 2\n", "157", 32.258, 64.516, 1.27),
+            ("P  UNITS SI\n", "157", 12.7, 25.4, 0.5),
         ):
-            _, places = ipc(units, record("A", "U1", "1", rest))
-            (place,) = places.of("U1.1")
-            self.assertAlmostEqual(place.x, x, 2)
-            self.assertAlmostEqual(place.y, y, 3)  # upward in the file, downward here
-            self.assertAlmostEqual(place.width, width, 3)
-            self.assertEqual(place.side, "top")
+            with self.subTest(units):
+                _, places = ipc(units, record("A", "U1", "1", rest.format(angle=angle)))
+                (place,) = places.of("U1.1")
+                self.assertAlmostEqual(place.x, x, 6)
+                self.assertAlmostEqual(place.y, y, 6)  # upward in the file, downward here
+                self.assertAlmostEqual(place.width, width, 6)
+                self.assertAlmostEqual(place.angle, 90, 0)  # 157 hundredths are 89.95 degrees
+                self.assertEqual(place.side, "top")
 
     def test_sides(self) -> None:
         _, places = ipc(

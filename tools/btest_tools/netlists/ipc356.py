@@ -10,6 +10,11 @@ Columns are counted from 1, as the standard does. A record is a line of 80 colum
     39-41  A and the side: 00 both, 01 the top, another the bottom
     42-57  X and Y with sign and six digits, from a corner at the lower left
     58-71  X and Y of the size, with four digits, and R with the angle
+
+A line P UNITS says what the numbers mean. KiCad and pcb-rnd write CUST 0, in 0.0001 inch and
+degrees. pcb-rnd can write CUST 1, in 0.001 mm and degrees, and its reader takes CUST 2 for
+0.0001 inch and radians. An angle has three digits, so one in radians is read in hundredths:
+R157 is a right angle. SI is read as 0.001 mm and radians.
 """
 
 from __future__ import annotations
