@@ -2,13 +2,14 @@
 PREFIX ?= /usr/local
 PROGRAM := crates/btest/out/btest
 
-.PHONY: help demo build test check profile weaken check-tools bench stress figures install package
+.PHONY: help demo build test check profile weaken check-tools bench stress figures install uninstall package
 
 help:
 	@echo 'make demo                runs the program on an example board and shows what it prints: one to three minutes'
 	@echo 'make test                proves everything, tries the edits that must fail and runs the tests: about 60 minutes the first time; what passed is kept'
 	@echo 'make build               proves the program alone and leaves it at $(PROGRAM): less than 47 minutes, and nothing is left to prove after make test'
 	@echo 'make install PREFIX=DIR  copies the proved program with its man page, guide, examples and tools to DIR'
+	@echo 'make uninstall PREFIX=DIR removes them from there'
 	@echo 'make package             makes a Debian package and a tar.gz of them, in out/'
 	@echo 'make check CRATE=NAME    proves one crate, and those below it where they have changed'
 	@echo 'make profile CRATE=NAME  lists the functions of a crate by the seconds that their proofs take'
@@ -30,9 +31,16 @@ build:
 	@bash scripts/build.sh
 
 # The program and what goes with it: its man page, the completion of its words, the guide, the examples and the tools.
+# The folder is passed in the environment, so its name may hold blanks and signs of the shell.
+install uninstall: export INSTALL_TO = $(DESTDIR)$(PREFIX)
 install: build
-	@bash scripts/install.sh $(PROGRAM) $(DESTDIR)$(PREFIX)
-	@echo 'installed: $(DESTDIR)$(PREFIX)/bin/btest, share/man/man1/btest.1.gz and share/btest'
+	@bash scripts/install.sh $(PROGRAM) "$$INSTALL_TO"
+	@echo "installed: $$INSTALL_TO/bin/btest, share/man/man1/btest.1.gz and share/btest"
+
+# The same files are removed. What someone else put into share/btest stays.
+uninstall:
+	@bash scripts/install.sh --remove "$$INSTALL_TO"
+	@echo "removed: $$INSTALL_TO/bin/btest, share/man/man1/btest.1.gz and share/btest"
 
 # The same as packages for machines that have no Rattle kit.
 package: build
@@ -44,13 +52,11 @@ test:
 
 # One crate.
 check:
-	@test -n '$(CRATE)' || { echo 'make check CRATE=NAME, with a name of crates.txt'; exit 2; }
-	@cd crates/$(CRATE) && rt check
+	@bash scripts/check.sh "$$CRATE"
 
 # Where the time of one crate goes. The crates below it are proved first, and nothing else should run meanwhile.
 profile:
-	@test -n '$(CRATE)' || { echo 'make profile CRATE=NAME, with a name of crates.txt'; exit 2; }
-	@python3 -B scripts/profile-crate.py $(CRATE)
+	@bash scripts/check.sh --profile "$$CRATE"
 
 # Which proof needs each public clause of one crate: WITH='plan.width' tries those with this in their title.
 weaken:
@@ -59,7 +65,7 @@ weaken:
 
 # The programs beside btest and the examples of the documents; those of btest where the proved program is there.
 check-tools:
-	@python3 -B scripts/check-tools $(addprefix --btest ,$(wildcard $(PROGRAM)))
+	@bash scripts/python.sh scripts/check-tools $(addprefix --btest ,$(wildcard $(PROGRAM)))
 
 # Figures, with no limit and no verdict.
 bench: build
@@ -67,8 +73,8 @@ bench: build
 
 # Hostile use, outside the gate: WITH='broken --seed 7 --runs 1000000' does one part, with other broken texts and more of them.
 stress: build
-	@python3 -B scripts/stress $(PROGRAM) $(WITH)
+	@bash scripts/python.sh scripts/stress $(PROGRAM) $(WITH)
 
 # Figures of the sources, with no limit and no verdict.
 figures:
-	@python3 -B scripts/figures.py
+	@bash scripts/python.sh scripts/figures.py

@@ -1,16 +1,12 @@
 #!/usr/bin/env bash
-# Copies the program and what goes with it below a folder. Usage: install.sh PROGRAM FOLDER
+# Copies the program and what goes with it below a folder, or removes them from there.
+# Usage: install.sh PROGRAM FOLDER, or install.sh --remove FOLDER
 set -eu
-program=$(realpath "$1")
-mkdir -p "$2"
-to=$(realpath "$2")
-cd "$(dirname "$0")/.."
 
 # Copies files below share/btest, with the paths that they have here, so that what they say of each other stays true.
 share() {
     local file mode
     for file in "$@"; do
-        [ -f "$file" ] || continue
         mode=644
         [ ! -x "$file" ] || mode=755
         install -D -m "$mode" "$file" "$to/share/btest/$file"
@@ -19,7 +15,7 @@ share() {
 
 # The man page, with the version that the sources keep in one place.
 man_page() {
-    local page=$to/share/man/man1/btest.1.gz
+    local page=$to/$1
     install -d "${page%/*}"
     {
         cat docs/btest.1
@@ -28,7 +24,33 @@ man_page() {
     chmod 644 "$page"
 }
 
-install -D -m 755 "$program" "$to/bin/btest"
-install -D -m 644 scripts/package/completion.bash "$to/share/bash-completion/completions/btest"
-man_page
-share VERSION LICEN[CS]E* COPYING* docs/GUIDE.md docs/OPERATOR.md docs/*.png examples/* tools/* tools/btest_tools/*.py tools/btest_tools/*/*.py
+# Removes files below the folder, and each folder of btest's own that is empty then. What someone else put there stays.
+remove() {
+    local file
+    for file in "$@"; do
+        rm -f "$to/$file"
+    done
+    find "$to/share/btest" -depth -type d -name __pycache__ -exec rm -rf {} + 2>/dev/null || true
+    find "$to/share/btest" -depth -type d -empty -delete 2>/dev/null || true
+}
+
+program=
+[ "$1" = --remove ] || program=$(realpath "$1")
+[ -z "$program" ] || mkdir -p "$2"
+to=$(realpath "$2")
+cd "$(dirname "$0")/.."
+completion=share/bash-completion/completions/btest
+page=share/man/man1/btest.1.gz
+shared=()
+for file in VERSION LICEN[CS]E* COPYING* docs/GUIDE.md docs/OPERATOR.md docs/*.png examples/* tools/* tools/btest_tools/*.py tools/btest_tools/*/*.py; do
+    [ ! -f "$file" ] || shared+=("$file")
+done
+
+if [ -n "$program" ]; then
+    install -D -m 755 "$program" "$to/bin/btest"
+    install -D -m 644 scripts/package/completion.bash "$to/$completion"
+    man_page "$page"
+    share "${shared[@]}"
+else
+    remove bin/btest "$completion" "$page" "${shared[@]/#/share/btest/}"
+fi

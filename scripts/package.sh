@@ -10,7 +10,7 @@ need() {
     local tool
     for tool in "$@"; do
         command -v "$tool" >/dev/null && continue
-        echo "make package needs $tool: on Debian, apt-get install dpkg binutils gzip" >&2
+        echo "make package needs $tool: on Debian, apt-get install dpkg binutils gzip xz-utils" >&2
         exit 1
     done
 }
@@ -44,6 +44,32 @@ dependencies() {
     done
 }
 
+# Who answers for the package, as Debian writes it: DEBEMAIL and DEBFULLNAME say who, else it is the author of the last commit.
+maintainer() {
+    local name
+    if [ -n "${DEBEMAIL:-}" ]; then
+        name="${DEBFULLNAME:-the authors of btest} <$DEBEMAIL>"
+    else
+        name=$(git log -1 --format='%an <%ae>' 2>/dev/null || true)
+    fi
+    if [ -z "$name" ]; then
+        echo 'make package needs a maintainer: set DEBEMAIL, and DEBFULLNAME for the name' >&2
+        return 1
+    fi
+    echo "$name"
+}
+
+# What Debian wants to read of a package: its license, and what changed, which the version alone says.
+papers() {
+    local folder=$1
+    install -D -m 644 scripts/package/copyright "$folder/copyright"
+    {
+        printf 'btest (%s) unstable; urgency=medium\n\n  * Version %s. The commits of its sources say what changed.\n\n' "$version" "$version"
+        printf ' -- %s  %s\n' "$maintainer" "$(date -u -R -d "@$SOURCE_DATE_EPOCH")"
+    } | gzip -9n >"$folder/changelog.gz"
+    chmod 644 "$folder/changelog.gz"
+}
+
 # The files of the package's description, in the folder DEBIAN of the tree.
 describe() {
     local tree=$1
@@ -52,7 +78,7 @@ describe() {
 Package: btest
 Version: $version
 Architecture: $arch
-Maintainer: the authors of btest
+Maintainer: $maintainer
 Section: electronics
 Priority: optional
 Installed-Size: $(du -ks --apparent-size "$tree/usr" | cut -f1)
@@ -70,8 +96,9 @@ TEXT
     (cd "$tree" && find usr -type f -print0 | sort -z | xargs -0 md5sum) >"$tree/DEBIAN/md5sums"
 }
 
-need readelf dpkg-deb gzip
+need readelf strip dpkg-deb gzip xz
 version=$(<VERSION)
+maintainer=$(maintainer)
 arch=$(architecture)
 depends=$(dependencies)
 depends=$(sort -u <<<"$depends" | paste -sd, | sed 's/,/, /g')
@@ -83,7 +110,10 @@ export SOURCE_DATE_EPOCH
 
 umask 022
 mkdir -p out
-bash scripts/install.sh "$program" "$work/btest/usr"
+# Without the names of its functions, which only a debugger needs. Not a byte of its code changes.
+strip -o "$work/program" "$program"
+bash scripts/install.sh "$work/program" "$work/btest/usr"
+papers "$work/btest/usr/share/doc/btest"
 echo "btest $version for $arch needs ${depends:-nothing}; the programs in tools need Python 3.9 or OpenOCD 0.12." >"$work/btest/usr/share/btest/NEEDS"
 describe "$work/btest"
 find "$work/btest" -exec touch -h -d "@$SOURCE_DATE_EPOCH" {} +

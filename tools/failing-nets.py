@@ -13,7 +13,7 @@ from typing import Optional
 sys.dont_write_bytecode = True  # no folder of compiled modules beside the tools
 # pylint: disable=wrong-import-position
 from btest_tools.board import read_board  # noqa: E402
-from btest_tools.btest import Btest, default_program  # noqa: E402
+from btest_tools.btest import WHICH, Btest, default_program  # noqa: E402
 from btest_tools.explaining.placed import Placed, neighbor_lines  # noqa: E402
 from btest_tools.failing import Bench, look, show  # noqa: E402
 from btest_tools.files import Text, frame, put, read  # noqa: E402
@@ -25,8 +25,7 @@ from btest_tools.walks import look_at_walk  # noqa: E402
 def options() -> argparse.ArgumentParser:
     """Returns the reader of the command line."""
     words = argparse.ArgumentParser(description=__doc__)
-    program = "else that on the PATH, else the one of make build"
-    words.add_argument("--btest", metavar="PROGRAM", default=default_program(), help=program)
+    words.add_argument("--btest", metavar="PROGRAM", default=default_program(), help=WHICH)
     words.add_argument("--walk", action="store_true", help="LOG is of the walking test")
     both = "the log of the board's walking test; a set of faults must explain both"
     words.add_argument("--with-walk", metavar="WALKLOG", help=both)

@@ -15,7 +15,7 @@ from typing import List, Optional
 sys.dont_write_bytecode = True  # no folder of compiled modules beside the tools
 # pylint: disable=wrong-import-position
 from btest_tools.board import read_board  # noqa: E402
-from btest_tools.btest import Btest, default_program  # noqa: E402
+from btest_tools.btest import WHICH, Btest, default_program  # noqa: E402
 from btest_tools.explaining.placed import Placed  # noqa: E402
 from btest_tools.failing import Bench, look  # noqa: E402
 from btest_tools.files import Text, frame, put, read  # noqa: E402
@@ -36,8 +36,7 @@ ABOUT = __doc__.split("\n\n", maxsplit=1)[0]
 def options() -> argparse.ArgumentParser:
     """Returns the reader of the command line."""
     words = argparse.ArgumentParser(description=ABOUT)
-    program = "else that on the PATH, else the one of make build"
-    words.add_argument("--btest", metavar="PROGRAM", default=default_program(), help=program)
+    words.add_argument("--btest", metavar="PROGRAM", default=default_program(), help=WHICH)
     words.add_argument("--title", help="of the page, else the names of the log and the chain file")
     words.add_argument("--log", help="the log of a board, as of btest diagnose")
     words.add_argument(

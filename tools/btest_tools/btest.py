@@ -2,6 +2,7 @@
 
 from __future__ import annotations
 
+import os
 import pathlib
 import shutil
 import subprocess
@@ -9,13 +10,16 @@ from typing import Optional, Union
 
 from btest_tools.files import BadInput, Text
 
-BUILT = pathlib.Path(__file__).resolve().parents[2] / "crates/btest/out/btest"
+SHARE = pathlib.Path(__file__).resolve().parents[2]  # the repository, or share/btest of a package
+PLACES = (SHARE.parent.parent / "bin/btest", SHARE / "crates/btest/out/btest")
+WHICH = "else the btest on the PATH, else the one that is installed with these tools or made here"
 LOG = "/dev/stdin"  # the word for a log that was read already
 
 
 def default_program() -> str:
-    """Returns the btest on the PATH, else the one of make build."""
-    return shutil.which("btest") or str(BUILT)
+    """Returns the btest on the PATH, else the one installed with these tools or made here."""
+    there = [str(place) for place in PLACES if os.access(place, os.X_OK) and place.is_file()]
+    return shutil.which("btest") or (there or ["btest"])[0]
 
 
 class Btest:

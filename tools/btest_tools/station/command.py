@@ -10,7 +10,7 @@ import sys
 from collections.abc import Callable
 from typing import NamedTuple, NoReturn, Optional
 
-from btest_tools.btest import Btest, default_program
+from btest_tools.btest import WHICH, Btest, default_program
 from btest_tools.files import BadInput, put, tell
 from btest_tools.station import attempts, day, folder, line, record
 from btest_tools.station.record import Attempt, Record
@@ -130,8 +130,7 @@ def page(words: Words) -> int:
 
 def add_programs(words: argparse.ArgumentParser) -> None:
     """Adds the option that every command which calls btest has."""
-    help_text = "else that on the PATH, else the one of make build"
-    words.add_argument("--btest", metavar="PROGRAM", default=default_program(), help=help_text)
+    words.add_argument("--btest", metavar="PROGRAM", default=default_program(), help=WHICH)
 
 
 def options() -> argparse.ArgumentParser:
