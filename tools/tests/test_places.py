@@ -172,6 +172,14 @@ class Ipc356(Boards):
                 self.assertAlmostEqual(place.angle, 90, 0)  # 157 hundredths are 89.95 degrees
                 self.assertEqual(place.side, "top")
 
+    def test_angles_of_kicad(self) -> None:
+        """KiCad counts them clockwise."""
+        rest = "      A01X+012700Y-025400X0500Y0100R045S1"
+        head = "P  CODE 00\n", "P  UNITS CUST 0\n", "P  arrayDim   N\n"
+        for lines, angle in ((head, -45), (head[:2], 45)):
+            _, places = ipc(*lines, record("A", "U1", "1", rest))
+            self.assertEqual(places.of("U1.1")[0].angle, angle)
+
     def test_sides(self) -> None:
         _, places = ipc(
             record("A", "U1", "1", "D0800PA00X+000100Y+000100X0600Y0000R000S0", "317"),

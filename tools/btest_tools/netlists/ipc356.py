@@ -14,7 +14,8 @@ Columns are counted from 1, as the standard does. A record is a line of 80 colum
 A line P UNITS says what the numbers mean. KiCad and pcb-rnd write CUST 0, in 0.0001 inch and
 degrees. pcb-rnd can write CUST 1, in 0.001 mm and degrees, and its reader takes CUST 2 for
 0.0001 inch and radians. An angle has three digits, so one in radians is read in hundredths:
-R157 is a right angle. SI is read as 0.001 mm and radians.
+R157 is a right angle. SI is read as 0.001 mm and radians. Angles are counterclockwise as seen
+from the top. Those of KiCad are clockwise, and its files have a line P arrayDim.
 """
 
 from __future__ import annotations
@@ -35,6 +36,7 @@ IGNORED = re.compile(rb"[03][0-9][0-9]")
 ALIAS = re.compile(rb"P\s+(NNAME\S*)\s+(\S.*?)\s*", re.I)
 UNITS = re.compile(rb"P\s+UNITS\s+(\S.*?)\s*", re.I)
 IMAGE = re.compile(rb"P\s+IMAGE\b.*", re.I)
+KICAD = re.compile(rb"P\s+arrayDim\b.*")
 # What follows the column of the pin: columns 32 to 71.
 REST = re.compile(
     rb"(?:M|E)?\s*(?:D[ \d]{1,6})?\s*[PU]?\s*(?:A\s*(\d{1,2}))?\s*"
@@ -159,6 +161,8 @@ class Reading:
             self._scale = scale
         elif IMAGE.fullmatch(text):
             self._images += self.has_records or not self._images
+        elif KICAD.fullmatch(text):
+            self._scale = self._scale._replace(angle=-abs(self._scale.angle))
 
     def _record(self, line: int, text: bytes) -> None:
         point = point_of(text, self._scale, line)
