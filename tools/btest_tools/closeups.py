@@ -14,9 +14,14 @@ PINS = 400  # in a close-up
 WHOLE = 64  # pins of a part that is shown as a whole
 AROUND = 4.5  # pitches around the marked pins of a larger part
 WIDEST = 1.6  # millimeters of a pitch, for a part that has a wider one
-EDGE = 3.2  # pitches around a part
+EDGE = 3.2  # pitches around a part, unless names need more
 WIDTH = 1000  # units of a close-up
 SMALLEST = 4.0  # millimeters of a close-up
+LETTERS = (24.0, 48.0)  # units of the smallest and of the largest letters
+LETTER = 0.64  # width of a letter, in sizes
+DENSE = 36.0  # units of letters that need a large picture
+LONGEST = 20  # letters that have room
+NAMED = 200  # pins that have their names
 
 
 class Marked(NamedTuple):
@@ -31,6 +36,18 @@ class Marked(NamedTuple):
     is_open: bool
 
 
+class Text(NamedTuple):
+    """A name in a picture, with the rectangle that it covers."""
+
+    box: Box
+    svg: str
+
+
+def name(one: Marked) -> str:
+    """Returns the name of a pin and the number of its net."""
+    return f"{one.pin.partition('.')[2]} ({one.number})"
+
+
 class CloseUp:
     """The pins of one part that are marked on one side, and what is around them."""
 
@@ -39,16 +56,25 @@ class CloseUp:
         self._part = part
         self._side = side
         self._marked = {one.pin: one for one in marked}
-        pitch = places.pitch(part)
-        pitch = min(pitch, WIDEST)
-        mine = [one.pin for one in marked if one.pin.startswith(part + ".")]
-        spots = [spot for pin in mine for spot in places.of(pin) if spot.is_on(side)]
+        self._pitch = min(places.pitch(part), WIDEST)
+        mine = [one for one in marked if one.pin.startswith(part + ".")]
+        spots = [spot for one in mine for spot in places.of(one.pin) if spot.is_on(side)]
         whole = [spot for pin in places.parts[part] for spot in places.of(pin)]
         self._extent = extent(whole)
         is_small = len(places.parts[part]) <= WHOLE
-        self._window = window(self._extent if is_small else extent(spots), self._extent, pitch)
-        self._scale = WIDTH / (self._window.right - self._window.left)
+        longest = min(LONGEST, max(len(name(one)) for one in mine))
+        self._fit(self._extent if is_small else extent(spots), longest + 1)
         self._height = (self._window.bottom - self._window.top) * self._scale
+        self._taken: List[Box] = []  # by marks and names
+
+    def _fit(self, shown: Box, longest: int) -> None:
+        """Chooses the window around some pins and its scale, so that the longest name has room, of so many letters."""
+        room = EDGE * self._pitch
+        for _ in range(20):  # more room makes all smaller but the letters, and they need more room
+            self._window = window(shown, self._extent, self._pitch, max(1.0, room))
+            self._scale = WIDTH / (self._window.right - self._window.left)
+            self.letter = max(LETTERS[0], min(LETTERS[1], self._pitch * self._scale))
+            room = longest * LETTER * self.letter / self._scale
 
     def _visible(self) -> List[Tuple[str, Place]]:
         """Returns the pins in the window, those of the part first."""
@@ -86,11 +112,6 @@ class CloseUp:
         marks = [
             self._mark(self._marked[pin], spot) for pin, spot in visible if pin in self._marked
         ]
-        letters = [
-            self._letter(self._marked[pin], spot)
-            for pin, spot in visible
-            if pin in self._marked and pin.startswith(self._part + ".")
-        ]
         says = f"The pins of {self._part} from the {self._side}: " + ", ".join(
             pin for pin, _ in visible if pin in self._marked
         )
@@ -98,9 +119,10 @@ class CloseUp:
             f'<svg viewBox="0 0 {WIDTH} {self._height:.0f}" role="group" '
             f'aria-label="{escape(says)}" '
             f'font-family="sans-serif">{self._box()}<path d="{plain}" fill="#ddd" stroke="#999" '
-            f'stroke-width="3"/>{"".join(marks)}<g font-size="{self._letter_size():.0f}" '
-            f'text-anchor="middle" font-weight="bold" stroke="#fff" stroke-width="12" '
-            f'paint-order="stroke">{"".join(letters)}</g></svg>'
+            f'stroke-width="3"/>{"".join(marks)}<g font-size="{self.letter:.0f}" '
+            f'text-anchor="middle" font-weight="bold" stroke="#fff" '
+            f'stroke-width="{self.letter / 4:.0f}" '
+            f'paint-order="stroke">{"".join(self._names(visible))}</g></svg>'
         )
 
     def _box(self) -> str:
@@ -116,7 +138,8 @@ class CloseUp:
     def _mark(self, one: Marked, spot: Place) -> str:
         fill = one.color if one.fails else "#fff"
         ring = "#000" if one.is_open else one.color
-        width = 14 if one.is_open else 8
+        # A black ring is painted first, so that it leaves the color of a narrow pin.
+        width = '16" paint-order="stroke' if one.is_open else "8"
         fails = ", fails" if one.fails else ""
         return (
             f'<path d="{self._corners(spot)}" fill="{fill}" stroke="{ring}" '
@@ -124,15 +147,32 @@ class CloseUp:
             "</title></path>"
         )
 
-    def _letter_size(self) -> float:
-        """Returns the size of letters: that of a pitch, within limits."""
-        pitch = self._places.pitch(self._part)
-        return max(24.0, min(48.0, pitch * self._scale))
+    def _names(self, visible: Sequence[Tuple[str, Place]]) -> Iterator[str]:
+        """Yields the names of the marked pins of the part, each where it covers least."""
+        coppers = [(pin, self._units(extent([spot]))) for pin, spot in visible]
+        self._taken = [box for pin, box in coppers if pin in self._marked]
+        plain = [box for pin, box in coppers if pin not in self._marked]
+        mine = [
+            (self._marked[pin], spot)
+            for pin, spot in visible
+            if pin in self._marked and pin.startswith(self._part + ".")
+        ]
+        for one, spot in mine[:NAMED]:
+            texts = list(self._texts(one, spot))
+            free = [text for text in texts if not any(map(text.box.meets, self._taken))]
+            best = [text for text in free if not any(map(text.box.meets, plain))]
+            for text in (best or free)[:1]:
+                self._taken.append(text.box)
+                yield text.svg
 
-    def _letter(self, one: Marked, spot: Place) -> str:
-        """Returns the name of a pin and the number of its net, beyond the edge that it is near."""
-        text = f"{one.pin.partition('.')[2]} ({one.number})"
-        x, y = self._at(spot.x, spot.y)
+    def _units(self, box: Box) -> Box:
+        """Returns a rectangle of the board in units of the picture."""
+        (left, top), (right, bottom) = self._at(box.left, box.top), self._at(box.right, box.bottom)
+        return Box(min(left, right), top, max(left, right), bottom)
+
+    def _texts(self, one: Marked, spot: Place) -> Iterator[Text]:
+        """Yields the name of a pin beyond the edge of the part that it is near, and on the other
+        side of the pin."""
         copper, part = extent([spot]), self._extent
         gaps = (
             (copper.left - part.left, -1, 0),
@@ -141,22 +181,27 @@ class CloseUp:
             (part.bottom - copper.bottom, 0, 1),
         )
         _, right, down = min(gaps, key=lambda gap: round(gap[0], 2))  # the first of equal ones
-        half = self._letter_size() * 0.32 * len(text)
-        across = half + (copper.right - copper.left) / 2 * self._scale
-        away = half + (copper.bottom - copper.top) / 2 * self._scale
-        x += across * right * (-1 if self._side == BOTTOM else 1)
-        y += away * down
-        turn = f' transform="rotate(-90 {x:.0f} {y:.0f})"' if down else ""
-        x = x if down else min(max(x, half), WIDTH - half)
-        return (
-            f'<text x="{x:.0f}" y="{y:.0f}" dy=".35em" fill="{one.color}"{turn}>'
-            f"{escape(text)}</text>"
-        )
+        right *= -1 if self._side == BOTTOM else 1
+        box = self._units(copper)
+        half, high = self.letter * LETTER / 2 * len(name(one)), self.letter * 0.4
+        across, away = (half, high) if right else (high, half)
+        gap = self.letter * LETTER / 2
+        for way in (1, -1):
+            x = (box.left + box.right) / 2 + way * right * (half + gap + (box.right - box.left) / 2)
+            y = (box.top + box.bottom) / 2 + way * down * (half + gap + (box.bottom - box.top) / 2)
+            x = min(max(x, across), WIDTH - across)
+            y = min(max(y, away), self._height - away)
+            turn = f' transform="rotate(-90 {x:.0f} {y:.0f})"' if down else ""
+            yield Text(
+                Box(x - across, y - away, x + across, y + away),
+                f'<text x="{x:.0f}" y="{y:.0f}" dy=".35em" fill="{one.color}"{turn}>'
+                f"{escape(name(one))}</text>",
+            )
 
 
-def window(marked: Box, part: Box, pitch: float) -> Box:
+def window(marked: Box, part: Box, pitch: float, edge: float) -> Box:
     """Returns what a close-up shows: some pins and what is around, with room for their names."""
-    around, edge = AROUND * pitch, max(1.0, EDGE * pitch)
+    around = max(AROUND * pitch, edge)
     box = Box(
         max(marked.left - around, part.left - edge),
         max(marked.top - around, part.top - edge),
@@ -179,7 +224,7 @@ def closeups(places: Places, marked: Sequence[Marked]) -> Iterator[str]:
         mine = [one for one in marked if one.pin.startswith(part + ".")]
         sides = {spot.side for one in mine for spot in places.of(one.pin)} - {BOTH}
         side = BOTTOM if sides == {BOTTOM} else TOP
-        picture = CloseUp(places, part, side, marked).svg()
-        yield (
-            f"<figure><figcaption>{escape(part)}, from the {side}</figcaption>{picture}</figure>"
-        )
+        picture = CloseUp(places, part, side, marked)
+        kind = "" if picture.letter > DENSE else " class=dense"
+        title = f"{escape(part)}, from the {side}"
+        yield f"<figure{kind}><figcaption>{title}</figcaption>{picture.svg()}</figure>"

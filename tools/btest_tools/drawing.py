@@ -79,14 +79,14 @@ def frame_of(places: Places) -> Frame:
     points = [Place(x, y, TOP) for line in places.outline for x, y in line]
     whole = extent(points or itertools.chain(*places.pins.values()))
     box = extent(points + [place for pin in places.pins.values() for place in pin])
-    span = max(box.right - box.left, box.bottom - box.top, 1.0)
-    letter = span / 32
+    across, down = box.right - box.left, box.bottom - box.top
+    letter = max(across / 48, down / 48, math.sqrt(across * down) / 28, 1 / 32)
     margin = letter * 1.3
     return Frame(
         box.left - margin,
         box.top - margin,
-        box.right - box.left + 2 * margin,
-        box.bottom - box.top + 2 * margin + 1.6 * letter,
+        across + 2 * margin,
+        down + 2 * margin + 1.6 * letter,
         letter,
         (whole.left, whole.top),
     )

@@ -7,7 +7,7 @@ from __future__ import annotations
 
 import math
 from html import escape
-from typing import Iterable, Iterator, List, NamedTuple, Sequence, Set, Tuple
+from typing import Dict, Iterable, Iterator, List, NamedTuple, Sequence, Set, Tuple
 
 from btest_tools.closeups import Marked, closeups
 from btest_tools.drawing import UNIT, Box, Frame, Shapes, dots_path, extent, frame_of
@@ -17,21 +17,28 @@ MARKS = 200  # pins of a kind that are drawn one by one in a view
 LINES = 40  # lines in a view
 LISTED = 12  # pins of a net in the table
 ROWS = 60  # nets in the table
+FEW = 10  # nets whose table is printed on the page of the pictures
+STACKED = 1.8  # heights of a board that is so wide that its pictures are one below the other
 
 # Colors that differ for all kinds of sight, after Okabe and Ito, darkened for a white page.
 COLORS = ("#b03a00", "#005f9e", "#00795a", "#a2407f", "#7a6200", "#2f7fb5", "#c07800", "#333333")
 
 STYLE = """
-.board { break-inside: avoid; }
+.board .pictures, .whole { break-inside: avoid; } .board p { break-after: avoid; }
 .board figure { margin: 0; flex: 1 1 22em; min-width: 0; break-inside: avoid; }
-.board .views { display: flex; flex-wrap: wrap; gap: 1em; }
-.board .close { gap: .6em; }
-.board .close figure { flex: 1 1 13em; max-width: 20em; }
-.board .close svg { max-height: 20em; border: 1px solid #bbb; }
+.board .views { display: flex; flex-wrap: wrap; gap: .6em 1em; }
+.board .stacked figure { flex-basis: 100%; }
+.board .close figure { flex: 1 1 16em; max-width: 23em; }
+.board .close .dense { flex-basis: 24em; max-width: 35em; }
 .board figcaption { font-weight: bold; } .board .legend { margin: .3em 0; }
 .board svg { display: block; width: 100%; height: auto; max-height: 34em; margin: 0; }
-@media print { .board svg { max-height: 7cm; } .board .views { flex-wrap: nowrap; }
-  .board .close svg { max-height: 4.5cm; } }
+.board .close svg { box-sizing: border-box; max-height: 28em; border: 1px solid #bbb; }
+.board td:nth-child(2) { min-width: 9em; } .board td:nth-child(3) { min-width: 10em; }
+@media print { .board .views { flex-wrap: nowrap; gap: .3em 1em; }
+  .board .stacked figure { flex-basis: 0; } .board svg { max-height: 6.5cm; }
+  .board .close { flex-wrap: wrap; } .board .close svg { max-height: 5.6cm; }
+  .board .close figure { flex: 0 0 calc(33% - .7em); max-width: none; }
+  .board .close .dense { flex-basis: calc(50% - .6em); } }
 """
 
 
@@ -117,23 +124,43 @@ class View:
             yield "".join(circles) + "</g>"
 
     def _marks(self) -> Iterator[str]:
-        """Yields the failing pins, as disks."""
+        """Yields the failing pins, as disks. Those beyond a number have no names."""
         total, radius = 0, self._radius
+        width = self._frame.stroke(0.06)
+        rest: Dict[str, List[Tuple[int, int]]] = {}  # by colors
         for net in self._nets:
-            circles = []
-            for pin, x, y in self._spots(net.failing):
-                total += 1
-                if total > MARKS:
-                    break
-                circles.append(
+            spots = self._spots(net.failing)
+            single = spots[: max(0, MARKS - total)]
+            total += len(spots)
+            if single:
+                yield f'<g fill="{net.color}" stroke="#fff" stroke-width="{width}">'
+            for pin, x, y in single:
+                yield (
                     f'<circle cx="{x}" cy="{y}" r="{radius}">'
                     f"<title>{escape(pin)}, net {escape(net.name)}, fails</title></circle>"
                 )
                 self._taken.append(Box(x - radius, y - radius, x + radius, y + radius))
-            if circles:
-                width = self._frame.stroke(0.06)
-                yield f'<g fill="{net.color}" stroke="#fff" stroke-width="{width}">'
-                yield "".join(circles) + "</g>"
+            if single:
+                yield "</g>"
+            rest.setdefault(net.color, []).extend((x, y) for _, x, y in spots[len(single) :])
+        yield from self._dots(rest)
+
+    def _dots(self, colors: Dict[str, List[Tuple[int, int]]]) -> Iterator[str]:
+        """Yields disks in few bytes: of those that nearly cover each other, one is drawn."""
+        taken: Set[Tuple[int, int]] = set()
+        for color, points in colors.items():
+            kept = []
+            for x, y in points:
+                cell = x // self._radius, y // self._radius
+                if cell not in taken:
+                    taken.add(cell)
+                    kept.append((x, y))
+            if kept:
+                yield (
+                    f'<path d="{dots_path(kept)}" fill="none" stroke="{color}" '
+                    f'stroke-linecap="round" stroke-width="{2 * self._radius}">'
+                    "<title>failing pins</title></path>"
+                )
 
     def _rings(self, opens: Sequence[str]) -> Iterator[str]:
         """Yields black rings around the pins that may be open."""
@@ -271,7 +298,8 @@ def table(places: Places, frame: Frame, nets: Sequence[ShownNet], pairs: Sequenc
     if len(nets) > ROWS:
         rows.append(f"<tr><td></td><td>and {len(nets) - ROWS:,} more nets</td></tr>")
     heads = "<tr><th class=number></th><th>net</th><th>failing pins</th><th>other pins</th></tr>"
-    lines = [f"<div class=wide><table>{heads}{''.join(rows)}</table></div>"]
+    head, body = f"<thead>{heads}</thead>", f"<tbody>{''.join(rows)}</tbody>"
+    lines = [f"<div class=wide><table>{head}{body}</table></div>"]
     if pairs:
         items = [f"<li>{measure(places, frame, pair)}</li>" for pair in pairs[:ROWS]]
         lines.append(f"<p>Measure between:</p><ul>{''.join(items)}</ul>")
@@ -286,13 +314,20 @@ def measure(places: Places, frame: Frame, pair: Pair) -> str:
 
 
 LEGEND = (
-    "<p class=legend>&#9679; a failing pin, with the number of its net in the table; &#9675; "
-    "another pin of such a net; a black ring is a pin that may be open; a dashed line joins pins "
-    "to measure between, and a dashed ring is a pin on the other side; a box is a part, as far as "
-    "its pins reach. A close-up has the pins of a part with their names and, in brackets, the "
-    "numbers of their nets. Places are in mm from the left and the upper edge, as seen from the "
-    "top.</p>"
+    "&#9679; a failing pin, with the number of its net in the table; &#9675; another pin of such a "
+    "net; a black ring is a pin that may be open; a dashed line joins pins to measure between, and "
+    "a dashed ring is a pin on the other side; a box is a part, as far as its pins reach. A "
+    "close-up has the pins of a part and, where there is room, their names with the numbers of "
+    "their nets in brackets. "
+    "Places are in mm from the left and the upper edge, as seen from the top."
 )
+
+
+def legend(places: Places, nets: Sequence[ShownNet]) -> str:
+    """Returns what the marks mean, and how many pins have a number if not all have one."""
+    count = sum(len(places.of(pin)) for net in nets for pin in net.failing)
+    more = f" Of {count:,} failing pins, at most {MARKS} of a side have numbers."
+    return f"<p class=legend>{LEGEND}{more if count > MARKS else ''}</p>"
 
 
 def marked(nets: Sequence[ShownNet], opens: Set[str]) -> Iterator[Marked]:
@@ -324,8 +359,10 @@ def board(
         views.append(f"<figure><figcaption>The board {says}</figcaption>{svg}</figure>")
         definitions = ""  # both views use those of the first
     close = "".join(closeups(places, list(marked(nets, set(opens)))))
+    kind = "views stacked" if frame.width > STACKED * frame.height else "views"
+    whole = " whole" if len(nets) <= FEW else ""
     return (
-        f'<div class=board><div class=views>{"".join(views)}</div>'
-        f'<div class="views close">{close}</div>{LEGEND}'
+        f'<div class="board{whole}"><div class=pictures><div class="{kind}">{"".join(views)}</div>'
+        f'<div class="views close">{close}</div>{legend(places, nets)}</div>'
         f"{table(places, frame, nets, pairs)}</div>"
     )

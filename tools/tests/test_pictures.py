@@ -9,6 +9,7 @@ import xml.etree.ElementTree
 from typing import List
 
 from btest_tools import pictures
+from btest_tools.drawing import Box
 from btest_tools.neighbors import Neighborhood, are_side_by_side
 from btest_tools.places import BOTH, BOTTOM, TOP, Place, Places
 from btest_tools.pictures import ShownNet
@@ -118,6 +119,51 @@ class PicturesTest(unittest.TestCase):
         self.assertIn("U1.1 (top, 0.0, 0.0)", words)
         self.assertIn("J9.1 (no place)", words)
 
+    def test_more_pins_than_are_drawn_one_by_one(self) -> None:
+        """All of them are drawn, and the legend says how many have numbers."""
+        places = Places()
+        row(places, "J1", 110, 10, 0)
+        row(places, "J2", 110, 10, 99)
+        nets = [
+            ShownNet(number, f"N{number}", pins, pins)
+            for number, pins in enumerate(places.parts.values(), 1)
+        ]
+        root = self.drawn(places, nets)
+        top = root.findall(".//svg")[0]
+        circles = [c for c in top.iter("circle") if str(c.findtext("title")).endswith(", fails")]
+        dots = [path for path in top.iter("path") if path.findtext("title") == "failing pins"]
+        self.assertEqual(len(circles), 200)
+        self.assertEqual([path.attrib["d"].count("h0") for path in dots], [20])
+        words = " ".join("".join(root.itertext()).split())
+        self.assertIn("Of 220 failing pins, at most 200 of a side have numbers.", words)
+
+    def test_names_of_a_close_up(self) -> None:
+        """They are within the picture, and none is on another or on a marked pin."""
+        cases = ((8, 1.27, 1, 16), (40, 0.5, 1, 60), (40, 0.5, 9, 28), (2, 0.4, 12, 3))
+        for count, pitch, length, least in cases:
+            with self.subTest(f"{count} pins with a pitch of {pitch}, {length} letters"):
+                places = Places()
+                for at in range(count):
+                    for side, x in (("L", 0.0), ("R", 9.0)):
+                        spot = Place(x, at * pitch, TOP, 1, pitch / 2)
+                        places.add("U1", f"{side:X<{length}}{at}", spot)
+                pins = list(places.pins)
+                nets = [ShownNet(n, f"N{n}", [pin], [pin]) for n, pin in enumerate(pins, 100)]
+                closeup = self.drawn(places, nets).findall(".//svg")[2]
+                wide, high = map(float, closeup.attrib["viewBox"].split()[2:])
+                (group,) = [one for one in closeup.findall("g") if "font-size" in one.attrib]
+                size = float(group.attrib["font-size"])
+                taken: List[Box] = []
+                for text in group.findall("text"):
+                    x, y = float(text.attrib["x"]), float(text.attrib["y"])
+                    half = 0.28 * size * len(text.text or "")
+                    box = Box(x - half, y - 0.3 * size, x + half, y + 0.3 * size)
+                    self.assertGreaterEqual(min(box.left, box.top), 0)
+                    self.assertLessEqual(max(box.right / wide, box.bottom / high), 1)
+                    self.assertFalse([other for other in taken if box.meets(other)])
+                    taken.append(box)
+                self.assertGreaterEqual(len(taken), least)
+
     def test_a_large_board(self) -> None:
         places = Places()
         for part in range(5000):
@@ -130,6 +176,10 @@ class PicturesTest(unittest.TestCase):
         cases = {
             "few": [ShownNet(1, "A", pins[:9], pins[:2])],
             "all": [ShownNet(1, "GND", pins, pins[:2000])],
+            "every": [
+                ShownNet(n + 1, f"N{n}", pins[20 * n : 20 * n + 20], pins[20 * n : 20 * n + 20])
+                for n in range(1000)
+            ],
             "many": [
                 ShownNet(
                     n + 1, f"N{n}", pins[200 * n : 200 * n + 200], pins[200 * n : 200 * n + 20]
