@@ -121,6 +121,8 @@ def package(folder, program):
     names = run(['dpkg-deb', '--contents', made]).stdout
     for name in ('usr/bin/btest', 'usr/share/doc/btest/copyright', 'usr/share/doc/btest/changelog.gz', 'usr/share/man/man1/btest.1.gz'):
         assert f' ./{name}\n' in names, f'{name} is not there'
+    run(['dpkg-deb', '--extract', made, f'{folder}/tree'])
+    same(run([f'{folder}/tree/usr/bin/btest', 'make', '2']).stdout, run([program, 'make', '2']).stdout, 'what the packed program prints')
     if not shutil.which('lintian'):
         raise Skipped('lintian is not there')
     found = run(['lintian', '--allow-root', '--fail-on', 'error', made], timeout=2 * SECONDS)
