@@ -1,5 +1,7 @@
 """The programs that make a net file of a netlist."""
+import os
 import pathlib
+import subprocess
 import sys
 import tempfile
 
@@ -154,6 +156,59 @@ def bad_output(program, file):
 
 
 PLACES = {'ipc-356-nets.py': 'controller.ipc', 'kicad-pcb-nets.py': 'controller.kicad_pcb'}
+# Large netlists: what they begin with, a net, a pin of it, the end of a net, what is passed over, and what they end with.
+LARGE = {
+    'kicad-nets.py': ('(export (nets', '(net (name N{net})', '(node (ref U{net}) (pin {pin}))', ')\n', '(x "passed over" (y))\n', '))'),
+    'protel-nets.py': ('', '(\nN{net}\n', 'U{net}-{pin}\n', ')\n', 'passed over\n', ''),
+    'pads-nets.py': ('*PADS-PCB*\n*NET*\n', '*SIGNAL* N{net}\n', 'U{net}.{pin} ', '\n', '*REMARK* passed over\n', '*END*\n'),
+    'telesis-nets.py': ('$NETS\n', 'N{net} ;', ' U{net}.{pin}', '\n', '\t\t\t\n', '$END\n'),
+    'ipc-356-nets.py': ('', '', '327N{net:<13}   U{net:<5}-{pin:<4}      A01X+001000Y+001000X0600Y0000R000S1\n', '', 'C  passed over\n', '999\n'),
+    'kicad-pcb-nets.py': ('(kicad_pcb', '(footprint X (at 0 0) (fp_text reference U{net})\n',
+                          '(pad {pin} smd rect (at 1 1) (size 1 1) (layers F.Cu) (net N{net}))\n', ')\n', '(zone (x "passed over"))\n', ')'),
+}
+PINS = 20   # of a net
+
+
+def write_large(program, path, size, nets):
+    """Writes a netlist with so many nets, and then as much as makes it so many bytes long."""
+    begin, net, pin, end, filler, last = LARGE[program]
+    with open(path, 'w', encoding='ascii') as file:
+        file.write(begin)
+        for at in range(nets):
+            file.write(net.format(net=at) + ''.join(pin.format(net=at, pin=number) for number in range(PINS)) + end)
+        while file.tell() < size:
+            file.write(filler * 10_000)
+        file.write(last)
+
+
+def measured(program, path):
+    """What a program prints of a netlist, and the most memory that it took, in bytes."""
+    with tempfile.TemporaryFile() as out:
+        process = subprocess.Popen([sys.executable, '-B', TOOLS / program, path], stdout=out)
+        _, status, usage = os.wait4(process.pid, 0)
+        process.returncode = os.waitstatus_to_exitcode(status)
+        out.seek(0)
+        return process.returncode, out.read(), usage.ru_maxrss * 1024
+
+
+def take_large(program, folder, size=8_000_000, nets=2_500):
+    """A large netlist is read, and takes at most ten times as much memory as it is long."""
+    path = pathlib.Path(folder) / 'large'
+    write_large(program, path, size, nets)
+    status, printed, memory = measured(program, path)
+    same((status, printed.count(b'\n'), printed.count(b' U')), (0, nets, nets * PINS), 'the nets')
+    assert memory <= 10 * path.stat().st_size, f'it took {memory:,} bytes'
+
+
+def leave(program, folder):
+    """A reader that takes a line and leaves: that line, and one line on standard error."""
+    path = pathlib.Path(folder) / 'large'
+    write_large(program, path, 0, 2_000)
+    for word in '', '1':   # a write that Python doesn't buffer may take a part alone
+        setting = {**os.environ, 'PYTHONUNBUFFERED': word}
+        answer = run(['sh', '-c', f'{sys.executable} -B {TOOLS / program} {path} | head -n 1'], env=setting)
+        same((answer.stdout.count('\n'), answer.stdout[:10]), (1, 'NET N0 U0.'), 'what is printed')
+        same(answer.stderr, f'{program}: cannot write standard output: its reader left\n', 'standard error')
 
 
 def check(_program):
@@ -163,6 +218,9 @@ def check(_program):
         for program, file in (('pads-nets.py', 'controller-pads.asc'), ('ipc-356-nets.py', 'controller.ipc')):
             yield f'{program} writes a file', lambda: write_file(program, file, folder)
             yield f'{program}: output that fails', lambda: bad_output(program, file)
+        for program in LARGE:
+            yield f'{program}: a large netlist', lambda: take_large(program, folder)
+            yield f'{program}: a reader that leaves after a line', lambda: leave(program, folder)
         for program in FORMS:
             yield f'{program} prints the nets of the demo board', lambda: compare_demo(program)
             for what, nets, right, told in ALIKE:

@@ -1,10 +1,12 @@
 """What holds of each program of tools/: it tells of itself, and of words and files that are missing."""
 import os
 import re
+import shlex
 import stat
+import sys
 import tempfile
 
-from cases import BOARD, TOOLS, inside, refused, same
+from cases import BOARD, EXAMPLES, TOOLS, inside, need, refused, run, same
 
 
 def helps(name):
@@ -26,7 +28,17 @@ MISSING = [
 ]
 
 
-def check(_program):
+def bad_output(name, words, program):
+    """A full disk and a closed output are one line and status 1; a reader that leaves needs none. There is never a traceback."""
+    need(program)
+    command = shlex.join(map(str, [sys.executable, '-B', TOOLS / name, '--btest', program, *words]))
+    for how, lines in ((f'{command} >/dev/full', 1), (f'{command} >&-', 1), (f'{{ sleep .5; {command}; }} | true', 0), (f'{command} | head -n 1', 0)):
+        answer = run(['sh', '-c', how])
+        same(answer.stderr.count('\n'), lines, f'the number of lines of {how}, which says {answer.stderr!r}')
+        assert lines == 0 or answer.returncode == 1 and 'cannot write standard output' in answer.stderr, f'{how}: it says {answer.stderr!r}'
+
+
+def check(program):
     with tempfile.TemporaryDirectory() as folder:
         for name in sorted(os.listdir(TOOLS)):
             path = TOOLS / name
@@ -36,6 +48,10 @@ def check(_program):
             if name.endswith('.py') and path.stat().st_mode & stat.S_IXUSR:
                 yield f'{name} --help', lambda: helps(name)
                 yield f'{name} without words', lambda: refused(inside(name))
+        places = ['--places', EXAMPLES / 'controller.kicad_pcb']
+        for name, words in (('failing-nets.py', [*places, EXAMPLES / 'short-and-lifted.log', *BOARD]),
+                            ('report.py', [*places, '--log', EXAMPLES / 'short-and-lifted.log', *BOARD])):
+            yield f'{name}: output that fails', lambda: bad_output(name, words, program)
         for name, *words in MISSING:
             yield f'{name}: a file is missing', lambda: refused(inside(name, *words), f'{name}: cannot read missing')
             words = [folder if word == 'missing' else word for word in words]

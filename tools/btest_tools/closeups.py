@@ -68,7 +68,7 @@ class CloseUp:
         self._taken: List[Box] = []  # by marks and names
 
     def _fit(self, shown: Box, longest: int) -> None:
-        """Chooses the window around some pins and its scale, so that the longest name has room, of so many letters."""
+        """Chooses a window around some pins, with room for a name of so many letters."""
         room = EDGE * self._pitch
         for _ in range(20):  # more room makes all smaller but the letters, and they need more room
             self._window = window(shown, self._extent, self._pitch, max(1.0, room))

@@ -2,6 +2,7 @@
 
 from __future__ import annotations
 
+import io
 import os
 import pathlib
 import sys
@@ -67,6 +68,17 @@ def put(text: str) -> None:
         raise BadInput(f"cannot write standard output: {error.strerror}") from None
 
 
+def buffer_output() -> None:
+    """Has standard output buffered, whatever PYTHONUNBUFFERED says.
+
+    If Python doesn't buffer, it drops without an error what a write didn't take at once.
+    """
+    raw = getattr(sys.stdout, "buffer", None)
+    if isinstance(raw, io.RawIOBase):
+        buffered = io.BufferedWriter(raw)
+        sys.stdout = io.TextIOWrapper(buffered, sys.stdout.encoding, sys.stdout.errors)
+
+
 def drop_output() -> None:
     """Sends what standard output still holds nowhere, so that the end of Python doesn't try it."""
     try:
@@ -87,6 +99,7 @@ def tell(line: str) -> None:
 def frame(main: Callable[[], object]) -> NoReturn:
     """Runs a program. BadInput becomes one line on standard error, and the status is 1."""
     program = os.path.basename(sys.argv[0])
+    buffer_output()
     try:
         try:
             main()
