@@ -28,7 +28,7 @@ STYLE = """
 .board figure { margin: 0; flex: 1 1 22em; min-width: 0; break-inside: avoid; }
 .board .views { display: flex; flex-wrap: wrap; gap: .6em 1em; }
 .board .stacked figure { flex-basis: 100%; }
-.board .close figure { flex: 1 1 16em; max-width: 23em; }
+.board .close figure { flex: 1 1 14em; max-width: 23em; }
 .board .close .dense { flex-basis: 24em; max-width: 35em; }
 .board figcaption { font-weight: bold; } .board .legend { margin: .3em 0; }
 .board svg { display: block; width: 100%; height: auto; max-height: 34em; margin: 0; }
