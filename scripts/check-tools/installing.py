@@ -67,7 +67,8 @@ def installed(folder):
 def make(folder, target, prefix, stage=''):
     """Runs make install or make uninstall, with a program that is there already: /bin/sh, which needs no build."""
     words = ['make', '--no-print-directory', '-C', ROOT, '-o', 'build', target, 'PROGRAM=/bin/sh', f'PREFIX={prefix}', f'DESTDIR={stage}']
-    answer = run(words, folder)
+    setting = {name: value for name, value in os.environ.items() if not name.startswith(('MAKE', 'MFLAGS'))}   # of a make that runs this
+    answer = run(words, folder, env=setting)
     same((answer.returncode, answer.stderr), (0, ''), 'the status')
     return answer.stdout
 

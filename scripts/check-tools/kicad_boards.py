@@ -74,7 +74,8 @@ def dump(paths, folder):
     if not found or found.returncode:
         raise Skipped("KiCad's module pcbnew is not there")
     name = pathlib.Path(folder) / 'boards.json'
-    subprocess.run([PYTHON, '-c', DUMP, name, *paths], check=True, stdout=subprocess.DEVNULL, stderr=subprocess.DEVNULL, timeout=SECONDS)
+    words = [PYTHON, '-c', DUMP, name, *paths]
+    subprocess.run(words, check=True, stdout=subprocess.DEVNULL, stderr=subprocess.DEVNULL, timeout=5 * SECONDS)
     return json.loads(name.read_text())
 
 
