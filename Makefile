@@ -60,8 +60,7 @@ profile:
 
 # Which proof needs each public clause of one crate: WITH='plan.width' tries those with this in their title.
 weaken:
-	@test -n '$(CRATE)' || { echo 'make weaken CRATE=NAME, with a name of crates.txt'; exit 2; }
-	@python3 -B scripts/weaken.py $(CRATE) $(WITH)
+	@bash scripts/check.sh --weaken "$$CRATE" $(WITH)
 
 # The programs beside btest and the examples of the documents; those of btest where the proved program is there.
 check-tools:

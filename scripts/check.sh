@@ -1,16 +1,23 @@
 #!/usr/bin/env bash
-# Proves one crate, and those below it if they changed, or with --profile prints where its time goes.
+# Proves one crate, and those below it if they changed. With --profile it prints where the crate's time goes, and with --weaken which
+# proof refuses each weaker clause of it.
 # Usage: check.sh [--profile] CRATE
+#        check.sh --weaken CRATE [WORD..]
 set -eu
 cd "$(dirname "$0")/.."
 source scripts/common.sh
 target=check
-if [ "$1" = --profile ]; then
-    target=profile
+case "$1" in
+--profile | --weaken)
+    target=${1#--}
     shift
-fi
+    ;;
+esac
 need_crate "$target" "$1"
 need_rt
-[ "$target" = check ] || exec python3 -B scripts/profile-crate.py "$1"
+case "$target" in
+profile) exec python3 -B scripts/profile-crate.py "$1" ;;
+weaken) exec python3 -B scripts/weaken.py "$@" ;;
+esac
 cd "crates/$1"
 exec rt check
