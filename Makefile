@@ -2,7 +2,7 @@
 PREFIX ?= /usr/local
 PROGRAM := crates/btest/out/btest
 
-.PHONY: help demo build test check profile weaken check-tools bench stress figures install uninstall package
+.PHONY: help demo build test check profile weaken check-tools bench stress figures uncalled install uninstall package
 
 help:
 	@echo 'make demo                runs the program on an example board and shows what it prints: one to three minutes'
@@ -18,6 +18,7 @@ help:
 	@echo 'make bench               prints times of the proved program on large inputs'
 	@echo 'make stress              puts the proved program to hostile use: ten minutes. docs/RELIABILITY.md says what it tries'
 	@echo 'make figures             counts clauses, what stands twice, and lines of proof'
+	@echo 'make uncalled            lists the public calls that the program does not make'
 	@echo
 	@echo 'What the program does (man docs/btest.1, docs/GUIDE.md):'
 	@sed -n 's/^| `\(btest [^`]*\)` | \(.*\) |$$/\1|\2/p' README.md | awk -F'|' '{ printf "%-51s %s\n", $$1, $$2 }'
@@ -77,3 +78,7 @@ stress: build
 # Figures of the sources, with no limit and no verdict.
 figures:
 	@bash scripts/python.sh scripts/figures.py
+
+# The public calls that the program doesn't make, and whether a test makes them. No limit and no verdict.
+uncalled:
+	@bash scripts/python.sh scripts/uncalled.py
