@@ -1,0 +1,624 @@
+// The places of single faults, suspects and diagnoses of small boards. The answers are worked by hand from the model.
+ghost use Rattle.std.specs.Prelude.{◌≡◌, ◌*◌, ◌≤◌, length, All, IfSome};
+ghost use Rattle.board_defs.specs.Faults.{IsSingle};
+ghost use Rattle.board_defs.specs.Passes.{passes_of};
+ghost use Rattle.board_defs.specs.Pins.{data_bits};
+ghost use Rattle.scan_planner.specs.Plans.{IsPlanOf};
+ghost use Rattle.fault_sim.specs.Places.{IsUniverse};
+ghost use Rattle.fault_sim.specs.Suspects.{AreDiffering};
+
+use crate::boards::{BIDIR, Files, GROUPS, PAIR, PULLED, board_of, log_of, plan_of};
+use board_defs::{Board, Kind, Single};
+use bt_base::OpenGate;
+use diagnoser::{diagnose, diagnose_in};
+use fault_sim::{Suspects, Universe, differing_nets, is_pass, matches, matches_by};
+use response_log::Log;
+use run_bench::{RowFault, expect};
+use scan_planner::Plan;
+use std::alloc::{AllocError, Global};
+use std::thread::Threads;
+
+// A log of a board's test.
+struct Logged {
+    // Its text.
+    log: &'static str,
+    // Whether it is the expected one.
+    passes: bool,
+    // The places of the faults that may explain it.
+    suspects: &'static [u64],
+    // The places of those that do.
+    explaining: &'static [u64],
+}
+
+// A board, the fault of each of its places, and logs of its test.
+struct Rows {
+    name: &'static str,
+    files: Files,
+    places: &'static [&'static str],
+    logs: &'static [Logged],
+}
+
+const PAIR_PLACES: [&str; 16] = [
+    "stuck 0 0",
+    "stuck 0 1",
+    "stuck 1 0",
+    "stuck 1 1",
+    "open 0.0 0",
+    "open 0.0 1",
+    "open 0.1 0",
+    "open 0.1 1",
+    "open 1.0 0",
+    "open 1.0 1",
+    "open 1.1 0",
+    "open 1.1 1",
+    "and 0 1",
+    "or 0 1",
+    "first 0 1",
+    "second 0 1",
+];
+
+// The shorts of the two nets.
+const PAIR_SHORTS: &[u64] = &[12, 13, 14, 15];
+
+// The faults of each of the two nets.
+const OF_FIRST: &[u64] = &[0, 1, 4, 5, 6, 7, 12, 13, 14, 15];
+
+const OF_SECOND: &[u64] = &[2, 3, 8, 9, 10, 11, 12, 13, 14, 15];
+
+// The first net has 1 and 0 in the two rows, and the second one has 0 and 1.
+const PAIR_LOGS: [Logged; 10] = [
+    Logged {
+        log: "1\n2\n",
+        passes: true,
+        suspects: &[],
+        explaining: &[],
+    },
+    // Bits 2 and 3 are not compared.
+    Logged {
+        log: "D\nE\n",
+        passes: true,
+        suspects: &[],
+        explaining: &[],
+    },
+    Logged {
+        log: "0\n2\n",
+        passes: false,
+        suspects: OF_FIRST,
+        explaining: &[0, 4, 6],
+    },
+    Logged {
+        log: "1\n3\n",
+        passes: false,
+        suspects: OF_FIRST,
+        explaining: &[1, 5, 7],
+    },
+    Logged {
+        log: "1\n0\n",
+        passes: false,
+        suspects: OF_SECOND,
+        explaining: &[2, 8, 10],
+    },
+    Logged {
+        log: "0\n0\n",
+        passes: false,
+        suspects: PAIR_SHORTS,
+        explaining: &[12],
+    },
+    Logged {
+        log: "3\n3\n",
+        passes: false,
+        suspects: PAIR_SHORTS,
+        explaining: &[13],
+    },
+    Logged {
+        log: "3\n0\n",
+        passes: false,
+        suspects: OF_SECOND,
+        explaining: &[14],
+    },
+    Logged {
+        log: "0\n3\n",
+        passes: false,
+        suspects: OF_FIRST,
+        explaining: &[15],
+    },
+    Logged {
+        log: "1\n1\n",
+        passes: false,
+        suspects: PAIR_SHORTS,
+        explaining: &[],
+    },
+];
+
+const GROUPS_PLACES: [&str; 32] = [
+    "stuck 0 0",
+    "stuck 0 1",
+    "stuck 1 0",
+    "stuck 1 1",
+    "stuck 2 0",
+    "stuck 2 1",
+    "open 0.0 0",
+    "open 0.0 1",
+    "open 0.1 0",
+    "open 0.1 1",
+    "open 1.0 0",
+    "open 1.0 1",
+    "open 1.1 0",
+    "open 1.1 1",
+    "open 1.2 0",
+    "open 1.2 1",
+    "open 2.0 0",
+    "open 2.0 1",
+    "open 2.1 0",
+    "open 2.1 1",
+    "and 0 1",
+    "or 0 1",
+    "first 0 1",
+    "second 0 1",
+    "",
+    "",
+    "",
+    "",
+    "and 1 2",
+    "or 1 2",
+    "first 1 2",
+    "second 1 2",
+];
+
+// The shorts of nets 0 and 1, and the faults of each of them.
+const GROUPS_SHORTS: &[u64] = &[20, 21, 22, 23];
+
+const OF_NET_0: &[u64] = &[0, 1, 6, 7, 8, 9, 20, 21, 22, 23, 24, 25, 26, 27];
+
+const OF_NET_1: &[u64] = &[2, 3, 10, 11, 12, 13, 14, 15, 20, 21, 22, 23, 28, 29, 30, 31];
+
+// The codes are 1, 2 and 3. The first three rows are of a pass that observes nets 0 and 1, at bits 2 and 3, and the others of one that
+// observes nets 1 and 2, at bits 3 and 0.
+const GROUPS_LOGS: [Logged; 7] = [
+    Logged {
+        log: "004\n008\n000\n001\n009\n000\n",
+        passes: true,
+        suspects: &[],
+        explaining: &[],
+    },
+    Logged {
+        log: "000\n008\n000\n001\n009\n000\n",
+        passes: false,
+        suspects: OF_NET_0,
+        explaining: &[0, 6, 8],
+    },
+    Logged {
+        log: "000\n000\n000\n001\n009\n000\n",
+        passes: false,
+        suspects: GROUPS_SHORTS,
+        explaining: &[20],
+    },
+    Logged {
+        log: "00C\n00C\n000\n001\n009\n000\n",
+        passes: false,
+        suspects: GROUPS_SHORTS,
+        explaining: &[21],
+    },
+    Logged {
+        log: "00C\n000\n000\n001\n009\n000\n",
+        passes: false,
+        suspects: OF_NET_1,
+        explaining: &[22],
+    },
+    Logged {
+        log: "000\n00C\n000\n001\n009\n000\n",
+        passes: false,
+        suspects: OF_NET_0,
+        explaining: &[23],
+    },
+    // Net 2 alone differs. It has what net 1 has, and each has 0 while one of them has.
+    Logged {
+        log: "004\n008\n000\n000\n009\n000\n",
+        passes: false,
+        suspects: &[4, 5, 16, 17, 18, 19, 24, 25, 26, 27, 28, 29, 30, 31],
+        explaining: &[28, 30],
+    },
+];
+
+const ONE_NET_PLACES: [&str; 6] = [
+    "stuck 0 0",
+    "stuck 0 1",
+    "open 0.0 0",
+    "open 0.0 1",
+    "open 0.1 0",
+    "open 0.1 1",
+];
+
+const ALL_OF_ONE: &[u64] = &[0, 1, 2, 3, 4, 5];
+
+// While the driver is off, as with an open pin, the net has its pull, 1.
+const PULLED_LOGS: [Logged; 3] = [
+    Logged {
+        log: "1\n0\n",
+        passes: true,
+        suspects: &[],
+        explaining: &[],
+    },
+    Logged {
+        log: "1\n1\n",
+        passes: false,
+        suspects: ALL_OF_ONE,
+        explaining: &[1, 2, 3, 5],
+    },
+    Logged {
+        log: "0\n0\n",
+        passes: false,
+        suspects: ALL_OF_ONE,
+        explaining: &[0, 4],
+    },
+];
+
+static BOARDS: [Rows; 4] = [
+    Rows {
+        name: "a driver and a receiver",
+        files: PAIR,
+        places: &PAIR_PLACES,
+        logs: &PAIR_LOGS,
+    },
+    Rows {
+        name: "two groups of drivers",
+        files: GROUPS,
+        places: &GROUPS_PLACES,
+        logs: &GROUPS_LOGS,
+    },
+    Rows {
+        name: "a bidirectional pin",
+        files: BIDIR,
+        places: &ONE_NET_PLACES,
+        logs: &[],
+    },
+    Rows {
+        name: "a net that is pulled up",
+        files: PULLED,
+        places: &ONE_NET_PLACES,
+        logs: &PULLED_LOGS,
+    },
+];
+
+// A board with its test and its universe.
+#[derive(Clone, Copy)]
+struct Tested<'a> {
+    board: &'a Board,
+    plan: &'a Plan,
+    universe: &'a Universe,
+}
+
+fn word(kind: Kind) -> &'static str {
+    match kind {
+        Kind::And => "and",
+        Kind::Or => "or",
+        Kind::First => "first",
+        Kind::Second => "second",
+    }
+}
+
+// Returns a fault as the tables have it, and nothing for none.
+fn shown(alloc: Global, fault: Option<Single>) -> Result<String, AllocError> {
+    match fault {
+        None => Ok(String::new(alloc)),
+        Some(Single::StuckNet { net, value }) => format!(in alloc;
+            "stuck {net} {}",
+            u32::from(value)
+        ),
+        Some(Single::OpenPin { pin, value }) => {
+            format!(in alloc; "open {}.{} {}", pin.net, pin.place, u32::from(value))
+        }
+        Some(Single::Short { a, b, kind }) => format!(in alloc; "{} {a} {b}", word(kind)),
+    }
+}
+
+// Returns the fault of a place.
+#[tactic(auto, using(fault_sim::proofs::OrderLemmas::place_single))]
+fn fault_at(tested: Tested<'_>, place: u64) -> Option<Single>
+    requires plan { IsPlanOf tested.board.now tested.plan.now }
+    requires passes { tested.plan.now.passes ≡ passes_of tested.board.now }
+    requires universe { IsUniverse tested.board.now tested.universe.now }
+    ensures { IfSome result (λ fault. IsSingle tested.entry.board.now fault) }
+{
+    let _rules = tested.board.raw();
+    if tested.universe.places() <= place {
+        return None;
+    }
+    tested.universe.at(tested.plan, place)
+}
+
+// Returns whether the board has these places.
+fn has_places(alloc: Global, tested: Tested<'_>, places: &[&str]) -> Result<bool, AllocError>
+    requires plan { IsPlanOf tested.board.now tested.plan.now }
+    requires passes { tested.plan.now.passes ≡ passes_of tested.board.now }
+    requires universe { IsUniverse tested.board.now tested.universe.now }
+{
+    if tested.universe.places() != places.len() as u64 {
+        return Ok(false);
+    }
+    for (place, wanted) in places.iter().enumerate() {
+        let found = shown(alloc, fault_at(tested, place as u64))?;
+        if found.as_str() != *wanted {
+            return Ok(false);
+        }
+    }
+    Ok(true)
+}
+
+// Returns whether a list has this number.
+fn has(list: &[u64], number: u64) -> bool {
+    list.iter().any(|one| *one == number)
+}
+
+// Returns whether the fault of a place explains a log, in which these nets differ, or nothing if two calls answer otherwise.
+fn explains(tested: Tested<'_>, log: &Log, nets: &[u32], place: u64) -> Option<bool>
+    requires plan { IsPlanOf tested.board.now tested.plan.now }
+    requires passes { tested.plan.now.passes ≡ passes_of tested.board.now }
+    requires universe { IsUniverse tested.board.now tested.universe.now }
+    requires rows { length log.now ≡ length tested.plan.now.passes * tested.plan.now.width }
+    requires bits { All (λ row. length row ≡ data_bits tested.board.now) log.now }
+    requires differing { AreDiffering tested.board.now tested.plan.now log.now nets.now }
+{
+    let Some(fault) = fault_at(tested, place) else {
+        return Some(false);
+    };
+    let found = matches(tested.board, tested.plan, fault, log);
+    if matches_by(tested.board, tested.plan, fault, log, nets) == found {
+        Some(found)
+    } else {
+        None
+    }
+}
+
+// Returns whether the faults of these places, and no others, explain a log.
+fn only_these_explain(tested: Tested<'_>, log: &Log, nets: &[u32], places: &[u64]) -> bool
+    requires plan { IsPlanOf tested.board.now tested.plan.now }
+    requires passes { tested.plan.now.passes ≡ passes_of tested.board.now }
+    requires universe { IsUniverse tested.board.now tested.universe.now }
+    requires rows { length log.now ≡ length tested.plan.now.passes * tested.plan.now.width }
+    requires bits { All (λ row. length row ≡ data_bits tested.board.now) log.now }
+    requires differing { AreDiffering tested.board.now tested.plan.now log.now nets.now }
+{
+    for place in 0..tested.universe.places() {
+        match explains(tested, log, nets, place) {
+            Some(found) if found == has(places, place) => (),
+            _ => return false,
+        }
+    }
+    true
+}
+
+// Returns whether suspects are these places.
+fn are_places(suspects: &Suspects, places: &[u64]) -> bool {
+    let count = suspects.count();
+    if count != places.len() as u64 {
+        return false;
+    }
+    for (i, place) in places.iter().enumerate() {
+        if count <= i as u64 || suspects.place(i as u64) != *place {
+            return false;
+        }
+    }
+    true
+}
+
+// Returns whether the suspects of a log are these places.
+fn suspects_are(
+    alloc: Global,
+    tested: Tested<'_>,
+    log: &Log,
+    places: &[u64],
+) -> Result<bool, AllocError>
+    requires plan { IsPlanOf tested.board.now tested.plan.now }
+    requires passes { tested.plan.now.passes ≡ passes_of tested.board.now }
+    requires universe { IsUniverse tested.board.now tested.universe.now }
+    requires rows { length log.now ≡ length tested.plan.now.passes * tested.plan.now.width }
+    requires bits { All (λ row. length row ≡ data_bits tested.board.now) log.now }
+{
+    let suspects = Suspects::new(alloc, tested.board, tested.plan, tested.universe, log)?;
+    Ok(are_places(&suspects, places))
+}
+
+// Returns whether faults are those of these places.
+fn are_faults(
+    alloc: Global,
+    faults: &[Single],
+    places: &[u64],
+    words: &[&str],
+) -> Result<bool, AllocError> {
+    if faults.len() != places.len() {
+        return Ok(false);
+    }
+    for (fault, place) in faults.iter().zip(places) {
+        let found = shown(alloc, Some(*fault))?;
+        if words.get(*place as usize).copied() != Some(found.as_str()) {
+            return Ok(false);
+        }
+    }
+    Ok(true)
+}
+
+// Returns whether the diagnosis of a log by so many workers gives the faults of these places.
+fn diagnosis_is(
+    rt: &(impl Threads + Sync),
+    alloc: Global,
+    tested: Tested<'_>,
+    log: &Log,
+    workers: u32,
+    places: &[u64],
+    words: &[&str],
+) -> Result<bool, AllocError>
+    requires some { 1 ≤ workers }
+    requires few { workers ≤ 64 }
+    requires plan { IsPlanOf tested.board.now tested.plan.now }
+    requires passes { tested.plan.now.passes ≡ passes_of tested.board.now }
+    requires rows { length log.now ≡ length tested.plan.now.passes * tested.plan.now.width }
+    requires bits { All (λ row. length row ≡ data_bits tested.board.now) log.now }
+{
+    let (board, plan) = (tested.board, tested.plan);
+    let faults = diagnose(rt, alloc, board, plan, log, workers, &OpenGate)?;
+    are_faults(alloc, &faults, places, words)
+}
+
+// Returns whether the diagnosis of a log, in which these nets differ, by three workers gives the faults of these places.
+fn own_diagnosis_is(
+    rt: &(impl Threads + Sync),
+    alloc: Global,
+    tested: Tested<'_>,
+    log: &Log,
+    nets: &[u32],
+    places: &[u64],
+    words: &[&str],
+) -> Result<bool, AllocError>
+    requires plan { IsPlanOf tested.board.now tested.plan.now }
+    requires passes { tested.plan.now.passes ≡ passes_of tested.board.now }
+    requires universe { IsUniverse tested.board.now tested.universe.now }
+    requires rows { length log.now ≡ length tested.plan.now.passes * tested.plan.now.width }
+    requires bits { All (λ row. length row ≡ data_bits tested.board.now) log.now }
+    requires differing { AreDiffering tested.board.now tested.plan.now log.now nets.now }
+{
+    let Tested {
+        board,
+        plan,
+        universe,
+    } = tested;
+    let faults = diagnose_in(rt, alloc, board, plan, universe, log, nets, 3, &OpenGate)?;
+    are_faults(alloc, &faults, places, words)
+}
+
+// Compares what is found out about a log with a row.
+fn log_holds(
+    rt: &(impl Threads + Sync),
+    alloc: Global,
+    tested: Tested<'_>,
+    log: &Log,
+    rows: &Rows,
+    row: usize,
+    wanted: &Logged,
+) -> Result<(), RowFault>
+    requires plan { IsPlanOf tested.board.now tested.plan.now }
+    requires passes { tested.plan.now.passes ≡ passes_of tested.board.now }
+    requires universe { IsUniverse tested.board.now tested.universe.now }
+    requires rows { length log.now ≡ length tested.plan.now.passes * tested.plan.now.width }
+    requires bits { All (λ row. length row ≡ data_bits tested.board.now) log.now }
+{
+    let (name, explaining) = (rows.name, wanted.explaining);
+    expect(
+        name,
+        row,
+        is_pass(tested.board, tested.plan, log) == wanted.passes,
+    )?;
+    expect(
+        name,
+        row,
+        suspects_are(alloc, tested, log, wanted.suspects)?,
+    )?;
+    for workers in [1u32, 2, 64] {
+        let holds = diagnosis_is(rt, alloc, tested, log, workers, explaining, rows.places)?;
+        expect(name, row, holds)?;
+    }
+    Ok(())
+}
+
+// Compares what is found out by the nets that differ in a log.
+fn nets_hold(
+    rt: &(impl Threads + Sync),
+    alloc: Global,
+    tested: Tested<'_>,
+    log: &Log,
+    rows: &Rows,
+    row: usize,
+    wanted: &Logged,
+) -> Result<(), RowFault>
+    requires plan { IsPlanOf tested.board.now tested.plan.now }
+    requires passes { tested.plan.now.passes ≡ passes_of tested.board.now }
+    requires universe { IsUniverse tested.board.now tested.universe.now }
+    requires rows { length log.now ≡ length tested.plan.now.passes * tested.plan.now.width }
+    requires bits { All (λ row. length row ≡ data_bits tested.board.now) log.now }
+{
+    let (name, explaining) = (rows.name, wanted.explaining);
+    let nets = differing_nets(alloc, tested.board, tested.plan, log)?;
+    expect(
+        name,
+        row,
+        only_these_explain(tested, log, &nets, explaining),
+    )?;
+    let holds = own_diagnosis_is(rt, alloc, tested, log, &nets, explaining, rows.places)?;
+    expect(name, row, holds)
+}
+
+fn read_log_holds(
+    rt: &(impl Threads + Sync),
+    alloc: Global,
+    tested: Tested<'_>,
+    rows: &Rows,
+    row: usize,
+    wanted: &Logged,
+) -> Result<(), RowFault>
+    requires plan { IsPlanOf tested.board.now tested.plan.now }
+    requires passes { tested.plan.now.passes ≡ passes_of tested.board.now }
+    requires universe { IsUniverse tested.board.now tested.universe.now }
+{
+    let log = log_of(alloc, tested.board, tested.plan, wanted.log)?;
+    log_holds(rt, alloc, tested, &log, rows, row, wanted)?;
+    nets_hold(rt, alloc, tested, &log, rows, row, wanted)
+}
+
+fn tested_holds(
+    rt: &(impl Threads + Sync),
+    alloc: Global,
+    tested: Tested<'_>,
+    rows: &Rows,
+) -> Result<(), RowFault>
+    requires plan { IsPlanOf tested.board.now tested.plan.now }
+    requires passes { tested.plan.now.passes ≡ passes_of tested.board.now }
+    requires universe { IsUniverse tested.board.now tested.universe.now }
+{
+    expect("places", 0, has_places(alloc, tested, rows.places)?)?;
+    for (row, wanted) in rows.logs.iter().enumerate() {
+        read_log_holds(rt, alloc, tested, rows, row, wanted)?;
+    }
+    Ok(())
+}
+
+fn planned_holds(
+    rt: &(impl Threads + Sync),
+    alloc: Global,
+    board: &Board,
+    plan: &Plan,
+    rows: &Rows,
+) -> Result<(), RowFault>
+    requires plan { IsPlanOf board.now plan.now }
+    requires passes { plan.now.passes ≡ passes_of board.now }
+{
+    let universe = Universe::new(alloc, board, plan)?;
+    let tested = Tested {
+        board,
+        plan,
+        universe: &universe,
+    };
+    tested_holds(rt, alloc, tested, rows)
+}
+
+fn board_holds(
+    rt: &(impl Threads + Sync),
+    alloc: Global,
+    board: &Board,
+    rows: &Rows,
+) -> Result<(), RowFault> {
+    let plan = plan_of(alloc, board)?;
+    planned_holds(rt, alloc, board, &plan, rows)
+}
+
+fn rows_hold(rt: &(impl Threads + Sync), alloc: Global, rows: &Rows) -> Result<(), RowFault> {
+    let board = board_of(alloc, rows.files)?;
+    board_holds(rt, alloc, &board, rows)
+}
+
+#[test]
+fn faults_explain_the_logs_that_they_give(rt: HostRuntime) -> Result<(), RowFault> {
+    for rows in &BOARDS {
+        rows_hold(&rt, rt.alloc(), rows)?;
+    }
+    Ok(())
+}
