@@ -1,4 +1,4 @@
-// Rows that don't hold. The bench of whole runs has to name the row, whatever it is that differs.
+// Rows that don't hold. The bench of whole runs must name each of them, whatever differs.
 use btest_cli::Status;
 use run_bench::Text::Plain;
 use run_bench::{
@@ -29,7 +29,7 @@ const FEW_SCANS: &str =
     "SIR 4 TDI (A) TDO (5) MASK (F);\nSDR 4 TDI (0);\nSIR 4 TDI (0) TDO (5) MASK (F);\n\
      SDR 4 TDI (4);\nSDR 4 TDI (8) TDO (1) MASK (3);\n";
 
-// A line, how its run ends, its status, and an ending that is not the run's.
+// A line, how its run ends, its status, and another ending.
 type Wrong = (&'static str, Ending<'static>, Status, Ending<'static>);
 
 static WRONG: [Wrong; 21] = [
@@ -112,7 +112,7 @@ fn ends(
     bench.ends(rt, "endings", row, line, ending)
 }
 
-// Returns whether a row of a table is named, with this status.
+// Returns whether the answer names this row of this table, with this status.
 fn names(found: &Result<(), RowFault>, table: &str, row: usize, status: Status) -> bool {
     match found {
         Err(
@@ -538,7 +538,7 @@ fn each_line_of_sixty_devices_is_tried(rt: HostRuntime) -> Result<(), RowFault> 
     )
 }
 
-// Returns whether a row is named that gives something else.
+// Returns whether the answer names this row as one that gives something else.
 fn is_other(found: &Result<(), RowFault>, table: &str, row: usize) -> bool {
     match found {
         Err(

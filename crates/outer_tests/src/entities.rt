@@ -1,4 +1,4 @@
-// The reading of a BSDL text by its number among several.
+// The entity of a BSDL text, which has a number among several texts, or the text's first fault.
 ghost use Rattle.std.specs.Prelude.{◌<◌, ◌^◌, length};
 
 use bsdl_lexer::LexFault;
@@ -10,7 +10,7 @@ use std::alloc::Global;
 // How the reading of a text ends.
 #[derive(Clone, Copy)]
 enum Reading {
-    // It describes an entity of this name, with so many ports and pin maps.
+    // It describes an entity with this name, this number of ports and this number of pin maps.
     Entity(&'static str, usize, usize),
     // On this line is a byte that is not allowed.
     Byte(u32),
@@ -18,7 +18,7 @@ enum Reading {
     OpenString(u32),
     // The first word that is not in the grammar is on this line.
     Expected(u32),
-    // It is a package text, by this line.
+    // This line says that it is a package text.
     Package(u32),
 }
 
@@ -36,7 +36,7 @@ static READS: [Read; 8] = [
     ("\npackage X is\n", 3, Reading::Package(2)),
 ];
 
-// Returns whether an entity has this name, and so many ports and pin maps.
+// Returns whether an entity has this name, this number of ports and this number of pin maps.
 fn is_entity(entity: &Entity, name: &str, ports: usize, maps: usize) -> bool {
     entity.name.bytes() == name.as_bytes()
         && entity.ports.len() == ports

@@ -26,7 +26,7 @@ struct Logged {
     passes: bool,
     // The places of the faults that may explain it.
     suspects: &'static [u64],
-    // The places of those that do.
+    // The places of the faults that explain it.
     explaining: &'static [u64],
 }
 
@@ -172,8 +172,8 @@ const OF_NET_0: &[u64] = &[0, 1, 6, 7, 8, 9, 20, 21, 22, 23, 24, 25, 26, 27];
 
 const OF_NET_1: &[u64] = &[2, 3, 10, 11, 12, 13, 14, 15, 20, 21, 22, 23, 28, 29, 30, 31];
 
-// The codes are 1, 2 and 3. The first three rows are of a pass that observes nets 0 and 1, at bits 2 and 3, and the others of one that
-// observes nets 1 and 2, at bits 3 and 0.
+// The codes are 1, 2 and 3. The pass of the first three rows observes nets 0 and 1, at bits 2 and 3. The pass of the other rows observes
+// nets 1 and 2, at bits 3 and 0.
 const GROUPS_LOGS: [Logged; 7] = [
     Logged {
         log: "004\n008\n000\n001\n009\n000\n",
@@ -211,7 +211,7 @@ const GROUPS_LOGS: [Logged; 7] = [
         suspects: OF_NET_0,
         explaining: &[23],
     },
-    // Net 2 alone differs. It has what net 1 has, and each has 0 while one of them has.
+    // Only net 2 differs: it has the bits of net 1. AND gives the same bits, since net 2 has a 1 wherever net 1 has one.
     Logged {
         log: "004\n008\n000\n000\n009\n000\n",
         passes: false,
@@ -231,7 +231,7 @@ const ONE_NET_PLACES: [&str; 6] = [
 
 const ALL_OF_ONE: &[u64] = &[0, 1, 2, 3, 4, 5];
 
-// While the driver is off, as with an open pin, the net has its pull, 1.
+// If the driver is off or its pin is open, the net has its pull, 1.
 const PULLED_LOGS: [Logged; 3] = [
     Logged {
         log: "1\n0\n",
@@ -297,7 +297,7 @@ fn word(kind: Kind) -> &'static str {
     }
 }
 
-// Returns a fault as the tables have it, and nothing for none.
+// Returns a fault as the tables spell it. The text is empty if there is no fault.
 fn shown(alloc: Global, fault: Option<Single>) -> Result<String, AllocError> {
     match fault {
         None => Ok(String::new(alloc)),
@@ -350,7 +350,8 @@ fn has(list: &[u64], number: u64) -> bool {
     list.iter().any(|one| *one == number)
 }
 
-// Returns whether the fault of a place explains a log, in which these nets differ, or nothing if two calls answer otherwise.
+// Returns whether the fault of a place explains a log, and `None` if `matches` and `matches_by` disagree. The nets are those that differ
+// in the log.
 fn explains(tested: Tested<'_>, log: &Log, nets: &[u32], place: u64) -> Option<bool>
     requires plan { IsPlanOf tested.board.now tested.plan.now }
     requires passes { tested.plan.now.passes ≡ passes_of tested.board.now }
@@ -388,7 +389,7 @@ fn only_these_explain(tested: Tested<'_>, log: &Log, nets: &[u32], places: &[u64
     true
 }
 
-// Returns whether suspects are these places.
+// Returns whether the suspects are these places.
 fn are_places(suspects: &Suspects, places: &[u64]) -> bool {
     let count = suspects.count();
     if count != places.len() as u64 {
@@ -419,7 +420,7 @@ fn suspects_are(
     Ok(are_places(&suspects, places))
 }
 
-// Returns whether faults are those of these places.
+// Returns whether the faults are those of these places.
 fn are_faults(
     alloc: Global,
     faults: &[Single],
@@ -438,7 +439,7 @@ fn are_faults(
     Ok(true)
 }
 
-// Returns whether the diagnosis of a log by so many workers gives the faults of these places.
+// Returns whether this number of workers finds the faults of these places.
 fn diagnosis_is(
     rt: &(impl Threads + Sync),
     alloc: Global,
@@ -460,7 +461,7 @@ fn diagnosis_is(
     are_faults(alloc, &faults, places, words)
 }
 
-// Returns whether the diagnosis of a log, in which these nets differ, by three workers gives the faults of these places.
+// Returns whether three workers find the faults of these places. The nets are those that differ in the log.
 fn own_diagnosis_is(
     rt: &(impl Threads + Sync),
     alloc: Global,
@@ -486,7 +487,7 @@ fn own_diagnosis_is(
     are_faults(alloc, &faults, places, words)
 }
 
-// Compares what is found out about a log with a row.
+// Compares a row with what the calls answer about its log.
 fn log_holds(
     rt: &(impl Threads + Sync),
     alloc: Global,
@@ -520,7 +521,7 @@ fn log_holds(
     Ok(())
 }
 
-// Compares what is found out by the nets that differ in a log.
+// Compares a row with what the calls answer that take the nets that differ in its log.
 fn nets_hold(
     rt: &(impl Threads + Sync),
     alloc: Global,

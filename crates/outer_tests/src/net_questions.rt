@@ -1,4 +1,4 @@
-// What is asked of a board and of its classes. The answers are worked by hand from the terms of the model.
+// The questions that a board and its classes answer. The answers are worked by hand from the terms of the model.
 ghost use Rattle.net_classes.specs.Kept.{AreClasses};
 
 use crate::boards::{BIDIR, Files, GROUPS, PAIR, PULLED, board_of, is_cell, is_net, is_pin};
@@ -197,7 +197,7 @@ const INERT_ANSWERS: [Question; 5] = [
     Question::Paired(0, 1, true),
 ];
 
-// A board and what is asked of it.
+// A name, a board, and questions about it.
 type Asked = (&'static str, Files, &'static [Question]);
 
 static BOARDS: [Asked; 8] = [
@@ -223,7 +223,7 @@ fn pin((net, place): Place) -> PinRef {
     PinRef { net, place }
 }
 
-// Returns a number for each reason, and another one for none.
+// Returns a number that no other reason has, and 0 for none.
 fn number(reason: Option<Reason>) -> u32 {
     match reason {
         None => 0,
@@ -236,7 +236,7 @@ fn number(reason: Option<Reason>) -> u32 {
     }
 }
 
-// Returns whether a question about a net has its answer.
+// Returns whether a question about a net has its answer. Any other question passes.
 fn net_answers(board: &Board, classes: &Classes, question: Question) -> bool
     requires { AreClasses board.now classes.now }
 {
@@ -252,7 +252,7 @@ fn net_answers(board: &Board, classes: &Classes, question: Question) -> bool
     }
 }
 
-// Returns whether a question about controls has its answer.
+// Returns whether a question about controls has its answer. Any other question passes.
 fn control_answers(board: &Board, classes: &Classes, question: Question) -> bool
     requires { AreClasses board.now classes.now }
 {
@@ -269,7 +269,7 @@ fn control_answers(board: &Board, classes: &Classes, question: Question) -> bool
     }
 }
 
-// Returns whether a question about a pin's tests has its answer.
+// Returns whether a question about the tests of a pin has its answer. Any other question passes.
 fn tested_answers(board: &Board, classes: &Classes, question: Question) -> bool
     requires { AreClasses board.now classes.now }
 {
@@ -286,7 +286,7 @@ fn tested_answers(board: &Board, classes: &Classes, question: Question) -> bool
     }
 }
 
-// Returns whether a pin of the board is dark, or whether it is not.
+// Returns whether the board has this pin and says of it whether it is dark.
 fn is_dark(board: &Board, at: PinRef, wanted: bool) -> bool {
     let raw = board.raw();
     match raw.nets.as_slice().get(at.net as usize) {
@@ -308,7 +308,7 @@ fn is_driven(found: Option<Drive>, wanted: Driven) -> bool {
     }
 }
 
-// Returns whether a question about a pin of the board has its answer.
+// Returns whether a question about a pin of the board has its answer. Any other question passes.
 fn pin_answers(board: &Board, question: Question) -> bool {
     match question {
         Question::Drive(at, wanted) => {
@@ -363,7 +363,7 @@ fn boards_and_their_classes_answer(rt: HostRuntime) -> Result<(), RowFault> {
     Ok(())
 }
 
-// The port bit of an entry, another one, and whether the entry is on that.
+// The port bit of an entry, another port bit, and whether the entry is on that one.
 static ENTRIES: [(Option<u32>, u32, bool); 3] = [
     (Some(3), 3, true),
     (Some(3), 2, false),

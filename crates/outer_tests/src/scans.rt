@@ -30,7 +30,7 @@ enum Scan {
     Compares(u64, u64, u64),
 }
 
-// Returns whether rows hold a scan.
+// Returns whether a shape and the bits of the rows are those of a scan.
 fn is_scan(shape: Shape, [tdi, tdo, mask]: [u64; 3], scan: Scan) -> bool {
     let (ir, compare, bits) = match scan {
         Scan::Codes(tdi, tdo, mask) => (true, true, (tdi, tdo, mask)),
