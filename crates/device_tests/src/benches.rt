@@ -83,12 +83,12 @@ const OTHER_ENTITY: &str =
      9 number 3\n10 text 0 (BC_1, Q(1), OUTPUT2, X),1 (BC_1, Q(2), OUTPUT2, X)\n";
 
 // A case that holds, one that doesn't, and how that ends.
-type Texts = (Shown, [(Source, &'static str); 2], &'static str);
+type Texts = (Shown, &'static [(Source, &'static str)], &'static str);
 
 static TEXTS: [Texts; 6] = [
     (
         Shown::Device,
-        [
+        &[
             (Driver(&[]), DEVICE),
             (Driver(&[]), "DRV P Old 2 10 00 T1 T3 T4 T2 1 3"),
         ],
@@ -96,7 +96,7 @@ static TEXTS: [Texts; 6] = [
     ),
     (
         Shown::Device,
-        [
+        &[
             (Driver(&[(5, "")]), "rule V1 item 1"),
             (Driver(&[(7, "")]), "rule V1 item 1"),
         ],
@@ -104,7 +104,7 @@ static TEXTS: [Texts; 6] = [
     ),
     (
         Shown::Tokens,
-        [
+        &[
             (Bytes(b"x--y"), "Word x 1\n"),
             (Bytes(b"x\ny"), "Word x 1\n"),
         ],
@@ -112,17 +112,17 @@ static TEXTS: [Texts; 6] = [
     ),
     (
         Shown::Listing,
-        [(Driver(&[]), LISTING), (Driver(&[]), SHORT_LISTING)],
+        &[(Driver(&[]), LISTING), (Driver(&[]), SHORT_LISTING)],
         LISTING,
     ),
     (
         Shown::Listing,
-        [(Driver(&[]), LISTING), (Driver(&[(5, "")]), LISTING)],
+        &[(Driver(&[]), LISTING), (Driver(&[(5, "")]), LISTING)],
         "rule V1 item 1",
     ),
     (
         Shown::Entity,
-        [(Driver(&[]), ENTITY), (Driver(&[]), OTHER_ENTITY)],
+        &[(Driver(&[]), ENTITY), (Driver(&[]), OTHER_ENTITY)],
         ENTITY,
     ),
 ];
@@ -164,22 +164,22 @@ fn wrong_lexings_are_noticed(rt: HostRuntime) -> Result<(), CaseFault> {
 }
 
 // Two readings of which the first one holds, and how the second one ends.
-type Readings = ([(Source, Reading); 2], &'static str);
+type Readings = (&'static [(Source, Reading)], &'static str);
 
 static READINGS: [Readings; 3] = [
     (
-        [(Driver(&[]), Entity), (Driver(&[]), Parse(Expected(3)))],
+        &[(Driver(&[]), Entity), (Driver(&[]), Parse(Expected(3)))],
         "Entity",
     ),
     (
-        [
+        &[
             (Driver(&[(2, "")]), Parse(Expected(17))),
             (Driver(&[(2, "")]), Parse(Expected(16))),
         ],
         "Parse(Expected(17))",
     ),
     (
-        [(Bytes(b"\n\x07"), Lex(Byte(2))), (Bytes(b"\n\x07"), Entity)],
+        &[(Bytes(b"\n\x07"), Lex(Byte(2))), (Bytes(b"\n\x07"), Entity)],
         "Lex(Byte(2))",
     ),
 ];
@@ -196,44 +196,52 @@ fn wrong_readings_are_noticed(rt: HostRuntime) -> Result<(), CaseFault> {
 // Two strings of which the first one holds, and how the second one ends.
 type Strings = (
     Grammar,
-    [(&'static str, Result<&'static str, u32>); 2],
+    &'static [(&'static str, Result<&'static str, u32>)],
     &'static str,
 );
 
 static STRINGS: [Strings; 8] = [
     (
         Grammar::PinMap,
-        [("A:(1)", Ok("A 1; ")), ("A:(1)", Ok("A 2; "))],
+        &[("A:(1)", Ok("A 1; ")), ("A:(1)", Ok("A 2; "))],
         "A 1; ",
     ),
     (
         Grammar::PinMap,
-        [("A", Err(1)), ("A:1 B:2, C:3", Err(2))],
+        &[("A", Err(1)), ("A:1 B:2, C:3", Err(2))],
         "entry 1",
     ),
     (
         Grammar::PinMap,
-        [("A:(1)", Ok("A 1; ")), ("A", Ok("A; "))],
+        &[("A:(1)", Ok("A 1; ")), ("A", Ok("A; "))],
         "entry 1",
     ),
-    (Grammar::PinMap, [("A", Err(1)), ("A:(1)", Err(1))], "A 1; "),
+    (
+        Grammar::PinMap,
+        &[("A", Err(1)), ("A:(1)", Err(1))],
+        "A 1; ",
+    ),
     (
         Grammar::Opcodes,
-        [
+        &[
             ("SAMPLE (10)", Ok("SAMPLE 10; ")),
             ("SAMPLE (10)", Ok("SAMPLE 01; ")),
         ],
         "SAMPLE 10; ",
     ),
-    (Grammar::Pattern, [("01", Ok("01")), ("01", Ok("10"))], "01"),
+    (
+        Grammar::Pattern,
+        &[("01", Ok("01")), ("01", Ok("10"))],
+        "01",
+    ),
     (
         Grammar::Compliance,
-        [("(A) (1)", Ok("A  1")), ("(A) (1)", Ok("A  0"))],
+        &[("(A) (1)", Ok("A  1")), ("(A) (1)", Ok("A  0"))],
         "A  1",
     ),
     (
         Grammar::Boundary,
-        [
+        &[
             ("0 (BC_1, Q, output2, X)", Ok("0 Q Output2 Any; ")),
             ("0 (BC_1, Q, output2, X)", Ok("0 Q Output3 Any; ")),
         ],
@@ -282,22 +290,22 @@ fn wrong_packages_are_noticed(rt: HostRuntime) -> Result<(), CaseFault> {
 }
 
 // Two rules of which the first one holds, and what the second change breaks.
-type Rules = ([(Change, (u32, u32)); 2], &'static str);
+type Rules = (&'static [(Change, (u32, u32))], &'static str);
 
 static RULES: [Rules; 3] = [
     (
-        [(Change::None, (0, 0)), (Change::Range(2, 1, true), (2, 4))],
+        &[(Change::None, (0, 0)), (Change::Range(2, 1, true), (2, 4))],
         "V2 item 5",
     ),
     (
-        [
+        &[
             (Change::Range(2, 1, true), (2, 5)),
             (Change::Range(2, 1, true), (3, 5)),
         ],
         "V2 item 5",
     ),
     (
-        [(Change::ScanOut("Q"), (3, 3)), (Change::None, (3, 3))],
+        &[(Change::ScanOut("Q"), (3, 3)), (Change::None, (3, 3))],
         "V0 item 0",
     ),
 ];
@@ -311,9 +319,9 @@ fn wrong_rules_are_noticed(rt: HostRuntime) -> Result<(), CaseFault> {
     Ok(())
 }
 
-static ORDERS: [([Change; 2], (u32, u32)); 2] = [
-    ([Change::Range(2, 1, true), Change::ScanOut("Q")], (2, 5)),
-    ([Change::Range(2, 1, true), Change::ScanOut("Q")], (3, 3)),
+static ORDERS: [(&[Change], (u32, u32)); 2] = [
+    (&[Change::Range(2, 1, true), Change::ScanOut("Q")], (2, 5)),
+    (&[Change::Range(2, 1, true), Change::ScanOut("Q")], (3, 3)),
 ];
 
 #[test]
