@@ -1,4 +1,4 @@
-"""What docs/GUIDE.md says of line ends, byte order marks, misspelt packages, several chains, differential pairs, AC-coupled nets and pull
+"""What docs/GUIDE.md says of line ends, byte order marks, misspelled packages, several chains, differential pairs, AC-coupled nets and pull
 resistors, tried with btest."""
 import codecs
 import pathlib
@@ -111,7 +111,7 @@ def tried(program):
         ('batch 2', 'three-boards.logs', 'no board yet'),
     ):
         yield f'a byte order mark in {marked}', lambda folder: refuses_mark(program, command, marked, line, folder)
-    yield 'a misspelt package', lambda folder: refuses_package(program, folder)
+    yield 'a misspelled package', lambda folder: refuses_package(program, folder)
     for what, *row in COVERED:
         yield what, lambda folder: covers(program, *row, folder)
     yield 'a wrong pull', lambda folder: judges_pulls(program, folder)
