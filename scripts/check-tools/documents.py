@@ -52,10 +52,12 @@ def lay_out(folder, program):
 
 
 def shell(command, folder):
-    """What a command prints, standard error too."""
+    """What a command prints, standard error too, without the lines by which a tool says how far it is on a slow machine."""
     setting = {**os.environ, 'PATH': f'{folder / "bin"}:{os.environ["PATH"]}', 'PYTHONDONTWRITEBYTECODE': '1'}
-    return subprocess.run(['sh', '-c', command], cwd=folder, env=setting, stdin=subprocess.DEVNULL, stdout=subprocess.PIPE,
-                          stderr=subprocess.STDOUT, timeout=SECONDS, encoding='utf-8')
+    answer = subprocess.run(['sh', '-c', command], cwd=folder, env=setting, stdin=subprocess.DEVNULL, stdout=subprocess.PIPE,
+                            stderr=subprocess.STDOUT, timeout=SECONDS, encoding='utf-8')
+    answer.stdout = re.sub(r'^explaining: \d+ of \d+ .*\n', '', answer.stdout, flags=re.M)
+    return answer
 
 
 def run_block(block, folder, program):
