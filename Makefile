@@ -6,8 +6,8 @@ PROGRAM := crates/btest/out/btest
 
 help:
 	@echo 'make demo                runs the program on an example board and shows what it prints: one to three minutes'
-	@echo 'make test                proves everything, tries the edits that must fail and runs the tests: about 60 minutes the first time; what passed is kept'
-	@echo 'make build               proves the program alone and leaves it at $(PROGRAM): less than 47 minutes, and nothing is left to prove after make test'
+	@echo 'make test                proves everything, tries the edits that must fail and runs the tests: about 45 minutes the first time; what passed is kept'
+	@echo 'make build               proves the program alone and leaves it at $(PROGRAM): less than 30 minutes, and nothing is left to prove after make test'
 	@echo 'make install PREFIX=DIR  copies the proved program with its man page, guide, examples and tools to DIR'
 	@echo 'make uninstall PREFIX=.. removes them from there'
 	@echo 'make package             makes a Debian package and a tar.gz of them, in out/'
