@@ -17,7 +17,7 @@ from btest_tools.explaining.nearness import Nearness, grid
 from btest_tools.explaining.patience import Patience
 from btest_tools.explaining.prices import Prices, Reading
 from btest_tools.explaining.rows import rows_of
-from btest_tools.explaining.sets import Explained, Explainer, Explanation, explain
+from btest_tools.explaining.sets import Explained, Explainer, Explanation, explain, levels_of
 from btest_tools.explaining.weights import WEIGHTS
 from btest_tools.explaining.words import SUPPLY, Teller, at_parts, counted, text, walk_tells, where
 from btest_tools.model import play
@@ -35,6 +35,12 @@ RANKS = [
     ("stuck:D0:0 open:U3.1:1", [["stuck D0 0 with open U3.1 1"]]),
     ("open:U1.1:0 open:U3.1:0", [["open U1.1 0 with open U3.1 0"]]),
     ("open:U4.1:0 open:U4.2:1 open:U4.3:0", [["open U4.1 0, open U4.2 1, open U4.3 0"]]),
+    # D1 has no pin beside one of D3 and A1, so the short of all three needs two bridges. Then a
+    # short of two with a stuck net is as likely. A short of D1 and D3 isn't among them: U2 drives
+    # them in passes of their own, where they would read what it drives.
+    ("and:D1:A1 stuck:D3:0", [["short AND D1 D3 A1", "short AND D1 A1, stuck D3 0"]]),
+    # D0, D1 and D2 lie side by side, and so one bridge joins them.
+    ("and:D0:D1 stuck:D2:0", [["short AND D0 D1 D2"], ["short AND D0 D1, stuck D2 0"]]),
 ]
 
 
@@ -166,6 +172,8 @@ class Pieces(unittest.TestCase):
         self.assertIsNone(near.between("D0", "A1"))
         self.assertTrue(near.are_joined(["D0", "D2", "D1"]))
         self.assertFalse(near.are_joined(["D0", "D1", "A1"]))
+        self.assertEqual(near.patches(["D0", "A1", "D2", "D1"]), [["D0", "D1", "D2"], ["A1"]])
+        self.assertEqual(near.patches(["A1", "D3", "D0", "D1"]), [["A1", "D3"], ["D0", "D1"]])
 
     def test_places(self) -> None:
         spots = {"U1.1": (0.0, 0.0), "U1.2": (9.0, 0.0), "U1.5": (1.0, 0.0), "U1.6": (2.0, 0.0)}
@@ -188,6 +196,40 @@ class Pieces(unittest.TestCase):
         ):
             fault = fault_of(line) if "swap" not in line else Fault("swap", ("U1.1", "U1.2"))
             self.assertEqual(prices.alone(fault), price, line)
+
+    def test_what_a_short_may_cost_more(self) -> None:
+        board = Bed().board
+        prices = Prices(board, Nearness(board))
+        bridge = WEIGHTS.cause - WEIGHTS.net
+        for names, bridges in (
+            ("D0 A1", 1),
+            ("D0 D1 D2", 1),
+            ("D0 D1 A1", 2),
+            ("D0 D2 A1", 2),
+            ("D0 D1 D3 A1", 3),
+            ("D0 D1 D2 A1", 2),
+            ("D0 D2 D3 IRQ", 3),
+        ):
+            fault = Fault("and", tuple(names.split()))
+            self.assertEqual(prices.spare(fault), (bridges - 1) * bridge, names)
+        self.assertEqual(prices.spare(fault_of("stuck D0 0")), 0)
+        self.assertEqual(prices.spare(Fault("swap", ("U1.1", "U1.5"))), 0)
+        parts = [Component(("D0", "D1", "A1"), 1, ((fault_of("short AND D0 D1 A1"),),))]
+        (reading,) = prices.readings([*parts, Component(("D2",), 1, ((fault_of("stuck D2 0"),),))])
+        self.assertEqual((reading.price, reading.spare), (25, 6))
+
+    def test_sets_of_one_rank(self) -> None:
+        def one(price: float, spare: float, *nets: str) -> Explanation:
+            return Explanation((Component(nets, 1, ()),), [Reading((), price, 1, spare)])
+
+        first, more = one(15, 6, "A", "B", "C"), one(15, 0, "A", "B", "D")
+        alike, dearer = one(21, 0, "C", "A", "B"), one(21.5, 0, "A", "B", "C")
+        others, last = one(21, 9, "A", "B"), one(22, 0, "A", "B", "C")
+        found = [first, more, alike, others, dearer, last]
+        self.assertEqual(list(levels_of(found)), [[first, more, alike], [others], [dearer], [last]])
+        self.assertTrue(alike.is_like(first))
+        self.assertFalse(others.is_like(first))
+        self.assertEqual(list(levels_of([])), [])
 
     def test_nets_that_read_right(self) -> None:
         parts = (Component(("D0", "D1"), 1, ()), Component(("A1",), 1, ()))

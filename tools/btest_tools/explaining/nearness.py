@@ -70,16 +70,21 @@ class Nearness:
                     return (pin, near) if few.name == one else (near, pin)
         return None
 
+    def patches(self, nets: Sequence[str]) -> list[list[str]]:
+        """Returns nets in patches. In a patch each net is beside another, and all hang together."""
+        left, found = list(nets), []
+        while left:
+            patch = [left.pop(0)]
+            for one in patch:  # which grows
+                near = [other for other in left if self.between(one, other)]
+                patch += near
+                left = [other for other in left if other not in near]
+            found.append(patch)
+        return found
+
     def are_joined(self, nets: Sequence[str]) -> bool:
-        """Returns whether nets are one patch: each is beside another, and all hang together."""
-        reached, open_ends = {nets[0]}, [nets[0]]
-        while open_ends:
-            one = open_ends.pop()
-            for other in nets:
-                if other not in reached and self.between(one, other):
-                    reached.add(other)
-                    open_ends.append(other)
-        return len(reached) == len(set(nets))
+        """Returns whether nets are one patch."""
+        return len(self.patches(nets)) == 1
 
 
 def distance(one: Place, other: Place) -> float:

@@ -19,11 +19,13 @@ STARTS = 6  # parts from which rows of pins are looked for
 
 @dataclass(frozen=True)
 class Reading:
-    """One choice for each component of a set, with its price and the number of its causes."""
+    """One choice for each component of a set, with its price and the number of its causes. The
+    price may be too low by `spare`."""
 
     choices: tuple[Choice, ...]
     price: float
     causes: int
+    spare: float = 0
 
 
 class Prices:
@@ -32,6 +34,7 @@ class Prices:
     def __init__(self, board: Board, nearness: Nearness) -> None:
         self.board, self.nearness = board, nearness
         self.known: dict[Fault, float] = {}
+        self.spares: dict[Fault, float] = {}
         self.packs: dict[str, set[str]] = {}  # of each part that may pull the nets that it pulls
         for net in board.nets.values():
             for pin in resistors(board, net.name) if net.pull is not None else ():
@@ -72,7 +75,23 @@ class Prices:
             min(component.choices, key=lambda choice: self.choice(choice, parts))
             for component in components
         )
-        return Reading(chosen, *self.total(chosen))
+        spare = sum(self.spare(fault) for choice in chosen for fault in choice)
+        return Reading(chosen, *self.total(chosen), spare)
+
+    def spare(self, fault: Fault) -> float:
+        """Returns by how much the price of a fault may be too low: 0 for all but shorts.
+
+        A bridge is at one place. So a short has a bridge for each patch of nets side by side, and
+        one for each step from a patch to the next. Each bridge after the first may be a cause of
+        its own.
+        """
+        if fault.kind not in SHORTS:
+            return 0
+        if fault not in self.spares:
+            patches = self.nearness.patches(fault.names)
+            bridges = sum(len(patch) > 1 for patch in patches) + len(patches) - 1
+            self.spares[fault] = (bridges - 1) * (WEIGHTS.cause - WEIGHTS.net)
+        return self.spares[fault]
 
     def total(self, choices: Iterable[Choice]) -> tuple[float, int]:
         """Returns the price and the number of causes of choices. The pins of a part are a row."""

@@ -38,10 +38,19 @@ class Explanation:
         """How many causes the cheapest choices have."""
         return self.readings[0].causes
 
+    def nets(self) -> set[str]:
+        """Returns the names of its nets."""
+        return {name for component in self.components for name in component.nets}
+
+    def is_like(self, other: Explanation) -> bool:
+        """Returns whether it has the nets of another set and costs no more than that set may. Then
+        neither the logs nor the prices tell the two apart."""
+        most = other.price + other.readings[0].spare
+        return price_of(self) <= round(most, 3) and self.nets() == other.nets()
+
     def right(self, differing: Sequence[str]) -> int:
         """Returns how many of its nets read right."""
-        names = {name for component in self.components for name in component.nets}
-        return len(names - set(differing))
+        return len(self.nets() - set(differing))
 
     def faults(self) -> Faults:
         """Returns the cheapest choices as the models take them."""
@@ -109,7 +118,7 @@ class Explainer:
         # Of equal sets those come first in which no net is accused that reads right.
         found.sort(key=lambda one: (price_of(one), one.right(explained.differing)))
         usual = [one for one in found if one.causes <= CAUSES]
-        levels = [list(group) for _, group in itertools.groupby(usual or found[:1], price_of)]
+        levels = list(levels_of(usual or found[:1]))
         explained.ranks = levels[:RANKS]
         explained.more = sum(map(len, levels[RANKS:]))
 
@@ -168,6 +177,18 @@ class Explainer:
             free = [one for one in after if not set(one.nets) & set(tie.nets)]
             rest = [name for name in wanted if name not in tie.nets]
             yield from self.with_ties(rest, [*chosen, tie], free, most - 1)
+
+
+def levels_of(found: Sequence[Explanation]) -> Iterator[list[Explanation]]:
+    """Yields ranks of sets. `found` has the cheaper sets first. A rank has the sets of one price
+    and then those that are like one of them."""
+    left = list(found)
+    while left:
+        level = [one for one in left if price_of(one) == price_of(left[0])]
+        left = left[len(level) :]
+        alike = [one for one in left if any(one.is_like(other) for other in level)]
+        left = [one for one in left if one not in alike]
+        yield level + alike
 
 
 def price_of(explanation: Explanation) -> float:

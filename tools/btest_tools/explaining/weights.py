@@ -15,6 +15,8 @@ class Weights(NamedTuple):
     # side is likelier than three open pins.
     pin: float = 2.5
     # A bridge of solder joins two pins more often than three, and three more often than four.
+    # A net that doesn't lie side by side with the others may need a bridge of its own. Nobody
+    # knows, so Prices.spare only says by how much the price may be too low.
     net: float = 4
     # Bridges are between neighbors. Nets that have no pins side by side may still have
     # tracks side by side, so the price is small.
