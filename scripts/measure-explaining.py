@@ -2,17 +2,21 @@
 """Puts faults on simulated boards and counts how often tools/btest_tools/explaining finds them: a table for docs/RELIABILITY.md.
 
     python3 -B scripts/measure-explaining.py --btest PROGRAM [--count 100] [--seed 4] [--keep FILE] [--seconds S] [ROW..]
+    python3 -B scripts/measure-explaining.py --btest PROGRAM --before FOLDER ..
+    python3 -B scripts/measure-explaining.py --btest PROGRAM --times
 
-Each row has its own boards, from a seed. Every fault of a set can be seen: the log is another one without it. A set is found where its class is: what
-is told ties the same nets together, so that both give the same bits at each of these nets; "itself" counts the boards on which the very
-faults are told. Every set that is told is put into btest_tools.model, which shares no code with what found it, and has to give the log
-bit for bit.
+Each row has its own boards, from a seed. Each fault of a set shows: without it the log is another one. A set is found if a set that is
+told ties the same nets together. Then both give the same bits at each of these nets. "itself" counts the boards on which the very
+faults are told. Each set that is told is put into btest_tools.model, which shares no code with the search, and has to give the log bit
+for bit. With --before the old program that searched for no sets is judged, too. With --times the time for a large board is measured.
 """
 import argparse
 import itertools
 import json
 import pathlib
 import random
+import resource
+import subprocess
 import sys
 import tempfile
 import time
@@ -21,12 +25,14 @@ sys.dont_write_bytecode = True
 ROOT = pathlib.Path(__file__).resolve().parents[1]
 sys.path[:0] = [str(ROOT / 'tools'), str(ROOT / 'scripts')]
 import measured_boards   # noqa: E402
+from measured_before import Before   # noqa: E402
 from tests import seeded_boards   # noqa: E402
 from btest_tools.board import read_board   # noqa: E402
 from btest_tools.btest import Btest   # noqa: E402
 from btest_tools.explaining.faults import Fault, faults_of   # noqa: E402
 from btest_tools.explaining.rows import rows_of   # noqa: E402
 from btest_tools.explaining.sets import explain   # noqa: E402
+from btest_tools.explaining.weights import EQUALS   # noqa: E402
 from btest_tools.model import Model, play   # noqa: E402
 from btest_tools.scans import LogRow, Test   # noqa: E402
 
@@ -35,10 +41,10 @@ class Bench:
     """A board under its test."""
 
     def __init__(self, program, files, folder):
-        names = []
-        for name, text in files.items():
-            names.append(f'{folder}/{name}')
-            pathlib.Path(names[-1]).write_text(text, encoding='ascii')
+        self.folder, self.files = folder, [f'{folder}/{name}' for name in files]
+        names = self.files
+        for name, text in zip(names, files.values()):
+            pathlib.Path(name).write_text(text, encoding='ascii')
         self.board = read_board(names[0], names[1], names[2:])
         self.svf = Btest(program).run('svf', *names)
         self.test, self.model = Test(self.svf), Model(self.board)
@@ -209,7 +215,11 @@ def is_told(explanation, faults, board):
 def is_class(explanation, faults, board):
     """Whether an explanation ties the nets of a set together as the set does, and has no other nets. Then both give the same bits at
     all cells of each of its components, so no reading of the log tells them apart there."""
-    nets = [set(component.nets) for component in explanation.components]
+    return are_class([set(component.nets) for component in explanation.components], faults, board)
+
+
+def are_class(nets, faults, board):
+    """Whether sets of nets that are tied together are those of a set of faults."""
     of_faults = [set(fault.nets(board)) for fault in faults]
     return all(any(mine <= one for one in nets) for mine in of_faults) and all(
         one == set().union(*(mine for mine in of_faults if mine <= one)) and is_tied(one, of_faults) for one in nets)
@@ -225,6 +235,13 @@ def is_tied(nets, of_faults):
         reached = more
 
 
+def is_right(bench, told, faults, rows):
+    """Whether faults, each on nets of its own, give the log and tie the nets of a set together as the set does."""
+    nets = [set(fault.nets(bench.board)) for fault in told]
+    are_apart = sum(map(len, nets)) == len(set().union(*nets))
+    return are_apart and are_class(nets, faults, bench.board) and bench.rows(told) == rows
+
+
 def canonical(fault):
     """A fault with the names whose order tells nothing in one order."""
     if fault.kind == 'dom':
@@ -235,17 +252,25 @@ def canonical(fault):
 def rank_of(explained, faults, board, judge_one=is_class):
     """The rank of the first explanation that is the set by a judgement, or 0."""
     for rank, explanations in enumerate(explained.ranks, 1):
-        if any(judge_one(one, faults, board) for one in explanations):
+        if any(judge_one(one, faults, board) for one in printed(explanations)):
             return rank
     return 0
+
+
+def printed(explanations):
+    """The sets of a rank that are printed: the first, and after its other readings as many as there is room for."""
+    room = EQUALS + 1 - len(explanations[0].readings)
+    return explanations[:1 + max(0, room)]
 
 
 COUNTS = ('boards', 'first', 'first three', 'itself', 'sound nets first', 'told', 'wrong', 'seconds at most')
 
 
-def judge(bench, faults, rows, tally):
-    """Explains a board with these faults."""
+def judge(bench, faults, rows, tally, before):
+    """Explains a board with these faults. `before` is the old program, or None."""
     tally['boards'] += 1
+    if before:
+        tally['before'] += any(is_right(bench, told, faults, rows) for told in before.told(bench, rows))
     begun = time.process_time()
     explained = explain(bench.board, [(bench.test, rows)])
     tally['seconds at most'] = max(tally['seconds at most'], time.process_time() - begun)
@@ -279,17 +304,53 @@ def find_faults(bench, row, name):
     return None
 
 
-def try_board(program, name, number, tallies, count, verbose):
+def try_board(chosen, number, tallies, before):
     """Puts the faults of each row that still needs a board on the next one."""
-    made = seeded_boards if number % 4 == 0 else measured_boards
+    made, name = seeded_boards if number % 4 == 0 else measured_boards, f'{chosen.seed}-{number}'
     with tempfile.TemporaryDirectory() as folder:
-        bench = Bench(program, made.made(name), folder)
-    for row in (row for row, tally in tallies.items() if tally['boards'] < count):
-        found = find_faults(bench, row, name)
-        rank, sound = judge(bench, *found, tallies[row]) if found else (1, [])
-        if verbose and (rank != 1 or sound):
-            faults = [fault.line() for fault in found[0]]
-            print(f'{row}: {made.__name__} {name}: rank {rank} of {faults}; sound {sound}', file=sys.stderr, flush=True)
+        bench = Bench(chosen.btest, made.made(name), folder)
+        for row in (row for row, tally in tallies.items() if tally['boards'] < chosen.count):
+            found = find_faults(bench, row, name)
+            rank, sound = judge(bench, *found, tallies[row], before) if found else (1, [])
+            if chosen.verbose and (rank != 1 or sound):
+                faults = [fault.line() for fault in found[0]]
+                print(f'{row}: {made.__name__} {name}: rank {rank} of {faults}; sound {sound}', file=sys.stderr, flush=True)
+
+
+# How long it takes on a large board
+
+def stuck_nets(count):
+    def faults(rng, bench):
+        return [Fault('stuck', (name,), rng.randrange(2)) for name in names(rng, bench.covered, count)]
+    return faults
+
+
+def open_at_five_parts(rng, bench):
+    parts = [part.name for part in rng.sample(bench.board.parts, 5)]
+    pins = [pin for net in bench.covered for pin in bench.readers[net.name] if pin not in bench.drivers[net.name]]
+    return [Fault('open', (pin,), 0) for pin in rng.sample([pin for pin in pins if pin.split('.')[0] in parts], 300)]
+
+
+LARGE = {
+    '90 nets that are stuck': stuck_nets(90),
+    '300 nets that are stuck': stuck_nets(300),
+    '300 open receivers of five parts': open_at_five_parts,
+}
+
+
+def print_times(program):
+    """Prints the processor time of failing-nets.py, and of btest which it calls, for logs of a large board."""
+    with tempfile.TemporaryDirectory() as folder:
+        bench = Bench(program, measured_boards.made('large', 28, 56), folder)
+        print(f'{len(bench.board.nets)} nets, {sum(1 for _ in bench.test.wanted())} rows')
+        for what, faults in LARGE.items():
+            rows, log = bench.rows(faults(random.Random(what), bench)), pathlib.Path(folder) / 'log'
+            log.write_text(''.join(f'{row.got:0{(bench.test.size + 3) // 4}X}\n' for row in rows), encoding='ascii')
+            begun = resource.getrusage(resource.RUSAGE_CHILDREN)
+            words = [sys.executable, '-B', ROOT / 'tools/failing-nets.py', '--btest', program, log, *bench.files]
+            subprocess.run(words, check=True, stdout=subprocess.DEVNULL)
+            ended = resource.getrusage(resource.RUSAGE_CHILDREN)
+            print(f'{what}: {ended.ru_utime + ended.ru_stime - begun.ru_utime - begun.ru_stime:.1f} s')
 
 
 def options():
@@ -299,6 +360,8 @@ def options():
     words.add_argument('--seed', default='4', help='4; the search was written with boards of the seeds 1 to 3')
     words.add_argument('--keep', metavar='FILE', help='keeps the counts after each board, and goes on from those that are there')
     words.add_argument('--seconds', type=float, default=1e9, help='ends after so long; with --keep the next run goes on')
+    words.add_argument('--before', metavar='FOLDER', help='judges FOLDER/tools/failing-nets.py, too, which has no package beside it')
+    words.add_argument('--times', action='store_true', help='prints instead how long failing-nets.py takes on a board of 1,600 nets')
     words.add_argument('--verbose', action='store_true', help='tells of each set that is not first')
     words.add_argument('rows', metavar='ROW', nargs='*', help='a part of the name of a row; all rows if left out')
     return words.parse_args()
@@ -306,16 +369,21 @@ def options():
 
 def main():
     chosen, begun = options(), time.monotonic()
+    if chosen.times:
+        print_times(chosen.btest)
+        return
     keep = pathlib.Path(chosen.keep) if chosen.keep else None
-    number, tallies = 0, {row: dict.fromkeys(COUNTS, 0) for row in ROWS if not chosen.rows or any(word in row for word in chosen.rows)}
+    before, counts = (Before(chosen.before, chosen.btest), (*COUNTS, 'before')) if chosen.before else (None, COUNTS)
+    rows = [row for row in ROWS if not chosen.rows or any(word in row for word in chosen.rows)]
+    number, tallies = 0, {row: dict.fromkeys(counts, 0) for row in rows}
     if keep and keep.exists():
         number, tallies = json.loads(keep.read_text())
     while time.monotonic() - begun < chosen.seconds and any(tally['boards'] < chosen.count for tally in tallies.values()):
         number += 1
-        try_board(chosen.btest, f'{chosen.seed}-{number}', number, tallies, chosen.count, chosen.verbose)
+        try_board(chosen, number, tallies, before)
         if keep:
             keep.write_text(json.dumps([number, tallies]))
-    print('| what is wrong with the board | ' + ' | '.join(COUNTS) + ' |\n|---' + '|---:' * len(COUNTS) + '|')
+    print('| what is wrong with the board | ' + ' | '.join(counts) + ' |\n|---' + '|---:' * len(counts) + '|')
     for row, tally in tallies.items():
         print(f'| {row} | ' + ' | '.join(f'{value:.2f}' if isinstance(value, float) else str(value) for value in tally.values()) + ' |')
 
