@@ -1,19 +1,22 @@
 #!/usr/bin/env python3
 """Changes the package tools/btest_tools in small ways and says which changes no test notices.
 
-    python3 -B scripts/mutants.py --btest PROGRAM [--count 200] [--seed 1] [--keep FILE] [--seconds S] [MODULE..]
+    python3 -B scripts/mutants.py --btest PROGRAM [--count 200] [--seed 1] [--keep FILE] [--again] [--seconds S] [MODULE..]
 
 A change is one of: an operator or a comparison is another one, a constant is one more or less, a condition is turned round, `and` is
 `or`, a statement is dropped, an order is turned round, an argument or an element is left out. The changes are drawn from a seed, the
 same number for each kind as far as there are such. For each, the unit tests of the module are run on a copy of the sources, and then
-all others until one fails. With --keep the answers are kept, and the next run goes on.
+all others until one fails. A test also notices a change if it takes far longer with it, in processor time. With --keep the answers
+are kept, and the next run goes on; with --again it tries only the changes that no test has noticed.
 """
 import argparse
 import ast
+import concurrent.futures
 import copy
 import json
 import os
 import pathlib
+import queue
 import random
 import shutil
 import subprocess
@@ -28,7 +31,8 @@ SEEN = ('VERSION', 'docs', 'examples', 'crates', 'scripts')   # what tests read 
 FIRST = {'explaining': ['explaining', 'rows'], 'pages': ['pages'], 'netlists': ['netlists', 'places'], 'station': ['station'],
          'logs': ['logs'], 'asking': ['logs', 'failing'], 'walks': ['failing'], 'failing': ['failing'], 'board': ['board', 'model'],
          'scans': ['scans'], 'model': ['model', 'rows'], 'files': ['files'], 'btest': ['failing']}
-SECONDS = 60   # tests that take longer have noticed the change
+SECONDS = 60   # of processor time: tests that take longer have noticed the change
+WAIT = 600   # seconds, for tests that wait for what never comes
 OTHER = {ast.Add: ast.Sub, ast.Sub: ast.Add, ast.Mult: ast.FloorDiv, ast.FloorDiv: ast.Mult, ast.Div: ast.Mult, ast.Mod: ast.Mult,
          ast.BitAnd: ast.BitOr, ast.BitOr: ast.BitAnd, ast.BitXor: ast.BitAnd, ast.LShift: ast.RShift, ast.RShift: ast.LShift,
          ast.Lt: ast.LtE, ast.LtE: ast.Lt, ast.Gt: ast.GtE, ast.GtE: ast.Gt, ast.Eq: ast.NotEq, ast.NotEq: ast.Eq, ast.Is: ast.IsNot,
@@ -132,9 +136,14 @@ def drawn(modules, count, seed):
     return chosen[:count]
 
 
+def all_tests():
+    """The modules of tests."""
+    return sorted(one.stem for one in (ROOT / 'tools/tests').glob('test_*.py'))
+
+
 def tests_of(path):
-    """The modules of tests, those first that are most likely to notice a change."""
-    names = sorted(one.stem for one in (ROOT / 'tools/tests').glob('test_*.py'))
+    """The modules of tests, those first that are most likely to notice a change of a module."""
+    names = all_tests()
     module = path.relative_to(PACKAGE).with_suffix('').parts[0]
     first = [f'test_{name}' for name in FIRST.get(module, []) if f'test_{name}' in names]
     return first + [name for name in names if name not in first]
@@ -145,19 +154,22 @@ def notices(folder, path, text, program):
     copied = folder / 'tools/btest_tools' / path.relative_to(PACKAGE)
     before = copied.read_bytes()
     copied.write_text(text, encoding='utf-8')
-    setting = {**os.environ, 'BTEST': program, 'PYTHONDONTWRITEBYTECODE': '1'}
     try:
-        for name in tests_of(path):
-            words = [sys.executable, '-B', '-m', 'unittest', '-f', '-b', f'tests.{name}']
-            try:
-                done = subprocess.run(words, cwd=folder / 'tools', env=setting, capture_output=True, timeout=SECONDS)
-            except subprocess.TimeoutExpired:
-                return name
-            if done.returncode:
-                return name
+        return next((name for name in tests_of(path) if not passes(folder, name, program)), '')
     finally:
         copied.write_bytes(before)
-    return ''
+
+
+def passes(folder, name, program):
+    """Whether the tests of a module pass."""
+    words = [sys.executable, '-B', '-m', 'unittest', '-f', '-b', f'tests.{name}']
+    setting = {**os.environ, 'BTEST': program, 'PYTHONDONTWRITEBYTECODE': '1'}
+    words = ['sh', '-c', f'ulimit -t {SECONDS}; exec "$@"', 'sh', *words]
+    try:
+        done = subprocess.run(words, cwd=folder / 'tools', env=setting, capture_output=True, timeout=WAIT)
+    except subprocess.TimeoutExpired:
+        return False
+    return done.returncode == 0
 
 
 def lay_out(folder):
@@ -167,29 +179,67 @@ def lay_out(folder):
         os.symlink(ROOT / name, folder / name)
 
 
+class Folders:
+    """Copies of tools, of which each serves one change at a time."""
+
+    def __init__(self, above, count, program):
+        self.program, self.free = program, queue.SimpleQueue()
+        for at in range(count):
+            folder = above / str(at)
+            folder.mkdir()
+            lay_out(folder)
+            self.free.put(folder)
+
+    def notices(self, path, text):
+        """The module of tests that notices a change, or an empty text."""
+        folder = self.free.get()
+        try:
+            return notices(folder, path, text, self.program)
+        finally:
+            self.free.put(folder)
+
+    def passes(self, name):
+        """Whether the tests of a module pass without a change."""
+        folder = self.free.get()
+        try:
+            return passes(folder, name, self.program)
+        finally:
+            self.free.put(folder)
+
+
 def main():
     words = argparse.ArgumentParser(description=__doc__.split('\n\n')[0])
     words.add_argument('--btest', metavar='PROGRAM', required=True)
     words.add_argument('--count', type=int, default=200)
     words.add_argument('--seed', default='1')
     words.add_argument('--keep', metavar='FILE', help='keeps the answers, and goes on from those that are there')
+    words.add_argument('--jobs', type=int, default=1, help='changes that are tried side by side')
+    words.add_argument('--again', action='store_true', help='tries again what no test noticed, and nothing else')
     words.add_argument('--seconds', type=float, default=1e9, help='ends after so long')
     words.add_argument('modules', metavar='MODULE', nargs='*', help='as explaining/rows.py; all if left out')
     chosen, begun = words.parse_args(), time.monotonic()
     modules = [PACKAGE / name for name in chosen.modules] or sorted(PACKAGE.rglob('*.py'))
     keep = pathlib.Path(chosen.keep) if chosen.keep else None
     answers = json.loads(keep.read_text()) if keep and keep.exists() else {}
-    with tempfile.TemporaryDirectory() as name:
-        folder = pathlib.Path(name).resolve()
-        lay_out(folder)
+    with tempfile.TemporaryDirectory() as name, concurrent.futures.ThreadPoolExecutor(chosen.jobs) as pool:
+        folders = Folders(pathlib.Path(name).resolve(), chosen.jobs, os.path.abspath(chosen.btest))
+        failing = [name for name, is_well in zip(all_tests(), pool.map(folders.passes, all_tests())) if not is_well]
+        if failing:
+            sys.exit(f'without a change these tests fail: {", ".join(failing)}')
+
+        def answer(path, what, text):
+            return what, folders.notices(path, text) if time.monotonic() - begun < chosen.seconds else None
+
+        tried = []
         for path, number in drawn(modules, chosen.count, chosen.seed):
-            if time.monotonic() - begun > chosen.seconds:
-                break
             what, text = take(path, number)
-            if what in answers:
+            if not answers.get(what) and (what in answers) == chosen.again:
+                tried.append(pool.submit(answer, path, what, text))
+        for what, by in (one.result() for one in concurrent.futures.as_completed(tried)):
+            if by is None:
                 continue
-            answers[what] = notices(folder, path, text, os.path.abspath(chosen.btest))
-            print(f'{answers[what] or "NOBODY":16} {what}', flush=True)
+            answers[what] = by
+            print(f'{by or "NOBODY":16} {what}', flush=True)
             if keep:
                 keep.write_text(json.dumps(answers))
     missed = [what for what, by in answers.items() if not by]
