@@ -26,7 +26,7 @@ from btest_tools.scans import LogRow, Test  # noqa: E402
 NAMES = ("controller.chain", "controller.nets", "processor.bsd", "octal-buffer.bsd", "port.bsd")
 DEMO = [str(EXAMPLES / name) for name in NAMES]
 PROGRAM = os.environ.get("BTEST", "")
-SECONDS = 60
+SECONDS = int(os.environ.get("BTEST_SECONDS", "60"))  # that a program may take
 
 # A board with what the demo board doesn't have: a part without a description, a LINK line whose
 # second net is the first in the net file, and a PULL line that names the net by the name that is
