@@ -9,7 +9,7 @@ import unittest
 
 from collections.abc import Sequence
 
-from tests.support import Bed, Folder, guide_svf, read_files, small_board
+from tests.support import PROGRAM, Bed, Folder, guide_svf, read_files, small_board
 
 from btest_tools.explaining.candidates import Component, Search, View, views
 from btest_tools.explaining.faults import Fault, fault_of, faults_of, parts_of, resistors
@@ -381,6 +381,25 @@ class Pack(Folder):
         self.assertEqual(teller.next_step(first), step)
         lines = list(teller.causes(first, first.readings[0]))
         self.assertEqual(lines, ["N1: stuck N1 0 or pull N1 0 (at RN1.1)"])
+
+
+@unittest.skipUnless(PROGRAM, "no btest is given")
+class Wide(Folder):
+    """A net with five receivers."""
+
+    def test_three_faults(self) -> None:
+        parts = [f"U{number}" for number in range(2, 7)]
+        chain = "DEVICE U1 DRV -\n" + "".join(f"DEVICE {part} RCV -\n" for part in parts)
+        pins = [f"{part}.1" for part in parts]
+        files = small_board(self.folder, chain=chain, nets=f"NET N1 U1.1 {' '.join(pins)}\n")
+        bed = Bed(files)
+        rows = rows_of(bed.board, [(bed.test, bed.rows("stuck:N1:0 open:U3.1:1 open:U6.1:1"))])
+        component = Search(rows).single(rows.wires["N1"])
+        assert component
+        opens = {"open U3.1 1", "open U6.1 1"}
+        found = [{fault.line() for fault in choice} for choice in component.smallest()]
+        self.assertEqual(found, [{"open U1.1 0", *opens}, {"stuck N1 0", *opens}])
+        self.assertEqual([len(one) for one in component.choices], [3, 3, 5])  # or all are open
 
 
 class Sets(unittest.TestCase):

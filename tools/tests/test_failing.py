@@ -3,6 +3,7 @@
 from __future__ import annotations
 
 import unittest
+from unittest import mock
 
 from tests.support import DEMO, EXAMPLES, PROGRAM, Bed, Folder, need, read_files, tool
 
@@ -159,6 +160,15 @@ class Walked(unittest.TestCase):
         short = "a short with a net that does not walk fits, if a 0 wins in it"
         others = "so do open drivers and nets that are stuck at 0."
         self.assertEqual(lines[-1], f"D3: 0 in every row; {short}; {others}")
+
+    def test_many_nets_that_differ(self) -> None:
+        with mock.patch("btest_tools.walks.MOST", 1):
+            lines = self.lines("stuck:D3:0 open:U3.5:1")
+        # In each row U3.5 reads 1, as it should in the fifth. D3 has two pins that read.
+        self.assertEqual(lines[0], "GROUPS none")
+        self.assertEqual(lines[1], "row 1 (D0): 1 bits differ")
+        self.assertEqual(len(lines), 5)
+        self.assertIn("row 4 (D3): 3 bits differ", lines)
 
     def test_a_net_stuck_at_1(self) -> None:
         lines = self.lines("stuck:D3:1")

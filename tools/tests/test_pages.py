@@ -8,13 +8,14 @@ import os
 import pathlib
 import re
 import unittest
+from collections import Counter
 from typing import Optional
 
 from tests.support import DEMO, EXAMPLES, PROGRAM, ROOT, Folder, need, read_files, tool
 
 from btest_tools.files import Text
 from btest_tools.pages.board import Cover, board_section, first_pins, reason_section
-from btest_tools.pages.day import Tested, answers_of, blocks_of
+from btest_tools.pages.day import MOST, Tested, again, answers_of, blocks_of
 from btest_tools.pages.frame import made_at, page, version
 from btest_tools.pages.pieces import (
     SHOWN,
@@ -133,6 +134,17 @@ class Day(unittest.TestCase):
         )
         many = Tested("a", False, [str(at) for at in range(7)], [])
         self.assertEqual(many.cause(), "0 or 1 or 2 or 3 or 4 or 5 ..")
+
+    def test_what_comes_again(self) -> None:
+        self.assertEqual(list(again("Nets", Counter(), 3)), [])
+        found = Counter({f"N{at}": 2 for at in range(MOST)})
+        (head,) = again("Nets", found, 4)
+        self.assertTrue(head.startswith("<h3>Nets, by the number of boards</h3>\n"))
+        self.assertIn('aria-label="2 of 4"', head)
+        found.update(["a", "b"])
+        lines = list(again("Nets", found, 4))
+        self.assertEqual(lines[1:], ["<p class=quiet>and 2 more</p>"])
+        self.assertEqual(lines[0].count("aria-label"), MOST)
 
 
 class Frame(unittest.TestCase):
