@@ -5,8 +5,8 @@
 
 A change is one of: an operator or a comparison is another one, a constant is one more or less, a condition is turned round, `and` is
 `or`, a statement is dropped, an order is turned round, an argument or an element is left out. The changes are drawn from a seed, the
-same number for each kind as far as there are such. For each, the unit tests of the module are run on a copy of the sources, and then
-all others until one fails. A test also notices a change if it takes far longer with it, in processor time. With --keep the answers
+same number for each kind as far as there are such. For each, the unit tests are run on a copy of the sources until one fails, those of
+the module first. They also notice a change if they take far longer with it, in processor time. With --keep the answers
 are kept, and the next run goes on; with --again it tries only the changes that no test has noticed.
 """
 import argparse
@@ -18,6 +18,7 @@ import os
 import pathlib
 import queue
 import random
+import re
 import shutil
 import subprocess
 import sys
@@ -28,11 +29,13 @@ ROOT = pathlib.Path(__file__).resolve().parents[1]
 PACKAGE = ROOT / 'tools/btest_tools'
 SEEN = ('VERSION', 'docs', 'examples', 'crates', 'scripts')   # what tests read beside tools
 # Of the modules the tests that are run first.
-FIRST = {'explaining': ['explaining', 'rows'], 'pages': ['pages'], 'netlists': ['netlists', 'places'], 'station': ['station'],
+FIRST = {'explaining': ['explaining', 'rows'], 'pages': ['pages'], 'netlists': ['netlist_texts', 'places'],
+         'station': ['station', 'station_commands'], 'pictures': ['drawn'], 'drawing': ['drawn'], 'closeups': ['drawn'],
          'logs': ['logs'], 'asking': ['logs', 'failing'], 'walks': ['failing'], 'failing': ['failing'], 'board': ['board', 'model'],
          'scans': ['scans'], 'model': ['model', 'rows'], 'files': ['files'], 'btest': ['failing']}
 SECONDS = 60   # of processor time: tests that take longer have noticed the change
-WAIT = 600   # seconds, for tests that wait for what never comes
+WAIT = 900   # seconds, for tests that wait for what never comes
+FAILED = re.compile(r'^(?:FAIL|ERROR): .*\btests\.(test_\w+)', re.M)
 OTHER = {ast.Add: ast.Sub, ast.Sub: ast.Add, ast.Mult: ast.FloorDiv, ast.FloorDiv: ast.Mult, ast.Div: ast.Mult, ast.Mod: ast.Mult,
          ast.BitAnd: ast.BitOr, ast.BitOr: ast.BitAnd, ast.BitXor: ast.BitAnd, ast.LShift: ast.RShift, ast.RShift: ast.LShift,
          ast.Lt: ast.LtE, ast.LtE: ast.Lt, ast.Gt: ast.GtE, ast.GtE: ast.Gt, ast.Eq: ast.NotEq, ast.NotEq: ast.Eq, ast.Is: ast.IsNot,
@@ -150,26 +153,28 @@ def tests_of(path):
 
 
 def notices(folder, path, text, program):
-    """The module of tests that notices a change, or an empty text."""
+    """What notices a change: a module of tests, or `time`; an empty text if nothing does."""
     copied = folder / 'tools/btest_tools' / path.relative_to(PACKAGE)
     before = copied.read_bytes()
     copied.write_text(text, encoding='utf-8')
     try:
-        return next((name for name in tests_of(path) if not passes(folder, name, program)), '')
+        return failing(folder, tests_of(path), program)
     finally:
         copied.write_bytes(before)
 
 
-def passes(folder, name, program):
-    """Whether the tests of a module pass."""
-    words = [sys.executable, '-B', '-m', 'unittest', '-f', '-b', f'tests.{name}']
-    setting = {**os.environ, 'BTEST': program, 'PYTHONDONTWRITEBYTECODE': '1'}
+def failing(folder, names, program):
+    """The first module of these tests that fails, `time` if they take too long, or an empty text if they pass."""
+    words = [sys.executable, '-B', '-m', 'unittest', '-f', '-b', *(f'tests.{name}' for name in names)]
     words = ['sh', '-c', f'ulimit -t {SECONDS}; exec "$@"', 'sh', *words]
+    setting = {**os.environ, 'BTEST': program, 'BTEST_SECONDS': str(WAIT), 'PYTHONDONTWRITEBYTECODE': '1'}
     try:
-        done = subprocess.run(words, cwd=folder / 'tools', env=setting, capture_output=True, timeout=WAIT)
+        done = subprocess.run(words, cwd=folder / 'tools', env=setting, capture_output=True, timeout=2 * WAIT)
     except subprocess.TimeoutExpired:
-        return False
-    return done.returncode == 0
+        return 'time'
+    said = done.stderr.decode('utf-8', 'replace')
+    found = None if 'TimeoutExpired' in said else FAILED.search(said)
+    return '' if not done.returncode else found[1] if found else 'time'
 
 
 def lay_out(folder):
@@ -198,14 +203,6 @@ class Folders:
         finally:
             self.free.put(folder)
 
-    def passes(self, name):
-        """Whether the tests of a module pass without a change."""
-        folder = self.free.get()
-        try:
-            return passes(folder, name, self.program)
-        finally:
-            self.free.put(folder)
-
 
 def main():
     words = argparse.ArgumentParser(description=__doc__.split('\n\n')[0])
@@ -223,9 +220,7 @@ def main():
     answers = json.loads(keep.read_text()) if keep and keep.exists() else {}
     with tempfile.TemporaryDirectory() as name, concurrent.futures.ThreadPoolExecutor(chosen.jobs) as pool:
         folders = Folders(pathlib.Path(name).resolve(), chosen.jobs, os.path.abspath(chosen.btest))
-        failing = [name for name, is_well in zip(all_tests(), pool.map(folders.passes, all_tests())) if not is_well]
-        if failing:
-            sys.exit(f'without a change these tests fail: {", ".join(failing)}')
+        unchanged = pool.submit(folders.notices, PACKAGE / 'board.py', (PACKAGE / 'board.py').read_text(encoding='utf-8'))
 
         def answer(path, what, text):
             return what, folders.notices(path, text) if time.monotonic() - begun < chosen.seconds else None
@@ -242,6 +237,8 @@ def main():
             print(f'{by or "NOBODY":16} {what}', flush=True)
             if keep:
                 keep.write_text(json.dumps(answers))
+        if unchanged.result():
+            sys.exit(f'without a change {unchanged.result()} fails, so these answers say nothing')
     missed = [what for what, by in answers.items() if not by]
     print(f'{len(answers)} changes, {len(answers) - len(missed)} noticed, {len(missed)} not', *missed, sep='\n')
 
