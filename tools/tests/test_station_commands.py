@@ -76,7 +76,8 @@ class Commands(Folder):
         chain, nets, *bsdls = DEMO
         cable = self.write("cable", "adapter driver none\n")
         words = ("--chain", chain, "--nets", nets, "--cable", cable, *bsdls)
-        self.made = self.run_words("prepare", self.product, *words, "--btest", need())
+        self.prepare = ("prepare", self.product, *words, "--btest", need())
+        self.made = self.run_words(*self.prepare)
 
     def run_words(self, *words: str, status: int = 0, faults: str = "good") -> str:
         """Runs the station in this process, and returns what it prints."""
@@ -105,15 +106,10 @@ class Commands(Folder):
         self.assertRegex(
             text, rf"^{self.product} is whole: test {lines[0][-64:]}, btest \S+ sha256:"
         )
-        again = self.run_words("prepare", self.product, *self.words_again(), status=1)
+        again = self.run_words(*self.prepare, status=1)
         self.assertIn(f"{self.product} is there already", again)
         missing = self.run_words("prepare", f"{self.folder}/B", "--chain", DEMO[0], status=2)
         self.assertIn("--chain, --nets, --cable and BSDL texts are wanted", missing)
-
-    def words_again(self) -> list[str]:
-        chain, nets, *bsdls = DEMO
-        words = ["--chain", chain, "--nets", nets, "--cable", f"{self.folder}/cable"]
-        return [*words, *bsdls, "--btest", need()]
 
     def test_a_folder_that_is_not_whole(self) -> None:
         path = pathlib.Path(self.product, "cover.txt")
@@ -157,7 +153,7 @@ class Commands(Folder):
     def test_what_comes_and_goes(self) -> None:
         text = self.play("A1", "stuck:D0:0;good", 1)
         self.assertRegex(text, r"\nFAIL \(1 of 2\)  A1 ")
-        # D0 reads 0 in one row of four passes at the first time, and D3 likewise at the second.
+        # The open pin reads 1 at the first time and 0 at the second.
         text = self.play("A2", "open:U3.5:1;open:U3.5:0", 1)
         self.assertRegex(text, r"\nFAIL \(2 of 2, \d+ bits differ\)  A2 ")
 
