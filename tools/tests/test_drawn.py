@@ -13,7 +13,7 @@ from unittest import mock
 from btest_tools import closeups, drawing, pictures
 from btest_tools.closeups import CloseUp, Marked, window
 from btest_tools.drawing import Box, Frame, Shapes, dots_path, extent, frame_of, plain_boxes
-from btest_tools.neighbors import are_side_by_side, row_number
+from btest_tools.neighbors import Neighborhood, are_side_by_side, row_number
 from btest_tools.pictures import ShownNet, View, marked, measure, table, where
 from btest_tools.places import BOTH, BOTTOM, TOP, Place, Places, smallest_distance
 
@@ -85,6 +85,14 @@ class Views(unittest.TestCase):
     def test_the_scale(self) -> None:
         # A fifth of 34.6 mm is 6.9 mm: 5 mm is the longest that is no longer.
         self.holds(view(), 'd="M20 389V394H120V389"', '<text x="125" y="394" font-size="16">5 mm')
+
+    def test_lines_that_are_not_drawn(self) -> None:
+        places = small_board()
+        places.add("R1", "2", Place(26, 12, BOTTOM, 0.5, 0.5))
+        one = View(places, [NET], frame_of(places), TOP)
+        for pair in (("R1.1", "R1.2"), ("U1.1", "X.1"), ("X.1", "U1.1")):
+            self.assertNotIn("<line", one.svg("n", "", [pair], []), pair)
+        self.assertIn("<line", one.svg("n", "", [("U1.1", "U1.2")], []))
 
     def test_nothing_fails(self) -> None:
         text = view(TOP, ShownNet(9, "B", ["U1.2"], []))
@@ -303,6 +311,16 @@ class Close(unittest.TestCase):
         with mock.patch.object(closeups, "WHOLE", 100):
             self.assertEqual(CloseUp(places, "U1", TOP, [one]).svg().count("M"), 100)
 
+    def test_pins_at_the_edge_are_in_it(self) -> None:
+        places = small_board()
+        box = CloseUp(places, "U1", TOP, self.marks())._window  # pylint: disable=protected-access
+        for at, (x, y) in enumerate(
+            ((9, box.top), (9, box.bottom), (box.left, 4), (box.right, 4), (9, box.top - 0.1))
+        ):
+            places.add("J1", str(at), Place(x, y, TOP, 0.2, 0.2))
+        text = CloseUp(places, "U1", TOP, self.marks()).svg()
+        self.assertEqual(text.count("M"), 6)
+
     def test_which_parts(self) -> None:
         places = small_board()
         figures = list(closeups.closeups(places, self.marks()))
@@ -337,6 +355,13 @@ class Near(unittest.TestCase):
         line = [(str(at), Place(at * at, 0, TOP)) for at in range(9)]
         self.assertEqual(smallest_distance(line[::-1]), 1)
         self.assertEqual(smallest_distance(line[3:]), 7)
+
+    def test_neighbors_on_all_sides(self) -> None:
+        places = Places()
+        for at, (x, y) in enumerate(((0, 0), (-0.6, 0), (0.6, 0), (0, -0.6), (0, 0.6), (0, 1.1))):
+            places.add(f"R{at}", "1", Place(2.5 + x, 2.5 + y, TOP))
+        near = list(Neighborhood(places).beside("R0.1"))
+        self.assertEqual(near, ["R1.1", "R2.1", "R3.1", "R4.1"])
 
     def test_rows(self) -> None:
         names = ("A", "Y", "AA", "BA", "I", "")

@@ -6,12 +6,13 @@ from __future__ import annotations
 import contextlib
 import io
 import unittest
-
 from collections.abc import Sequence
+from types import SimpleNamespace
+from unittest import mock
 
 from tests.support import PROGRAM, Bed, Folder, guide_svf, read_files, small_board
 
-from btest_tools.explaining.candidates import Component, Search, View, views
+from btest_tools.explaining.candidates import Component, Search, Ties, View, views
 from btest_tools.explaining.faults import Fault, fault_of, faults_of, parts_of, resistors
 from btest_tools.explaining.nearness import Nearness, grid
 from btest_tools.explaining.patience import Patience
@@ -196,6 +197,60 @@ class Pieces(unittest.TestCase):
         ):
             fault = fault_of(line) if "swap" not in line else Fault("swap", ("U1.1", "U1.2"))
             self.assertEqual(prices.alone(fault), price, line)
+
+    def test_the_cheapest_rows(self) -> None:
+        board = Bed().board
+        prices = Prices(board, Nearness(board))
+        pins = (("U3.1", "U4.1"), ("U3.2", "U4.2"), ("U4.3",))
+        parts = [
+            Component((f"D{at}",), 1, tuple((fault_of(f"open {pin} 0"),) for pin in mine))
+            for at, mine in enumerate(pins)
+        ]
+        # All three at U4 are one cause. U3 has two of them, which leaves one at U4.
+        whole = [(fault_of(f"open U4.{number} 0"),) for number in (1, 2, 3)]
+        self.assertEqual(
+            [(one.price, list(one.choices)) for one in prices.readings(parts)], [(15, whole)]
+        )
+        self.assertEqual(prices.grown(parts, []).price, 15)
+        self.assertEqual(prices.grown(parts, ["U3"]).price, 22.5)
+
+    def test_balls_side_by_side(self) -> None:
+        pins = ("U1.B7", "U1.A7", "U1.C7", "U1.B6", "U1.B8", "U1.A8", "U2.B8")
+        board = SimpleNamespace(net_of=dict.fromkeys(pins))
+        near = Nearness(board)  # type: ignore[arg-type]
+        self.assertEqual(set(near.beside("U1.B7")), {"U1.A7", "U1.C7", "U1.B6", "U1.B8"})
+
+    def test_what_btest_names_of_two_nets(self) -> None:
+        bed = Bed()
+        short = fault_of("short AND D0 D1")
+        rows = rows_of(bed.board, [(bed.test, bed.rows("and:D0:D1"))])
+        search = Search(rows, {"D0": [short], "D1": [short, fault_of("stuck D1 0")]})
+        ties = Ties(search, rows.differing(), {"D0": 1, "D1": 1}, Patience())
+        self.assertEqual(ties.proved(["D0", "D1"]), Component(("D0", "D1"), 1, ((short,),)))
+        self.assertIsNone(ties.proved(["D0", "D2"]))
+        self.assertIsNone(ties.proved(["D0", "D1", "D2"]))
+
+    def test_large_shorts(self) -> None:
+        bed = Bed()
+        rows = rows_of(bed.board, [(bed.test, bed.rows("and:D0:D1"))])
+        patience = mock.Mock()
+        ties = Ties(Search(rows), rows.differing(), {"D0": 1, "D1": 1}, patience)
+        ties.all()
+        self.assertEqual(
+            [call[0] for call in patience.at.call_args_list[:2]],
+            [(0, 2, "nets with others"), (1, 2, "nets with others")],
+        )
+        ties.order = {f"N{at}": at for at in range(18)}
+        for count, tried in ((16, True), (17, False), (1, False)):
+            names = [f"N{at}" for at in range(count)]
+            with mock.patch.object(ties.search, "tie", return_value=None) as tie:
+                self.assertFalse(ties.attempt(names, 0))
+            self.assertEqual(tie.called, tried, count)
+
+    def test_more_causes_than_are_looked_for(self) -> None:
+        with mock.patch("btest_tools.explaining.sets.CAUSES", 0):
+            _, explained = look("stuck:D0:0")
+        self.assertEqual(told(explained), [["stuck D0 0"]])
 
     def test_what_a_short_may_cost_more(self) -> None:
         board = Bed().board

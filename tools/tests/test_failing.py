@@ -13,7 +13,7 @@ from btest_tools.btest import Btest
 from btest_tools.explaining.nearness import Nearness
 from btest_tools.failing import WALK, Bench, Look, by_parts, look, show
 from btest_tools.files import BadInput, Text
-from btest_tools.walks import look_at_walk, misfits
+from btest_tools.walks import Ones, Walkers, conclusions, look_at_walk, misfits
 
 WALKERS = ("D0", "D1", "D2", "D3", "A1")
 
@@ -185,6 +185,15 @@ class Rows(unittest.TestCase):
         self.assertEqual(misfits({1: set(), 2: {2}}, []), [1])
         self.assertEqual(misfits({1: {1, 2}, 2: {2}}, [1]), [1])
         self.assertEqual(misfits({1: None, 2: {2}}, []), [1])
+
+    def test_nets_that_read_1_in_all_rows(self) -> None:
+        # If all nets do, they are one group. If one does, it may be stuck.
+        both: Ones = {1: {1, 2}, 2: {1, 2}}
+        self.assertEqual(list(conclusions(Walkers({1: "A", 2: "B"}, {}, both))), [])
+        one: Ones = {1: {1, 2}, 2: {2}}
+        lines = list(conclusions(Walkers({1: "A", 2: "B"}, {}, one)))
+        self.assertEqual(lines[0], "\nRows that fit no set of groups in which a 1 wins: 1 (A)")
+        self.assertTrue(lines[1].startswith("A: 1 in every row, "))
 
 
 if __name__ == "__main__":

@@ -2,11 +2,14 @@
 
 from __future__ import annotations
 
+import contextlib
 import io
 import unittest
+from unittest import mock
 
 from tests.support import Bed
 
+from btest_tools import asking
 from btest_tools.asking import Masked, changed
 from btest_tools.logs import (
     Failing,
@@ -133,6 +136,19 @@ class Logs(unittest.TestCase):
         self.assertEqual(changed(b"00FA\n", 0), b"00FA\n")
         self.assertEqual(changed(b"00FA\n", 0x1001), b"10FB\n")
         self.assertEqual(changed(b"00FA\n", 0xF0), b"000A\n")
+
+    def test_logs_in_several_texts(self) -> None:
+        bed = Bed()
+        rows = bed.rows("stuck:D0:0 stuck:IRQ:0 open:U3.5:1")
+        for limit, command in ((1, "diagnose"), (400, "batch")):
+            nets = failing(bed.board, bed.test, rows)
+            btest, err = mock.Mock(), io.StringIO()
+            btest.run.side_effect = lambda command, *words: "FAIL 1\nstuck X 0\n" * 9
+            with mock.patch.object(asking, "LIMIT", limit), contextlib.redirect_stderr(err):
+                asking.ask(btest, [], bed.test, rows, nets)
+            self.assertEqual({call[0][0] for call in btest.run.call_args_list}, {command})
+            lines = err.getvalue().splitlines()
+            self.assertRegex(lines[-1], r"^explained: (\d+) of \1 nets and pairs of nets$")
 
     def test_one_net_alone_differs(self) -> None:
         bed = Bed()

@@ -2,11 +2,13 @@
 
 from __future__ import annotations
 
+import math
 import unittest
 from typing import Callable
 from unittest import mock
 
-from btest_tools.netlists import kicad, net_file, pads, protel, telesis
+from btest_tools.netlists import kicad, kicad_pcb, net_file, pads, protel, telesis
+from btest_tools.netlists.edges import arc_through, edge
 from btest_tools.netlists.lists import Lines, Reader, Wanted, skip, string_from
 from btest_tools.netlists.net_file import Nets, Refused, last_line, numbered_lines, shown
 
@@ -31,6 +33,7 @@ GOOD: list[tuple[Read, bytes, str]] = [
         b"PROTEL NETLIST 2.0\n(\nA\nU1-1 PROC-D0 I/O\nU-2-1 R-1 PASSIVE\nU3-1 X-OE OPEN Y\n)\n",
         "NET A U1.1 U-2.1 U3.1\n",
     ),
+    (protel.read, b"PROTEL NETLIST 2.0\n(\nA\nU1-1 U2-1\n)\n", "NET A U1.1 U2.1\n"),
     (protel.read, b"(\nA\nC1-2 0.1 uF-2 passive\nU1-1 PROC-D0 IO\n)\n", "NET A C1.2 U1.1\n"),
     (protel.read, b"(\nA\nU1-1 U2-1 U3-1\n)\n", "NET A U1.1 U2.1 U3.1\n"),
     (
@@ -206,6 +209,9 @@ class Brackets(unittest.TestCase):
         self.assertEqual((whole.words, len(whole.items)), ([b"x", b"z"], 2))
         self.assertEqual([item.words for item in whole.all(b"b")], [[b"1", b"2", b"5"], []])
 
+        (outer,) = Reader(b"x (a y)", {b"a": {}}, 0).items()  # a word before all lists
+        self.assertEqual(outer.words, [b"y"])
+
     def test_many(self) -> None:
         text = b"(a (b 1 2) (b 3 4))"
         with mock.patch("btest_tools.netlists.lists.MOST_ITEMS", 4):
@@ -215,6 +221,42 @@ class Brackets(unittest.TestCase):
                 Refused, "line 1: more than 3 words and brackets in a list"
             ):
                 list(Reader(text, {b"a": {b"b": {}}}, 1).items())
+
+
+class Layouts(unittest.TestCase):
+    """Edges of boards, and what a board of KiCad may not have."""
+
+    def test_edges(self) -> None:
+        half = [(1.0, 0.0), (0.0, -1.0), (-1.0, 0.0)]
+        arc = edge(b"arc", half, None)
+        self.assertIn(len(arc), (31, 32))  # pieces of 6 degrees at most
+        for x, y in arc:
+            self.assertAlmostEqual(math.hypot(x, y), 1)
+        self.assertEqual(edge(b"arc", half, 90.0), arc)  # an angle belongs to a center and an end
+        self.assertEqual(edge(b"arc", half[:1], 90.0), half[:1])
+        line = [(0.0, 0.0), (1.0, 0.0), (2.0, 0.0)]
+        self.assertEqual(arc_through(line[0], line[1], line[2]), line)
+        self.assertEqual(edge(b"poly", line, None), [*line, line[0]])
+        self.assertEqual(edge(b"line", line[:2], None), line[:2])
+
+    def test_an_edge_in_a_footprint(self) -> None:
+        text = (
+            b"(kicad_pcb (footprint X (at 10 20 90) (fp_line (start 1 0) (end 3 0) "
+            b"(layer Edge.Cuts)) (fp_line (start 0 0) (end 9 0) (layer F.SilkS))))"
+        )
+        (line,) = kicad_pcb.read(text)[1].outline
+        for point, wanted in zip(line, ((10, 19), (10, 17))):
+            self.assertAlmostEqual(point[0], wanted[0])
+            self.assertAlmostEqual(point[1], wanted[1])
+
+    def test_refusals(self) -> None:
+        with self.assertRaisesRegex(Refused, "line 2: a net without a name"):
+            kicad_pcb.read(b"(kicad_pcb\n(net 1))")
+        line = b"(fp_line (start 0 0) (end 1 0) (layer Edge.Cuts))"
+        text = b"(kicad_pcb (footprint X (at %s 0)" + line + b"))"
+        self.assertEqual(len(kicad_pcb.read(text % b"10000")[1].outline), 1)
+        with self.assertRaisesRegex(Refused, "out of range: '10000.5'"):
+            kicad_pcb.read(text % b"10000.5")
 
 
 if __name__ == "__main__":

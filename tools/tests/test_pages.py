@@ -182,6 +182,15 @@ class OfBoard(unittest.TestCase):
         self.assertIn("<h3>302 pairs of nets</h3>", text)
         self.assertIn("D0 with D&lt;1 <span class=quiet>and 2 more</span>", text)
 
+    def test_one_thing_is_untested(self) -> None:
+        for cover in (
+            Cover({}, ["U2.9"]),
+            Cover({}, [], ["U1.1"]),
+            Cover({}, [], [], [["D0", "D1"]], 1),
+        ):
+            text = self.text(cover)
+            self.assertIn("<h2>Pins and pairs of covered nets that are not tested</h2>", text)
+
     def test_all_is_tested(self) -> None:
         text = self.text(Cover())
         self.assertNotIn("not tested", text)
@@ -206,6 +215,7 @@ class OfBoard(unittest.TestCase):
         self.assertEqual(first_pins(net), "U1.1 U3.1 U4.1 U2.2")
         net.pins = net.pins * 4
         self.assertTrue(first_pins(net).endswith(" and 4 more"))
+        self.assertEqual(len(list(reason_section(board, "DARK", ["D1"] * SHOWN))), 2)
         lines = list(reason_section(board, "DARK", ["D1"] * (SHOWN + 1)))
         self.assertEqual(lines[-1], "<p class=quiet>and 1 more</p>")
         self.assertEqual(lines[1].count("<tr>"), SHOWN + 1)
@@ -276,6 +286,8 @@ class Pages(Folder):
             'aria-label="1 of 3"',
             '<td>passed</td><td><svg viewBox="0 0 202 14" role="img" aria-label="2 of 3">',
             "<td>failed</td>",
+            "<h3>Nets that differ, by the number of boards</h3>",
+            "<h3>Faults that explain a whole log, by the number of boards</h3>",
         )
         self.assertNotIn("FAIL 1", text)
 

@@ -16,7 +16,7 @@ from btest_tools.station import record
 from btest_tools.station.letters import large
 from btest_tools.station.line import BadSerial, serial_of
 from btest_tools.station.lock import Lock
-from btest_tools.station.parts import Link, open_place, wrong_parts
+from btest_tools.station.parts import Link, codes, open_place, wrong_parts
 from btest_tools.station.player import Compared, compared
 from btest_tools.station.record import Beginning, Ending, Finding, Log, Record, RecordFailed
 from btest_tools.station.yields import boards_of, counts, faults_of, yield_of
@@ -104,6 +104,15 @@ class CodesTest(unittest.TestCase):
         """Ones alone are no codes."""
         told = self.told((1 << 33) - 1)
         self.assertEqual(told, ["all bits of the codes are 1: look at the scan chain"])
+
+    def test_end(self) -> None:
+        """A part isn't yielded if the scan ends before it, or within its code."""
+        chain = [Link("U1", 4, True), Link("U2", 4, False)]
+        none = chain[1], None
+        self.assertEqual(list(codes(chain, 1, 0)), [none])
+        self.assertEqual(list(codes(chain, 32, 0b10)), [none])
+        self.assertEqual(list(codes(chain, 33, 0b1110)), [none, (chain[0], 0b111)])
+        self.assertEqual(list(codes(chain, 2, 0)), [none, (chain[0], None)])
 
     def test_partly_known(self) -> None:
         """A field in which some bits don't matter is shown in its bits."""
@@ -245,6 +254,15 @@ class RecordTest(unittest.TestCase):
         parts, nets = counts(faults, {pin: net.name for pin, net in board.net_of.items()})
         self.assertEqual(parts, [("U1", 2), ("U3", 1)])
         self.assertEqual(nets, [("D0", 3), ("A1", 1), ("D1", 1)])
+
+    def test_the_most_frequent_fault_is_first(self) -> None:
+        """B and C have the same fault, and A another one before."""
+        self.add("A", "2", "FAIL", "stuck D0 0")
+        for serial in ("B", "C"):
+            self.add(serial, "2", "FAIL", "stuck D1 0")
+        boards = boards_of(self.record.of_boards_of(DAYS["2"]), DAYS["2"])
+        faults = faults_of(boards, self.record.findings(DAYS["2"]), {})
+        self.assertEqual([fault.names for fault in faults], [("stuck D1 0",), ("stuck D0 0",)])
 
     def test_lock(self) -> None:
         """A folder has one station, until that gives it back."""

@@ -20,6 +20,7 @@ from btest_tools.station import attempts, command, day, folder, openocd, record
 from btest_tools.station.explanation import explain
 from btest_tools.station.record import Log, Record
 from btest_tools.station.stages import MOST, Bench
+from btest_tools.station.yields import Fault, Tested
 
 # It reads names of texts, as OpenOCD does with the script of the station. FAULTS has the faults of
 # the board, one for each time that its test is played, and the last for all times after; `chain`
@@ -141,6 +142,13 @@ class Commands(Folder):
             f"{self.product}/board/controller.chain",
         )
 
+    def test_the_last_attempt_counts(self) -> None:
+        self.play("A1", "stuck:D0:0", 1)
+        self.play("A1", "stuck:D1:0", 1)
+        self.play("A1", "chain", 3)
+        found = attempts.inputs(self.product, "A1", None)
+        self.assertEqual(found.attempt.number, 2)  # the last that has a log
+
     def test_a_stuck_net_has_no_walk(self) -> None:
         self.play("A1", "stuck:D0:0", 1)
         found = attempts.inputs(self.product, "A1", None)
@@ -216,6 +224,7 @@ class Commands(Folder):
         self.assertIn("<title>Board A&lt;2</title>", below)
         self.assertRegex(below, r"<h2>FAIL \(2 of 2\): attempt 2, ")
         self.assertIn("stage: board<br>\nlikely one cause", below)
+        self.assertIn("<pre>FAIL 1\n  short AND D0 D1\n", below)
         self.assertEqual(below.count("<details>"), 3)  # two runs, and the walking test
         self.assertFalse((path.parent / path.stem / "1.html").exists())
         out = pathlib.Path(self.folder, "out")
@@ -236,6 +245,16 @@ class Commands(Folder):
 
 class Pages(unittest.TestCase):
     """Pieces of the pages of a day."""
+
+    def test_faults(self) -> None:
+        board = Tested("A")
+        board.attempts.append(mock.Mock(number=1))
+        for count, names in ((6, "1 or 2 or 3 or 4 or 5 or 6</td>"), (7, "5 or 6 ..</td>")):
+            fault = Fault(tuple(str(at) for at in range(1, count + 1)), [board])
+            with mock.patch.object(day, "faults_of", return_value=[fault]):
+                self.assertIn(names, day.fault_tables(mock.Mock(net_of={})))
+        with mock.patch.object(day, "faults_of", return_value=[]):
+            self.assertEqual(day.fault_tables(mock.Mock()), "")
 
     def test_rows(self) -> None:
         self.assertEqual(day.percent(1, 3), " (33.3 %)")
