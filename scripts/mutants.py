@@ -1,13 +1,13 @@
 #!/usr/bin/env python3
 """Changes the package tools/btest_tools in small ways and says which changes no test notices.
 
-    python3 -B scripts/mutants.py --btest PROGRAM [--count 200] [--seed 1] [--keep FILE] [--again] [--seconds S] [MODULE..]
+    python3 -B scripts/mutants.py --btest PROGRAM [--count 200] [--seed 1] [--jobs N] [--keep FILE] [--again] [--seconds S] [MODULE..]
 
 A change is one of: an operator or a comparison is another one, a constant is one more or less, a condition is turned round, `and` is
 `or`, a statement is dropped, an order is turned round, an argument or an element is left out. The changes are drawn from a seed, the
 same number for each kind as far as there are such. For each, the unit tests are run on a copy of the sources until one fails, those of
-the module first. They also notice a change if they take far longer with it, in processor time. With --keep the answers
-are kept, and the next run goes on; with --again it tries only the changes that no test has noticed.
+the module first. They also notice a change if they take far longer with it, in processor time. With --jobs several changes are tried
+side by side. With --keep the answers are kept, and the next run goes on; with --again it tries only what no test has noticed.
 """
 import argparse
 import ast
@@ -32,7 +32,8 @@ SEEN = ('VERSION', 'docs', 'examples', 'crates', 'scripts')   # what tests read 
 FIRST = {'explaining': ['explaining', 'rows'], 'pages': ['pages'], 'netlists': ['netlist_texts', 'places'],
          'station': ['station', 'station_commands'], 'pictures': ['drawn'], 'drawing': ['drawn'], 'closeups': ['drawn'],
          'logs': ['logs'], 'asking': ['logs', 'failing'], 'walks': ['failing'], 'failing': ['failing'], 'board': ['board', 'model'],
-         'scans': ['scans'], 'model': ['model', 'rows'], 'files': ['files'], 'btest': ['failing']}
+         'scans': ['scans'], 'model': ['model', 'rows'], 'files': ['files'], 'btest': ['failing'],
+         'bitbang': ['bitbang'], 'chain_faults': ['chain_faults'], 'neighbors': ['drawn', 'pictures'], 'places': ['drawn', 'places']}
 SECONDS = 60   # of processor time: tests that take longer have noticed the change
 WAIT = 900   # seconds, for tests that wait for what never comes
 FAILED = re.compile(r'^(?:FAIL|ERROR): .*\btests\.(test_\w+)', re.M)
