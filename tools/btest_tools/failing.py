@@ -70,7 +70,7 @@ def look(bench: Bench, log: Text, walk: Optional[Text] = None) -> Look:
         bench.btest.run("groups", LOG, *bench.files, begin="GROUPS ", log=walk)
         logs.append((bench.test("walk"), bench.test("walk").compare(walk.lines())))
     explained = explain(bench.board, logs, bench.nearness, proved_of(found))
-    hint = "" if walk or len(explained.ranks) < 2 else walk_hint(bench, explained)
+    hint = "" if walk or explained.count < 2 else walk_hint(bench, explained)
     return Look(head, faults, found, explained, hint)
 
 

@@ -11,6 +11,7 @@ from btest_tools.asking import MOST
 from btest_tools.board import Board
 from btest_tools.btest import Btest
 from btest_tools.explaining.nearness import Nearness
+from btest_tools.explaining.sets import explain
 from btest_tools.failing import WALK, Bench, Look, by_parts, look, show
 from btest_tools.files import BadInput, Text
 from btest_tools.walks import Ones, Walkers, conclusions, look_at_walk, misfits
@@ -49,6 +50,14 @@ class LookAt(unittest.TestCase):
 
     def test_the_walking_test_can_tell(self) -> None:
         self.assertEqual(look_at("or:D1:A1").walk, WALK)
+
+    def test_sets_of_one_number_can_be_told_apart(self) -> None:
+        bed = Bed()
+        explained = explain(bed.board, [(bed.test, bed.rows("or:D1:A1"))])
+        self.assertEqual((len(explained.ranks), explained.count), (2, 2))
+        explained.ranks = [[*explained.ranks[0], *explained.ranks[1]]]
+        with mock.patch("btest_tools.failing.explain", return_value=explained):
+            self.assertEqual(look_at("or:D1:A1").walk, WALK)
 
     def test_a_good_board(self) -> None:
         seen = look_at("good")

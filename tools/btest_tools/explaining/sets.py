@@ -68,6 +68,11 @@ class Explained:
     more: int = 0  # sets beyond the ranks that are told
     left: list[str] = field(default_factory=list)
 
+    @property
+    def count(self) -> int:
+        """How many sets the ranks have that are told."""
+        return sum(map(len, self.ranks))
+
 
 class Explainer:
     """Explains the logs of a board."""
