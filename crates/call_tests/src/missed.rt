@@ -31,3 +31,12 @@ impl From<io::Error> for Missed {
 pub fn expect(row: usize, holds: bool) -> Result<(), Missed> {
     if holds { Ok(()) } else { Err(Missed::Row(row)) }
 }
+
+#[test]
+fn a_row_that_gives_something_else_is_named(_rt: HostRuntime) -> Result<(), Missed> {
+    expect(0, true)?;
+    match expect(3, false) {
+        Err(Missed::Row(3)) => Ok(()),
+        _ => Err(Missed::Row(3)),
+    }
+}
