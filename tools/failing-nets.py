@@ -44,13 +44,15 @@ def main() -> None:
     chosen = words.parse_args()
     attempt = chosen_inputs(words, chosen)
     walk: Optional[Text]
+    places: Optional[str] = chosen.places
     if attempt:
         log, walk, files = attempt.log, attempt.walk, attempt.files
+        places = places or attempt.places
     else:
         log, files = read(chosen.log), [chosen.chain, chosen.nets, *chosen.bsdl]
         walk = read(chosen.with_walk) if chosen.with_walk else None
     board = read_board(files[0], files[1], files[2:])
-    nearness = Placed(board, read_places(chosen.places) if chosen.places else None)
+    nearness = Placed(board, read_places(places) if places else None)
     bench = Bench(Btest(chosen.btest), files, board, nearness)
     if chosen.walk:
         lines = list(look_at_walk(bench, attempt.walk_log() if attempt else log))

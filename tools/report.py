@@ -86,13 +86,15 @@ def main() -> None:
     chosen = words.parse_args()
     attempt = chosen_inputs(words, chosen)
     logs: List[Optional[Text]]
+    layout: Optional[str] = chosen.places
     if attempt:
         files, logs, title = attempt.files, [attempt.log, attempt.walk, None], attempt.title
+        layout = layout or attempt.places
     else:
         files, title = [chosen.chain, chosen.nets, *chosen.bsdl], title_of(chosen)
         logs = [read(name) if name else None for name in (chosen.log, chosen.walk, chosen.batch)]
     board = read_board(files[0], files[1], files[2:])
-    places = read_places(chosen.places) if chosen.places else None
+    places = read_places(layout) if layout else None
     bench = Bench(Btest(chosen.btest), files, board, Placed(board, places))
     names = [log.name for log in logs if log] + files
     put(page(chosen.title or title, names, sections(bench, places, *logs)))

@@ -3,6 +3,7 @@ expected values were worked out by hand."""
 
 from __future__ import annotations
 
+import os
 import pathlib
 import sqlite3
 import tempfile
@@ -16,6 +17,7 @@ from btest_tools.station import record
 from btest_tools.station.letters import large
 from btest_tools.station.line import BadSerial, serial_of
 from btest_tools.station.lock import Lock
+from btest_tools.station.page_folder import PageFailed, PageFolder
 from btest_tools.station.parts import Link, codes, open_place, wrong_parts
 from btest_tools.station.player import Compared, compared
 from btest_tools.station.record import Beginning, Ending, Finding, Log, Record, RecordFailed
@@ -174,7 +176,7 @@ class RecordTest(unittest.TestCase):
             logs = [Log("board", f"{serial}\n")] if verdict == "FAIL" else []
             self.record.end(number, ending, logs)
         if faults:
-            self.record.explain(number, Finding(faults, ("line",), "details"))
+            self.record.explain(number, Finding.of(faults, ("line",), "details", "<svg>"))
         return number
 
     def test_attempt(self) -> None:
@@ -233,7 +235,7 @@ class RecordTest(unittest.TestCase):
             ("F", "3", "PASS"),
         ):
             self.add(serial, day, verdict)
-        boards = boards_of(self.record.of_boards_of(DAYS["2"]), DAYS["2"])
+        boards = boards_of(self.record.of_boards_of(DAYS["2"]))
         self.assertEqual([board.serial for board in boards], ["A", "B", "C", "D", "E"])
         found = yield_of(boards)
         counted = (found.boards, found.judged, found.first, found.after_repair, found.failed)
@@ -246,9 +248,9 @@ class RecordTest(unittest.TestCase):
         self.add("A", "2", "FAIL", *pair)
         self.add("B", "2", "FAIL", *pair)
         self.add("C", "2", "FAIL", "short AND D0 D1 with open U3.5 1")
-        boards = boards_of(self.record.of_boards_of(DAYS["2"]), DAYS["2"])
-        marks = self.record.marks(DAYS["2"], "board")
-        faults = faults_of(boards, self.record.findings(DAYS["2"]), marks)
+        boards = boards_of(self.record.of_boards_of(DAYS["2"]))
+        findings = self.record.findings([1, 2, 3, 4])
+        faults = faults_of(boards, DAYS["2"], findings, {})
         self.assertEqual([len(fault.boards) for fault in faults], [2, 1])
         board = read_board(DEMO[0], DEMO[1], DEMO[2:])
         parts, nets = counts(faults, {pin: net.name for pin, net in board.net_of.items()})
@@ -260,9 +262,52 @@ class RecordTest(unittest.TestCase):
         self.add("A", "2", "FAIL", "stuck D0 0")
         for serial in ("B", "C"):
             self.add(serial, "2", "FAIL", "stuck D1 0")
-        boards = boards_of(self.record.of_boards_of(DAYS["2"]), DAYS["2"])
-        faults = faults_of(boards, self.record.findings(DAYS["2"]), {})
+        boards = boards_of(self.record.of_boards_of(DAYS["2"]))
+        faults = faults_of(boards, DAYS["2"], self.record.findings([1, 2, 3]), {})
         self.assertEqual([fault.names for fault in faults], [("stuck D1 0",), ("stuck D0 0",)])
+
+    def test_findings(self) -> None:
+        """A finding comes back with its picture, equal ones are one object, and the log of a
+        failure is found by its fingerprint."""
+        numbers = [self.add(name, "2", "FAIL", "stuck D0 0") for name in "AAB"]
+        found = self.record.findings([*numbers, 99])
+        self.assertEqual(list(found), numbers)
+        self.assertEqual(found[1].more(), ("details", "<svg>"))
+        self.assertIs(found[1], found[3])
+        self.assertEqual(Finding((), (), b"no zlib").more(), ("", ""))
+        marks = self.record.log_marks(numbers)
+        self.assertEqual(marks[1], marks[2])
+        self.assertEqual([mark.stage for mark in marks[3]], ["board"])
+        self.assertEqual(self.record.log_text(marks[3][0].fingerprint), "B\n")
+        self.assertEqual(self.record.log_text("none"), None)
+
+    def test_many(self) -> None:
+        """Attempts are asked for some hundred at a time."""
+        with self.record.database as database:
+            database.execute("BEGIN")
+            for number in range(1, 1202):
+                row = (number, '["f"]', "[]", b"")
+                database.execute("INSERT INTO finding VALUES (?, ?, ?, ?)", row)
+        found = self.record.findings(range(1, 1202))
+        self.assertEqual(list(found), list(range(1, 1202)))
+
+    def test_pages(self) -> None:
+        """A page is written only if it is new or has changed."""
+        with PageFolder(self.folder / "days" / "day") as pages:
+            pages.put("1.html", "µ")
+            path = pages.path / "1.html"
+            path.chmod(0o444)
+            os.utime(path, ns=(5, 5))
+            pages.put("1.html", "µ")
+            self.assertEqual(path.stat().st_mtime_ns, 5)
+            path.chmod(0o644)
+            for text in ("µ.", "", "x" * 100_000):
+                pages.put("1.html", text)
+                self.assertEqual(path.read_text("utf-8"), text)
+            self.assertEqual((pages.drop("1.html"), pages.drop("1.html")), (True, False))
+            path.mkdir()
+            self.assertRaisesRegex(PageFailed, "1.html can't be written", pages.put, "1.html", "")
+        self.assertRaisesRegex(PageFailed, "sqlite can't be written", PageFolder, self.path)
 
     def test_lock(self) -> None:
         """A folder has one station, until that gives it back."""

@@ -14,10 +14,11 @@ from btest_tools.station.record import Attempt, Log, Record
 
 class Inputs(NamedTuple):
     """The words of a btest command about an attempt. `walk` is None if no walking test was
-    played."""
+    played, and `places` if the folder has no file of places."""
 
     attempt: Attempt
     files: list[str]
+    places: Optional[str]
     log: Text
     walk: Optional[Text]
 
@@ -84,7 +85,7 @@ def inputs(name: str, serial: Optional[str], number: Optional[int]) -> Inputs:
         log = log_of(product, record, attempt, "board")
         has_walk = any(one.stage == "walk" for one in record.logs(attempt.number))
         walk = log_of(product, record, attempt, "walk") if has_walk else None
-    return Inputs(attempt, product.files, log, walk)
+    return Inputs(attempt, product.files, product.layout_file, log, walk)
 
 
 # The words of other programs

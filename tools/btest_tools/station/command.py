@@ -4,6 +4,7 @@ from __future__ import annotations
 
 import argparse
 import csv
+import gc
 import io
 import pathlib
 import sys
@@ -12,13 +13,14 @@ from typing import NamedTuple, NoReturn, Optional
 
 from btest_tools.btest import WHICH, Btest, default_program
 from btest_tools.files import BadInput, put, tell
-from btest_tools.station import attempts, day, folder, line, record
+from btest_tools.station import attempts, day_pages, folder, line, page_folder, record
 from btest_tools.station.record import Attempt, Record
 
 EPILOG = """Exit status of test: 0 the board passes, 1 it fails, 2 the command line, 3 the scan
 chain, 4 a wrong part, 5 no cable, no player or no btest, 6 the folder isn't whole, 7 the record
 can't be written, 130 stopped. Of the others: 0 done, 1 refused, and 2, 6 and 7 as above."""
 FOLDER = "the folder of the product"
+PLACES = "where the pins are, for pictures: a .kicad_pcb, or a netlist by IPC-D-356"
 SERIAL = "the serial number of a board; behind -- if it begins with -"
 
 
@@ -34,6 +36,7 @@ class Words(argparse.Namespace):
     chain: Optional[str]
     nets: Optional[str]
     cable: Optional[str]
+    places: Optional[str]
     bsdls: list[str]
     serial: Optional[str]
     attempt: Optional[int]
@@ -52,9 +55,14 @@ def prepare(words: Words) -> int:
         put(f"{words.folder} is whole: test {product.test}, btest {product.btest}\n")
         return 0
     files = [words.chain or "", words.nets or "", *words.bsdls]
-    product = folder.prepare(words.folder, Btest(words.btest), files, words.cable or "")
+    sources = folder.Sources(files, words.cable or "", words.places)
+    product = folder.prepare(words.folder, Btest(words.btest), sources)
     covered = product.text(folder.COVER).splitlines()[0]
     put(f"{words.folder} is made: test {product.test}\n{covered}\n")
+    places = product.places
+    if places:
+        count, pins = folder.placed_pins(product.files, places)
+        put(f"{count} of {pins} pins have a place\n")
     if not product.has_ident:
         put("a part of the chain has no description, so no identification codes are read\n")
     return 0
@@ -122,9 +130,10 @@ def table(words: Words) -> int:
 
 def page(words: Words) -> int:
     """Makes the page of a day."""
+    gc.disable()  # a day may have a million objects, all of them to the end
     product = folder.load(words.folder)
     with Record(product.record) as found:
-        put(f"{day.write(product, found, Btest(words.btest), words.day, words.out)}\n")
+        put(f"{day_pages.write(product, found, Btest(words.btest), words.day, words.out)}\n")
     return 0
 
 
@@ -168,6 +177,7 @@ def add_prepare(words: argparse.ArgumentParser) -> None:
     words.add_argument("--chain", metavar="CHAIN", help="the chain file")
     words.add_argument("--nets", metavar="NETS", help="the net file")
     words.add_argument("--cable", metavar="CABLE.cfg", help="OpenOCD's file for the adapter")
+    words.add_argument("--places", metavar="FILE", help=PLACES)
     words.add_argument("bsdls", metavar="BSDL", nargs="*", help="the BSDL texts of the parts")
     add_programs(words)
 
@@ -253,6 +263,6 @@ def status_of(wrong: BadInput, command: str) -> int:
         return 2
     if isinstance(wrong, folder.NotWhole):
         return 6
-    if isinstance(wrong, (record.RecordFailed, line.NotTold, day.PageFailed)):
+    if isinstance(wrong, (record.RecordFailed, line.NotTold, page_folder.PageFailed)):
         return 7
     return 5 if command == "test" else 1

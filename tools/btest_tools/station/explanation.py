@@ -5,10 +5,12 @@ from __future__ import annotations
 from collections.abc import Sequence
 from typing import Optional
 
+from btest_tools.explaining.placed import neighbor_lines
 from btest_tools.explaining.sets import Explained
 from btest_tools.explaining.words import Teller
 from btest_tools.failing import Look, look, show
 from btest_tools.files import BadInput, Text
+from btest_tools.pages.places import places_section
 from btest_tools.station.record import Finding, Log
 from btest_tools.station.stages import Bench
 
@@ -19,17 +21,26 @@ def log_of(logs: Sequence[Log], stage: str) -> Optional[Text]:
     return next(found, None)
 
 
-def explain(bench: Bench, logs: Sequence[Log]) -> Finding:
-    """Returns what explains the logs of a board that failed."""
+def explain(bench: Bench, logs: Sequence[Log], number: int) -> Finding:
+    """Returns what explains the logs of an attempt that failed."""
     log = log_of(logs, "board")
     if not log:
-        return Finding((), (), "")
+        return Finding.of((), (), "")
     try:
         seen = look(bench.failing, log, log_of(logs, "walk"))
-        details = "".join(f"{line}\n" for line in show(bench.failing, seen))
+        lines = [*show(bench.failing, seen), *neighbor_lines(seen.explained, bench.nearness)]
+        shown = picture(bench, seen, number)
     except BadInput as wrong:
-        return Finding((), (f"the log can't be explained: {wrong}",), "")
-    return Finding(faults_of(seen), tuple(first_lines(bench, seen)), details)
+        return Finding.of((), (f"the log can't be explained: {wrong}",), "")
+    details = "".join(f"{line}\n" for line in lines)
+    return Finding.of(faults_of(seen), first_lines(bench, seen), details, shown)
+
+
+def picture(bench: Bench, seen: Look, number: int) -> str:
+    """Returns the pictures of the board, if the folder says where its pins are."""
+    if not bench.places:
+        return ""
+    return places_section(bench.failing.board, seen, bench.places, f"attempt{number}")
 
 
 def faults_of(seen: Look) -> tuple[str, ...]:

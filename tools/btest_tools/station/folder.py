@@ -15,9 +15,13 @@ import shutil
 import tempfile
 from collections.abc import Iterator, Sequence
 from dataclasses import dataclass
+from typing import Optional
 
+from btest_tools.board import read_board
 from btest_tools.btest import Btest
 from btest_tools.files import BadInput, read
+from btest_tools.netlists.layout import read_places
+from btest_tools.places import Places
 from btest_tools.station import record
 
 FINGERPRINTS = "fingerprints.sha256"
@@ -40,6 +44,21 @@ class NotWhole(BadInput):
 
 
 @dataclass(frozen=True)
+class Sources:
+    """The files that a folder is made of. `board` has the chain file, the net file and the BSDL
+    texts, `places` says where the pins are, if anything does."""
+
+    board: Words
+    cable: str
+    places: Optional[str] = None
+
+    @property
+    def words(self) -> Words:
+        """The files about the board, which are copied under their own names."""
+        return [*self.board, *([self.places] if self.places else [])]
+
+
+@dataclass(frozen=True)
 class Product:
     """A folder that is whole. The files are names below it."""
 
@@ -47,6 +66,7 @@ class Product:
     chain: str
     nets: str
     bsdls: tuple[str, ...]
+    layout: Optional[str]
     btest: str
     test: str
 
@@ -54,6 +74,16 @@ class Product:
     def files(self) -> list[str]:
         """The words of a btest command about the board."""
         return [str(self.folder / name) for name in (self.chain, self.nets, *self.bsdls)]
+
+    @property
+    def layout_file(self) -> Optional[str]:
+        """The file that says where the pins are, if there is one."""
+        return str(self.folder / self.layout) if self.layout else None
+
+    @property
+    def places(self) -> Optional[Places]:
+        """Where the pins are, if the folder has a file that says so. It is read each time."""
+        return read_places(self.layout_file) if self.layout_file else None
 
     @property
     def has_ident(self) -> bool:
@@ -138,15 +168,19 @@ def files_below(draft: pathlib.Path) -> list[str]:
     return sorted({path.relative_to(draft).as_posix() for path in paths} - others)
 
 
-def fill(draft: pathlib.Path, btest: Btest, words: Words, cable: str) -> None:
-    """Writes all files of a product into an empty folder. `words` name chain, nets and BSDLs."""
-    names = names_of(words)
+def fill(draft: pathlib.Path, btest: Btest, sources: Sources) -> None:
+    """Writes all files of a product into an empty folder."""
+    names = names_of(sources.words)
+    board = names[: len(sources.board)]
     (draft / "board").mkdir()
-    for name, word in zip(names, words):
+    for name, word in zip([*names, CABLE], [*sources.words, sources.cable]):
         (draft / name).write_bytes(read(word).text.encode("latin-1"))
-    (draft / CABLE).write_bytes(read(cable).text.encode("latin-1"))
-    make_texts(btest, draft, names, words)
-    about = {"btest": version_of(btest), "chain": names[0], "nets": names[1], "bsdls": names[2:]}
+    make_texts(btest, draft, board, sources.board)
+    about: dict[str, object] = {"btest": version_of(btest)}
+    about |= {"chain": board[0], "nets": board[1], "bsdls": board[2:]}
+    if sources.places:
+        check_places(sources.board, sources.places)
+        about["places"] = names[-1]
     (draft / PRODUCT).write_text(json.dumps(about, indent=1) + "\n")
     lines = [f"{mark_of(draft / name)}  {name}\n" for name in files_below(draft)]
     (draft / FINGERPRINTS).write_text("".join(lines))
@@ -155,14 +189,27 @@ def fill(draft: pathlib.Path, btest: Btest, words: Words, cable: str) -> None:
     record.create(draft / record.NAME)
 
 
-def prepare(folder: pathlib.Path, btest: Btest, words: Words, cable: str) -> Product:
+def placed_pins(files: Words, places: Places) -> tuple[int, int]:
+    """Returns how many pins of a board's nets have a place, and how many pins there are."""
+    chain, nets, *bsdls = files
+    pins = read_board(chain, nets, bsdls).net_of
+    return sum(bool(places.of(pin)) for pin in pins), len(pins)
+
+
+def check_places(board: Words, name: str) -> None:
+    """Refuses a file of places that is of another board."""
+    if not placed_pins(board, read_places(name))[0]:
+        raise BadInput(f"{name} has no place of a pin of {board[1]}")
+
+
+def prepare(folder: pathlib.Path, btest: Btest, sources: Sources) -> Product:
     """Makes the folder of a product, whole or not at all."""
     if os.path.lexists(folder):
         raise BadInput(f"{folder} is there already; a new revision of a board is a new folder")
     try:
         draft = pathlib.Path(tempfile.mkdtemp(prefix=f".{folder.name}.", dir=folder.parent))
         try:
-            fill(draft, btest, words, cable)
+            fill(draft, btest, sources)
             draft.chmod(0o755)
             os.rename(draft, folder)
         finally:
@@ -212,6 +259,7 @@ def load(folder: pathlib.Path) -> Product:
             str(about["chain"]),
             str(about["nets"]),
             tuple(map(str, about["bsdls"])),
+            str(about["places"]) if "places" in about else None,
             str(about["btest"]),
             mark_of(folder / FINGERPRINTS),
         )

@@ -15,13 +15,16 @@ import pathlib
 import sqlite3
 import zlib
 from collections.abc import Iterator, Sequence
-from typing import NamedTuple, Optional
+from operator import itemgetter
+from typing import Any, NamedTuple, Optional
 
 from btest_tools.files import BadInput
 
 NAME = "record.sqlite"
 FORMAT = 1
-SECONDS = 30.0  # how long a writer waits for who reads
+SECONDS = 30.0  # how long a writer waits for a reader
+AT_ONCE = 500  # attempts that a statement names
+BEHIND = "\f"  # between the words about a failure and its picture
 TABLES = (
     """CREATE TABLE attempt (number INTEGER PRIMARY KEY AUTOINCREMENT, serial TEXT NOT NULL,
        utc TEXT NOT NULL, local TEXT NOT NULL, day TEXT NOT NULL, test TEXT NOT NULL,
@@ -56,13 +59,34 @@ class Log(NamedTuple):
     rows: str
 
 
+class LogMark(NamedTuple):
+    """Which log a board gave in a stage: the fingerprint of its text."""
+
+    stage: str
+    fingerprint: str
+
+
 class Finding(NamedTuple):
-    """What explains a failure: the faults, any of which gives the log, the first lines to read,
-    and all that is known of the nets."""
+    """What explains a failure: the faults, any of which gives the log, the first lines to read, and
+    packed what is known beyond that."""
 
     faults: tuple[str, ...]
     lines: tuple[str, ...]
-    details: str
+    packed: bytes
+
+    @classmethod
+    def of(
+        cls, faults: Sequence[str], lines: Sequence[str], details: str, picture: str = ""
+    ) -> Finding:
+        """Makes one, with all that is known of the nets and a picture of the board in HTML."""
+        packed = zlib.compress(f"{details}{BEHIND}{picture}".encode("utf-8"))
+        return cls(tuple(faults), tuple(lines), packed)
+
+    def more(self) -> tuple[str, str]:
+        """Returns what is known of the nets and the picture, each empty if there is none or if it
+        can't be read."""
+        details, _, picture = (unpacked(self.packed) or "").partition(BEHIND)
+        return details, picture
 
 
 class Beginning(NamedTuple):
@@ -104,6 +128,11 @@ class Attempt(NamedTuple):
     player: str
     station: str
     ended_utc: str
+
+    @property
+    def made_with(self) -> tuple[str, str, str, str]:
+        """The fingerprint of the test, the versions of btest and of the player, the station."""
+        return self.test, self.btest, self.player, self.station
 
 
 @contextlib.contextmanager
@@ -209,36 +238,41 @@ class Record:
     def explain(self, number: int, finding: Finding) -> None:
         """Adds what explains the failure of an attempt."""
         with self.transaction() as database:
-            packed = zlib.compress(finding.details.encode("utf-8"))
-            row = (number, json.dumps(finding.faults), json.dumps(finding.lines), packed)
+            names, lines = json.dumps(finding.faults), json.dumps(finding.lines)
+            row = (number, names, lines, finding.packed)
             database.execute("INSERT INTO finding VALUES (?, ?, ?, ?)", row)
 
-    def query(self, rest: str, *values: object) -> Iterator[Attempt]:
-        """Yields the attempts that the rest of a statement asks for."""
+    def query(self, rest: str, *values: object) -> list[Attempt]:
+        """Returns the attempts that the rest of a statement asks for."""
         statement = f"SELECT {COLUMNS} FROM attempt LEFT JOIN ending ON number = attempt {rest}"
         with told(self.path, "read"):
-            yield from map(Attempt._make, self.database.execute(statement, values))
+            return list(map(Attempt._make, self.database.execute(statement, values)))
 
-    def attempts(self) -> Iterator[Attempt]:
-        """Yields all attempts, in their order."""
+    def attempts(self) -> list[Attempt]:
+        """Returns all attempts, in their order."""
         return self.query("ORDER BY number")
 
     def of_serial(self, serial: str) -> list[Attempt]:
         """Returns the attempts of a board."""
-        return list(self.query("WHERE serial = ? ORDER BY number", serial))
+        return self.query("WHERE serial = ? ORDER BY number", serial)
 
     def of_boards_of(self, day: str) -> list[Attempt]:
-        """Returns all attempts, of any day, of the boards that were tested on a day."""
-        boards = "SELECT serial FROM attempt WHERE day = ?"
-        return list(self.query(f"WHERE serial IN ({boards}) ORDER BY number", day))
+        """Returns the attempts of the boards that were tested on a day, up to the last one of this
+        day, in their order. Those of earlier days are among them."""
+        found = self.query("WHERE day = ? ORDER BY number", day)
+        if found:
+            boards = "SELECT serial FROM attempt WHERE day = ?"
+            rest = f"WHERE day <> ? AND number < ? AND serial IN ({boards})"
+            found += self.query(rest, day, found[-1].number, day)
+        return sorted(found, key=itemgetter(0))
 
     def attempt(self, number: int) -> Optional[Attempt]:
         """Returns the attempt with a number."""
-        return next(self.query("WHERE number = ?", number), None)
+        return next(iter(self.query("WHERE number = ?", number)), None)
 
     def last(self) -> Optional[Attempt]:
         """Returns the last attempt."""
-        return next(self.query("ORDER BY number DESC LIMIT 1"), None)
+        return next(iter(self.query("ORDER BY number DESC LIMIT 1")), None)
 
     def logs(self, number: int) -> list[Log]:
         """Returns the logs of an attempt."""
@@ -253,45 +287,43 @@ class Record:
                 found.append(Log(stage, text))
         return found
 
-    def failed_logs(self, day: str) -> dict[int, list[Optional[Log]]]:
-        """Returns the logs of the failed attempts of the boards of a day, with None for each that
-        can't be read. Equal logs are unpacked once."""
-        statement = """SELECT log.attempt, log.stage, fingerprint, packed FROM attempt
-                       JOIN ending ON number = ending.attempt JOIN log ON number = log.attempt
-                       JOIN log_text USING (fingerprint)
-                       WHERE verdict = 'FAIL'
-                       AND serial IN (SELECT serial FROM attempt WHERE day = ?)
-                       ORDER BY log.attempt, place"""
-        found: dict[int, list[Optional[Log]]] = {}
-        texts: dict[str, Optional[str]] = {}
-        with told(self.path, "read"):
-            for number, stage, mark, packed in self.database.execute(statement, (day,)):
-                if mark not in texts:
-                    texts[mark] = unpacked(packed)
-                text = texts[mark]
-                log = None if text is None else Log(stage, text)
-                found.setdefault(number, []).append(log)
+    def log_marks(self, numbers: Sequence[int]) -> dict[int, list[LogMark]]:
+        """Returns for each of some attempts that has logs which ones these are."""
+        statement = """SELECT attempt, stage, fingerprint FROM log WHERE attempt IN ({})
+                       ORDER BY attempt, place"""
+        found: dict[int, list[LogMark]] = {}
+        for number, *mark in self.rows_of(numbers, statement):
+            found.setdefault(number, []).append(LogMark(*mark))
         return found
 
-    def marks(self, day: str, stage: str) -> dict[int, str]:
-        """Returns the fingerprints of the logs of a stage, for the attempts of a day."""
-        statement = """SELECT attempt, fingerprint FROM log JOIN attempt ON number = attempt
-                       WHERE day = ? AND stage = ?"""
+    def log_text(self, mark: str) -> Optional[str]:
+        """Returns the log with a fingerprint, or None if it can't be read."""
+        statement = "SELECT packed FROM log_text WHERE fingerprint = ?"
         with told(self.path, "read"):
-            return dict(self.database.execute(statement, (day, stage)))
+            row = self.database.execute(statement, (mark,)).fetchone()
+        return unpacked(row[0]) if row else None
 
-    def findings(self, day: str) -> dict[int, Finding]:
-        """Returns what explains the failures of the boards of a day."""
-        statement = """SELECT attempt, faults, lines, packed FROM finding
-                       JOIN attempt ON number = attempt
-                       WHERE serial IN (SELECT serial FROM attempt WHERE day = ?)"""
+    def findings(self, numbers: Sequence[int]) -> dict[int, Finding]:
+        """Returns what explains the failures of some attempts. Equal findings are one object."""
+        statement = "SELECT attempt, faults, lines, packed FROM finding WHERE attempt IN ({})"
+        known: dict[tuple[object, ...], Finding] = {}
         found = {}
-        with told(self.path, "read"):
-            for number, faults, lines, packed in self.database.execute(statement, (day,)):
-                with contextlib.suppress(ValueError, TypeError):
-                    kept = tuple(json.loads(faults)), tuple(json.loads(lines))
-                    found[number] = Finding(*kept, unpacked(packed) or "")
+        for number, *row in self.rows_of(numbers, statement):
+            faults, lines, packed = key = tuple(row)
+            with contextlib.suppress(ValueError, TypeError):
+                if key not in known:
+                    texts = tuple(json.loads(faults)), tuple(json.loads(lines))
+                    known[key] = Finding(*texts, packed)
+                found[number] = known[key]
         return found
+
+    def rows_of(self, numbers: Sequence[int], statement: str) -> Iterator[tuple[Any, ...]]:
+        """Yields the rows of a statement with a place for the numbers of attempts, for some of
+        them at a time."""
+        with told(self.path, "read"):
+            for at in range(0, len(numbers), AT_ONCE):
+                some = ", ".join(map(str, numbers[at : at + AT_ONCE]))
+                yield from self.database.execute(statement.format(some))
 
     def is_whole(self) -> bool:
         """Returns whether SQLite finds nothing wrong."""

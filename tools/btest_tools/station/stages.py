@@ -7,13 +7,14 @@ import re
 from collections.abc import Callable, Sequence
 from dataclasses import dataclass, field
 from functools import cached_property
-from typing import NamedTuple
+from typing import NamedTuple, Optional
 
 from btest_tools import failing
 from btest_tools.board import Files, read_board
 from btest_tools.btest import LOG, Btest
-from btest_tools.explaining.nearness import Nearness
+from btest_tools.explaining.placed import Placed
 from btest_tools.files import BadInput, Text, read
+from btest_tools.places import Places
 from btest_tools.station.folder import IDENT, Product
 from btest_tools.station.parts import Link, open_place, wrong_parts
 from btest_tools.station.player import Compared, Interrupted, Player, PlayerFailed, compared
@@ -64,11 +65,21 @@ class Bench:
         return self.statements[name]
 
     @cached_property
+    def places(self) -> Optional[Places]:
+        """Where the pins are, if the folder has a file that says so."""
+        return self.product.places
+
+    @cached_property
+    def nearness(self) -> Placed:
+        """Which pins are side by side, with the board."""
+        chain, nets, *bsdls = self.product.files
+        return Placed(read_board(chain, nets, bsdls), self.places)
+
+    @cached_property
     def failing(self) -> failing.Bench:
         """The board as the explanation of a failure has it."""
-        chain, nets, *bsdls = self.product.files
-        board = read_board(chain, nets, bsdls)
-        return failing.Bench(self.btest, self.product.files, board, Nearness(board))
+        board = self.nearness.board
+        return failing.Bench(self.btest, self.product.files, board, self.nearness)
 
     @cached_property
     def chain(self) -> list[Link]:

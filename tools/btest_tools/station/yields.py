@@ -3,7 +3,7 @@
 from __future__ import annotations
 
 import collections
-from collections.abc import Iterable, Mapping
+from collections.abc import Iterable, Mapping, Sequence
 from dataclasses import dataclass, field
 
 from btest_tools.board import part_of
@@ -12,38 +12,37 @@ from btest_tools.station.record import Attempt, Finding
 JUDGED = ("PASS", "FAIL", "CHAIN", "PART")  # the verdicts about a board; others are about a bench
 
 
+@dataclass
 class Tested:
-    """A board with all its attempts up to the end of a day, in their order. `judged` has those
-    that judge the board, `today` those of the day."""
+    """A board with all its attempts up to the end of a day, in their order. `always_passed` says
+    whether each of them is a pass, so that there is nothing to explain."""
 
-    __slots__ = ("serial", "attempts", "judged", "today", "needs_page")
+    __slots__ = ("attempts", "always_passed")
 
-    def __init__(self, serial: str) -> None:
-        self.serial = serial
-        self.attempts: list[Attempt] = []
-        self.judged: list[Attempt] = []
-        self.today: list[Attempt] = []
-        self.needs_page = False  # whether there is more to say than that it passed
-
-    def add(self, attempt: Attempt, day: str) -> None:
-        """Adds the next attempt."""
-        self.attempts.append(attempt)
-        if attempt.verdict in JUDGED:
-            self.judged.append(attempt)
-        if attempt.day == day:
-            self.today.append(attempt)
-        if attempt.verdict != "PASS":
-            self.needs_page = True
+    attempts: list[Attempt]
+    always_passed: bool
 
     @property
-    def passed_first(self) -> bool:
-        """Whether the first attempt that judges it is a pass."""
-        return bool(self.judged) and self.judged[0].verdict == "PASS"
+    def serial(self) -> str:
+        """Its serial number."""
+        return self.attempts[0].serial
 
     @property
-    def passed(self) -> bool:
-        """Whether the last attempt that judges it is a pass."""
-        return bool(self.judged) and self.judged[-1].verdict == "PASS"
+    def number(self) -> int:
+        """The number of its first attempt, which names it among all boards."""
+        return self.attempts[0].number
+
+    def last_of(self, day: str) -> Attempt:
+        """Returns its last attempt of a day, on which it has one."""
+        last = self.attempts[-1]
+        if last.day == day:  # but for a clock that went back
+            return last
+        return next(one for one in reversed(self.attempts) if one.day == day)
+
+    @property
+    def judged(self) -> list[Attempt]:
+        """The attempts that judge the board."""
+        return [one for one in self.attempts if one.verdict in JUDGED]
 
 
 @dataclass
@@ -61,29 +60,24 @@ class Yield:
         return self.judged - self.first - self.after_repair
 
 
-def boards_of(attempts: Iterable[Attempt], day: str) -> list[Tested]:
-    """Returns the boards of a day. `attempts` has all attempts of these boards, in their order;
-    what comes after the last attempt of the day isn't counted."""
-    boards: dict[str, Tested] = {}
-    found = list(attempts)
-    last = max((one.number for one in found if one.day == day), default=0)
-    for one in found:
-        if one.number > last:
-            break
-        board = boards.get(one.serial)
-        if board is None:
-            board = boards[one.serial] = Tested(one.serial)
-        board.add(one, day)
-    return list(boards.values())
+def boards_of(attempts: Sequence[Attempt]) -> list[Tested]:
+    """Returns the boards of a day. `attempts` has all attempts of these boards, in their order."""
+    boards: dict[str, list[Attempt]] = {}
+    for one in attempts:
+        boards.setdefault(one.serial, []).append(one)
+    others = {one.serial for one in attempts if one.verdict != "PASS"}
+    return [Tested(found, serial not in others) for serial, found in boards.items()]
 
 
-def yield_of(boards: list[Tested]) -> Yield:
+def yield_of(boards: Sequence[Tested]) -> Yield:
     """Returns the yield of a day's boards. A board that passed at first and failed later isn't
     among those that passed."""
-    judged = [one for one in boards if one.judged]
-    passed = [one for one in judged if one.passed]
-    first = sum(one.passed_first for one in passed)
-    return Yield(len(boards), len(judged), first, len(passed) - first)
+    others = [board.judged for board in boards if not board.always_passed]
+    always = len(boards) - len(others)
+    judged = [attempts for attempts in others if attempts]
+    passed = [attempts for attempts in judged if attempts[-1].verdict == "PASS"]
+    first = sum(attempts[0].verdict == "PASS" for attempts in passed)
+    return Yield(len(boards), always + len(judged), always + first, len(passed) - first)
 
 
 @dataclass
@@ -95,15 +89,16 @@ class Fault:
 
 
 def faults_of(
-    boards: list[Tested], findings: Mapping[int, Finding], marks: Mapping[int, str]
+    boards: Iterable[Tested], day: str, findings: Mapping[int, Finding], marks: Mapping[int, str]
 ) -> list[Fault]:
-    """Returns the faults of a day, the most frequent first. A board counts once for each."""
+    """Returns the faults of a day, the most frequent first. A board counts once for each. `marks`
+    are the fingerprints of the logs of the attempts."""
     faults: dict[tuple[str, ...], Fault] = {}
-    for board in (one for one in boards if one.needs_page):
+    for board in (one for one in boards if not one.always_passed):
         keys = dict.fromkeys(
             key_of(one, findings, marks)
-            for one in board.today
-            if one.verdict in JUDGED and one.verdict != "PASS"
+            for one in board.judged
+            if one.day == day and one.verdict != "PASS"
         )
         for key in keys:
             faults.setdefault(key, Fault(key)).boards.append(board)
