@@ -87,12 +87,16 @@ class Line:
         return subprocess.run(list(map(str, self.command(*words))), cwd=self.room, timeout=SECONDS, input=text, capture_output=True,
                               encoding='utf-8', check=False)
 
-    def prepare(self, folder='folder', port=None):
-        if not (self.room / folder).exists():
-            need(self.program)
-            (self.room / 'cable.cfg').write_text(CABLE.format(port=port or self.server.getsockname()[1]))
-            answer = self.station('prepare', folder, '--chain', BOARD[0], '--nets', BOARD[1], '--cable', 'cable.cfg', *BOARD[2:])
-            same((answer.returncode, answer.stderr), (0, ''), 'the end of prepare')
+    def prepare(self, folder='folder', port=None, more=()):
+        """Makes a folder of the demo board, with more words if there are any. Returns what is said, or None if the folder is there."""
+        if (self.room / folder).exists():
+            return None
+        need(self.program)
+        (self.room / 'cable.cfg').write_text(CABLE.format(port=port or self.server.getsockname()[1]))
+        words = ['--chain', BOARD[0], '--nets', BOARD[1], '--cable', 'cable.cfg', *more, *BOARD[2:]]
+        answer = self.station('prepare', folder, *words)
+        same((answer.returncode, answer.stderr), (0, ''), 'the end of prepare')
+        return answer.stdout
 
     def test(self, fault, serial, kind=ChainPort):
         """What the station says of a board with a fault."""
@@ -505,32 +509,103 @@ MADE = [   # by hand: what eleven boards did, and their verdicts in turn
 ]
 
 
-def made_day(line):
-    """The yield of eleven boards, counted by hand: ten were judged, seven passed at once and one after repair, two did not pass."""
-    line.prepare()
-    copy = line.room / 'made'
-    shutil.copytree(line.folder, copy)
+def made_record(line, folder, attempts):
+    """A copy of a folder with a record of some attempts, each a serial number and a verdict. A failure has the log of a short."""
+    copy = line.room / f'{folder} of a day'
+    shutil.copytree(line.room / folder, copy)
     (copy / 'record.sqlite').unlink()
-    test = line.station('prepare', '--check', line.folder).stdout.split('test ')[1].split(',')[0]
+    test = line.station('prepare', '--check', copy.with_name(folder)).stdout.split('test ')[1].split(',')[0]
     create(copy / 'record.sqlite')
     with Record(copy / 'record.sqlite') as record:
-        for serial, verdict in MADE:
+        for serial, verdict in attempts:
             number = record.begin(Beginning(serial, '2026-05-04T08:00:00Z', '2026-05-04T10:00:00+02:00', test, 'btest', 'here'))
             rows = (EXAMPLES / 'shorted.log').read_text() if verdict == 'FAIL' else ''
             ending = Ending('2026-05-04T08:00:01Z', 'player', 'board', verdict, '', 'the words')
-            record.end(number, ending, [Log('board', rows)] if rows else [])
-        record.begin(Beginning('E11', '2026-05-04T09:00:00Z', '2026-05-04T11:00:00+02:00', test, 'btest', 'here'))
-    answer = line.station('day', copy, '2026-05-04')
-    same(answer.returncode, 0, f'the status, with {answer.stderr!r}')
-    page = (line.room / answer.stdout.strip()).read_text()
+            if verdict != 'CUT':
+                record.end(number, ending, [Log('board', rows)] if rows else [])
+    return copy
+
+
+def day_of(line, folder):
+    """The page of the day of a made record, and those of its boards."""
+    answer = line.station('day', folder, '2026-05-04')
+    same((answer.returncode, answer.stderr), (0, ''), 'the end')
+    path = line.room / answer.stdout.strip()
+    return path.read_text(), {one.name: one.read_text() for one in path.with_suffix('').iterdir()}
+
+
+def made_day(line):
+    """The yield of eleven boards, counted by hand: ten were judged, seven passed at once and one after repair, two did not pass."""
+    line.prepare()
+    copy = made_record(line, 'folder', [*MADE, ('E11', 'CUT')])
+    page, boards = day_of(line, copy)
     for row in ('boards tested</td><td>11<', 'at the first attempt</td><td>7 (70.0 %)<', 'after repair</td><td>1 (10.0 %)<',
                 'not passed</td><td>2 (20.0 %)<', 'not in the shares</td><td>1<', '<td>2</td><td>short AND D0 D1</td>',
                 '<td>D0</td><td>2</td>'):
         assert row in page, f'the page has no {row}'
-    links = re.findall(r'href="(2026-05-04/\d+\.html)"', page)
-    boards = {name: (copy / 'days' / name).read_text() for name in links}
-    same(len(boards), 5, 'the pages of boards that did not pass at once')
-    assert any('short AND D0 D1' in text and 'Board E3' in text for text in boards.values()), 'no page explains E3'
+    links = dict(re.findall(r'<td><a href="?2026-05-04/([^" >]*)"?>(E[0-9]+)</a>', page))
+    same(len(links), 11, 'the links of the table')
+    for link, serial in links.items():
+        name, _, anchor = link.partition('#')
+        row = f'<tr id={anchor}><td>{serial}<' if anchor else f'<h1>Board {serial}</h1>'
+        assert row in boards[name], f'{link} leads to no {row}'
+    same(sorted(boards), ['11.html', '14.html', '3.html', '5.html', '8.html', 'passed-1.html'], 'the pages of boards')
+    assert 'short AND D0 D1' in boards['3.html'], 'no page explains E3'
+    for name, text in boards.items():
+        assert re.search(r'test [0-9a-f]{64}<br>\nbtest btest<br>\nplayer', text), f'{name} has no fingerprint of the test'
+
+
+def kept_pages(line):
+    """A page is written anew if a board has another attempt, and else it is left alone."""
+    line.prepare('again')
+    copy = made_record(line, 'again', [('A', 'PASS'), ('B', 'FAIL'), ('C', 'FAIL')])
+    before = day_of(line, copy)
+    folder = copy / 'days/2026-05-04'
+    for path in folder.iterdir():
+        os.utime(path, (1, 1))
+    same(day_of(line, copy), before, 'the pages')
+    same({path.stat().st_mtime for path in folder.iterdir()}, {1}, 'the times of the pages')
+    (folder / '3.html').write_text('cut off')
+    with Record(copy / 'record.sqlite') as record:
+        first = record.attempt(1)
+        for serial, verdict in (('A', 'CHAIN'), ('B', 'PASS')):
+            number = record.begin(Beginning(serial, *first[2:4], *first[9:11], 'here'))
+            record.end(number, Ending('2026-05-04T08:00:01Z', 'player', 'board', verdict, '', ''), [])
+    _, boards = day_of(line, copy)
+    same(sorted(boards), ['1.html', '2.html', '3.html'], 'the pages')   # none of boards that passed is left
+    same(boards['3.html'], before[1]['3.html'], 'the page that was cut off')
+    assert 'PASS: attempt 5' in boards['2.html'], 'the page of B has no word of its second attempt'
+
+
+def places_in_folder(line):
+    """A folder that knows where the pins are tells neighbors, and its pages have pictures."""
+    file = EXAMPLES / 'controller.kicad_pcb'
+    said = line.prepare('placed', more=['--places', file])
+    assert re.search(r'^([0-9]+) of [0-9]+ pins have a place$', said, re.M), f'it says {said!r}'
+    assert ' board/controller.kicad_pcb\n' in (line.room / 'placed/fingerprints.sha256').read_text()
+    copy = made_record(line, 'placed', [('A', 'FAIL'), ('A', 'FAIL')])
+    _, boards = day_of(line, copy)
+    same(boards['1.html'].count('<title>measure between U1.1 and U1.2</title>'), 2, 'the pictures of two attempts')
+    assert 'U1.1 and U1.2 are neighbors (D0 and D1)' in boards['1.html'], 'no neighbors'
+    names = re.findall(r' id="([^"]*)"', boards['1.html'])
+    same(len(names), len(set(names)), 'the names within a page')
+    here = inside('failing-nets.py', '--btest', line.program, '--station', copy, '--attempt', 1)
+    there = inside('failing-nets.py', '--btest', line.program, '--places', file, EXAMPLES / 'shorted.log', *BOARD)
+    same(here.stdout, there.stdout, 'what failing-nets.py says of the attempt')
+    page = inside('report.py', '--btest', line.program, '--station', copy, '--attempt', 1)
+    assert '<title>measure between U1.1 and U1.2</title>' in page.stdout, 'report.py has no picture'
+
+
+def refused_places(line):
+    """A file without places, or of another board, is refused, and no folder is made."""
+    line.prepare()
+    (line.room / 'other.ipc').write_text('P  JOB other\n317N1               R7    -1          A01X+010000Y+010000X0600Y0600R000S0\n999\n')
+    words = ['--chain', BOARD[0], '--nets', BOARD[1], '--cable', 'cable.cfg', *BOARD[2:]]
+    for name, line_of in ((EXAMPLES / 'controller-kicad.net', 'controller-kicad.net'), ('other.ipc', 'other.ipc has no place of a pin of '),
+                          ('missing', 'cannot read missing')):
+        answer = line.station('prepare', 'no-places', '--places', name, *words)
+        same((answer.returncode, answer.stderr.count('\n')), (1, 1), f'the end, with {answer.stderr!r}')
+        assert line_of in answer.stderr and not (line.room / 'no-places').exists(), f'it says {answer.stderr!r}'
 
 
 def unread_log(line):
@@ -608,3 +683,6 @@ def check(program):
         yield 'an attempt in place of files', lambda: take_attempt(line)
         yield 'a log that cannot be read', lambda: unread_log(line)
         yield 'the yield of a day', lambda: made_day(line)
+        yield 'pages that are kept', lambda: kept_pages(line)
+        yield 'a folder with places', lambda: places_in_folder(line)
+        yield 'places that are refused', lambda: refused_places(line)
