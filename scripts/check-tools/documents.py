@@ -13,6 +13,7 @@ DOCUMENTS = sorted(path.relative_to(ROOT) for folder in ('', 'docs', 'tools', 'e
 BLOCK = re.compile(r'^```[a-z]*\n(.*?)^```$', re.M | re.S)
 RUN = ('btest', 'python3', 'awk', 'cat')     # a block is run where its first command is one of these
 OTHERS = ('CABLE.cfg', 'station.py test')    # what the reader has to bring: a cable, and a board at it
+PLAYED = r'\bopenocd\b|station\.py|play\.sh'    # OpenOCD plays in these commands
 PORT = '5555'                                # the port of the guide; another is taken in its place
 STORED = ROOT / 'crates/btest/data'    # the files of the small board of README.md
 
@@ -64,16 +65,16 @@ def run_block(block, folder, program):
     for command, lines in commands(block):
         if any(name in command for name in OTHERS) and 'simulated-chain.py' not in command:
             continue
-        if re.search(r'\b(btest|openocd)\b|failing-nets|report\.py|station\.py', command):   # they call it, or play what it wrote before
+        if re.search(PLAYED + r'|\bbtest\b|failing-nets|report\.py', command):   # they call it, or play what it wrote before
             need(program)
-        if re.search(r'\bopenocd\b|station\.py', command) and not shutil.which('openocd'):
+        if re.search(PLAYED, command) and not shutil.which('openocd'):
             raise Skipped('OpenOCD is not there')
         name = re.fullmatch(r'cat (\S+)', command)
         if name and not (folder / name[1]).exists():
             (folder / name[1]).write_text('\n'.join(lines) + '\n')   # a file that the reader makes
             continue
         answer = shell(command, folder)
-        if 'openocd' in command or 'station.py' in command:   # what they say has times and marks of their own
+        if re.search(PLAYED, command):   # what they say has times and marks of their own
             same(answer.returncode, 0, f'the status of a command that prints {answer.stdout!r}')
         else:
             same(answer.stdout, ''.join(line + '\n' for line in lines), f'what `{command[:40]}..` prints')

@@ -9,7 +9,7 @@ import sys
 import tempfile
 import time
 
-from cases import BOARD, EXAMPLES, SECONDS, TOOLS, Skipped, btest, refused, run, same, tool
+from cases import BOARD, EXAMPLES, ROOT, SECONDS, TOOLS, Skipped, btest, refused, run, same, tool
 
 from btest_tools import scans
 from btest_tools.board import read_board
@@ -142,6 +142,32 @@ class OpenOcd:
         assert 'set LOG board.log' not in setting or not (self.folder / 'board.log').exists(), 'the old log stands there'
 
 
+    def shell_status(self, fault, *, svf='svf.svf', path=None, cable=True, serial='2211 [x] $y'):
+        """The status of the lines of shell that the guide has, and whether there is a log. `path` names the programs that are there."""
+        text = (ROOT / 'docs/GUIDE.md').read_text(encoding='utf-8')
+        script = text.partition('$ cat play.sh\n')[2].partition('\n$ ')[0]
+        assert script.count('exit') == 6, 'the guide has no such lines'
+        (self.folder / 'play.sh').write_text(script + '\n')
+        for name, place in (('tools', TOOLS), ('board.svf', self.folder / svf)):
+            (self.folder / name).unlink(missing_ok=True)
+            (self.folder / name).symlink_to(place)
+        (self.folder / f'{serial}.log').write_text('an old one\n')
+        with Served(fault) as served:
+            (self.folder / 'simulated.cfg').write_text(SETTING.format(port=served.port if cable else 1))
+            words = ['/bin/sh', 'play.sh', 'simulated.cfg', serial]
+            status = run(words, self.folder, env={**os.environ, **({'PATH': str(path)} if path else {})}).returncode
+        return status, (self.folder / f'{serial}.log').exists()
+
+
+def bare_path(folder):
+    """A folder of programs that has nothing but rm."""
+    path = pathlib.Path(folder) / 'bare'
+    path.mkdir(exist_ok=True)
+    if not (path / 'rm').exists():
+        (path / 'rm').symlink_to(shutil.which('rm'))
+    return path
+
+
 def check_openocd(program, folder):
     """A call for each check with OpenOCD, with the folder made when it is wanted."""
     def ocd():
@@ -157,6 +183,11 @@ def check_openocd(program, folder):
     yield 'a chain that breaks in the test leaves no log', lambda: ocd().refuse(
         LOG.format(svf='svf.svf', log='board.log'), "chain.svf failed after the test", fault='12@chain:U2:1')
     yield 'names with blanks and signs of Tcl', lambda: ocd().take_names()
+    for fault, status in (('good', 0), ('and:D0:D1', 1), ('chain:U3:0', 3), ('missing:U2', 3), ('12@chain:U2:1', 3), ('code:U1:1012301F', 4)):
+        yield f'the status in a shell with {fault}', lambda: same(ocd().shell_status(fault), (status, status < 2), 'the status and the log')
+    yield 'the status in a shell without a cable', lambda: same(ocd().shell_status('good', cable=False), (5, False))
+    yield 'the status in a shell without a test', lambda: same(ocd().shell_status('good', svf='missing.svf'), (5, False))
+    yield 'the status in a shell without OpenOCD', lambda: same(ocd().shell_status('good', path=bare_path(folder)), (5, False))
     yield 'an SVF text that is missing leaves no log', lambda: ocd().refuse(
         LOG.format(svf='missing.svf', log='board.log'), "missing.svf can't be read")
     yield 'a log that has no name', lambda: ocd().refuse('set CHAIN chain.svf; set SVF svf.svf', "LOG isn't set")
