@@ -19,7 +19,7 @@ import zlib
 ROOT = pathlib.Path(__file__).resolve().parents[2]
 sys.path[:0] = [str(ROOT / 'tools'), str(ROOT / 'scripts/check-tools')]
 import program   # noqa: E402
-from cases import BOARD, EXAMPLES   # noqa: E402
+from cases import BOARD, EXAMPLES, run   # noqa: E402
 from stations import Line, Slow, is_in_reset   # noqa: E402  # the folder and the simulated board of the checks
 from btest_tools.chain_faults import ChainPort   # noqa: E402
 from btest_tools.station.record import Record, create   # noqa: E402
@@ -27,7 +27,8 @@ from btest_tools.station.record import Record, create   # noqa: E402
 KILLS, INTERRUPTS, ATTEMPTS = 200, 25, 100_000
 TOLD = re.compile(r'^(PASS|FAIL)(?: \([^)]*\))?  (\S+)  ', re.M)
 FAULTS = ('good', 'and:D0:D1', 'good', 'open:U1.5:0', '12-14@stuck:D2:1')
-SECONDS = 2.0   # that show and day may take
+SECONDS = 2.0   # of the processor, that show and day may take
+LONGEST = 600   # seconds on a busy machine
 
 
 def read_all(stream, told):
@@ -121,7 +122,7 @@ def fill(path, test, days):
 def timed(line, name, *words):
     """The processor time of a command of the station."""
     before = resource.getrusage(resource.RUSAGE_CHILDREN)
-    answer = line.typed('', *words)
+    answer = run(line.command(*words), line.room, timeout=LONGEST)
     after = resource.getrusage(resource.RUSAGE_CHILDREN)
     if answer.returncode:
         raise program.Failure(f'{name}: {answer.stderr}')
@@ -138,7 +139,8 @@ def many(folder, _chosen):
     for days in (100, 1):
         fill(line.folder / 'record.sqlite', test, days)
         for name, words in (('show', ('show', line.folder)), ('show of one board', ('show', line.folder, 'S000107')),
-                            ('day', ('day', line.folder)), ('csv', ('csv', line.folder))):
+                            ('day, which writes its pages', ('day', line.folder)), ('day, with its pages there', ('day', line.folder)),
+                            ('csv', ('csv', line.folder))):
             yield (f'{ATTEMPTS:,} attempts on {days} days', name, timed(line, name, *words))
 
 

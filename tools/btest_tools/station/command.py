@@ -13,7 +13,7 @@ from typing import NamedTuple, NoReturn, Optional
 
 from btest_tools.btest import WHICH, Btest, default_program
 from btest_tools.files import BadInput, put, tell
-from btest_tools.station import attempts, day_pages, folder, line, page_folder, record
+from btest_tools.station import attempts, day, folder, line, page_folder, record
 from btest_tools.station.record import Attempt, Record
 
 EPILOG = """Exit status of test: 0 the board passes, 1 it fails, 2 the command line, 3 the scan
@@ -133,7 +133,7 @@ def page(words: Words) -> int:
     gc.disable()  # a day may have a million objects, all of them to the end
     product = folder.load(words.folder)
     with Record(product.record) as found:
-        put(f"{day_pages.write(product, found, Btest(words.btest), words.day, words.out)}\n")
+        put(f"{day.write(product, found, Btest(words.btest), words.day, words.out)}\n")
     return 0
 
 

@@ -21,26 +21,27 @@ def log_of(logs: Sequence[Log], stage: str) -> Optional[Text]:
     return next(found, None)
 
 
-def explain(bench: Bench, logs: Sequence[Log], number: int) -> Finding:
-    """Returns what explains the logs of an attempt that failed."""
+def explain(bench: Bench, logs: Sequence[Log], name: str = "board") -> Finding:
+    """Returns what explains the logs of an attempt that failed. `name` must differ among the
+    attempts of a page, since pictures refer to their pieces by it."""
     log = log_of(logs, "board")
     if not log:
         return Finding.of((), (), "")
     try:
         seen = look(bench.failing, log, log_of(logs, "walk"))
         lines = [*show(bench.failing, seen), *neighbor_lines(seen.explained, bench.nearness)]
-        shown = picture(bench, seen, number)
+        shown = picture(bench, seen, name)
     except BadInput as wrong:
         return Finding.of((), (f"the log can't be explained: {wrong}",), "")
     details = "".join(f"{line}\n" for line in lines)
     return Finding.of(faults_of(seen), first_lines(bench, seen), details, shown)
 
 
-def picture(bench: Bench, seen: Look, number: int) -> str:
+def picture(bench: Bench, seen: Look, name: str) -> str:
     """Returns the pictures of the board, if the folder says where its pins are."""
     if not bench.places:
         return ""
-    return places_section(bench.failing.board, seen, bench.places, f"attempt{number}")
+    return places_section(bench.failing.board, seen, bench.places, name)
 
 
 def faults_of(seen: Look) -> tuple[str, ...]:

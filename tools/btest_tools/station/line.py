@@ -126,7 +126,7 @@ class Station:
 
     def explain(self, number: int, outcome: Outcome) -> None:
         """Tells what explains a failure, and keeps it in the record."""
-        finding = explain(self.bench, outcome.logs, number)
+        finding = explain(self.bench, outcome.logs, f"attempt{number}")
         say("".join(f"{line}\n" for line in finding.lines))
         try:
             self.record.explain(number, finding)
