@@ -596,6 +596,17 @@ def places_in_folder(line):
     assert '<title>measure between U1.1 and U1.2</title>' in page.stdout, 'report.py has no picture'
 
 
+def places_at_station(line):
+    """The page of a board that the station tested has the picture that was made then."""
+    line.test('good', 'before')
+    line.prepare('pictured', more=['--places', EXAMPLES / 'controller.ipc'])
+    line.plug('and:D0:D1')
+    same(line.station('test', 'pictured', 'P1').returncode, 1, 'the status')
+    answer = line.station('day', 'pictured')
+    page = (line.room / answer.stdout.strip()).with_suffix('') / '1.html'
+    assert '<title>measure between U1.1 and U1.2</title>' in page.read_text(), 'the page has no picture'
+
+
 def refused_places(line):
     """A file without places, or of another board, is refused, and no folder is made."""
     line.prepare()
@@ -685,4 +696,5 @@ def check(program):
         yield 'the yield of a day', lambda: made_day(line)
         yield 'pages that are kept', lambda: kept_pages(line)
         yield 'a folder with places', lambda: places_in_folder(line)
+        yield 'the picture of a board at the station', lambda: places_at_station(line)
         yield 'places that are refused', lambda: refused_places(line)

@@ -19,7 +19,7 @@ import zlib
 ROOT = pathlib.Path(__file__).resolve().parents[2]
 sys.path[:0] = [str(ROOT / 'tools'), str(ROOT / 'scripts/check-tools')]
 import program   # noqa: E402
-from cases import BOARD, EXAMPLES, run   # noqa: E402
+from cases import EXAMPLES, run   # noqa: E402
 from stations import Line, Slow, is_in_reset   # noqa: E402  # the folder and the simulated board of the checks
 from btest_tools.chain_faults import ChainPort   # noqa: E402
 from btest_tools.station.record import Record, create   # noqa: E402
