@@ -18,7 +18,7 @@ from btest_tools.station.record import Attempt, Finding, Log, LogMark, Record
 from btest_tools.station.stages import Bench
 from btest_tools.station.yields import Tested, boards_of
 
-KEPT = 256  # logs that are kept in memory, since boards with one fault give the same log
+KEPT = 64  # logs that are kept in memory, since boards with one fault give the same log
 
 
 @dataclass
