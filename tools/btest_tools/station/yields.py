@@ -17,15 +17,11 @@ class Tested:
     """A board with all its attempts up to the end of a day, in their order. `always_passed` says
     whether each of them is a pass, so that there is nothing to explain."""
 
-    __slots__ = ("attempts", "always_passed")
+    __slots__ = ("serial", "attempts", "always_passed")
 
+    serial: str
     attempts: list[Attempt]
     always_passed: bool
-
-    @property
-    def serial(self) -> str:
-        """Its serial number."""
-        return self.attempts[0].serial
 
     @property
     def number(self) -> int:
@@ -66,7 +62,7 @@ def boards_of(attempts: Sequence[Attempt]) -> list[Tested]:
     for one in attempts:
         boards.setdefault(one.serial, []).append(one)
     others = {one.serial for one in attempts if one.verdict != "PASS"}
-    return [Tested(found, serial not in others) for serial, found in boards.items()]
+    return [Tested(serial, found, serial not in others) for serial, found in boards.items()]
 
 
 def yield_of(boards: Sequence[Tested]) -> Yield:
