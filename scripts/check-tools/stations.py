@@ -374,7 +374,9 @@ def kill(line, scan):
         process.kill()
         process.communicate(timeout=SECONDS)
     same(line.attempts()[-1].verdict, 'CUT', 'the verdict in the record')
-    time.sleep(1.5)   # the player leaves
+    end = time.monotonic() + SECONDS
+    while line.boards[0].state != 'reset' and time.monotonic() < end:   # the player leaves
+        time.sleep(0.05)
     is_in_reset(line.boards[0])
     judged(line, 'good', 'after', 0, 'PASS')
 
