@@ -7,6 +7,7 @@ import pathlib
 import pty
 import re
 import resource
+import shlex
 import shutil
 import signal
 import socket
@@ -44,6 +45,16 @@ class Hung(ChainPort):
 
     def capture(self, register):
         time.sleep(2 if self.scan == 5 else 0)
+        super().capture(register)
+
+
+class Frozen(ChainPort):
+    """A board behind an adapter that stops answering until it is let go."""
+    go = threading.Event()
+
+    def capture(self, register):
+        if self.scan > 4:
+            self.go.wait(3 * SECONDS)
         super().capture(register)
 
 
@@ -205,6 +216,10 @@ def every_sign(line):
         assert told.endswith(f'PASS     {serial}'), told
     rows = list(csv.DictReader(io.StringIO(line.station('csv', line.folder).stdout, newline='')))
     same([row['serial'] for row in rows[-len(serials):]], serials, 'the table')
+    line.test('and:D0:D1', 'shorted')
+    told, row = line.station('show', line.folder).stdout.splitlines()[-1], line.station('csv', line.folder).stdout.splitlines()[-1]
+    for text in (told, row):
+        assert 'D0, D1: short AND D0 D1; next: measure between U1.1 (D0) and U1.2 (D1)' in text, text
     same(line.station('log', line.folder, '--', serials[0]).returncode, 0, 'the status of log')
 
 
@@ -282,6 +297,41 @@ def stop(line, scan):
     same((last.serial, last.verdict), (f'stopped in {scan}', 'STOPPED'), 'the record')
     assert last.says == 'stopped by the operator; the pins are in reset', last.says
     is_in_reset(line.boards[0])
+
+
+def stop_frozen(line):
+    """Ctrl-C ends a test soon also if the adapter doesn't answer, and says that the pins may not be in reset."""
+    Frozen.go.clear()
+    try:
+        with start(line, 'frozen', Frozen) as process:
+            wait_for_scan(line, 5)
+            time.sleep(0.5)
+            os.killpg(process.pid, signal.SIGINT)
+            out, err = process.communicate(timeout=SECONDS)
+    finally:
+        Frozen.go.set()
+    same((process.returncode, err), (130, ''), f'the end, with {out!r}')
+    assert 'stopped by the operator\nthe pins may not be in reset' in out, out
+    same(line.attempts()[-1].verdict, 'STOPPED', 'the record')
+
+
+def stop_in_pipe(line):
+    """Ctrl-C behind the pipe of a simulated chain stops the test, and the simulated chain goes on until that has ended."""
+    line.test('good', 'before')
+    with socket.create_server(('127.0.0.1', 0)) as server:
+        port = server.getsockname()[1]
+    line.prepare('piped', port)
+    words = ' '.join(shlex.quote(str(one)) for one in [sys.executable, '-B', TOOLS / 'simulated-chain.py', port, '5@stuck:D0:1', *BOARD])
+    station = ' '.join(shlex.quote(str(one)) for one in line.command('test', 'piped', 'P1'))
+    command = f'{words} | {{ read -r line && exec {station}; }}'
+    with subprocess.Popen(['sh', '-c', command], cwd=line.room, stdout=subprocess.PIPE, stderr=subprocess.PIPE, encoding='utf-8',
+                          start_new_session=True) as process:
+        end = time.monotonic() + SECONDS
+        while not line.attempts(line.room / 'piped') and time.monotonic() < end:
+            time.sleep(0.01)
+        os.killpg(process.pid, signal.SIGINT)
+        out, err = process.communicate(timeout=SECONDS)
+    assert 'STOPPED  P1' in out and 'the pins are in reset' in out and not err, f'{out!r}, {err!r}'   # the shell ends by the signal
 
 
 def is_in_reset(port):
@@ -609,6 +659,22 @@ def places_at_station(line):
     assert '<title>measure between U1.1 and U1.2</title>' in page.read_text(), 'the page has no picture'
 
 
+def not_judged(line):
+    """A fault that comes and goes is told so in both tables, and a failure of another test is in no table of faults."""
+    line.prepare('told')
+    copy = made_record(line, 'told', [('A', 'FAIL')])
+    with Record(copy / 'record.sqlite') as record:
+        first = record.attempt(1)
+        for serial, verdict, runs, test in (('B', 'FAIL', '1 of 2', first.test), ('C', 'FAIL', '2 of 2', '0' * 64), ('C', 'PASS', '', first.test)):
+            number = record.begin(Beginning(serial, *first[2:4], test, 'btest', 'here'))
+            record.end(number, Ending('2026-05-04T08:00:01Z', 'player', 'board', verdict, runs, ''), record.logs(1) if runs else [])
+    page, boards = day_of(line, copy)
+    assert '<td>1</td><td>short AND D0 D1 (1 of 2)</td>' in page and '<td>1</td><td>short AND D0 D1</td>' in page, page
+    assert '<span class=bad>FAIL (1 of 2)</span>' in page and 'no single fault' not in page, page
+    assert re.search('>C</a></td>.*not judged: attempt 3 was made by another test', page), page
+    assert 'not judged: attempt 3 was made by another test' in boards['3.html'], boards['3.html']
+
+
 def refused_places(line):
     """A file without places, or of another board, is refused, and no folder is made."""
     line.prepare()
@@ -644,7 +710,7 @@ def check_bench(line):
     """A call for each way in which the test of a board ends."""
     yield 'a good board passes', lambda: judged(line, 'good', 'A 1', 0, 'PASS')
     yield 'a short fails twice', lambda: judged(line, 'and:D0:D1', 'A 2', 1, 'FAIL', '2 of 2', 'short AND D0 D1')
-    yield 'a fault in one run alone', lambda: judged(line, '12-14@stuck:D2:1', 'A 3', 1, 'FAIL', '(1 of 2)')
+    yield 'a fault in one run alone', lambda: judged(line, '12-14@stuck:D2:1', 'A 3', 1, 'FAIL', '(1 of 2)', 'comes and goes')
     yield 'two runs that differ', lambda: judged(
         line, '6-27@stuck:D2:1 28@stuck:D3:1', 'A 4', 1, 'FAIL', '(2 of 2, ', ' bits differ)')
     yield 'several nets in a short', lambda: judged(line, 'or:D0:D1:A1', 'A 5', 1, 'FAIL', 'short OR D0 D1 A1')
@@ -665,6 +731,8 @@ def check_bench(line):
     yield 'the log of a short', lambda: has_log(line, 'and:D0:D1', 'A 14', 'shorted.log')
     for scan in (1, 3, 12, 22):
         yield f'Ctrl-C in scan {scan}', lambda: stop(line, scan)
+    yield 'Ctrl-C and an adapter that does not answer', lambda: stop_frozen(line)
+    yield 'Ctrl-C behind the pipe of a simulated chain', lambda: stop_in_pipe(line)
     yield 'a player that does not answer', lambda: no_answer(line)
     yield 'the color of the letters', lambda: is_colored(line)
     yield 'the time of a board of 100 nets', lambda: hundred_nets(line)
@@ -697,6 +765,7 @@ def check(program):
         yield 'a log that cannot be read', lambda: unread_log(line)
         yield 'the yield of a day', lambda: made_day(line)
         yield 'pages that are kept', lambda: kept_pages(line)
+        yield 'what is told of a day', lambda: not_judged(line)
         yield 'a folder with places', lambda: places_in_folder(line)
         yield 'the picture of a board at the station', lambda: places_at_station(line)
         yield 'places that are refused', lambda: refused_places(line)

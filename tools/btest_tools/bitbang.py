@@ -4,6 +4,7 @@ from __future__ import annotations
 
 import os
 import select
+import signal
 import socket
 import stat
 import sys
@@ -76,12 +77,17 @@ class Port:
         return answer
 
 
+def ends_with_reader() -> bool:
+    """Returns whether standard output is a pipe, so that its reader's end can be seen."""
+    return bool(sys.stdout) and stat.S_ISFIFO(os.fstat(sys.stdout.fileno()).st_mode)
+
+
 def player(server: socket.socket, seconds: float) -> socket.socket:
     """Waits for a player. If the line on standard output goes to a pipe, the wait ends as soon as
     no one can read it."""
     poll = select.poll()
     poll.register(server, select.POLLIN)
-    if sys.stdout and stat.S_ISFIFO(os.fstat(sys.stdout.fileno()).st_mode):
+    if ends_with_reader():
         poll.register(sys.stdout, 0)  # which tells of its end
     ready = dict(poll.poll(seconds * 1000))
     if server.fileno() in ready:
@@ -98,6 +104,8 @@ def serve(number: int, seconds: float, ports: Iterable[Port]) -> None:
     except OSError:
         why = "is taken, or may not be used; is another simulated chain running?"
         raise BadInput(f"port {number} {why}") from None
+    if ends_with_reader():
+        signal.signal(signal.SIGINT, signal.SIG_IGN)  # Ctrl-C is for the player behind the pipe
     with server:
         put(f"listening on port {server.getsockname()[1]}\n")
         for port in ports:

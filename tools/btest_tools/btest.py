@@ -28,6 +28,13 @@ class Btest:
     def __init__(self, program: str) -> None:
         self.program = program
 
+    def missing(self, error: Exception) -> str:
+        """Returns why the program can't be run."""
+        if self.program == "btest" and isinstance(error, FileNotFoundError):
+            return "btest is not on the PATH; --btest PROGRAM names one"
+        why = error.strerror if isinstance(error, OSError) else str(error)
+        return f"cannot run {self.program} as btest, --btest names another: {why}"
+
     def run(
         self,
         command: str,
@@ -43,9 +50,7 @@ class Btest:
                 [self.program, command, *words], input=content, capture_output=True, check=False
             )
         except (OSError, ValueError) as error:
-            why = error.strerror if isinstance(error, OSError) else str(error)
-            line = f"cannot run {self.program} as btest, --btest names another: {why}"
-            raise BadInput(line) from None
+            raise BadInput(self.missing(error)) from None
         text = done.stdout.decode("utf-8", "replace")
         lines = done.stderr.decode("utf-8", "replace").splitlines()
         if done.returncode or not text.startswith(begin):

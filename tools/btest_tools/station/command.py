@@ -8,7 +8,7 @@ import gc
 import io
 import pathlib
 import sys
-from collections.abc import Callable
+from collections.abc import Callable, Iterable, Iterator
 from typing import NamedTuple, NoReturn, Optional
 
 from btest_tools.btest import WHICH, Btest, default_program
@@ -87,6 +87,17 @@ def open_record(words: Words) -> Record:
     return Record(path)
 
 
+def explained(found: Record, rows: Iterable[Attempt]) -> Iterator[Attempt]:
+    """Yields attempts, of which each failure says what explains it."""
+    explanations = found.explanations()
+    for one in rows:
+        if one.number in explanations:
+            says = "; ".join(filter(None, [one.says, explanations[one.number]]))
+            yield one._replace(says=says)
+        else:
+            yield one
+
+
 def told(attempt: Attempt) -> str:
     """Returns the line of an attempt."""
     known = "".join(f"  {text}" for text in (attempt.runs, attempt.says) if text)
@@ -98,12 +109,12 @@ def show(words: Words) -> int:
     """Lists the attempts."""
     with open_record(words) as found:
         if words.serial is None:
-            put("".join(map(told, found.attempts())))
+            put("".join(map(told, explained(found, found.attempts()))))
             return 0
         rows = found.of_serial(line.serial_of(words.serial))
         if not rows:
             raise BadInput(f"there is no attempt of {words.serial}")
-        put("".join(map(told, rows)))
+        put("".join(map(told, explained(found, rows))))
     return 0
 
 
@@ -123,7 +134,7 @@ def table(words: Words) -> int:
     rows = csv.writer(text)
     rows.writerow(Attempt._fields)
     with open_record(words) as found:
-        rows.writerows(found.attempts())
+        rows.writerows(explained(found, found.attempts()))
     put(text.getvalue())
     return 0
 

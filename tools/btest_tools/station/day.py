@@ -17,7 +17,7 @@ from btest_tools.station.day_reading import KEPT, Day, read_day
 from btest_tools.station.folder import Product
 from btest_tools.station.page_folder import PageFolder
 from btest_tools.station.record import Attempt, Finding, Log, Record
-from btest_tools.station.yields import Tested, Yield, counts, faults_of, yield_of
+from btest_tools.station.yields import Tested, Yield, counts, faults_of, runs_of, yield_of
 
 STYLE = """body{font:15px/1.45 sans-serif;color:#222;max-width:60em;margin:2em auto;padding:0 1em}
 h1{font-size:1.5em}h2{font-size:1.15em;margin-top:1.6em}
@@ -84,7 +84,7 @@ def link(day: Day, board: Tested) -> str:
 
 def fault_tables(day: Day) -> str:
     """Returns the tables of the faults, of parts and of nets."""
-    faults = faults_of(day.boards, day.name, day.findings, day.board_marks)
+    faults = faults_of(day.boards, day.name, day.findings, day.board_marks, day.unread)
     if not faults:
         return ""
     lines = []
@@ -92,6 +92,7 @@ def fault_tables(day: Day) -> str:
         names = " or ".join(fault.names[:6]) + (" .." if len(fault.names) > 6 else "")
         links = ", ".join(link(day, board) for board in fault.boards[:SHOWN])
         more = " .." if len(fault.boards) > SHOWN else ""
+        names += f" ({fault.runs})" if fault.runs else ""
         lines.append(row(str(len(fault.boards)), escape(names), links + more))
     text = "<h2>Faults</h2>\n<p>Faults that give the same bits are one row.</p>\n"
     text += table(("boards", "fault", "serial numbers"), lines) + more_rows(len(faults))
@@ -131,11 +132,13 @@ def failed_row(day: Day, board: Tested) -> str:
     """Returns the row of a board that did not pass at once."""
     last = board.last_of(day.name)
     finding = day.findings.get(last.number)
-    is_explained = last.verdict == "FAIL" and finding
-    says = summary(finding) if is_explained and finding else escape(last.says)
-    if last.number in day.unread:
-        says = escape(day.unread[last.number])
-    verdict = last.verdict if last.verdict == "PASS" else f"<span class=bad>{last.verdict}</span>"
+    said = [escape(last.says), summary(finding) if finding else ""]
+    numbers = (one.number for one in board.attempts)
+    said += (escape(f"not judged: {day.unread[one]}") for one in numbers if one in day.unread)
+    says = "; ".join(filter(None, said))
+    runs = runs_of(last)
+    verdict = f"{last.verdict} ({runs})" if runs else last.verdict
+    verdict = verdict if last.verdict == "PASS" else f"<span class=bad>{verdict}</span>"
     before = " ".join(one.verdict for one in board.attempts[:-1][-4:])
     quiet = f"<span class=quiet>{before}</span>" if before else ""
     return row(link(day, board), last.local[11:19], verdict, quiet, says)
@@ -149,7 +152,7 @@ def summary(finding: Finding) -> str:
 
 def day_page(day: Day) -> str:
     """Returns the page of a day."""
-    heads = ("serial number", "time", "verdict", "before", "")
+    heads = ("serial number", "time", "verdict", "before", "what was said")
     return page(
         day.title,
         "<h2>Yield</h2>\n"
@@ -175,7 +178,9 @@ def attempt_section(day: Day, attempt: Attempt) -> str:
     text = f"<h2>{attempt.verdict}{runs}: attempt {attempt.number}, {attempt.local}</h2>\n"
     finding = day.findings.get(attempt.number)
     lines = [f"stage: {attempt.stage}" if attempt.stage else "", attempt.says]
-    lines += finding.lines if finding else [day.unread.get(attempt.number, "")]
+    lines += finding.lines if finding else ()
+    if attempt.number in day.unread:
+        lines.append(f"not judged: {day.unread[attempt.number]}")
     text += "<p>" + "<br>\n".join(escape(line) for line in lines if line) + "</p>\n"
     text += explanation(finding) if finding else ""
     text += "".join(log_part(one) for one in day.logs(attempt))
@@ -228,7 +233,7 @@ def passed_page(day: Day, boards: Sequence[Tested]) -> str:
                 "</tr>\n"
             )
             anchor = ""
-    heads = ("serial number", "attempt", "begun", "ended", "tested with")
+    heads = ("serial number", "attempt", "begun", "ended (UTC)", "tested with")
     tested = (row(str(number), made_with(*way)) for way, number in ways.items())
     body = table(heads, rows) + "<h2>Tested with</h2>\n<div class=made>" + table((), tested)
     return page(f"Boards that passed, {day.name}", f"{back(day)}{body}</div>\n")

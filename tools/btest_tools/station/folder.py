@@ -6,6 +6,7 @@ fingerprint of the test. A folder is made once and never changed.
 
 from __future__ import annotations
 
+import errno
 import hashlib
 import json
 import os
@@ -117,7 +118,7 @@ def version_of(btest: Btest) -> str:
     version = VERSION.read_text("ascii").strip() if VERSION.exists() else "of no version"
     path = shutil.which(btest.program)
     if not path:
-        raise BadInput(f"there is no program {btest.program}; --btest names another")
+        raise BadInput(btest.missing(FileNotFoundError(errno.ENOENT, os.strerror(errno.ENOENT))))
     return f"{version} sha256:{mark_of(pathlib.Path(path))}"
 
 

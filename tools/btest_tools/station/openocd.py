@@ -42,6 +42,7 @@ KNOWN = re.compile(r"(svf processing|tdo check error at|\s*(READ|WANT|MASK) = ).
 WRONG = re.compile(r"error|fail|unable|can'?t|cannot|time.?out|no such|invalid", re.I)
 WAIT = 3.0  # seconds in which a text that was stopped may come to its end
 START = 20.0  # seconds for a new OpenOCD to open the cable and to reset
+AFTER = 8.0  # seconds for a text that is played after the reset
 
 
 class OpenOcd:
@@ -83,7 +84,8 @@ class OpenOcd:
             said = self.said.read().decode("utf-8", "replace")
         lines = [line[7:] for line in said.splitlines() if line.startswith("Error: ")]
         lines = [line for line in lines if not KNOWN.fullmatch(line)]
-        how = f"it ended by signal {-status}" if status < 0 else f"it ended with status {status}"
+        signal = f"it ended by signal {-status}; the cable may have been pulled"
+        how = signal if status < 0 else f"it ended with status {status}"
         return PlayerFailed(f"OpenOCD: {lines[0].strip() if lines else how}")
 
     def lines(self, seconds: float) -> Iterator[str]:
@@ -147,9 +149,9 @@ class OpenOcd:
     def reset(self) -> None:
         """Brings the TAP controllers to reset. A text in play may come to its end, for a while.
         What doesn't answer is ended, and another OpenOCD is started for the reset. From then on
-        nothing is stopped any more."""
+        nothing is stopped any more, and no text is waited for as long as before."""
         self.may_stop = False
-        self.limit = max(self.limit, START)
+        self.limit = AFTER
         try:
             if self.process:
                 if self.is_playing:

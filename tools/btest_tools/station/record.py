@@ -317,6 +317,19 @@ class Record:
                 found[number] = known[key]
         return found
 
+    def explanations(self) -> dict[int, str]:
+        """Returns what explains each failure, in a line."""
+        statement = "SELECT attempt, lines FROM finding"
+        known: dict[str, str] = {}
+        found = {}
+        with told(self.path, "read"):
+            for number, lines in self.database.execute(statement):
+                with contextlib.suppress(ValueError, TypeError):
+                    if lines not in known:
+                        known[lines] = "; ".join(line.strip() for line in json.loads(lines))
+                    found[number] = known[lines]
+        return found
+
     def rows_of(self, numbers: Sequence[int], statement: str) -> Iterator[tuple[Any, ...]]:
         """Yields the rows of a statement with a place for the numbers of attempts, for some of
         them at a time."""

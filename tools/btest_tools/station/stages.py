@@ -21,6 +21,8 @@ from btest_tools.station.player import Compared, Interrupted, Player, PlayerFail
 from btest_tools.station.record import Log
 
 STATUS = {"PASS": 0, "FAIL": 1, "CHAIN": 3, "PART": 4, "PLAYER": 5, "STOPPED": 130}
+TWICE = "2 of 2"  # two runs of the board's test have the same wrong bits
+COMES_AND_GOES = "the fault comes and goes: clean and press the contacts"
 MOST = 64 << 20  # bytes of a log that btest reads
 WALKS = re.compile(r"FAIL 0\n|.*^short ", re.S | re.M)  # answers after which the walking test helps
 
@@ -117,6 +119,7 @@ class BoardTest:
         except PlayerFailed as why:
             outcome = Outcome("PLAYER", self.stage, [str(why), *self.reset()])
         except Interrupted:
+            self.tell("stopping")
             outcome = Outcome("STOPPED", self.stage, ["stopped by the operator", *self.reset()])
         outcome.logs = self.logs
         return outcome
@@ -146,7 +149,8 @@ class BoardTest:
         if WALKS.match(answer) and self.bench.has_walk:
             self.play_rows("walk", "walk.svf")
         self.check_chain("chain at the end")
-        return Outcome("FAIL", "board", [], runs)
+        lines = [] if runs == TWICE else [COMES_AND_GOES]
+        return Outcome("FAIL", "board", lines, runs)
 
     def begin(self, stage: str) -> None:
         """Notes the stage."""
@@ -221,4 +225,4 @@ class BoardTest:
         if not any(second.wrong):
             return "1 of 2"
         bits = sum(bin(one ^ other).count("1") for one, other in zip(first.wrong, second.wrong))
-        return f"2 of 2, {bits} bits differ" if bits else "2 of 2"
+        return f"{TWICE}, {bits} bits differ" if bits else TWICE

@@ -3,11 +3,12 @@
 from __future__ import annotations
 
 import collections
-from collections.abc import Iterable, Mapping, Sequence
+from collections.abc import Container, Iterable, Mapping, Sequence
 from dataclasses import dataclass, field
 
 from btest_tools.board import part_of
 from btest_tools.station.record import Attempt, Finding
+from btest_tools.station.stages import TWICE
 
 JUDGED = ("PASS", "FAIL", "CHAIN", "PART")  # the verdicts about a board; others are about a bench
 
@@ -81,23 +82,28 @@ class Fault:
     """What boards had in common: a fault, or several that give the same bits."""
 
     names: tuple[str, ...]
+    runs: str  # in how many of two runs it was there, if not in both
     boards: list[Tested] = field(default_factory=list)
 
 
 def faults_of(
-    boards: Iterable[Tested], day: str, findings: Mapping[int, Finding], marks: Mapping[int, str]
+    boards: Iterable[Tested],
+    day: str,
+    findings: Mapping[int, Finding],
+    marks: Mapping[int, str],
+    unread: Container[int] = (),
 ) -> list[Fault]:
     """Returns the faults of a day, the most frequent first. A board counts once for each. `marks`
-    are the fingerprints of the logs of the attempts."""
-    faults: dict[tuple[str, ...], Fault] = {}
+    are the fingerprints of the logs of the attempts. Attempts in `unread` say nothing."""
+    faults: dict[tuple[tuple[str, ...], str], Fault] = {}
     for board in (one for one in boards if not one.always_passed):
         keys = dict.fromkeys(
-            key_of(one, findings, marks)
+            (key_of(one, findings, marks), runs_of(one))
             for one in board.judged
-            if one.day == day and one.verdict != "PASS"
+            if one.day == day and one.verdict != "PASS" and one.number not in unread
         )
         for key in keys:
-            faults.setdefault(key, Fault(key)).boards.append(board)
+            faults.setdefault(key, Fault(*key)).boards.append(board)
     return sorted(faults.values(), key=lambda fault: -len(fault.boards))
 
 
@@ -111,6 +117,13 @@ def key_of(
     if finding and finding.faults:
         return finding.faults
     return (f"no single fault; log {marks.get(attempt.number, '')[:8]}",)
+
+
+def runs_of(attempt: Attempt) -> str:
+    """Returns in how many of two runs a fault was there, or nothing if in both with equal bits."""
+    if attempt.runs in ("", TWICE):
+        return ""
+    return f"{TWICE}, bits differ" if attempt.runs.startswith(TWICE) else attempt.runs
 
 
 def places_of(fault: Fault, net_of: Mapping[str, str]) -> tuple[set[str], set[str]]:
