@@ -266,6 +266,23 @@ class RecordTest(unittest.TestCase):
         faults = faults_of(boards, DAYS["2"], self.record.findings([1, 2, 3]), {})
         self.assertEqual([fault.names for fault in faults], [("stuck D1 0",), ("stuck D0 0",)])
 
+    def test_runs(self) -> None:
+        """A fault that comes and goes is another row, and what can't be judged is none."""
+        fault, says = "open U2.4 1", ("likely one cause", "  D2: open U2.4 1")
+        numbers = []
+        for serial, runs in (("A", "2 of 2"), ("B", "1 of 2"), ("C", "2 of 2, 5 bits differ")):
+            numbers.append(self.record.begin(BEGIN._replace(serial=serial)))
+            self.record.end(numbers[-1], Ending("", "", "board", "FAIL", runs, ""), [])
+            self.record.explain(numbers[-1], Finding.of((fault,), says, ""))
+        boards = boards_of(self.record.of_boards_of(DAYS["2"]))
+        findings = self.record.findings(numbers)
+        faults = faults_of(boards, DAYS["2"], findings, {})
+        self.assertEqual([one.runs for one in faults], ["", "1 of 2", "2 of 2, bits differ"])
+        faults = faults_of(boards, DAYS["2"], findings, {}, numbers[1:])
+        self.assertEqual([one.runs for one in faults], [""])
+        told = dict.fromkeys(numbers, "likely one cause; D2: open U2.4 1")
+        self.assertEqual(self.record.explanations(), told)
+
     def test_findings(self) -> None:
         """A finding comes back with its picture, equal ones are one object, and the log of a
         failure is found by its fingerprint."""
