@@ -5,6 +5,7 @@ from __future__ import annotations
 
 import os
 import pathlib
+import signal
 import sqlite3
 import tempfile
 import unittest
@@ -17,10 +18,12 @@ from btest_tools.station import record
 from btest_tools.station.letters import large
 from btest_tools.station.line import BadSerial, serial_of
 from btest_tools.station.lock import Lock
+from btest_tools.station.openocd import OpenOcd
 from btest_tools.station.page_folder import PageFailed, PageFolder
 from btest_tools.station.parts import Link, codes, open_place, wrong_parts
-from btest_tools.station.player import Compared, compared
+from btest_tools.station.player import Compared, Interrupted, PlayerFailed, compared
 from btest_tools.station.record import Beginning, Ending, Finding, Log, Record, RecordFailed
+from btest_tools.station.stop import Stop
 from btest_tools.station.yields import boards_of, counts, faults_of, yield_of
 
 SVF = """SIR 7 TDI (7F) TDO (25) MASK (6F);
@@ -41,6 +44,33 @@ class PlayerTest(unittest.TestCase):
         self.assertEqual(found, wanted)
         self.assertEqual(found[0].differs(0x35), 0)  # bit 4 isn't compared
         self.assertEqual(found[0].differs(0x24), 1)
+
+
+class StopTest(unittest.TestCase):
+    """Ctrl-C and a player that has ended."""
+
+    def test_stopped(self) -> None:
+        """An end of the player is its failure, and with Ctrl-C the operator's stop, until the pins
+        are brought to reset."""
+        stop = Stop()
+        self.addCleanup(stop.close)
+        player = OpenOcd(pathlib.Path("/"), stop, "true", 5)
+        self.addCleanup(player.close)
+        for is_asked, may_stop, wanted in (
+            (False, True, PlayerFailed),
+            (True, True, Interrupted),
+            (True, False, PlayerFailed),
+        ):
+            player.start()
+            assert player.process
+            player.process.wait()
+            if is_asked:
+                stop.ask(signal.SIGINT, None)
+            self.assertEqual(stop.is_asked, is_asked)
+            player.may_stop = may_stop
+            self.assertRaises(wanted, player.ask, "board.svf", 5)
+        stop.clear()
+        self.assertFalse(stop.is_asked)
 
 
 class ChainTest(unittest.TestCase):

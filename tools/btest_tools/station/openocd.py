@@ -76,8 +76,11 @@ class OpenOcd:
             raise PlayerFailed(f"cannot run {self.program}: {error.strerror}") from None
 
     def failed(self) -> PlayerFailed:
-        """Returns what OpenOCD said when it ended, after making sure that it has."""
+        """Returns what OpenOCD said when it ended, after making sure that it has. Ctrl-C reaches
+        an OpenOCD that has no session of its own yet."""
         status = self.end()
+        if self.may_stop and self.stop.is_asked:
+            raise Interrupted
         said = ""
         if self.said:
             self.said.seek(0)

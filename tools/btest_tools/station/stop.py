@@ -3,6 +3,7 @@
 from __future__ import annotations
 
 import os
+import select
 import signal
 from types import FrameType
 from typing import Optional
@@ -35,6 +36,11 @@ class Stop:
             os.write(self.writing, b"x")
         except BlockingIOError:
             pass  # it is full of them
+
+    @property
+    def is_asked(self) -> bool:
+        """Whether a signal came."""
+        return bool(select.select([self.file], [], [], 0)[0])
 
     def clear(self) -> None:
         """Forgets the signals that came."""
