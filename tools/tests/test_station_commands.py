@@ -185,7 +185,8 @@ class Commands(Folder):
         lines = self.run_words("show", self.product).splitlines()
         self.assertEqual(len(lines), 2)
         self.assertRegex(lines[0], r"^     1  \S+  PASS     A1$")
-        self.assertRegex(lines[1], r"^     2  \S+  FAIL     A2  2 of 2$")
+        cause = "likely one cause; D0, D1: short AND D0 D1; next: measure between "
+        self.assertRegex(lines[1], rf"^     2  \S+  FAIL     A2  2 of 2  {cause}")
         self.assertEqual(self.run_words("show", self.product, "A2").splitlines(), lines[1:])
         said = "there is no attempt of A3"
         self.assertIn(said, self.run_words("show", self.product, "A3", status=1))
@@ -218,7 +219,8 @@ class Commands(Folder):
             "<tr><td>D0</td><td>2</td></tr>",
         ):
             self.assertIn(piece, text)
-        self.assertRegex(text, r"<tr><td>A1</td><td>\d\d:\d\d:\d\d</td><td>PASS</td>")
+        link = rf"<a href={path.stem}/passed-1.html#a1>A1</a>"
+        self.assertRegex(text, rf"<tr><td>{link}<td>\d\d:\d\d:\d\d<td>PASS<td>")
         self.assertNotIn("without a verdict", text)
         below = (path.parent / path.stem / "2.html").read_text("utf-8")
         self.assertIn("<title>Board A&lt;2</title>", below)
@@ -247,12 +249,14 @@ class Pages(unittest.TestCase):
     """Pieces of the pages of a day."""
 
     def test_faults(self) -> None:
-        board = Tested("A")
-        board.attempts.append(mock.Mock(number=1))
+        board = Tested("A", [mock.Mock(number=1)], False)
         for count, names in ((6, "1 or 2 or 3 or 4 or 5 or 6</td>"), (7, "5 or 6 ..</td>")):
-            fault = Fault(tuple(str(at) for at in range(1, count + 1)), [board])
+            fault = Fault(tuple(str(at) for at in range(1, count + 1)), "", [board])
             with mock.patch.object(day, "faults_of", return_value=[fault]):
                 self.assertIn(names, day.fault_tables(mock.Mock(net_of={})))
+        fault = Fault(("1",), "1 of 2", [board])
+        with mock.patch.object(day, "faults_of", return_value=[fault]):
+            self.assertIn("<td>1 (1 of 2)</td>", day.fault_tables(mock.Mock(net_of={})))
         with mock.patch.object(day, "faults_of", return_value=[]):
             self.assertEqual(day.fault_tables(mock.Mock()), "")
 
