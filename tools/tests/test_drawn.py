@@ -1,7 +1,8 @@
 """What the pictures draw, and where, worked out by hand.
 
-The board is 32 mm wide and 16 mm high, so letters are 1 mm high, the margin is 1.3 mm, and a mark
-has a radius of 0.36 mm. A millimeter is 20 units. U1 has two pins on the top, R1 one on the bottom.
+The board is 40 mm wide and 19.6 mm high, which is the area of a square of 28 mm. So letters are 1 mm
+high, the margin is 1.3 mm, and a mark has a radius of 0.36 mm. A millimeter is 20 units. U1 has two
+pins on the top, R1 one on the bottom.
 """
 
 from __future__ import annotations
@@ -26,7 +27,7 @@ def small_board() -> Places:
     places.add("U1", "1", Place(8, 4, TOP, 0.5, 0.5))
     places.add("U1", "2", Place(10, 4, TOP, 0.5, 0.5))
     places.add("R1", "1", Place(24, 12, BOTTOM, 0.5, 0.5))
-    places.outline = [[(0, 0), (32, 0), (32, 16), (0, 16), (0, 0)]]
+    places.outline = [[(0, 0), (40, 0), (40, 19.6), (0, 19.6), (0, 0)]]
     return places
 
 
@@ -49,7 +50,7 @@ class Views(unittest.TestCase):
         # U1.1 is at 9.3 and 5.3 mm from the corner of the picture, R1.1 at 25.3 and 13.3 mm.
         self.holds(
             view(),
-            'viewBox="0 0 692 404"',
+            'viewBox="0 0 852 476"',
             "Failing pins on this side: U1.1",
             '<circle cx="186" cy="106" r="7"><title>U1.1, net A, fails</title>',
             '<circle cx="226" cy="106" r="4"><title>U1.2, net A</title>',
@@ -63,13 +64,13 @@ class Views(unittest.TestCase):
         )
 
     def test_from_the_bottom(self) -> None:
-        # It is mirrored: R1.1 is 34.6 - 25.3 mm from the left.
+        # It is mirrored: R1.1 is 42.6 - 25.3 mm from the left.
         self.holds(
             view(BOTTOM),
-            '<circle cx="186" cy="266" r="7"><title>R1.1, net A, fails</title>',
-            'transform="matrix(-1 0 0 1 692 0)"',
-            '<line x1="506" y1="106" x2="186" y2="266"',
-            '<circle cx="506" cy="106" r="7" stroke-dasharray="3"/>',
+            '<circle cx="346" cy="266" r="7"><title>R1.1, net A, fails</title>',
+            'transform="matrix(-1 0 0 1 852 0)"',
+            '<line x1="666" y1="106" x2="346" y2="266"',
+            '<circle cx="666" cy="106" r="7" stroke-dasharray="3"/>',
         )
         self.assertNotIn("may be open", view(BOTTOM))
         self.assertNotIn("matrix", view())
@@ -83,8 +84,8 @@ class Views(unittest.TestCase):
         self.assertEqual(text.count("<text"), 3)  # with that of the scale
 
     def test_the_scale(self) -> None:
-        # A fifth of 34.6 mm is 6.9 mm: 5 mm is the longest that is no longer.
-        self.holds(view(), 'd="M20 389V394H120V389"', '<text x="125" y="394" font-size="16">5 mm')
+        # A fifth of 42.6 mm is 8.5 mm: 5 mm is the longest that is no longer.
+        self.holds(view(), 'd="M20 461V466H120V461"', '<text x="125" y="466" font-size="16">5 mm')
 
     def test_lines_that_are_not_drawn(self) -> None:
         places = small_board()
@@ -183,15 +184,19 @@ class Shaped(unittest.TestCase):
 
     def test_frame(self) -> None:
         frame = frame_of(small_board())
-        wanted = (-1.3, -1.3, 34.6, 20.2, 1.0, 0.0)
+        wanted = (-1.3, -1.3, 42.6, 23.8, 1.0, 0.0)
         for value, right in zip((*frame[:5], frame.corner[0]), wanted):
             self.assertAlmostEqual(value, right)
         self.assertEqual([frame.stroke(letters) for letters in (0.01, 0.1, 1)], [1, 2, 20])
         places = small_board()
-        places.outline = []  # then from U1.1 to R1.1: 16.5 mm
+        places.outline = []  # then from U1.1 to R1.1: 16.5 mm by 8.5 mm
         frame = frame_of(places)
-        self.assertAlmostEqual(frame.letter, 16.5 / 32)
+        self.assertAlmostEqual(frame.letter, math.sqrt(16.5 * 8.5) / 28)
         self.assertEqual(frame.corner, (7.75, 3.75))
+        for wide, high in ((96, 6), (6, 96)):  # letters are no smaller than a 48th of a side
+            places.outline = [[(0, 0), (wide, 0), (wide, high), (0, high), (0, 0)]]
+            places.pins.clear()
+            self.assertEqual(frame_of(places).letter, 2)
         one = Places()
         one.add("U1", "1", Place(0, 0, TOP))
         self.assertAlmostEqual(frame_of(one).letter, 1 / 32)  # a board has 1 mm at least
@@ -210,7 +215,7 @@ class Shaped(unittest.TestCase):
         self.assertIn('<rect x="179" y="99" width="54" height="14"><title>U1</title></rect>', text)
         self.assertIn('<g id="n-top"><g fill="#f3f3ef" stroke="#8a8a8a" stroke-width="1">', text)
         self.assertIn('<path d="m186 106h0m40 0h0" fill="none"', text)
-        self.assertIn('<path d="M26 26L666 26L666 346L26 346L26 26"', text)
+        self.assertIn('<path d="M26 26L826 26L826 418L26 418L26 26"', text)
         self.assertIn('stroke="#444" stroke-width="2"/>', text)
         self.assertIn('stroke-linecap="round" stroke-width="3"', text)
         top, bottom, both = (text.index(f'id="n-{side}"') for side in (TOP, BOTTOM, BOTH))
@@ -244,45 +249,50 @@ class Close(unittest.TestCase):
         return list(marked([NET], {"U1.2"}))
 
     def test_windows(self) -> None:
-        # 4.5 pitches around the pins, but 3.2 around the part, and 1 mm at least.
-        self.assertEqual(
-            window(Box(10, 10, 14, 11), Box(0, 0, 30, 30), 1), Box(5.5, 5.5, 18.5, 15.5)
-        )
-        self.assertEqual(window(Box(0, 0, 9, 2), Box(0, 0, 9, 2), 1), Box(-3.2, -3.2, 12.2, 5.2))
-        self.assertEqual(window(Box(0, 0, 9, 2), Box(0, 0, 9, 2), 0.25), Box(-1, -1, 10, 3))
+        # 4.5 pitches around the pins, or the room for names, but that room around the part.
+        pins, part, row = Box(10, 10, 14, 11), Box(0, 0, 30, 30), Box(0, 0, 9, 2)
+        self.assertEqual(window(pins, part, 1, 3.2), Box(5.5, 5.5, 18.5, 15.5))
+        self.assertEqual(window(pins, part, 1, 6), Box(4, 4, 20, 17))
+        self.assertEqual(window(row, row, 1, 3.2), Box(-3.2, -3.2, 12.2, 5.2))
+        self.assertEqual(window(row, row, 0.25, 1), Box(-1, -1, 10, 3))
         # At least 4 mm wide, and 1.2 times as wide as high.
-        self.assertEqual(window(Box(0, 0, 1, 1), Box(0, 0, 1, 1), 0.25), Box(-1.5, -1, 2.5, 2))
-        tall = window(Box(0, 0, 1, 8), Box(0, 0, 1, 8), 0.25)
+        one = Box(0, 0, 1, 1)
+        self.assertEqual(window(one, one, 0.25, 1), Box(-1.5, -1, 2.5, 2))
+        tall = window(Box(0, 0, 1, 8), Box(0, 0, 1, 8), 0.25, 1)
         self.assertEqual((tall.left, tall.right), (-5.5, 6.5))
 
     def test_a_part(self) -> None:
-        # The pitch is 2 mm, of which 1.6 mm count. So 5.12 mm are around U1, which reaches from
-        # 7.75 to 10.25 mm and from 3.75 to 4.25 mm: the window is 12.892 mm wide, 10.74 mm high.
+        # A name has five letters, and six of 48 units have room: 184 units. U1 is 2.5 mm wide and
+        # 0.5 mm high. With 1 mm around it, which is the least, a millimeter is 1000 / 4.5 units.
         one = CloseUp(small_board(), "U1", TOP, self.marks())
         text = one.svg()
-        self.assertIn('viewBox="0 0 1000 833"', text)
-        # A millimeter is 77.6 units. U1.1 is at 5.446 mm and 5.37 mm.
-        self.assertIn('<path d="M403 397L442 397L442 436L403 436z" fill="#b03a00"', text)
+        self.assertIn('viewBox="0 0 1000 556"', text)
+        # U1.1 reaches from 1 mm to 1.5 mm.
+        self.assertIn('<path d="M222 222L333 222L333 333L222 333z" fill="#b03a00"', text)
         self.assertIn('stroke="#b03a00" stroke-width="8"><title>U1.1, net A, fails</title>', text)
         self.assertIn(
-            'fill="#fff" stroke="#000" stroke-width="14"><title>U1.2, net A</title>', text
+            'fill="#fff" stroke="#000" stroke-width="16" paint-order="stroke">'
+            "<title>U1.2, net A</title>",
+            text,
         )
-        self.assertIn('<rect x="403" y="397" width="194" height="39" fill="#f3f3ef"/>', text)
+        self.assertIn('<rect x="222" y="222" width="556" height="111" fill="#f3f3ef"/>', text)
         self.assertIn('aria-label="The pins of U1 from the top: U1.1, U1.2"', text)
-        # Letters are 48 units high. "1 (1)" is left of its pin, "2 (1)" right of it.
+        # Letters are 48 units high and 30.72 units wide. "1 (1)" is left of its pin, "2 (1)" right
+        # of it, half a letter away: 222.2 - 15.36 - 76.8 = 130.
         self.assertIn('<g font-size="48"', text)
-        self.assertIn('<text x="326" y="417" dy=".35em" fill="#b03a00">1 (1)</text>', text)
-        self.assertIn('<text x="674" y="417" dy=".35em" fill="#b03a00">2 (1)</text>', text)
+        self.assertIn('stroke="#fff" stroke-width="12" paint-order="stroke">', text)
+        self.assertIn('<text x="130" y="278" dy=".35em" fill="#b03a00">1 (1)</text>', text)
+        self.assertIn('<text x="870" y="278" dy=".35em" fill="#b03a00">2 (1)</text>', text)
 
     def test_from_the_bottom(self) -> None:
         places = small_board()
         places.add("R1", "2", Place(26, 12, BOTTOM, 0.5, 0.5))
         text = CloseUp(places, "R1", BOTTOM, self.marks()).svg()
         # It is mirrored: pin 1 is right of pin 2, which isn't marked.
-        self.assertIn('<path d="M597 397L558 397L558 436L597 436z" fill="#b03a00"', text)
-        self.assertIn('<text x="674" y="417" dy=".35em" fill="#b03a00">1 (1)</text>', text)
-        self.assertIn('<path d="M442 397L403 397L403 436L442 436z" fill="#ddd"', text)
-        self.assertIn('<rect x="403" y="397" width="194" height="39" fill="#f3f3ef"/>', text)
+        self.assertIn('<path d="M778 222L667 222L667 333L778 333z" fill="#b03a00"', text)
+        self.assertIn('<text x="870" y="278" dy=".35em" fill="#b03a00">1 (1)</text>', text)
+        self.assertIn('<path d="M333 222L222 222L222 333L333 333z" fill="#ddd"', text)
+        self.assertIn('<rect x="222" y="222" width="556" height="111" fill="#f3f3ef"/>', text)
 
     def test_names_above_and_below(self) -> None:
         places = Places()
@@ -290,11 +300,11 @@ class Close(unittest.TestCase):
             places.add("U1", name, Place(x, y, TOP, 1, 1))
         pins = [Marked(f"U1.{name}", "A", "#000", 1, True, False) for name in ("2", "4")]
         text = CloseUp(places, "U1", TOP, pins).svg()
-        # 5.12 mm around a part of 9 mm by 7 mm: 19.24 mm by 17.24 mm, and so 20.688 mm wide. A
-        # millimeter is 48.3 units; the middle is at 500 units, pin 2 at 5.62 mm from the top.
-        upper, lower = 5.62 * 1000 / 20.688, 11.62 * 1000 / 20.688
-        away = 0.5 * 1000 / 20.688 + 48 * 0.32 * 5
-        for number, row in (("2", upper - away), ("4", lower + away)):
+        # Six letters of 48 units have room around a part of 9 mm by 7 mm: 184.32 units, and so the
+        # height is 833.33 units. A name of five letters is half a letter away from its pin, and its
+        # middle 92.16 units.
+        upper, lower = 184.32 - 92.16, 833.33 - 184.32 + 92.16
+        for number, row in (("2", upper), ("4", lower)):
             turn = f'transform="rotate(-90 500 {row:.0f})">{number} (1)</text>'
             self.assertIn(f'<text x="500" y="{row:.0f}" dy=".35em" fill="#000" {turn}', text)
 

@@ -28,6 +28,7 @@ GOOD: list[tuple[Read, bytes, str]] = [
     (protel.read, b"(A\nU1-1)(B\nU1-2)\n", "NET A U1.1\nNET B U1.2\n"),
     (protel.read, b"(\nA\n\nU1-1\n)\n", "NET A U1.1\n"),
     (protel.read, b"[\nU1\nF(1)\nV[2]\n]\n(\nD(0)\nU1-A(1)\n)\n", "NET D(0) U1.A(1)\n"),
+    (protel.read, b"[\nR1\n10K [1%\n]\n(\nA\nR1-1\n)\n", "NET A R1.1\n"),
     (
         protel.read,
         b"PROTEL NETLIST 2.0\n(\nA\nU1-1 PROC-D0 I/O\nU-2-1 R-1 PASSIVE\nU3-1 X-OE OPEN Y\n)\n",
@@ -70,7 +71,8 @@ BAD: list[tuple[Read, bytes, str]] = [
     (protel.read, b"(\n)\n", "line 2: a net without a name"),
     (protel.read, b"(\nA\nU1-1\n)\n(\nB\n", "line 6: the bracket in line 5 is not closed"),
     (protel.read, b"\n]\n", "line 2: a bracket has no other in its line: ']'"),
-    (protel.read, b"[\nR1\n10K [1%\n]\n", "line 3: a bracket has no other in its line: '10K [1%'"),
+    (protel.read, b"[R1\n10K [1%\n]\n", "line 2: a bracket has no other in its line: '10K [1%'"),
+    (protel.read, b"[\nR1\n(\n]\n", "line 3: the bracket in line 1 is not closed before '('"),
     (protel.read, b"[\nU1\n]\n(\nU1-1\nU2-1\n)\n", "line 5: a net without a name: its first line"),
     (protel.read, b"(\nA\nU1-1 and\n)\n", "line 3: net 'A': not a pin of a net file: part ''"),
     (pads.read, b"*NET*\n*SIGNAL* A\nU1.3, R1.1\n*END*\n", "line 3: a comma in a pin: 'U1.3,'"),
