@@ -29,7 +29,7 @@ ROOT = pathlib.Path(__file__).resolve().parents[1]
 PACKAGE = ROOT / 'tools/btest_tools'
 SEEN = ('VERSION', 'docs', 'examples', 'crates', 'scripts')   # what tests read beside tools
 # Of the modules the tests that are run first.
-FIRST = {'explaining': ['explaining', 'rows'], 'pages': ['pages'], 'netlists': ['netlist_texts', 'places'],
+FIRST = {'explaining': ['candidates', 'explaining', 'rows'], 'pages': ['pages'], 'netlists': ['layouts', 'netlist_texts', 'places'],
          'station': ['station', 'station_commands'], 'pictures': ['drawn'], 'drawing': ['drawn'], 'closeups': ['drawn'],
          'logs': ['logs'], 'asking': ['logs', 'failing'], 'walks': ['failing'], 'failing': ['failing'], 'board': ['board', 'model'],
          'scans': ['scans'], 'model': ['model', 'rows'], 'files': ['files'], 'btest': ['failing'],

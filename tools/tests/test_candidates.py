@@ -230,7 +230,11 @@ class Depth(unittest.TestCase):
         search = Search(Rows(read_files(), 3))
         one = wire("A", (7, 5))
         stuck = [(Fault("stuck", ("A",), 0),), (Fault("stuck", ("A",), 1),)]
-        for pull, more in ((None, []), (1, [(Fault("pull", ("A",), 0),)])):
+        pulls: list[tuple[Optional[int], list[tuple[Fault, ...]]]] = [
+            (None, []),
+            (1, [(Fault("pull", ("A",), 0),)]),
+        ]
+        for pull, more in pulls:
             one.net.pull = pull
             with mock.patch.object(search, "all_open", return_value=None):
                 with mock.patch.object(search, "smallest", return_value=None) as smallest:
