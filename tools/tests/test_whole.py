@@ -1,5 +1,5 @@
-"""Whole texts and pages, as the files of `whole` have them. Their numbers were checked by hand, against
-the demo board and the small board of test_drawn.py."""
+"""Whole texts and pages, as the files of `whole` have them. Their numbers were checked by hand,
+against the demo board and the small board of test_drawn.py."""
 
 from __future__ import annotations
 
@@ -53,7 +53,7 @@ def bench() -> Bench:
 
 def printed() -> str:
     """Returns what failing-nets.py prints of the demo board with faults, each under a title."""
-    lines = []
+    lines: list[str] = []
     for fault in FAULTS:
         lines += [f"# {fault}", *show(bench(), look(bench(), Text("log", Bed().log(fault))))]
     return "\n".join(lines) + "\n"
@@ -61,7 +61,7 @@ def printed() -> str:
 
 def failed_page() -> str:
     """Returns what a page says of the demo board with faults, without its pictures."""
-    lines = []
+    lines: list[str] = []
     for fault in (FAULTS[0], FAULTS[2]):
         lines += log_section(bench(), look(bench(), Text("log", Bed().log(fault))))
     return "\n".join(lines).replace("><", ">\n<") + "\n"
@@ -86,7 +86,8 @@ class Whole(unittest.TestCase):
             for word, spots in small_board().pins.items():
                 for spot in spots:
                     spot = spot._replace(x=spot.x + right, y=spot.y + down)
-                    moved.add(*word.split("."), spot)
+                    part, _, number = word.partition(".")
+                    moved.add(part, number, spot)
             outline = small_board().outline
             moved.outline = [[(x + right, y + down) for x, y in line] for line in outline]
             self.is_whole("pictures.html", pictures_of(moved))
