@@ -1,8 +1,8 @@
 """What the pictures draw, and where, worked out by hand.
 
-The board is 40 mm wide and 19.6 mm high, which is the area of a square of 28 mm. So letters are 1 mm
-high, the margin is 1.3 mm, and a mark has a radius of 0.36 mm. A millimeter is 20 units. U1 has two
-pins on the top, R1 one on the bottom.
+The board is 40 mm wide and 19.6 mm high, which is the area of a square of 28 mm. So letters are
+1 mm high, the margin is 1.3 mm, and a mark has a radius of 0.36 mm. A millimeter is 20 units. U1
+has two pins on the top, R1 one on the bottom.
 """
 
 from __future__ import annotations
