@@ -8,7 +8,10 @@ has two pins on the top, R1 one on the bottom.
 from __future__ import annotations
 
 import math
+import re
 import unittest
+from collections.abc import Sequence
+from typing import Optional
 from unittest import mock
 
 from btest_tools import closeups, drawing, pictures
@@ -118,6 +121,77 @@ class Views(unittest.TestCase):
         with mock.patch.object(pictures, "LISTED", 1):
             one = View(places, [net], frame_of(places), TOP)
             self.holds(one.svg("n", "", [], []), "on this side: U1.1 and more")
+
+
+class Letters(unittest.TestCase):
+    """Where numbers and names are, if disks are in their way. P.1 is at 426 and 226 units."""
+
+    def texts(self, taken: Sequence[tuple[float, float]], high: float = 0.0) -> dict[str, str]:
+        """Returns the numbers and the names with their places, if other pins that fail are so many
+        units away from P.1, whose copper has a height in millimeters."""
+        places = Places()
+        places.outline = small_board().outline
+        places.add("P", "1", Place(20, 10, TOP, 0, high))
+        for at, (across, down) in enumerate(taken):
+            places.add(f"X{at}", "1", Place(20 + across / 20, 10 + down / 20, TOP))
+        nets = [ShownNet(7, "A", ["P.1"], ["P.1"])]
+        nets.append(ShownNet(8, "B", [], [f"X{at}.1" for at in range(len(taken))]))
+        text = View(places, nets, frame_of(places), TOP).svg("n", "", [], [])
+        found = re.findall(r'<text x="(\d+)" y="(\d+)"(?: fill="[^"]*")?>(\w+)</text>', text)
+        return {name: f"{x} {y}" for x, y, name in found if name in "7P"}
+
+    def test_numbers(self) -> None:
+        # A disk has a radius of 7 units, and a digit is 12.8 units wide: beside a disk it is
+        # 15.4 units away, above it 17 units, and its line is 7 units below its middle.
+        ways = [(15.4, 0), (-15.4, 0), (0, -17), (0, 17), (15.4, -17), (-15.4, 17)]
+        for count in range(7):
+            places = [f"{426 + x:.0f} {226 + y + 7:.0f}" for x, y in ways[count : count + 1]]
+            found = self.texts(ways[:count])
+            self.assertEqual([found["7"]] if "7" in found else [], places)
+
+    def test_names(self) -> None:
+        # The letters of a name have 16 units. It is in the middle of its part if no disk is there,
+        # else 12.8 units above or below it, and its line is 5.6 units lower.
+        cases: list[tuple[list[tuple[float, float]], float, Optional[str]]] = [
+            ([], 0, None),
+            ([], 3, f"426 {226 - 30 - 12.8 + 5.6:.0f}"),
+            ([(0, -42.8)], 3, f"426 {226 + 30 + 12.8 + 5.6:.0f}"),
+            ([(0, -42.8), (0, 42.8)], 3, None),
+        ]
+        for taken, high, place in cases:
+            self.assertEqual(self.texts(taken, high).get("P"), place)
+
+    def test_names_at_the_edges(self) -> None:
+        # Ten letters of 16 units are 102.4 units wide. They stay within the 852 units.
+        for x, middle in ((0, 51), (20, 426), (40, 801)):
+            places = Places()
+            places.outline = small_board().outline
+            places.add("P123456789", "1", Place(x, 10, TOP, 0, 3))
+            net = ShownNet(1, "A", ["P123456789.1"], ["P123456789.1"])
+            text = View(places, [net], frame_of(places), TOP).svg("n", "", [], [])
+            self.assertIn(f'<text x="{middle}" y="189">P123456789</text>', text)
+
+    def test_scales(self) -> None:
+        # The longest of 1, 2 and 5 times a power of ten that is no longer than a fifth of the width.
+        for width, length in (
+            (4.9, "0.5"),
+            (5, "1"),
+            (9.9, "1"),
+            (10, "2"),
+            (24, "2"),
+            (25, "5"),
+            (49, "5"),
+            (50, "10"),
+            (510, "100"),
+            (0.6, "0.1"),
+        ):
+            frame = Frame(0, 0, width, width, width / 50, (0, 0))
+            text = View(Places(), [], frame, TOP).svg("n", "", [], [])
+            self.assertIn(f">{length} mm</text>", text)
+            long = float(length) * 20
+            begin = width * 0.4
+            self.assertIn(f"M{begin:.0f} ", text)
+            self.assertIn(f"H{begin + long:.0f}V", text)
 
 
 class Words(unittest.TestCase):
