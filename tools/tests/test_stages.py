@@ -355,16 +355,16 @@ class Codes(unittest.TestCase):
             ("part: wrong part U1: it has; wrong part U2: so", "U1 U2", ""),
             ("chain: so", "", ""),
         ):
-            found = places_of(Fault((name,)), net_of)
+            found = places_of(Fault((name,), ""), net_of)
             self.assertEqual(found, (set(parts.split()), set(nets.split())), name)
 
     def test_most_boards_first(self) -> None:
-        boards = [Tested(serial) for serial in "XYZ"]
+        boards = [Tested(serial, [], False) for serial in "XYZ"]
         net_of = {f"U{at}.1": name for at, name in enumerate("DCBA", 1)}
         faults = [
-            Fault(("open U1.1 0",), boards[:1]),
-            Fault(("open U2.1 0",), boards),
-            Fault(("open U4.1 0", "open U3.1 0"), boards[:2]),
+            Fault(("open U1.1 0",), "", boards[:1]),
+            Fault(("open U2.1 0",), "", boards),
+            Fault(("open U4.1 0", "open U3.1 0"), "", boards[:2]),
         ]
         parts, nets = counts(faults, net_of)
         self.assertEqual(parts, [("U2", 3), ("U3", 2), ("U4", 2), ("U1", 1)])
