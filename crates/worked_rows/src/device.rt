@@ -405,8 +405,14 @@ const CELLS: [Change; 16] = [
     ("Q(2), output2, X", "TDI, input, X", ": rule V14 item 2"),
 ];
 
-const CELLS_OF_A_RECEIVER: [Change; 2] = [
+const CELLS_OF_A_RECEIVER: [Change; 3] = [
     ("D(1), input, X", "D(1), output2, X", ": rule V14 item 1"),
+    // Both entries break rule V14, and the second one breaks rule V13.
+    (
+        "D(1), input, X),\" &\n\"1 (BC_1, D(2), input, X",
+        "D(1), output2, X),\" &\n\"1 (BC_1, D(1), output2, X",
+        ": rule V13 item 2",
+    ),
     (
         "2;\nattribute BOUNDARY_REGISTER of RCV : entity is\n\"0 (BC_1, D(1), input, X),\" &\n\"1 (BC",
         "1;\nattribute BOUNDARY_REGISTER of RCV : entity is\n\"0 (BC_1, D(1), input, X),\" &\n\"0 (BC",
