@@ -9,6 +9,7 @@ from collections.abc import Iterator, Sequence
 
 from tests.support import DEMO, EXAMPLES, NETS, PROGRAM, Bed, Folder, need, read_files, small_board
 
+from btest_tools.board import wire
 from btest_tools.btest import Btest
 from btest_tools.files import BadInput
 from btest_tools.model import Model, Short, play, read_faults
@@ -149,6 +150,65 @@ def walk_text() -> str:
     from tests.support import guide_svf
 
     return guide_svf("walk")
+
+
+class Registers(Folder):
+    """What is between TDI and TDO, and what it loads, with U2 of the small board nearest TDO."""
+
+    def setUp(self) -> None:
+        super().setUp()
+        self.board = read_files(small_board(self.folder))
+        self.model = Model(self.board)
+
+    def play(self, *lines: str) -> list[int]:
+        """Returns the rows that come back."""
+        return play(self.model, "STATE RESET;\n" + "\n".join(lines))
+
+    def test_instructions(self) -> None:
+        # Each part loads 01, and what follows is what was shifted in.
+        sizes = [part.length for part in reversed(self.board.parts)]
+        bits = "".join("0" * (size - 2) + "01" for size in reversed(sizes))
+        self.assertEqual(self.model.capture("ir"), list(map(int, reversed(bits))))
+        whole = sum(sizes)
+        self.assertEqual(self.play(f"SIR {whole} TDI (0) TDO (0) MASK (1);"), [])
+
+    def test_bypass(self) -> None:
+        # After a reset each of the three parts has one bit, which is 0.
+        wanted = [len(part.identity) or 1 for part in reversed(self.board.parts)]
+        self.assertEqual([state.size("dr") for state in reversed(self.model.states)], wanted)
+        self.assertEqual(self.model.capture("dr"), [0] * sum(wanted))
+
+    def test_bits_go_through(self) -> None:
+        size = sum(state.size("dr") for state in self.model.states)
+        row = f"SDR {size + 4} TDI (F) TDO (0) MASK (1);"
+        self.assertEqual(self.play(row), [0xF << size & (1 << size + 4) - 1])
+
+    def test_what_nothing_decides(self) -> None:
+        # N1 has a pull, N2 has none, and nothing drives before the instruction is loaded.
+        self.assertEqual(self.model.free, 0)
+        levels = self.model.settle()
+        self.assertEqual((levels.bits, levels.free), ({"N1": 1}, 0))
+        self.model.put_faults(read_faults(self.board, "pull:N1:0 stuck:N2:1"))
+        self.assertEqual(self.model.settle().bits, {"N1": 0, "N2": 1})
+        self.model.free = 1
+        self.model.put_faults(read_faults(self.board, "or:N1:N2"))
+        self.assertEqual(self.model.settle().bits, {"N1": 1, "N2": 1})
+        self.assertEqual(self.model.settle().free, 1)
+
+    def test_cells_in_any_order(self) -> None:
+        # The cells of a net are those of a pin in their own order, as in the boundary register.
+        board = read_files()
+        for part in board.parts:
+            part.entries.reverse()
+        for net in board.nets.values():
+            net.readers.clear()
+            net.drivers.clear()
+            net.pins.clear()
+        wire(board)
+        good = read_files()
+        for name, net in board.nets.items():
+            self.assertEqual(net.readers, good.nets[name].readers)
+            self.assertEqual(net.drivers, good.nets[name].drivers)
 
 
 @unittest.skipUnless(PROGRAM, "no btest is given")

@@ -30,6 +30,13 @@ class Scans(unittest.TestCase):
         self.assertEqual(len(found), 7)
         self.assertEqual([scan.tdo for scan in compared_scans(SVF)], [5, 6, 0x21])
 
+    def test_comments(self) -> None:
+        # Either sign begins one, up to the end of the line, also if the other isn't there.
+        good = Scan("dr", 8, 1, None, 0)
+        for text in ("// SDR 9 TDI (2);\nSDR 8 TDI (1);", "SDR 8 TDI (1);! SDR 9 TDI (2);"):
+            self.assertEqual(list(scans(text)), [good])
+        self.assertEqual(list(scans("! a // SDR 9 TDI (2);\nSDR 8 TDI (1);")), [good])
+
     def test_passes(self) -> None:
         test = Test(SVF)
         self.assertEqual(test.size, 6)

@@ -31,6 +31,7 @@ from btest_tools.explaining.rows import Rows
 from btest_tools.explaining.sets import Explained, Explainer, Explanation
 from btest_tools.explaining.words import Teller, at_parts, left, where
 from btest_tools.failing import Bench
+from btest_tools.files import BadInput, Text
 from btest_tools.logs import Failing, failing
 from btest_tools.neighbors import Neighborhood
 from btest_tools.netlists.layout import read_places
@@ -326,6 +327,22 @@ class Asked(unittest.TestCase):
                 with mock.patch.object(btest, "PLACES", places):
                     with mock.patch("btest_tools.btest.os.access", lambda name, _: name.exists()):
                         self.assertEqual(btest.default_program(), name)
+
+    def test_refusals_name_the_log(self) -> None:
+        # The name of the log is in place of the word for it, if that was among the words.
+        program = btest.Btest("/bin/btest")
+        log = Text("board.log", "00\n")
+        said = b"first\n/dev/stdin line 1: so\n"
+        for words, wanted in (
+            (("4", btest.LOG), "board.log line 1: so"),
+            (("4",), "/dev/stdin line 1: so"),
+        ):
+            done = mock.Mock(returncode=1, stdout=b"", stderr=said)
+            with mock.patch("btest_tools.btest.subprocess.run", return_value=done) as run:
+                with self.assertRaisesRegex(BadInput, f"^{wanted}$"):
+                    program.run("diagnose", *words, log=log)
+            self.assertEqual(run.call_args[0][0], ["/bin/btest", "diagnose", *words])
+            self.assertEqual(run.call_args[1]["input"], b"00\n")
 
     def test_coverage_lists(self) -> None:
         long = "N" * 255
