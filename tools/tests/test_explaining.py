@@ -501,8 +501,10 @@ class Patient(unittest.TestCase):
         patience = Patience()
         with contextlib.redirect_stderr(err):
             patience.at(0, 4, "nets")
+            patience.told -= 1.5
+            patience.at(1, 4, "nets")
             self.assertEqual(err.getvalue(), "")
-            patience.told -= 2.1
+            patience.told -= 0.6
             patience.at(1, 4, "nets")
             patience.at(2, 4, "nets")
         self.assertEqual(err.getvalue(), "explaining: 1 of 4 nets\n")

@@ -2,13 +2,21 @@
 
 from __future__ import annotations
 
+import contextlib
+import io
 import math
+import pathlib
+import sys
 import unittest
 from typing import Callable
 from unittest import mock
 
-from btest_tools.netlists import ipc356, kicad_pcb
+from tests.support import Folder
+
+from btest_tools.files import BadInput
+from btest_tools.netlists import ipc356, kicad_pcb, pads as pads_form, program
 from btest_tools.netlists.edges import curve, edge, swept
+from btest_tools.netlists.layout import read_places
 from btest_tools.netlists.net_file import Refused
 from btest_tools.places import BOTH, BOTTOM, TOP, Place, Places, Point
 
@@ -307,12 +315,77 @@ class Edges(Case):
         self.on_lines([swept((0, 0), (1, 0), -math.pi / 2)[-1]], (0, -1))
 
     def test_curve(self) -> None:
-        line = curve([(0.0, 0.0), (0.0, 3.0), (3.0, 3.0), (3.0, 0.0)])
+        line = curve([(8.0, 16.0), (8.0, 19.0), (11.0, 19.0), (11.0, 16.0)])
         self.assertEqual(len(line), 25)
-        self.on_lines([line[0], line[12], line[24]], (0, 0), (1.5, 2.25), (3, 0))
+        self.on_lines([line[0], line[12], line[24]], (8, 16), (9.5, 18.25), (11, 16))
         self.assertEqual(edge(b"curve", line[:3], None), line[:3])
         # A quarter of the way: 27/64, 27/64, 9/64 and 1/64 of the four points.
-        self.on_lines([line[6]], ((27 + 3) / 64, (81 + 27) / 64))
+        self.on_lines([line[6]], (8 + (27 + 3) / 64, 16 + (81 + 27) / 64))
+
+
+class Programs(Folder):
+    """The frame of the programs that print a net file."""
+
+    def run_words(self, *words: str) -> tuple[str, str]:
+        """Runs the program for PADS, and returns what it prints and what it says."""
+        out, err = io.StringIO(), io.StringIO()
+        with mock.patch.object(sys, "argv", ["pads-to-nets.py", *words]):
+            with contextlib.redirect_stdout(out), contextlib.redirect_stderr(err):
+                try:
+                    program.main("a PADS netlist", pads_form.read)
+                except SystemExit as end:
+                    self.assertIn(end.code, (0, 1))
+        return out.getvalue(), err.getvalue()
+
+    def test_net_files(self) -> None:
+        text = "*NET*\n*SIGNAL* #A\nU1.1\n*SIGNAL* B\nU1.2\n*END*\n"
+        nets = "NET _A U1.1\nNET B U1.2\n"
+        output = f"{self.folder}/out.nets"
+        for mark in ("", "\xef\xbb\xbf"):
+            name = self.write("netlist", mark + text)
+            printed, said = self.run_words(name)
+            self.assertEqual(printed, nets)
+            self.assertIn("net '#A' is written _A\n", said)
+            self.assertEqual(self.run_words("-o", output, name)[0], "")
+            self.assertEqual(pathlib.Path(output).read_text(encoding="ascii"), nets)
+            pathlib.Path(output).unlink()
+
+    def test_refusals(self) -> None:
+        bad = self.write("bad", "*NET*\nU1.1\n*END*\n")
+        none = self.write("none", "*NET*\n*END*\n")
+        for name, said in (
+            (bad, f"{bad} line 2: a pin before the first *SIGNAL*: 'U1.1'"),
+            (none, f"{none} line 2: no nets: is this a PADS netlist?"),
+            (f"{self.folder}/nothing", f"cannot read {self.folder}/nothing"),
+        ):
+            printed, why = self.run_words(name)
+            self.assertEqual((printed, why.count("\n")), ("", 1))
+            self.assertIn(said, why)
+
+    def test_files_that_are_too_long(self) -> None:
+        name = self.write("netlist", "0123456789")
+        with mock.patch.object(program, "LIMIT", 10):
+            self.assertEqual(program.read_bytes(name), b"0123456789")
+        with mock.patch.object(program, "LIMIT", 9):
+            with self.assertRaisesRegex(BadInput, "netlist: longer than 9 bytes$"):
+                program.read_bytes(name)
+
+    def test_what_is_no_plain_file(self) -> None:
+        program.write("/dev/null", "text")
+        with self.assertRaisesRegex(BadInput, "^cannot write "):
+            program.write(self.folder, "text")
+        with mock.patch.object(program, "put", side_effect=SystemExit(0)):
+            with self.assertRaises(BadInput):
+                program.print_whole("text")
+
+    def test_boards_without_places(self) -> None:
+        for name, text in (("a.ipc", "C  none\n999\n"), ("a.kicad_pcb", " (kicad_pcb)")):
+            path = self.write(name, text)
+            with self.assertRaisesRegex(BadInput, f"{name}: no places"):
+                read_places(path)
+        path = self.write("b.kicad_pcb", "(kicad_pcb\n(net 1))")
+        with self.assertRaisesRegex(BadInput, "b.kicad_pcb line 2: a net without a name"):
+            read_places(path)
 
 
 if __name__ == "__main__":

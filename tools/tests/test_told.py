@@ -5,6 +5,7 @@ from __future__ import annotations
 import io
 import itertools
 import random
+import re
 import unittest
 from types import SimpleNamespace
 from unittest import mock
@@ -289,6 +290,34 @@ class CloseUps(unittest.TestCase):
         self.assertEqual(self.titles("R1.1", "U1.1!"), ["U1"])
         five = [f"{part}.1!" for part in "EDCBA"]
         self.assertEqual(self.titles(*five), ["E", "D", "C", "B"])
+
+    def test_where_a_name_is(self) -> None:
+        # U1.1 is at the left edge of its part. Its name is left of it if nothing is there, else on
+        # the right, rather on a pin without a mark than not at all, and never on one with a mark.
+        for plain, shown, side in (
+            ("", "", "left"),
+            ("left", "", "right"),
+            ("right", "", "left"),
+            ("left right", "", "left"),
+            ("", "left", "right"),
+            ("right", "left", "right"),
+            ("", "left right", ""),
+        ):
+            places = Places()
+            places.add("U1", "1", Place(0, 0, TOP, 0.5, 0.5))
+            places.add("U1", "2", Place(3, 0, TOP, 0.5, 0.5))
+            marks = [Marked("U1.1", "A", "#000", 1, True, False)]
+            for name, x in (("left", -0.7), ("right", 0.7)):
+                if name in f"{plain} {shown}":
+                    places.add(name, "1", Place(x, 0, TOP, 0.2, 0.2))
+                if name in shown:
+                    marks.append(Marked(f"{name}.1", "A", "#000", 1, True, False))
+            text = closeups.CloseUp(places, "U1", TOP, marks).svg()
+            pin = re.search(r'<path d="M(\d+) \d+L(\d+) [^"]*" fill="#000"', text)
+            assert pin
+            found = re.findall(r'<text x="(\d+)"', text)
+            sides = ["left" if int(x) < int(pin[1]) else "right" for x in found]
+            self.assertEqual(sides, [side] * bool(side), (plain, shown))
 
     def test_dense_letters(self) -> None:
         places = Places()
