@@ -3,12 +3,17 @@ manual: 0 to 7 for TCK, TMS and TDI as 4, 2 and 1, and R to ask for TDO."""
 
 from __future__ import annotations
 
+import socket
+import threading
+import time
 import unittest
 from collections.abc import Iterator
+from unittest import mock
 
 from tests.support import Bed
 
-from btest_tools.bitbang import NEXT, Port
+from btest_tools.bitbang import NEXT, Port, serve
+from btest_tools.files import BadInput
 from btest_tools.model import play
 from btest_tools.scans import Scan, scans
 
@@ -72,6 +77,66 @@ class Clocks(unittest.TestCase):
         self.assertEqual(NEXT["idle"], ("idle", "select-dr"))
         self.assertEqual(NEXT["pause-ir"], ("pause-ir", "exit2-ir"))
         self.assertEqual(NEXT["exit1-dr"], ("pause-dr", "update-dr"))
+
+
+class Served(unittest.TestCase):
+    """Players at a port."""
+
+    def setUp(self) -> None:
+        self.threads: list[threading.Thread] = []
+        patch = mock.patch("btest_tools.bitbang.put", self.connect)
+        patch.start()
+        self.addCleanup(patch.stop)
+        self.requests: list[bytes] = []
+        self.answers: list[bytes] = []
+
+    def connect(self, text: str) -> None:
+        """Starts players at the port that is told, one for each request."""
+        number = int(text.split()[-1])
+        thread = threading.Thread(target=self.play, args=(number,))
+        thread.start()
+        self.threads.append(thread)
+
+    def play(self, number: int) -> None:
+        """Sends each request as a player, and keeps the answer."""
+        for request in self.requests:
+            with socket.create_connection(("127.0.0.1", number), 10) as player:
+                player.sendall(request)
+                player.shutdown(socket.SHUT_WR)
+                self.answers.append(b"".join(iter(lambda: player.recv(999), b"")))
+
+    def serve(self, seconds: float, *ports: mock.Mock) -> None:
+        """Serves these ports."""
+        try:
+            serve(0, seconds, ports)
+        finally:
+            for thread in self.threads:
+                thread.join()
+
+    def test_players(self) -> None:
+        self.requests = [b"ab", b"c"]
+        one, two = (mock.Mock(is_pulled=False) for _ in range(2))
+        one.answer.side_effect = lambda request: request.upper()
+        two.answer.return_value = b"01"
+        self.serve(10, one, two)
+        self.assertEqual(self.answers, [b"AB", b"01"])
+
+    def test_a_cable_that_is_pulled(self) -> None:
+        self.requests = [b"ab"]
+        self.serve(10, mock.Mock(is_pulled=True, **{"answer.return_value": b"01"}))
+        self.assertEqual(self.answers, [b""])
+
+    def test_no_player(self) -> None:
+        begun = time.monotonic()
+        with self.assertRaisesRegex(BadInput, "^no player came in 0.3 s$"):
+            self.serve(0.3, mock.Mock())
+        self.assertGreater(time.monotonic() - begun, 0.25)
+
+    def test_a_port_that_is_taken(self) -> None:
+        with socket.create_server(("127.0.0.1", 0)) as server:
+            number = server.getsockname()[1]
+            with self.assertRaisesRegex(BadInput, f"^port {number} is taken"):
+                serve(number, 1, [])
 
 
 if __name__ == "__main__":

@@ -169,6 +169,7 @@ class OfNetFile(unittest.TestCase):
             self.assertEqual(list(numbered_lines(b"abc")), [(1, b"abc")])
             line = "line 2: longer than 3 bytes"
             self.refused(line, lambda: list(numbered_lines(b"abc\nabcd\n")))
+            self.assertEqual(len(list(numbered_lines(b"abc\n" * 9))), 9)
 
 
 class Brackets(unittest.TestCase):

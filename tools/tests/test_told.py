@@ -319,6 +319,29 @@ class CloseUps(unittest.TestCase):
             sides = ["left" if int(x) < int(pin[1]) else "right" for x in found]
             self.assertEqual(sides, [side] * bool(side), (plain, shown))
 
+    def test_room_for_names(self) -> None:
+        # The longest name has room and one letter more, but 21 letters at most, on each side of a
+        # part of 9.5 mm. Letters are as high as 1.6 mm of the board, within 24 and 48 units, and
+        # 0.64 of that wide.
+        for names, letters in (
+            (("1", "2"), 6),
+            (("1", "1234"), 9),
+            (("1234", "2"), 9),
+            (("1234567", "2"), 12),
+            (("1" * 16, "2"), 21),
+            (("1" * 40, "2"), 21),
+        ):
+            places = Places()
+            marks = []
+            for at, name in enumerate(names):
+                places.add("U1", name, Place(at * 9, 0, TOP, 0.5, 0.5))
+                marks.append(Marked(f"U1.{name}", "A", "#000", 1, True, False))
+            text = closeups.CloseUp(places, "U1", TOP, marks).svg()
+            box = re.search(r'<rect x="(\d+)" y="\d+" width="(\d+)"', text)
+            assert box
+            letter = max(24.0, min(48.0, 1.6 * int(box[2]) / 9.5))
+            self.assertAlmostEqual(int(box[1]), letters * 0.64 * letter, delta=2)
+
     def test_dense_letters(self) -> None:
         places = Places()
         places.add("U1", "1", Place(0, 0, TOP, 0.5, 0.5))
