@@ -30,7 +30,7 @@ PACKAGE = ROOT / 'tools/btest_tools'
 SEEN = ('VERSION', 'docs', 'examples', 'crates', 'scripts')   # what tests read beside tools
 # Of the modules the tests that are run first.
 FIRST = {'explaining': ['candidates', 'explaining', 'told', 'rows'], 'pages': ['pages', 'whole'], 'netlists': ['layouts', 'netlist_texts', 'places'],
-         'station': ['station', 'stages', 'station_commands'], 'pictures': ['drawn'], 'drawing': ['drawn'], 'closeups': ['drawn'],
+         'station': ['station', 'stages', 'records', 'openocd', 'station_commands'], 'pictures': ['drawn'], 'drawing': ['drawn'], 'closeups': ['drawn'],
          'logs': ['logs'], 'asking': ['logs', 'failing'], 'walks': ['failing'], 'failing': ['failing'], 'board': ['board', 'model'],
          'scans': ['scans'], 'model': ['model', 'rows'], 'files': ['files'], 'btest': ['failing'],
          'bitbang': ['bitbang'], 'chain_faults': ['chain_faults'], 'neighbors': ['drawn', 'pictures'], 'places': ['drawn', 'places']}

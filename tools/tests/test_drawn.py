@@ -123,6 +123,20 @@ class Views(unittest.TestCase):
             self.holds(one.svg("n", "", [], []), "on this side: U1.1 and more")
 
 
+class Listed(unittest.TestCase):
+    """Pins that are listed up to a number, and the others counted."""
+
+    def test_twelve_pins(self) -> None:
+        for count, more in ((12, ""), (13, " and more")):
+            places = small_board()
+            names = [f"X.{at}" for at in range(count)]
+            for at, name in enumerate(names):
+                places.add("X", str(at), Place(at, 8, TOP))
+            one = View(places, [ShownNet(1, "A", names, names)], frame_of(places), TOP)
+            said = ", ".join(names[:12]) + more
+            self.assertIn(f'on this side: {said}"', one.svg("n", "", [], []))
+
+
 class Letters(unittest.TestCase):
     """Where numbers and names are, if disks are in their way. P.1 is at 426 and 226 units."""
 

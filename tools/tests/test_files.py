@@ -2,15 +2,19 @@
 
 from __future__ import annotations
 
+import contextlib
+import io
 import os
 import pathlib
 import subprocess
 import sys
 import unittest
+from typing import Optional
+from unittest import mock
 
 from tests.support import DEMO, EXAMPLES, TOOLS, Folder, need, tool
 
-from btest_tools.files import BadInput, read, write_whole
+from btest_tools.files import BadInput, frame, read, tell, write_whole
 
 GOOD = str(EXAMPLES / "good.log")
 
@@ -47,6 +51,46 @@ class ReadAndWrite(Folder):
             with self.assertRaisesRegex(BadInput, f"^cannot write {name}: "):
                 write_whole(name, "x")
         self.assertEqual(os.listdir(self.folder), ["taken"])
+
+
+class Ends(unittest.TestCase):
+    """How a program ends."""
+
+    def ends(self, error: Optional[BaseException]) -> tuple[object, str]:
+        """Returns the status of a program that raises this, and what it says."""
+        err = io.StringIO()
+        with mock.patch.object(sys, "argv", ["/bin/tool.py"]):
+            with contextlib.redirect_stderr(err), self.assertRaises(SystemExit) as end:
+                frame(mock.Mock(side_effect=error))
+        return end.exception.code, err.getvalue()
+
+    def test_statuses(self) -> None:
+        missing = FileNotFoundError(2, "No such file", "page")
+        for error, status, said in (
+            (None, 0, ""),
+            (BadInput("so"), 1, "tool.py: so\n"),
+            (missing, 1, "tool.py: page: No such file\n"),
+            (OSError(28, "No space"), 1, "tool.py: a file: No space\n"),
+            (KeyboardInterrupt(), 130, ""),
+            (SystemExit(2), 2, ""),
+            (SystemExit(0), 0, ""),
+        ):
+            self.assertEqual(self.ends(error), (status, said))
+
+    def test_a_closed_error_stream(self) -> None:
+        with mock.patch.object(sys, "stderr", None):
+            tell("line")
+
+    def test_output_that_is_not_buffered(self) -> None:
+        # Python then has the file itself under standard output, and drops what one write leaves.
+        raw = mock.Mock(spec=io.RawIOBase)
+        out = mock.Mock(buffer=raw, encoding="utf-8", errors="strict")
+        with mock.patch.object(sys, "stdout", out), mock.patch("io.BufferedWriter") as writer:
+            with mock.patch("io.TextIOWrapper") as wrapper:
+                with self.assertRaises(SystemExit):
+                    frame(lambda: None)
+        writer.assert_called_once_with(raw)
+        wrapper.assert_called_once_with(writer.return_value, "utf-8", "strict")
 
 
 class Frame(Folder):

@@ -283,7 +283,10 @@ class Typed(unittest.TestCase):
 
         with mock.patch("btest_tools.station.line.select.select", ready):
             with mock.patch("btest_tools.station.line.os.read", read):
-                return list(line.Station.typed(station))
+                found = list(line.Station.typed(station))
+        # It asks whenever it waits: for each piece, and for the end if that isn't a stop before.
+        self.assertGreaterEqual(cast(mock.Mock, station.prompt).call_count, len(pieces) + 1)
+        return found
 
     def test_lines(self) -> None:
         self.assertEqual(self.lines(b"a1\nb2\r\n"), ["a1", "b2"])
@@ -304,8 +307,11 @@ class Typed(unittest.TestCase):
     def test_what_was_typed_before_is_thrown_away(self) -> None:
         for is_terminal in (False, True):
             with mock.patch.object(line, "say") as say, mock.patch.object(line, "termios") as term:
-                with mock.patch("btest_tools.station.line.os.isatty", return_value=is_terminal):
+                with mock.patch(
+                    "btest_tools.station.line.os.isatty", return_value=is_terminal
+                ) as asked:
                     line.Station.prompt()
+            asked.assert_called_once_with(0)
             self.assertEqual(
                 term.tcflush.call_args_list, [mock.call(0, term.TCIFLUSH)] * is_terminal
             )
