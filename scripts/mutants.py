@@ -29,11 +29,13 @@ ROOT = pathlib.Path(__file__).resolve().parents[1]
 PACKAGE = ROOT / 'tools/btest_tools'
 SEEN = ('VERSION', 'docs', 'examples', 'crates', 'scripts')   # what tests read beside tools
 # Of the modules the tests that are run first.
-FIRST = {'explaining': ['candidates', 'explaining', 'told', 'rows'], 'pages': ['pages', 'whole'], 'netlists': ['layouts', 'netlist_texts', 'places'],
-         'station': ['station', 'stages', 'records', 'openocd', 'station_commands'], 'pictures': ['drawn'], 'drawing': ['drawn'], 'closeups': ['drawn'],
-         'logs': ['logs'], 'asking': ['logs', 'failing'], 'walks': ['failing'], 'failing': ['failing'], 'board': ['board', 'model'],
-         'scans': ['scans'], 'model': ['model', 'rows'], 'files': ['files'], 'btest': ['failing'],
-         'bitbang': ['bitbang'], 'chain_faults': ['chain_faults'], 'neighbors': ['drawn', 'pictures'], 'places': ['drawn', 'places']}
+FIRST = {'explaining': ['candidates', 'explaining', 'told', 'rows'], 'pages': ['pages', 'whole'],
+         'netlists': ['layouts', 'netlist_texts', 'places'],
+         'station': ['station', 'stages', 'records', 'openocd', 'station_commands'],
+         'pictures': ['drawn'], 'drawing': ['drawn'], 'closeups': ['drawn', 'told'], 'logs': ['logs'], 'asking': ['logs', 'told', 'failing'],
+         'walks': ['failing'], 'failing': ['failing'], 'board': ['board', 'model'], 'scans': ['scans'], 'model': ['model', 'rows'],
+         'files': ['files'], 'btest': ['told', 'failing'], 'bitbang': ['bitbang'], 'chain_faults': ['chain_faults'],
+         'neighbors': ['told', 'drawn', 'pictures'], 'places': ['drawn', 'places']}
 SECONDS = 60   # of processor time: tests that take longer have noticed the change
 WAIT = 900   # seconds, for tests that wait for what never comes
 FAILED = re.compile(r'^(?:FAIL|ERROR): .*\btests\.(test_\w+)', re.M)

@@ -84,9 +84,10 @@ class Served(unittest.TestCase):
 
     def setUp(self) -> None:
         self.threads: list[threading.Thread] = []
-        patch = mock.patch("btest_tools.bitbang.put", self.connect)
-        patch.start()
-        self.addCleanup(patch.stop)
+        for name, value in (("put", self.connect), ("sys", mock.Mock(stdout=None))):
+            patch = mock.patch(f"btest_tools.bitbang.{name}", value)
+            patch.start()
+            self.addCleanup(patch.stop)
         self.requests: list[bytes] = []
         self.answers: list[bytes] = []
 
