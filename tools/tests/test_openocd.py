@@ -48,7 +48,7 @@ class Player(Folder):
         reading, self.writing = os.pipe()
         self.addCleanup(os.close, reading)
         self.addCleanup(os.close, self.writing)
-        stop = cast(Stop, SimpleNamespace(file=reading))
+        stop = cast(Stop, SimpleNamespace(file=reading, is_asked=False))
         self.player = OpenOcd(pathlib.Path(self.folder), stop, program, 30)
         self.addCleanup(self.player.close)
         self.write(f"{RESET}.says", GOOD)
@@ -118,7 +118,7 @@ class Player(Folder):
         self.player.limit = 1
         self.player.reset()
         self.assertEqual(self.noted("played"), [RESET])
-        self.assertEqual((self.player.limit, self.player.may_stop), (openocd.START, False))
+        self.assertEqual((self.player.limit, self.player.may_stop), (openocd.AFTER, False))
 
     def test_the_end(self) -> None:
         self.write("a.svf.says", GOOD)

@@ -80,16 +80,17 @@ class Kept(Folder):
             (self.record.attempts(), [1, 2, 3, 4]),
             (self.record.of_serial("A"), [1, 3]),
             (self.record.of_serial("a"), []),
-            (self.record.of_boards_of(DAY), [1, 2, 3]),
+            (self.record.of_boards_of(DAY), [1, 2]),
             (self.record.of_boards_of(OTHER), [1, 3, 4]),
         ):
             self.assertEqual([one.number for one in found], numbers)
         last = self.record.last()
         self.assertEqual(last and last.number, 4)
-        self.assertEqual(list(self.record.failed_logs(OTHER)), [1, 3, 4])
-        self.assertEqual(list(self.record.marks(OTHER, "board")), [3, 4])
-        self.assertEqual(self.record.marks(OTHER, "chain"), {})
-        self.assertEqual(len(set(self.record.marks(DAY, "walk").values())), 1)  # equal logs
+        marks = self.record.log_marks([3, 4, 9])
+        self.assertEqual(list(marks), [3, 4])
+        self.assertEqual([mark.stage for mark in marks[4]], ["board", "walk"])
+        self.assertEqual(marks[3][1], marks[4][1])  # equal logs
+        self.assertNotEqual(marks[3][0], marks[4][0])
 
     def test_what_fails_is_taken_back(self) -> None:
         number = self.add("A1", None)
@@ -104,24 +105,28 @@ class Kept(Folder):
         self.add("A1")
         self.damage("log_text", "packed = x'00'")
         self.assertRaises(RecordFailed, self.record.logs, 1)
-        self.assertEqual(self.record.failed_logs(DAY), {1: [None, None]})
+        marks = self.record.log_marks([1])[1]
+        self.assertEqual([self.record.log_text(mark.fingerprint) for mark in marks], [None] * 2)
 
-    def test_logs_of_boards_that_failed(self) -> None:
+    def test_logs_by_their_marks(self) -> None:
         self.add("A1")
-        self.add("A2", "PASS")
-        logs: list[Optional[Log]] = [Log("board", "A1\n"), Log("walk", "01\n")]
-        self.assertEqual(self.record.failed_logs(DAY), {1: logs})
+        marks = self.record.log_marks([1])[1]
+        texts = [self.record.log_text(mark.fingerprint) for mark in marks]
+        self.assertEqual(texts, ["A1\n", "01\n"])
+        self.assertIsNone(self.record.log_text("none"))
 
     def test_explanations(self) -> None:
         for serial in ("A1", "A2"):
             self.add(serial)
-        finding = Finding(("stuck D0 0", "open U1.1 0"), ("one", "two"), "details\n")
+        finding = Finding.of(("stuck D0 0", "open U1.1 0"), ("one", "two"), "details\n", "<svg>")
+        self.assertEqual(finding.more(), ("details\n", "<svg>"))
         self.record.explain(1, finding)
         self.record.explain(2, finding)
-        self.assertEqual(self.record.findings(DAY), {1: finding, 2: finding})
-        self.assertEqual(self.record.findings(OTHER), {})
+        self.assertEqual(self.record.findings([1, 2]), {1: finding, 2: finding})
+        self.assertEqual(self.record.explanations(), {1: "one; two", 2: "one; two"})
+        self.assertEqual(self.record.findings([3]), {})
         self.damage("finding", "faults = '[' WHERE attempt = 1")
-        self.assertEqual(self.record.findings(DAY), {2: finding})
+        self.assertEqual(self.record.findings([1, 2]), {2: finding})
 
     def test_other_formats(self) -> None:
         with sqlite3.connect(self.path) as database:
