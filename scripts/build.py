@@ -24,16 +24,25 @@ ENDED = re.compile(r"rt: (\w+)(: its tests)?(?: are)? (proved|NOT PROVED|is kept
 WAITS = re.compile(r"rt: (\w+)(: its tests)?: another run on this machine is proving the same")
 
 
+def listed(checkout: str = TOP) -> "dict[str, str]":
+    """Returns the lines of a checkout's crates.txt, in its order, by the names of the crates."""
+    with open(f"{checkout}/crates.txt", encoding="utf-8") as it:
+        return {line.split(":")[0].split()[0]: line for line in it if ":" in line and not line.startswith("#")}
+
+
+def needs(line: str) -> "list[str]":
+    """Returns the libraries that a line of crates.txt names, those of the kit among them."""
+    return line.partition(":")[2].split()
+
+
 def needed(top=PROGRAM):
     """Returns the lines of crates.txt for a crate and all crates below it, by their names."""
-    with open(f"{TOP}/crates.txt", encoding="utf-8") as it:
-        lines = {line.split(":")[0].split()[0]: line for line in it if ":" in line and not line.startswith("#")}
-    found, left = {}, [top]
+    lines, found, left = listed(), {}, [top]
     while left:
         name = left.pop()
         if name in lines and name not in found:
             found[name] = lines[name]
-            left += lines[name].partition(":")[2].split()
+            left += needs(lines[name])
     return found
 
 

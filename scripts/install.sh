@@ -41,16 +41,16 @@ to=$(realpath "$2")
 cd "$(dirname "$0")/.."
 completion=share/bash-completion/completions/btest
 page=share/man/man1/btest.1.gz
-shared=()
+files=()
 for file in VERSION LICEN[CS]E* COPYING* docs/GUIDE.md docs/OPERATOR.md docs/*.png examples/* tools/* tools/btest_tools/*.py tools/btest_tools/*/*.py; do
-    [ ! -f "$file" ] || shared+=("$file")
+    [ ! -f "$file" ] || files+=("$file")
 done
 
 if [ -n "$program" ]; then
     install -D -m 755 "$program" "$to/bin/btest"
     install -D -m 644 scripts/package/completion.bash "$to/$completion"
     man_page "$page"
-    share "${shared[@]}"
+    share "${files[@]}"
 else
-    remove bin/btest "$completion" "$page" "${shared[@]/#/share/btest/}"
+    remove bin/btest "$completion" "$page" "${files[@]/#/share/btest/}"
 fi

@@ -9,17 +9,14 @@ import shutil
 import subprocess
 import sys
 
+import build
+
 PARTS = ("src", "specs", "proofs")
 
 
 def crates_below(top):
     """The crates of a checkout, each with the crates of the checkout that it names."""
-    below = {}
-    with open(f"{top}/crates.txt", encoding="utf-8") as lines:
-        for line in lines:
-            if line.strip() and not line.startswith("#"):
-                name, _, needs = line.partition(":")
-                below[name.split()[0]] = needs.split()
+    below = {name: build.needs(line) for name, line in build.listed(top).items()}
     return {name: [it for it in needs if it in below] for name, needs in below.items()}
 
 

@@ -28,6 +28,8 @@ import re
 import sys
 from typing import Dict, Iterator, List, NamedTuple, Optional, Set
 
+import build
+
 TESTS = {
     "call_tests",
     "value_tests",
@@ -112,13 +114,6 @@ def functions_of(crate: str, modules: Dict[str, str]) -> Iterator[Function]:
                 yield Function(crate, owner, found[2], takes_self)
 
 
-def crates_of(top: str) -> List[str]:
-    """Returns the names of the crates of which something runs, in the order of crates.txt."""
-    with open(os.path.join(top, "crates.txt"), encoding="utf-8") as lines:
-        names = [it.split(":")[0].strip() for it in lines if it.strip() and not it.startswith("#")]
-    return [name for name in names if name not in NEVER_RUN]
-
-
 def imports_of(text: str) -> Set[str]:
     """Returns the names that a crate imports, each behind the crate that it comes from."""
     found: Set[str] = set()
@@ -172,8 +167,8 @@ def main() -> None:
     words = sys.argv[1:]
     if words not in ([], ["--untested"]):
         sys.exit(__doc__)
-    top = os.path.join(os.path.dirname(os.path.abspath(__file__)), "..")
-    modules = {name: sources(os.path.join(top, "crates", name)) for name in crates_of(top)}
+    names = [name for name in build.listed() if name not in NEVER_RUN]
+    modules = {name: sources(os.path.join(build.TOP, "crates", name)) for name in names}
     calls = Calls({name: "\n".join(found.values()) for name, found in modules.items()})
     functions = [
         function

@@ -276,8 +276,7 @@ class Room:
 
     def __init__(self, top: str, checked: str, jobs: int):
         self.top, self.checked, self.jobs = top, checked, jobs
-        said = [it for it in read(f"{checked}/crates.txt").split("\n") if re.match(r"\w+.*:", it)]
-        needs = {it.split(":")[0].split()[0]: it.partition(":")[2].split() for it in said}
+        needs = {name: build.needs(line) for name, line in build.listed(checked).items()}
         here = {it for it in needs if os.path.isdir(f"{checked}/crates/{it}")}
         # Each crate of the program with those that it names, and all crates from below.
         self.below = {it: [low for low in needs[it] if low in here] for it in here}
