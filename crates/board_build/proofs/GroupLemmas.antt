@@ -20,7 +20,7 @@ one_pin : (m : Marked) (b : Bool) → map pin_with (cond b (m ∷ []) []) ≡ co
 one_pin m true = refl
 one_pin m false = refl
 
--- a group, one word on
+-- the group of net `n` in the words up to and including word `i`
 pub group_more : (words : List MarkedWord) (i : ℕ) (w : MarkedWord) (n : ℕ) → i < length words → get_or words i w ≡ w →
     group_of (map seen (take (i + 1) words)) n ≡ group_of (map seen (take i words)) n ++ cond (w.net == n) (pin_with (seen w) ∷ []) []
 group_more words i w n within read =
@@ -31,7 +31,7 @@ group_more words i w n within read =
     ∙ map-append pin_with (filter (λ m. number_of m == n) (map seen (take i words))) (filter (λ m. number_of m == n) (seen w ∷ []))
     ∙ ap (λ v. group_of (map seen (take i words)) n ++ v) (one_pin (seen w) (w.net == n))
 
--- the groups after a pin was added to one
+-- the groups stay right when the pin of word `i` is added to the group of its net
 pub groups_step : (words : List MarkedWord) (i : ℕ) (w : MarkedWord) (count : ℕ) (old new : List (List NetPin)) → i < length words → get_or words i w ≡ w → w.net < length old →
     new ≡ set old w.net (get_or old w.net [] ++ pin_with (seen w) ∷ []) → ((n : ℕ) → n < count → get_or old n [] ≡ group_of (map seen (take i words)) n) →
     (n : ℕ) → n < count → get_or new n [] ≡ group_of (map seen (take (i + 1) words)) n
@@ -51,7 +51,7 @@ groups_step words i w count old new within read inside changed was n less = by_t
         wrong : true ≡ false → ⊥
         wrong h = cc h
 
--- a word of no net of the board
+-- the groups stay right if word `i` belongs to none of the nets
 pub groups_kept : (words : List MarkedWord) (i : ℕ) (w : MarkedWord) (count : ℕ) (old : List (List NetPin)) → i < length words → get_or words i w ≡ w → (w.net < count → ⊥) →
     ((n : ℕ) → n < count → get_or old n [] ≡ group_of (map seen (take i words)) n) → (n : ℕ) → n < count → get_or old n [] ≡ group_of (map seen (take (i + 1) words)) n
 groups_kept words i w count old within read outside was n less = by_test (w.net == n) refl
@@ -67,7 +67,7 @@ net_cong name s t p q as_ bs es ep eb =
     ∙ ap (λ (v : Option Bool). let net : Net = record { name = name; supply = t; pull = v; pins = as_ } in net) ep
     ∙ ap (λ (v : List NetPin). let net : Net = record { name = name; supply = t; pull = q; pins = v } in net) eb
 
--- the nets of the names, each with its group
+-- the names, paired with their groups, give the nets of the definition
 pub nets_zip : (supply : Bor (List ℕ) → Bool) (pull : Bor (List ℕ) → Option Bool) (supplies : List (List ℕ)) (pulls : List Pulled) (words : List Marked) →
     ((q : Bor (List ℕ)) → supply q ≡ is_among supplies q.now) → ((q : Bor (List ℕ)) → pull q ≡ pull_of_net pulls q.now) →
     (names : List (Bor (List ℕ))) (gs : List (List NetPin)) (n : ℕ) → length gs ≡ length names → ((k : ℕ) → k < length names → get_or gs k [] ≡ group_of words (n + k)) →
@@ -84,7 +84,7 @@ nets_zip supply pull supplies pulls words hs hp (q ∷ names) (g ∷ gs) n count
     later : (k : ℕ) → k < length names → get_or gs k [] ≡ group_of words (n + 1 + k)
     later k less = let there : n + suc k ≡ n + 1 + k = omega arith in h (suc k) (omega (arith, less)) ∙ ap (group_of words) there
 
--- marks that agree
+-- marks with equal fields are equal
 pub mark_cong : (parts : List Part) (word : NetWord) (d e : Bool) (a b : Option PinAt) (i j : Bool) → d ≡ e → a ≡ b → i ≡ j →
     ◌≡◌ {A = Marked} (record { word = word; described = d; at = a; inert = i; always_on = is_free_at parts a }) (record { word = word; described = e; at = b; inert = j; always_on = is_free_at parts b })
 mark_cong parts word d e a b i j ed ea ei =
@@ -92,7 +92,7 @@ mark_cong parts word d e a b i j ed ea ei =
     ∙ ap (λ (v : Option PinAt). let m : Marked = record { word = word; described = e; at = v; inert = i; always_on = is_free_at parts v } in m) ea
     ∙ ap (λ (v : Bool). let m : Marked = record { word = word; described = e; at = b; inert = v; always_on = is_free_at parts b } in m) ei
 
--- the item at a place within a list
+-- if P holds of the item at a place within the list, P holds of what a look-up at this place returns
 pub at_place : {A : Type 0} (P : Option A → Type 0) (xs : List A) (i : ℕ) → i < length xs → ((x : A) → get_or xs i x ≡ x → P (Some x)) → P (slice_get xs i)
 at_place {A} P xs i within given = by_get (slice_get xs i) refl
   where
@@ -105,7 +105,7 @@ at_place {A} P xs i within given = by_get (slice_get xs i) refl
         outside (y ∷ ys) (suc k) h f = outside ys k (omega (arith, h)) f
     by_get (Some x) e = given x (get_or_from_slice_get xs i x x e)
 
--- the groups after one word
+-- the groups stay right when the loop handles one more word
 pub groups_more : (words : List MarkedWord) (i count len : ℕ) (old new : List (List NetPin)) → i < length words → len ≡ count → length old ≡ len →
     new ≡ groups_after (slice_get words i) len old → ((n : ℕ) → n < count → get_or old n [] ≡ group_of (map seen (take i words)) n) →
     (n : ℕ) → n < count → get_or new n [] ≡ group_of (map seen (take (i + 1) words)) n
@@ -126,7 +126,7 @@ zip_nil : {A B : Type 0} (xs : List A) → ◌≡◌ {A = List (A × B)} (zip xs
 zip_nil [] = refl
 zip_nil (x ∷ xs) = refl
 
--- one pair more
+-- the nets stay right when the loop adds one more name with its group
 pub zip_step : {A G N : Type 0} (f : A × G → N) (names : List A) (i : ℕ) (gs rest : List G) (nets new all : List N) → i < length names → rest ≡ drop 1 gs →
     new ≡ nets_after f (slice_get names i) (slice_get gs 0) nets → all ≡ nets ++ map f (zip (drop i names) gs) → all ≡ new ++ map f (zip (drop (i + 1) names) rest)
 zip_step {A} {G} {N} f names i gs rest nets new all within er en same =
@@ -141,7 +141,7 @@ zip_step {A} {G} {N} f names i gs rest nets new all within er en same =
         same ∙ ap (λ (v : List A). nets ++ map f (zip v (g ∷ hs))) cut ∙ sym (append_assoc nets (f (q, g) ∷ []) (map f (zip (drop (i + 1) names) hs)))
         ∙ ap (λ (v : List N). v ++ map f (zip (drop (i + 1) names) hs)) (sym now) ∙ ap (λ (v : List G). new ++ map f (zip (drop (i + 1) names) v)) (sym er)
 
--- one mark more
+-- the marks stay right when the loop adds one more mark
 pub mark_step : {A N : Type 0} (f : A → N) (words : List A) (i : ℕ) (done new : List N) → i < length words → new ≡ marks_after f (slice_get words i) done → done ≡ map f (take i words) → new ≡ map f (take (i + 1) words)
 mark_step {A} {N} f words i done new within e was =
     at_place (λ o. new ≡ marks_after f o done → new ≡ map f (take (i + 1) words)) words i within

@@ -1,4 +1,4 @@
--- Boards of devices and lines that keep their rules.
+-- If lines and devices keep their rules, their board keeps the rules of a board.
 use Rattle.std.proofs.Common.{◌≡◌, List, [], ◌∷◌, length, Option, Some, None, Ok, refl, subst}
 use Rattle.std.specs.Prelude.{All}
 use Rattle.std.specs.List.{AllByRecursion, cons_option}
@@ -26,7 +26,7 @@ use Rattle.board_build.proofs.LawLemmas.{is_board}
 abbrev AreParts : List Part → Type 0
 AreParts parts = AllByRecursion (λ part. IsPart part.kind) parts
 
--- the parts of a line and of the lines after it
+-- the parts of a line and of the later lines keep the rules of parts
 line_kinds : (statement : ChainStatement) (devices : List RawDevice) (rest : List Part) → HasLength statement → AllByRecursion IsDevice devices → (AllByRecursion IsDevice (devices_after statement devices) → AreParts rest) → AreParts (cons_option (part_of_line statement devices) rest)
 line_kinds (Device part entity pack) [] rest has are next = next tt
 line_kinds (Device part entity pack) (device ∷ devices) rest has are next = (are.0, next are.1)
@@ -36,7 +36,7 @@ line_kinds (Supply net) devices rest has are next = next are
 line_kinds (Pull net value) devices rest has are next = next are
 line_kinds (Link part first second) devices rest has are next = next are
 
--- the parts of lines keep the rules of parts
+-- the parts of the lines keep the rules of parts
 part_kinds : (lines : List ChainLine) (devices : List RawDevice) → AllByRecursion (λ line. HasLength line.statement) lines → AllByRecursion IsDevice devices → AreParts (chain_parts lines devices)
 part_kinds [] devices has are = tt
 part_kinds (line ∷ lines) devices has are = line_kinds line.statement devices (chain_parts lines (devices_after line.statement devices)) has.0 are (λ after. part_kinds lines (devices_after line.statement devices) has.1 after)

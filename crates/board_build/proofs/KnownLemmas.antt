@@ -54,7 +54,7 @@ none_placed n (part ∷ parts) pin e =
         let both = or_parts (same_word part.name pin.0) (list_any (λ name. same_word name pin.0) (described_names parts)) k in
         ap (λ b. b || list_any (λ (i : PinPlace). same_pin i.0 pin) (places_from (n + 1) parts)) (none_in_bits n part.name 0 device.bits pin both.0) ∙ rest both.1
 
--- so a place implies that the part is described
+-- so a pin with a place belongs to a described part
 placed_known : (parts : List Part) (pin : Pin) → (is_some (place_of_pin (pin_places parts) pin) || is_among (described_names parts) pin.0) ≡ is_among (described_names parts) pin.0
 placed_known parts pin = by_test (is_among (described_names parts) pin.0) refl
   where

@@ -46,7 +46,7 @@ pins_differ parts marks words names apart m n i j first second p q at_p at_q sam
     let r : SameWord m n i j = one_word words apart m n i j a.word b.word a.stands b.stands part pin in
     (r.net, r.place)
 
--- what holds of each pin of each net
+-- if P holds of the pin of each word, P holds of each pin of each net
 each_pin : (P : NetPin → Type 0) (parts : List Part) (marks : Marks) (words : List NetWord) (names : List (List ℕ)) → ((word : NetWord) → Has words word → P (net_pin marks (pin_of word))) → All (λ (net : Net). All P net.pins) (board_nets marks words names)
 each_pin P parts marks words names h n d within place e inside =
     let net : Net = slice_index_or (board_nets marks words names) n d in
@@ -74,7 +74,7 @@ inert_alike parts marks words names none = record {
       ap (λ (v : NetPin). v.inert) a.is ∙ ap (is_among marks.inerts) part ∙ sym (ap (λ (v : NetPin). v.inert) b.is);
 }
 
--- the word of an always-on driver is among those of always-on drivers
+-- if a pin of a net is an always-on driver, `drives_always` holds of the pin that its word names
 drives_at : (parts : List Part) (marks : Marks) (words : List NetWord) (names : List (List ℕ)) (n place : ℕ) (net : Net) (pin : NetPin) → slice_get (board_nets marks words names) n ≡ Some net →
     drive (board_on parts marks words names) net pin ≡ Some AlwaysOn → (r : PinAtWord marks words n place pin) →
     drives_always (board_on parts marks words names) marks (pin_of r.word) (slice_get (board_nets marks words names) (net_of r.word)) ≡ true
@@ -120,7 +120,7 @@ one_always_on parts marks words names single n net i j p q at at_p at_q differ d
     by_order (inr (inl less)) x y ex ey on_x on_y net_x net_y = wrong x y net_x net_y (pairs_at (λ (a b : NetWord). drives_always (board_on parts marks words names) marks (pin_of a) (slice_get (board_nets marks words names) (net_of a)) ≡ true → drives_always (board_on parts marks words names) marks (pin_of b) (slice_get (board_nets marks words names) (net_of b)) ≡ true → (net_of a == net_of b) ≡ false) (words_on words n) apart i j x y less ex ey on_x on_y)
     by_order (inr (inr less)) x y ex ey on_x on_y net_x net_y = wrong y x net_y net_x (pairs_at (λ (a b : NetWord). drives_always (board_on parts marks words names) marks (pin_of a) (slice_get (board_nets marks words names) (net_of a)) ≡ true → drives_always (board_on parts marks words names) marks (pin_of b) (slice_get (board_nets marks words names) (net_of b)) ≡ true → (net_of a == net_of b) ≡ false) (words_on words n) apart j i y x less ey ex on_y on_x)
 
--- a chain's parts are as many as its DEVICE and BYPASS lines, with different names
+-- a chain has as many parts as it has DEVICE and BYPASS lines
 part_count : (chain : List ChainLine) (parts : List Part) → map (λ part. part.name) parts ≡ names_of (named PartName chain) → length parts ≡ length (named PartName chain)
 part_count chain parts e = sym (length-map parts (λ part. part.name)) ∙ ap length e ∙ length-map (named PartName chain) (λ n. n.1)
 

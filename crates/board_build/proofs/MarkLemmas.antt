@@ -1,4 +1,4 @@
--- Borrowed and marked words, against the words of the definitions.
+-- The borrowed words and the marked words agree with the words of the definitions.
 use Rattle.std.proofs.Common.{◌≡◌, ℕ, zero, suc, ◌+◌, ◌==◌, Bool, true, false, cond, ◌&&◌, List, [], ◌∷◌, length, map, Option, Some, None, refl, sym, ap, ◌∙◌, arith}
 use Rattle.std.specs.Prelude.{slice_get, filter, is_none, is_some, option_map, option_and_then, nat_lt, if◌then◌else◌}
 use Rattle.std.proofs.lemmas.List.{length-map}
@@ -32,7 +32,7 @@ use Rattle.board_build.specs.BoardRules.{data_limit, net_limit, pin_limit, no_pi
 use Rattle.board_build.specs.inner.Marked.{Marked, mark, is_free, is_free_bit, is_free_at, pin_with, group_of, number_of, place_of, net_with, nets_with, board_by, same_pins, marked_limit, marked_unknown, marked_twice, marked_pins, marked_guarded, marked_two, marked_drivers, file_fault, always_on, marked_fault, marked_answer}
 use Rattle.board_lines.proofs.MapLemmas.{filter-map, find-map, once-map, repeated-map}
 
--- whether a driver is always on follows from its driving entry alone
+-- a driver is always on exactly if it has no control
 free_drive : (board : RawBoard) (net : Net) (part : ℕ) (cell : Cell) (o : Option Control) → is_always_on (Some (drive_by board net part cell o)) ≡ is_none o
 free_drive board net part cell None = refl
 free_drive board net part cell (Some control) = by_tests (control.cell == cell.num) (lets_switch board net control.disable)
@@ -123,7 +123,7 @@ module _ (chain : List ChainLine) (parts : List Part) (names : List (List ℕ)) 
       ap (λ (a : Option BoardFault). a then marked_two (map marked (drivers_of board marks words))) (guarded_same (drivers_of board marks words))
       ∙ ap (λ (b : Option BoardFault). guarded_driver board (drivers_of board marks words) then b) (two_same (drivers_of board marks words))
 
--- the rules in either order of their composition
+-- the two ways of composing the rules find the same first fault
 order : {F : Type 0} (d n l u t c r : Option F) → ((d then (n then l)) then ((u then t) then (c then r))) ≡ ((d then (n then ((l then (u then t)) then c))) then r)
 order (Some f) n l u t c r = refl
 order None (Some f) l u t c r = refl

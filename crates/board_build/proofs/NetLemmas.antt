@@ -1,4 +1,4 @@
--- The nets of a board, and the words that their pins come from.
+-- The nets of a board, and the word that each pin of a net comes from.
 use Rattle.std.proofs.Common.{◌≡◌, ◌≢◌, ℕ, zero, suc, ◌+◌, ◌≤◌, ◌==◌, Bool, true, false, cond, List, [], ◌∷◌, length, map, Some, refl, sym, ap, subst, ◌∙◌, arith, nat_le}
 use Rattle.std.specs.Prelude.{slice_get, filter, sum_by, AllPairs}
 use Rattle.std.specs.Cmp.Lexicographic.{other_text}
@@ -18,7 +18,7 @@ use Rattle.board_lines.proofs.ApartLemmas.{Apart, apart_pairs, apart_map, apart_
 abbrev pub words_on : List NetWord → ℕ → List NetWord
 words_on words n = filter (λ word. net_of word == n) words
 
--- the net at a place, by its name
+-- the net at place `n`, with the name at this place
 pub record NetAt (marks : Marks) (words : List NetWord) (first : ℕ) (names : List (List ℕ)) (n : ℕ) (net : Net) : Type 0 where
   pub name : List ℕ
   pub named : slice_get names n ≡ Some name
@@ -43,13 +43,13 @@ pub names_of_nets : (marks : Marks) (words : List NetWord) (first : ℕ) (names 
 names_of_nets marks words first [] = refl
 names_of_nets marks words first (name ∷ names) = ap (λ (v : List (List ℕ)). name ∷ v) (names_of_nets marks words (first + 1) names)
 
--- nets with names that differ
+-- if the names differ, the names of the nets differ
 pub nets_differ : (marks : Marks) (words : List NetWord) (names : List (List ℕ)) → Apart (λ a b. same_word a b ≡ false) names → AllPairs (λ (a b : Net). a.name ≢ b.name) (board_nets marks words names)
 nets_differ marks words names h =
     let P : List (List ℕ) → Type 0 = λ v. Apart (λ a b. a ≢ b) v in
     apart_pairs _ _ (apart_map (λ (net : Net). net.name) (λ a b. a ≢ b) (board_nets marks words names) (subst P (sym (names_of_nets marks words 0 names)) (apart_weaker _ _ (λ a b e. other_text a b (sym e)) names h)))
 
--- a pin of a net, by its word
+-- the word that the pin at `place` in net `n` comes from
 pub record PinAtWord (marks : Marks) (words : List NetWord) (n place : ℕ) (pin : NetPin) : Type 0 where
   pub word : NetWord
   pub stands : slice_get (words_on words n) place ≡ Some word
@@ -75,7 +75,7 @@ same_pin_of a b e f = and_from (same_word a.0 b.0) (same_word a.1 b.1) (sym (ap 
 not_apart : (a b : NetWord) → (pin_of a).0 ≡ (pin_of b).0 → (pin_of a).1 ≡ (pin_of b).1 → have_same_pin a b ≡ false → ⊥
 not_apart a b e f h = clash (have_same_pin a b) (same_pin_of (pin_of a) (pin_of b) e f) h
 
--- words with the same pin are the same word
+-- two words with the same pin are at the same place of the same net
 pub record SameWord (m n i j : ℕ) : Type 0 where
   pub net : m ≡ n
   pub place : i ≡ j
@@ -99,7 +99,7 @@ one_word words apart m n i j a b ea eb e f =
     pairs_on : (ws : List NetWord) (k : ℕ) → AllPairs (λ a b. have_same_pin a b ≡ false) ws → AllPairs (λ a b. have_same_pin a b ≡ false) (words_on ws k)
     pairs_on ws k h = AllPairs-filter (λ a b. have_same_pin a b ≡ false) (λ word. net_of word == k) ws h
 
--- each word is of one net at most
+-- 1 if the test holds, and 0 if not; by these counts each word belongs to at most one net
 abbrev count_of : Bool → ℕ
 count_of true = 1
 count_of false = 0

@@ -46,7 +46,7 @@ pub parts_named : (lines : List ChainLine) (devices : List RawDevice) → length
 parts_named [] devices h = refl
 parts_named (line ∷ lines) devices h = parts_named_by line.line line.statement lines devices (parts_named lines) h
 
--- a pin of a port bit
+-- the pin and place `s` come from one of these port bits
 pub record BitSite (part : ℕ) (name : List ℕ) (n : ℕ) (bits : List PortBit) (s : PinPlace) : Type 0 where
   pub of_part : s.1.part ≡ part
   pub of_name : s.0.0 ≡ name
@@ -78,7 +78,7 @@ bit_site part name n (b ∷ bits) s h = by_pin (bit_site part name (n + 1) bits 
         }
     by_pin rest (Some pin) e (inr k) = bit_later part name n b bits s (rest k)
 
--- a pin of a described part
+-- the pin and place `s` come from a port bit of one of these parts, which is described
 pub record Site (n : ℕ) (parts : List Part) (s : PinPlace) : Type 0 where
   pub index : ℕ
   pub number : s.1.part ≡ n + index
@@ -121,7 +121,7 @@ site n (p ∷ parts) s h = by_part (site (n + 1) parts s) (has_append (part_plac
     by_part rest (inl k) = site_here n p parts s p.kind refl k
     by_part rest (inr k) = site_later n p parts s (rest k)
 
--- no name is this one
+-- if a search for the name `x` finds nothing, no name of the list is `x`
 none_among : (names : List (List ℕ)) (x : List ℕ) (n : ℕ) → is_some (position_from (λ k. same_word k x) n names) ≡ false → AllByRecursion (λ name. same_word name x ≡ false) names
 none_among [] x n h = tt
 none_among (name ∷ names) x n h = by_test (none_among names x (n + 1)) (same_word name x) refl h
@@ -178,6 +178,6 @@ placed_where board marks pin (Some at) same e h = by_found (find (λ i. same_pin
           has_pin = r.has_pin ∙ ap Some (same_text s.0.1 pin.1 (sym parts.1));
         })
 
--- a pin that is not unknown is placed
+-- a pin that is not unknown has the place that the rules of a board want
 pub placed : (board : RawBoard) (marks : Marks) (pin : Pin) → marks.places ≡ pin_places board.chain → is_unknown (described_names board.chain) marks.places pin ≡ false → IsPlaced board (net_pin marks pin) (place_of_pin marks.places pin)
 placed board marks pin same h = placed_where board marks pin (place_of_pin marks.places pin) same refl h

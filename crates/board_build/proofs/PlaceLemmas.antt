@@ -65,7 +65,7 @@ differ_by_place parts inerts words marked is e =
     repeated_weaker have_same_pin (λ a b. are_one (marks a) (marks b)) (same_is_one parts inerts) [] words
     (map_none marks (first_repeated (λ a b. are_one (marks a) (marks b)) words) (sym same ∙ ap (option_map (λ (m : Marked). m)) placed))
 
--- the whole list was searched
+-- if the search went through the whole list, no item of the list is repeated
 pub differ_seen : (words : List MarkedWord) (i : ℕ) → length words ≤ i → first_repeated (λ a b. are_one (seen a) (seen b)) words ≡ repeated_from (λ a b. are_one (seen a) (seen b)) (take i words) (drop i words) → first_repeated are_one (map seen words) ≡ None
 differ_seen words i whole same =
     let none : first_repeated (λ a b. are_one (seen a) (seen b)) words ≡ None = same ∙ ap (repeated_from (λ a b. are_one (seen a) (seen b)) (take i words)) (drop_all i words whole) in

@@ -1,4 +1,4 @@
--- What holds if a rule finds no fault.
+-- Facts about files in which a rule finds no fault.
 use Rattle.std.proofs.Common.{◌≡◌, ◌≢◌, ℕ, ◌+◌, ◌<◌, ◌≤◌, ◌==◌, Bool, true, false, cond, List, [], ◌∷◌, length, get_or, Option, Some, None, refl, sym, ap, subst, ◌∙◌, ◌⊎◌, inl, inr}
 use Rattle.std.specs.Prelude.{slice_get, find, sum_by, is_some, position, option_map, option_and_then}
 use Rattle.std.specs.List.{AllByRecursion, position_from}
@@ -34,7 +34,7 @@ pub map_none : {A B : Type 0} (f : A → B) (o : Option A) → option_map f o �
 map_none f None e = refl
 map_none f (Some a) e = cc e
 
--- what holds if no limit is exceeded
+-- the limits that files without a limit fault keep
 pub record LimitsKept (parts : List Part) (names : List (List ℕ)) (words : List NetWord) : Type 0 where
   pub bits : sum_by (λ part. data_length part.kind) parts ≤ most_bits
   pub nets : length names ≤ most_nets
@@ -67,7 +67,7 @@ pins_kept parts words e =
       differ = unrepeated_apart have_same_pin words once_;
     }
 
--- a rule that names the line of the first place that passes
+-- if a rule finds no line to name, no item passes the rule's test
 no_place : {A : Type 0} (fault : Spot → BoardFault) (list : List Named) (test : A → Bool) (xs : List A) → length xs ≡ length list → option_map fault (option_and_then (spot_at list) (position test xs)) ≡ None → position test xs ≡ None
 no_place {A} fault list test xs count e = by_place (position test xs) refl e
   where

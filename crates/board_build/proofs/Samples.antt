@@ -26,7 +26,7 @@ use Rattle.board_build.specs.inner.Marked.{Marked, mark}
 use Rattle.board_build.specs.inner.SeenPins.{are_one, at_one_place, is_flagged}
 use Rattle.board_lines.specs.LineRules.{line_fault, inert_in_chain, no_supply_net, no_pull_net, pull_twice}
 
--- port bits of a device: those of the test access port come first
+-- a port bit of a device; `tap` says whether the port belongs to the test access port
 abbrev bit : ℕ → Option ℕ → Mode → List ℕ → Bool → PortBit
 bit port index mode pin tap = record { port = port; index = index; mode = mode; pin = Some pin; tap = tap; compliance = false }
 
@@ -126,7 +126,7 @@ a_whole_board : board_of (chain (said 3 (Bypass (codes "U3") 4) ∷ said 4 (Iner
 unfolding board_answer board_fault limit_fault data_limit net_limit pin_limit pin_fault no_pin pin_twice line_fault inert_in_chain no_supply_net no_pull_net pull_twice driver_fault guarded_driver two_always_on
 a_whole_board = refl
 
--- a pin of a part in BYPASS has no place, and is known by its name
+-- a pin of a part in BYPASS has no place, so the names of the part and the pin identify it
 a_pin_of_a_bypass_part_in_two_nets : board_of (chain (said 3 (Bypass (codes "U3") 4) ∷ [])) (net 1 (codes "A") (pin (codes "U3") (codes "7") ∷ []) ∷ net 2 (codes "B") (pin (codes "U1") (codes "1") ∷ pin (codes "U3") (codes "7") ∷ []) ∷ []) (drv ∷ rcv ∷ []) ≡ Err (PinTwice (at 2 4))
 unfolding board_answer board_fault limit_fault data_limit net_limit pin_limit pin_fault no_pin pin_twice line_fault inert_in_chain no_supply_net no_pull_net pull_twice driver_fault guarded_driver two_always_on
 a_pin_of_a_bypass_part_in_two_nets = refl
@@ -134,37 +134,37 @@ a_pin_of_a_bypass_part_in_two_nets = refl
 abbrev place : ℕ → ℕ → PinAt
 place part bit = record { part = part; bit = bit }
 
--- one place whatever the names are, two bits of a part, and two parts
+-- pins with one place are the same whatever their names are; two bits of one part, and two parts, are different places
 by_places : at_one_place (Some (place 0 4)) (Some (place 0 4)) false ∷ at_one_place (Some (place 0 4)) (Some (place 0 5)) true ∷ at_one_place (Some (place 0 4)) (Some (place 1 4)) true ∷ [] ≡ true ∷ false ∷ false ∷ []
 by_places = refl
 
--- without a place the names decide, and a pin with a place is never the same as one without
+-- if no pin has a place, the names decide; a pin with a place is never the same as a pin without one
 by_names : map (at_one_place None None) (true ∷ false ∷ []) ≡ true ∷ false ∷ []
 by_names = refl
 
 one_has_a_place : at_one_place None (Some (place 0 4)) true ∷ at_one_place (Some (place 0 4)) None true ∷ [] ≡ false ∷ false ∷ []
 one_has_a_place = refl
 
--- a flag that is set, one that is not, one past the end of its part, and one of a part past the end
+-- a flag that is set, a flag that is not set, a bit past the end of its part, and a part past the end of the chain
 flags : map (is_flagged ((false ∷ true ∷ []) ∷ [])) (place 0 1 ∷ place 0 0 ∷ place 0 2 ∷ place 1 1 ∷ []) ≡ true ∷ false ∷ false ∷ false ∷ []
 flags = refl
 
--- a word on this net, by the parts U1 and U2, which are described, and U3, which is in BYPASS
+-- U1 and U2 are described, and U3 is in BYPASS
 abbrev parts : List Part
 parts = record { name = codes "U1"; kind = Described drv } ∷ record { name = codes "U2"; kind = Described rcv } ∷ record { name = codes "U3"; kind = BypassPart 4 } ∷ []
 
 abbrev word : ℕ → List ℕ → List ℕ → Marked
 word n part name = mark parts (pin_places parts) [] ((n, (part, name)), at n 3)
 
--- pin 1 of U1 is itself in another net, but no other pin of U1, and no pin 1 of another part
+-- pin 1 of U1 is the same pin in another net; it differs from pin 2 of U1 and from pin 1 of another part
 one_pin : map (are_one (word 0 (codes "U1") (codes "1"))) (word 1 (codes "U1") (codes "1") ∷ word 1 (codes "U1") (codes "2") ∷ word 1 (codes "U2") (codes "1") ∷ word 1 (codes "U3") (codes "1") ∷ []) ≡ true ∷ false ∷ false ∷ false ∷ []
 one_pin = refl
 
--- the same for pin 7 of U3, which has no place
+-- pin 7 of U3 has no place; it is the same pin in another net, and differs from the other pins
 one_unplaced_pin : map (are_one (word 0 (codes "U3") (codes "7"))) (word 1 (codes "U3") (codes "7") ∷ word 1 (codes "U3") (codes "8") ∷ word 1 (codes "RAM") (codes "7") ∷ word 1 (codes "U1") (codes "1") ∷ []) ≡ true ∷ false ∷ false ∷ false ∷ []
 one_unplaced_pin = refl
 
--- if both have a place, their names do not matter; no file gives such words, since pins are read in upper case
+-- if two words have the same place, their names do not matter; no file gives two such words, since the reader puts pins in upper case
 abbrev there : List ℕ → Marked
 there name = record { word = ((0, (codes "U1", name)), at 1 3); described = true; at = Some (place 0 0); inert = false; always_on = false }
 

@@ -1,4 +1,4 @@
--- Rules on words as the code has them, against the rules on marked words.
+-- The rules on words as the code keeps them agree with the rules on marked words.
 use Rattle.std.proofs.Common.{◌≡◌, ℕ, zero, suc, ◌==◌, Bool, false, cond, ◌&&◌, List, [], ◌∷◌, length, map, get_or, Some, refl, sym, ap, ◌∙◌, Bor}
 use Rattle.std.specs.Prelude.{slice_get, find, option_map, is_none}
 use Rattle.std.proofs.lemmas.List.{length-map}
@@ -13,7 +13,7 @@ use Rattle.board_build.specs.inner.Marked.{Marked, seen, same_pins, place_of, nu
 use Rattle.board_lines.proofs.MapLemmas.{find-map, once-map, repeated-map}
 use Rattle.board_lines.proofs.DifferLemmas.{same_lent}
 
--- a word by its pin
+-- the pin of a word, and the word's place in the net file
 abbrev pub by_pin : MarkedWord → (Bor (List ℕ) × Bor (List ℕ)) × Spot
 by_pin w = ((w.part, w.pin), w.spot)
 

@@ -13,7 +13,7 @@ use Rattle.board_lines.specs.NetWords.{Pin, NetWord, is_among, net_names, standi
 use Rattle.board_lines.specs.ChainParts.{PinPlace, chain_parts, pin_places, place_of_pin}
 use Rattle.board_lines.specs.LineRules.{Pulled, pulls_of, pull_of_net}
 
--- what the nets of a board are made from: the places of the described parts' pins, and what the INERT, SUPPLY and PULL lines name
+-- the facts from which the nets of a board are built: the places of the described parts' pins, the names on the INERT and SUPPLY lines, and the pulls
 pub record Marks : Type 0 where
   pub places : List PinPlace
   pub inerts : List (List ℕ)

@@ -19,15 +19,15 @@ use Rattle.board_lines.specs.ChainParts.{PinPlace, chain_parts, pin_places, plac
 use Rattle.board_lines.specs.LineRules.{line_fault}
 use Rattle.board_build.specs.BoardNets.{Marks, marks_of, net_pin, board_with}
 
--- a data scan has more than 65,535 bits: one for each boundary cell of a described part, and one for each other part
+-- the fault of a data scan of more than 65,535 bits; a scan has one bit for each boundary cell of a described part, and one bit for each other part
 unfoldable pub data_limit : List Part → Option BoardFault
 data_limit parts = if nat_lt most_bits (sum_by (λ part. data_length part.kind) parts) then Some (Limit 2) else None
 
--- there are more than 16,382 nets
+-- the fault of more than 16,382 nets
 unfoldable pub net_limit : List (List ℕ) → Option BoardFault
 net_limit names = if nat_lt most_nets (length names) then Some (Limit 3) else None
 
--- the nets have more than 65,535 different pins
+-- the fault of more than 65,535 different pins in the nets
 unfoldable pub pin_limit : List NetWord → Option BoardFault
 pin_limit words = if nat_lt most_pins (length (once have_same_pin words)) then Some (Limit 4) else None
 
@@ -35,11 +35,11 @@ pin_limit words = if nat_lt most_pins (length (once have_same_pin words)) then S
 abbrev pub is_unknown : List (List ℕ) → List PinPlace → Pin → Bool
 is_unknown described places pin = is_among described pin.0 && is_none (place_of_pin places pin)
 
--- the first pin of a described part that is not in the chosen pin map
+-- the fault of the first pin that belongs to a described part and is not in the part's pin map
 unfoldable pub no_pin : List (List ℕ) → List PinPlace → List NetWord → Option BoardFault
 no_pin described places words = option_map (λ word. NoPin (spot_of word)) (find (λ word. is_unknown described places (pin_of word)) words)
 
--- the first pin that an earlier word names; the words have each pin once in a net, so that word is in another net
+-- the fault of the first pin that an earlier word names; the words of one net name different pins, so the earlier word is in another net
 unfoldable pub pin_twice : List NetWord → Option BoardFault
 pin_twice words = option_map (λ word. PinTwice (spot_of word)) (first_repeated have_same_pin words)
 
@@ -57,15 +57,15 @@ abbrev pub is_kept : RawBoard → Option Net → Bool
 is_kept board None = false
 is_kept board (Some net) = net.supply || list_any (is_test_pin board) net.pins
 
--- the first always-on driver on a supply net or on a net with a TAP or compliance pin
+-- the fault of the first always-on driver on a supply net or on a net with a TAP or compliance pin
 unfoldable pub guarded_driver : RawBoard → List NetWord → Option BoardFault
 guarded_driver board drivers = option_map (λ word. GuardedDriver (spot_of word)) (find (λ word. is_kept board (slice_get board.nets (net_of word))) drivers)
 
--- the first always-on driver whose net has an always-on driver at an earlier place
+-- the fault of the first always-on driver whose net has an always-on driver at an earlier place
 unfoldable pub two_always_on : List NetWord → Option BoardFault
 two_always_on drivers = option_map (λ word. TwoAlwaysOn (spot_of word)) (first_repeated (λ a b. net_of a == net_of b) drivers)
 
--- the first limit that is exceeded
+-- the fault of the first limit that is exceeded
 unfoldable pub limit_fault : List Part → List (List ℕ) → List NetWord → Option BoardFault
 limit_fault parts names words = data_limit parts then net_limit names then pin_limit words
 

@@ -9,7 +9,7 @@ use board_defs::{Cell, Device, Part, PartKind, PinAt};
 use std::alloc::{AllocError, Global};
 use std::marker::Model;
 
-/// Sets the flag of a driving entry's port bit to whether the driver is always on.
+/// Handles one entry. If the entry drives a port bit, the flag of the bit says whether the driver is always on.
 fn flag_entry(flags: &mut [bool], cell: Cell)
     ensures { (cells : List Cell) (bits : ℕ) → AreFlags cells bits flags.old → AreFlags (cell ∷ cells) bits flags.new }
 {
@@ -22,8 +22,8 @@ fn flag_entry(flags: &mut [bool], cell: Cell)
     }
 }
 
-/// Returns for each port bit whether it has an always-on driver. The first driving entry of a bit
-/// counts, so the loop goes from the last entry to the first.
+/// Returns a flag for each port bit, which says whether the bit has an always-on driver. The first
+/// driving entry of a bit counts, so the loop goes from the last entry to the first.
 fn flags_of(alloc: Global, bits: usize, cells: &[Cell]) -> Result<Vec<bool>, AllocError>
     ensures { IfOk result (λ flags. AreFlags cells.now bits flags.items) }
 {
@@ -54,7 +54,7 @@ fn part_flags(alloc: Global, kind: &PartKind) -> Result<Vec<bool>, AllocError>
 #[derive(Drop)]
 pub struct PartDrivers<'a> {
     part: &'a Part,
-    /// For each port bit, whether it has an always-on driver.
+    /// A flag for each port bit, which says whether the bit has an always-on driver.
     always_on: Vec<bool>,
 }
 

@@ -15,7 +15,7 @@ ghost use Rattle.board_lines.specs.ChainParts.{IsChain};
 ghost use Rattle.board_lines.specs.Names.{named};
 ghost use Rattle.board_lines.specs.Selection.{selection};
 
-/// Each number that DEVICE lines select among entities is the number of one of them.
+/// Each number that DEVICE lines select among entities is the number of an entity.
 pub fn selected_are_entities()
     ensures { (lines : List ChainLine) (entities : List Entity) (numbers : List ℕ) → selection lines entities ≡ Ok numbers → All (λ number. number < length entities) numbers }
 {}

@@ -24,17 +24,17 @@ pub struct MarkedWord<'a> {
     pub part: &'a [u8],
     pub pin: &'a [u8],
     pub spot: Spot,
-    /// Whether the pin's part is described.
+    /// Whether the pin's part is described, that is, has a DEVICE line.
     pub described: bool,
-    /// The place of the pin in the chain.
+    /// The place of the pin in the chain, if the pin has one.
     pub at: Option<PinAt>,
-    /// Whether the pin's part is inert.
+    /// Whether an INERT line names the pin's part.
     pub inert: bool,
     /// Whether the pin is an always-on driver.
     pub always_on: bool,
 }
 
-/// Returns whether the name is one of these.
+/// Returns whether the map has the name.
 pub fn is_known(names: &IndexMap<&[u8], u32>, name: &[u8]) -> bool
     ensures { result ≡ is_some (get_by (λ n. same_word name.now n.now) names.now) }
 {

@@ -81,7 +81,7 @@ fn count_pin(counts: &mut [usize], net: usize)
     }
 }
 
-/// Returns the number of words of each net. These counts decide how much room is reserved, and nothing else.
+/// Returns the number of words of each net. The counts only decide how much room is reserved.
 fn pin_counts(
     alloc: Global,
     count: usize,
@@ -201,7 +201,7 @@ fn nets_by(
     Ok(nets)
 }
 
-/// Returns the nets of these names, each with the pins of its words. The clause covers every list of supplies
+/// Returns the nets of these names, each with the pins of its words. The clause holds for every list of supplies
 /// and every list of pulls that agree with the two maps.
 fn nets_of(
     alloc: Global,

@@ -107,7 +107,7 @@ fn unknown_pin(words: &[MarkedWord<'_>]) -> Option<BoardFault>
 fn marked_limit(alloc: Global, words: &[MarkedWord<'_>]) -> Result<Option<BoardFault>, AllocError>
     ensures { IfOk result (λ fault. fault ≡ marked_limit (map seen words.now)) }
 {
-    // So few words cannot name more pins than a board may have, so they need not be compared.
+    // At most `MOST_PINS` words cannot name too many pins.
     if words.len() <= MOST_PINS {
         return Ok(None);
     }
@@ -145,7 +145,7 @@ fn pin_fault(alloc: Global, words: &StandingWords<'_>) -> Result<Option<BoardFau
     marked_twice(alloc, words)
 }
 
-/// Returns the first fault that the rules before those on always-on drivers find, in their order.
+/// Returns the first fault of the rules that come before the rules on always-on drivers.
 #[tactic(auto, unfolding(crate::specs::inner::Marked::file_fault))]
 pub fn file_fault(
     alloc: Global,

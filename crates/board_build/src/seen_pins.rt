@@ -1,4 +1,5 @@
-// Whether the words of a net file name different pins. A flag for each port bit decides it for pins with a place in the chain.
+// The test whether the words of a net file name different pins.
+// Pins with a place in the chain are found by a flag for each port bit.
 ghost use Rattle.std.specs.Prelude.{◌≡◌, ℕ, true, false, [], replicate, length, map, slice_index_or, None, IfOk, OnOk};
 ghost use Rattle.first_places.specs.Places.{first_repeated};
 ghost use Rattle.board_lines.specs.PinRows.{pins_of};
@@ -77,12 +78,12 @@ fn set_first_at(rows: &mut [BitFlags], at: PinAt) -> bool
     false
 }
 
-/// The pins that the words so far name.
+/// The pins that the words handled so far name.
 #[derive(Drop)]
 struct SeenPins<'a> {
-    /// For each part, a flag for each port bit whose pin is among them.
+    /// For each part, a flag for each port bit: whether a word has named the bit's pin.
     rows: Vec<BitFlags>,
-    /// The pins without a place in the chain.
+    /// The named pins that have no place in the chain.
     unplaced: IndexSet<PinName<'a>>,
 }
 

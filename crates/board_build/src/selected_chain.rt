@@ -1,4 +1,4 @@
-// A selected chain, with its parts.
+// A selected chain with its parts.
 ghost use Rattle.std.specs.Prelude.{◌≡◌, ◌≢◌, ◌<◌, ◌≤◌, ◌^◌, All, AllPairs, length, map};
 ghost use Rattle.board_defs.specs.Limits.{most_parts};
 ghost use Rattle.board_defs.specs.BoardRules.{IsPart};
@@ -11,7 +11,7 @@ use board_defs::Part;
 use board_files::ChainLine;
 use std::marker::Model;
 
-/// The lines of a selected chain, and its parts.
+/// The lines of a selected chain, and the parts of the chain.
 #[derive(Drop)]
 pub struct SelectedChain<'a> {
     lines: &'a [ChainLine],

@@ -1,4 +1,4 @@
-// The words of a net file that count, with facts about their pins.
+// The words of a net file that count, with facts about the pins that they name.
 ghost use Rattle.std.specs.Prelude.{◌≡◌, All, map, true, None, IfOk};
 ghost use Rattle.board_lines.specs.Names.{named, names_of};
 ghost use Rattle.board_lines.specs.declared.names.Naming.TheVariants.{Inert};
@@ -41,7 +41,7 @@ impl<'a> StandingWords<'a> {
         &self.words
     }
 
-    /// Returns true only if no two words name the same pin. Then no words need be compared.
+    /// Returns true only if no two words name the same pin. In this case no words need to be compared.
     pub fn differ(&self) -> bool
         ensures { result ≡ true → marked_twice self.now ≡ None }
     {

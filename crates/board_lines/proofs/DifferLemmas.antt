@@ -17,7 +17,7 @@ number_there f [] i x within read = absurd (omega (arith, within))
 number_there f (y ∷ ys) zero x within read = ap f read
 number_there f (y ∷ ys) (suc i) x within read = number_there f ys i x (omega (arith, within)) read
 
--- the words so far, one line on
+-- the loop's invariant on the words still holds with one more line
 pub words_step : (names : List (List ℕ)) (lines : List NetLine) (i : ℕ) (line : NetLine) (numbers : List ℕ) (done new all : List NetWord) → i < length lines → get_or lines i line ≡ line →
     numbers ≡ map (λ (l : NetLine). net_number names l.name) lines → new ≡ done ++ line_words (unwrap_or (slice_get numbers i) 0) line.line 3 line.pins → all ≡ done ++ words_of names (drop i lines) →
     all ≡ new ++ words_of names (drop (i + 1) lines)
@@ -29,7 +29,7 @@ words_step names lines i line numbers done new all within read told pushed same 
     ∙ sym (append_assoc done (line_words (unwrap_or (slice_get numbers i) 0) line.line 3 line.pins) (words_of names (drop (i + 1) lines)))
     ∙ ap (λ (v : List NetWord). v ++ words_of names (drop (i + 1) lines)) (sym pushed)
 
--- if no pin is repeated, each word counts
+-- if no pin is repeated, `once` keeps every word
 pub all_stand : (words : List NetWord) → first_repeated have_same_pin words ≡ None → once same_place words ≡ words
 all_stand words e = unrepeated have_same_pin same_place (λ a b h. and_right (net_of a == net_of b) (same_pin (pin_of a) (pin_of b)) h) words e
 

@@ -1,4 +1,4 @@
--- A fault that a definition gives is not a refusal of memory.
+-- If a definition gives a fault, `board_told` of this fault is the same fault or nothing.
 use Rattle.std.proofs.Common.{◌≡◌, ℕ, ◌≤◌, Bool, true, false, cond, Option, Some, None, Result, Err, refl, arith, nat_lt}
 use Rattle.std.specs.Prelude.{IfSome}
 use Rattle.board_lines.specs.declared.fault.BoardFault.{BoardFault}

@@ -54,6 +54,6 @@ repeated_from-map {A} {B} {C} f eq h seen (x ∷ xs) =
 pub repeated-map : {A B C : Type 0} (f : A → B) (eq : B → B → Bool) (h : B → C) (xs : List A) → option_map h (first_repeated eq (map f xs)) ≡ option_map (λ x. h (f x)) (first_repeated (λ a b. eq (f a) (f b)) xs)
 repeated-map f eq h xs = repeated_from-map f eq h [] xs
 
--- the value of a borrowed key
+-- a look-up by a borrowed key gives the same value as a look-up by the key itself
 pub value_lent : {A K V : Type 0} (view : A → K) (eq : K → K → Bool) (items : List (A × V)) (q : A) → first_value (λ a b. eq (view a) (view b)) items q ≡ first_value eq (map (λ (i : A × V). (view i.0, i.1)) items) (view q)
 value_lent {A} {K} {V} view eq items q = sym (find-map (λ (i : A × V). let p : K × V = (view i.0, i.1) in p) (λ (p : K × V). eq p.0 (view q)) (λ (p : K × V). p.1) items)

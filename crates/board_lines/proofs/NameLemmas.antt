@@ -1,4 +1,4 @@
--- Borrowed names, against the names.
+-- Names that a loop collects line by line, and borrowed names.
 use Rattle.std.proofs.Common.{◌≡◌, ℕ, ◌+◌, ◌<◌, Bool, cond, List, [], ◌∷◌, ◌++◌, length, map, drop, get_or, Option, Some, None, refl, sym, ap, ◌∙◌, append_assoc, Bor}
 use Rattle.std.proofs.lemmas.List.{map-append, drop_more}
 use Rattle.std.specs.List.{list_any}
@@ -15,7 +15,7 @@ repeat-map f eq seen n (x ∷ xs) =
     ap (λ b. cond b (Some n) (repeat_from (λ a b. eq (f a) (f b)) (seen ++ x ∷ []) (n + 1) xs)) (sym (list_any-map f (λ s. eq s (f x)) seen))
     ∙ ap (cond (list_any (λ s. eq s (f x)) (map f seen)) (Some n)) (repeat-map f eq (seen ++ x ∷ []) (n + 1) xs ∙ ap (λ s. repeat_from eq s (n + 1) (map f xs)) (map-append f seen (x ∷ [])))
 
--- the names found so far, and then those of the lines that are left
+-- the next line's name, if it has one, comes first among the names of the remaining lines
 pub named_step : (naming : Naming) (lines : List ChainLine) (i : ℕ) (line : ChainLine) (done all : List Named) → i < length lines → get_or lines i line ≡ line →
     all ≡ done ++ named naming (drop i lines) → all ≡ done ++ with_name line.line (name_of naming line.statement) (named naming (drop (i + 1) lines))
 named_step naming lines i line done all within read same =
@@ -28,11 +28,11 @@ named_some line name o done rest all e same = same ∙ ap (λ o. done ++ with_na
 pub named_none : (line : ℕ) (o : Option (List ℕ)) (done rest all : List Named) → o ≡ None → all ≡ done ++ with_name line o rest → all ≡ done ++ rest
 named_none line o done rest all e same = same ∙ ap (λ o. done ++ with_name line o rest) e
 
--- the first repeated name of a list of borrowed names
+-- the first repeated name has the same place among the borrowed names as among the names themselves
 pub first_repeat_lent : (names : List (Bor (List ℕ))) → first_repeat (λ a b. same_word a.now b.now) names ≡ first_repeat same_word (map (λ n. n.now) names)
 first_repeat_lent names = repeat-map (λ n. n.now) same_word [] 0 names
 
--- a function of each borrowed name
+-- if `f` gives for each borrowed name the value of `g` for the name itself, mapping `f` and mapping `g` give the same list
 pub map_lent : {A : Type 0} (f : Bor (List ℕ) → A) (g : List ℕ → A) → ((n : Bor (List ℕ)) → f n ≡ g n.now) → (names : List (Bor (List ℕ))) → map f names ≡ map g (map (λ n. n.now) names)
 map_lent f g same [] = refl
 map_lent f g same (n ∷ names) = ap (λ a. a ∷ map f names) (same n) ∙ ap (λ as_. g n.now ∷ as_) (map_lent f g same names)

@@ -1,4 +1,4 @@
--- The numbers that a chain selects are those of entities.
+-- Each number that a chain selects is the number of an entity.
 use Rattle.std.proofs.Common.{◌≡◌, ℕ, ◌+◌, ◌<◌, Bool, true, false, cond, List, [], ◌∷◌, length, map, Option, Some, None, Result, Ok, Err, Vec, Global, refl, ap, sym, ◌∙◌, subst, arith, inl, inr}
 use Rattle.std.specs.Prelude.{IfOk, option_map, option_and_then, position, is_none, unwrap_or}
 use Rattle.std.specs.List.{All, AllByRecursion, position_from}
@@ -19,7 +19,7 @@ use Rattle.board_files.specs.Names.{same_word}
 use Rattle.board_lines.specs.Names.{Named, named, names_of}
 use Rattle.board_lines.specs.Selection.{spot_at, selection, answer, first_fault, no_chain, part_twice, no_entity, entity_twice, chain_limit, entity_places, entity_names}
 
--- nothing was found
+-- if `unless` gives a value, there is no fault
 unless_none : {V : Type 0} (f : Option BoardFault) (v w : V) → unless f v ≡ Ok w → f ≡ None
 unless_none None v w e = refl
 unless_none (Some fault) v w e = absurd cc
@@ -44,7 +44,7 @@ spot_there list place within =
       | inr (past, _) ↦ absurd (omega (arith, past, within))
     ]
 
--- a fault at a place within the list
+-- a place within the list always gives a fault, so without a fault there is no place
 found_none : (fault : Spot → BoardFault) (list : List Named) (place : Option ℕ) → ((k : ℕ) → place ≡ Some k → k < length list) → option_map fault (option_and_then (spot_at list) place) ≡ None → place ≡ None
 found_none fault list None within e = refl
 found_none fault list (Some k) within e =
@@ -58,7 +58,7 @@ within_more n k x xs rest more true found =
     omega (arith, same)
 within_more n k x xs rest more false found = omega (arith, more found)
 
--- places are within the list, if none is missing
+-- a place that is found is within the list
 place_within : (n : ℕ) (entities : List (List ℕ)) (name : List ℕ) (k : ℕ) → position_from (λ e. same_word e name) n entities ≡ Some k → k < n + length entities
 place_within n [] name k e = absurd cc
 place_within n (entity ∷ entities) name k e = within_more n k entity entities _ (place_within (n + 1) entities name k) (same_word entity name) e

@@ -38,15 +38,15 @@ row = Some (codes "T1") ∷ Some (codes "A2") ∷ None ∷ Some (codes "7") ∷ 
 pins : map pins_of (Described device ∷ Bypass 4 ∷ []) ≡ row ∷ [] ∷ []
 pins = refl
 
--- a port bit without a pin counts in the number of a later one, and is no pin's
+-- a port bit without a pin has a number as well, and no pin has this number
 bits : map (bit_of_pin row) (codes "T1" ∷ codes "A2" ∷ codes "7" ∷ codes "" ∷ codes "8" ∷ []) ≡ Some 0 ∷ Some 1 ∷ Some 3 ∷ None ∷ None ∷ []
 bits = refl
 
--- names are compared as a whole, and with their case: files are read with their pins in upper case
+-- whole names are compared, and the case of letters counts: the readers of files put pins in upper case
 whole : map (bit_of_pin row) (codes "a2" ∷ codes "A" ∷ codes "A22" ∷ []) ≡ None ∷ None ∷ None ∷ []
 whole = refl
 
--- of two port bits with one name, the first counts
+-- if two port bits have the same pin, the first counts
 first : bit_of_pin (None ∷ Some (codes "A2") ∷ row) (codes "A2") ≡ Some 1
 first = refl
 
@@ -60,7 +60,7 @@ numbers = 1 ∷ 0 ∷ 1 ∷ []
 rows : AreRows ([] ∷ row ∷ []) numbers parts
 rows = refl
 
--- a pin of a described part, a pin that no bit of it has, a pin of the part in BYPASS, a pin of no part, and one of a part without a row
+-- the places of a pin of a described part, a pin that this part does not have, a pin of the part in BYPASS, a pin of no part, and a pin of a part without a row
 abbrev place : Option ℕ → List ℕ → Option PinAt
 place = place_by_part ([] ∷ row ∷ []) numbers
 
@@ -68,7 +68,7 @@ places : place (Some 2) (codes "7") ∷ place (Some 2) (codes "9") ∷ place (So
     ≡ Some (record { part = 2; bit = 3 }) ∷ None ∷ None ∷ None ∷ None ∷ []
 places = refl
 
--- the same, by the places of all pins of the chain
+-- look-ups among the places of all pins: a pin of a described part, a pin that this part does not have, a pin of the part in BYPASS, and pins of two names that no part has
 all_places : map (place_of_pin (pin_places parts)) ((codes "U3", codes "7") ∷ (codes "U3", codes "9") ∷ (codes "U2", codes "7") ∷ (codes "RAM", codes "7") ∷ (codes "u3", codes "7") ∷ [])
     ≡ Some (record { part = 2; bit = 3 }) ∷ None ∷ None ∷ None ∷ None ∷ []
 all_places = refl

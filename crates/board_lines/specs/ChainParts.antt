@@ -16,7 +16,7 @@ use Rattle.board_lines.specs.Names.{named, names_of}
 use Rattle.board_lines.specs.declared.names.Naming.TheVariants.{Part as PartName}
 use Rattle.board_lines.specs.NetWords.{Pin, same_pin}
 
--- a chain that was selected: it has 1 to 255 parts, with different names
+-- a selected chain has 1 to 255 parts with different names
 pub record IsChain (lines : List ChainLine) : Type 0 where
   pub some : 1 ≤ length (named PartName lines)
   pub most : length (named PartName lines) ≤ most_parts
@@ -49,7 +49,7 @@ chain_parts (line ∷ lines) devices = cons_option (part_of_line line.statement 
 abbrev pub PinPlace : Type 0
 PinPlace = Pin × PinAt
 
--- the places, with that of the pin of this port bit before them, if the pin map has one
+-- the places, preceded by the place of this port bit's pin if the port bit has a pin
 abbrev pub with_place : ℕ → List ℕ → ℕ → Option (List ℕ) → List PinPlace → List PinPlace
 with_place part name n None places = places
 with_place part name n (Some pin) places = ((name, pin), record { part = part; bit = n }) ∷ places

@@ -1,9 +1,9 @@
--- Answers with faults. The first fault counts.
+-- Operators that combine faults and values. The first fault counts.
 use Rattle.std.specs.Prelude.{Option, Some, None, Result, Ok, Err}
 use Rattle.board_lines.specs.declared.fault.BoardFault.{BoardFault}
 use Rattle.board_lines.specs.declared.fault.BoardFault.TheVariants.{Memory}
 
--- the first finding, if there is one, else the second
+-- the first fault if there is one, else the second
 infixr 20 ◌then◌
 abbrev pub ◌then◌ : {F : Type 0} → Option F → Option F → Option F
 None then after = after
@@ -14,7 +14,7 @@ abbrev pub unless : {V F : Type 0} → Option F → V → Result V F
 unless None value = Ok value
 unless (Some fault) value = Err fault
 
--- the fault, or nothing if it is a refusal of memory, since no definition speaks of memory
+-- the fault, or nothing for a refusal of memory, since no definition speaks of memory
 abbrev pub board_told : BoardFault → Option BoardFault
 board_told (Memory e) = None
 board_told fault = Some fault

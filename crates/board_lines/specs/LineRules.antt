@@ -13,7 +13,7 @@ use Rattle.board_lines.specs.Faults.{◌then◌}
 use Rattle.board_lines.specs.Names.{Named, named, names_of}
 use Rattle.board_lines.specs.Selection.{spot_at}
 
--- the first place of each of these names among the others
+-- for each name of the list, its first place among the others
 abbrev pub places_of : List Named → List (List ℕ) → List (Option ℕ)
 places_of list others = map (first_place same_word others) (names_of list)
 
@@ -50,7 +50,7 @@ abbrev pub pulls_of : List ChainLine → List Pulled
 pulls_of [] = []
 pulls_of (line ∷ lines) = cons_option (pull_of_line line.statement) (pulls_of lines)
 
--- the value of the first PULL line that names the net, if one does
+-- the value of the first PULL line that names the net, if there is such a line
 abbrev pub pull_of_net : List Pulled → List ℕ → Option Bool
 pull_of_net pulls name = first_value same_word pulls name
 

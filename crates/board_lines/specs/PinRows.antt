@@ -37,7 +37,7 @@ row_at rows numbers part = option_and_then (λ number. slice_get rows number) (s
 abbrev pub AreRows : List (List (Option (List ℕ))) → List ℕ → List Part → Type 0
 AreRows rows numbers parts = map (λ number. slice_get rows number) numbers ≡ map (λ part. Some (pins_of part.kind)) parts
 
--- the place of a pin of the part with this number, if there is one
+-- the place of the pin, if there is a part and the part has the pin
 abbrev pub place_by_part : List (List (Option (List ℕ))) → List ℕ → Option ℕ → List ℕ → Option PinAt
 place_by_part rows numbers None pin = None
 place_by_part rows numbers (Some part) pin = option_map (λ bit. record { part = part; bit = bit }) (option_and_then (λ row. bit_of_pin row pin) (row_at rows numbers part))

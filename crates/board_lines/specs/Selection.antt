@@ -12,15 +12,15 @@ use Rattle.board_files.specs.Names.{same_word}
 use Rattle.board_lines.specs.Names.{Named, named, names_of}
 use Rattle.board_lines.specs.Faults.{◌then◌, unless}
 
--- the line of the name at this place of the list, as word 1: a refusal names a chain line as a whole
+-- the spot of the name at this place of the list; the word is always 1, since a refusal names a whole chain line
 abbrev pub spot_at : List Named → ℕ → Option Spot
 spot_at list place = option_map (λ n. record { line = n.0; word = 1 }) (slice_get list place)
 
--- there is no DEVICE and no BYPASS line
+-- the fault of a chain with no DEVICE line and no BYPASS line
 unfoldable pub no_chain : List Named → Option BoardFault
 no_chain parts = if nat_eq (length parts) 0 then Some NoChain else None
 
--- the first part whose name an earlier part has
+-- the fault of the first part whose name an earlier part has
 unfoldable pub part_twice : List Named → Option BoardFault
 part_twice parts = option_map PartTwice (option_and_then (spot_at parts) (first_repeat same_word (names_of parts)))
 
@@ -28,15 +28,15 @@ part_twice parts = option_map PartTwice (option_and_then (spot_at parts) (first_
 abbrev pub entity_places : List Named → List (List ℕ) → List (Option ℕ)
 entity_places devices entities = map (first_place same_word entities) (names_of devices)
 
--- the first described part whose entity no text describes
+-- the fault of the first described part whose entity no text describes
 unfoldable pub no_entity : List Named → List (Option ℕ) → Option BoardFault
 no_entity devices places = option_map NoEntity (option_and_then (spot_at devices) (position is_none places))
 
--- the first text that describes the entity of an earlier text
+-- the fault of the first text that describes the entity of an earlier text
 unfoldable pub entity_twice : List (List ℕ) → Option BoardFault
 entity_twice entities = option_map EntityTwice (first_repeat same_word entities)
 
--- there are more than 255 parts
+-- the fault of a chain with more than 255 parts
 unfoldable pub chain_limit : List Named → Option BoardFault
 chain_limit parts = if nat_lt most_parts (length parts) then Some (Limit 1) else None
 
@@ -51,7 +51,7 @@ entity_names entities = map (λ e. e.name) entities
 unfoldable pub answer : List Named → List Named → List (Option ℕ) → List (List ℕ) → Result (List ℕ) BoardFault
 answer parts devices places entities = unless (first_fault parts devices places entities) (map (λ place. unwrap_or place 0) places)
 
--- what a chain file selects among the entities of the texts: the number of the text of each DEVICE line, or the first fault
+-- the number of the text that each DEVICE line selects, or the first fault
 abbrev pub selection : List ChainLine → List Entity → Result (List ℕ) BoardFault
 selection lines entities =
     answer (named Part lines) (named EntityName lines) (entity_places (named EntityName lines) (entity_names entities)) (entity_names entities)

@@ -1,4 +1,4 @@
-// Why files denote no board.
+// The reasons why files denote no board.
 ghost use Rattle.std.specs.Prelude.{◌≡◌, alloc_error};
 ghost use Rattle.board_lines.specs.declared.fault.BoardFault.TheVariants.{Memory};
 

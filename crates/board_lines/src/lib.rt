@@ -1,5 +1,5 @@
-//! What the lines of a board's files say: the parts of the chain and the entity of each, the names of the nets, the words
-//! that name pins, and which nets are pulled. It also has the rules on names that need nothing but the lines.
+//! The contents of a board's files: the parts of the chain, the entity of each part, the names of the nets, the words
+//! that name pins, and the nets that are pulled. The crate also has the rules on names that need only the lines.
 #![tactic(auto)]
 
 mod fault;

@@ -15,7 +15,7 @@ use first_places::first_values;
 use indexmap::IndexMap;
 use std::alloc::{AllocError, Global};
 
-/// Returns for each of these names its first place among `others`.
+/// Returns the first place of each name among `others`.
 fn places_of(
     alloc: Global,
     named: &[(u32, &[u8])],
@@ -137,7 +137,7 @@ pub fn pulls_by_net<'a>(
 pub fn pull_of_net(pulls: &IndexMap<&[u8], bool>, net: &[u8]) -> Option<bool>
     ensures { result ≡ get_by (λ n. same_word net.now n.now) pulls.now }
 {
-    // A look-up hashes the name even if the map is empty.
+    // An empty map is not searched: a look-up would hash the name first.
     if pulls.is_empty() {
         return None;
     }

@@ -89,7 +89,7 @@ pub fn first_places_of<'a>(
 pub fn place_of(places: &IndexMap<&[u8], u32>, name: &[u8]) -> Option<u32>
     ensures { result ≡ get_by (λ n. same_word name.now n.now) places.now }
 {
-    // A look-up hashes the name even if the map is empty.
+    // An empty map is not searched: a look-up would hash the name first.
     if places.is_empty() {
         return None;
     }
@@ -109,7 +109,7 @@ fn places_by(
         .collect(alloc)
 }
 
-/// Returns for each of `names` its first place among `others`.
+/// Returns the first place of each of `names` among `others`.
 pub fn places_among(
     alloc: Global,
     names: &[&[u8]],
@@ -126,7 +126,7 @@ pub fn places_among(
     places_by(alloc, names, &known)
 }
 
-/// Returns the different names, in the order of their first places, and for each of `names` its number among these.
+/// Returns the different names in the order of their first places, and the number of each of `names` in this order.
 pub fn numbered_names<'a>(
     alloc: Global,
     names: &[&'a [u8]],

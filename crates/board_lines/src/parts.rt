@@ -35,7 +35,7 @@ fn bypass(alloc: Global, name: &Name, length: u32) -> Result<Part, AllocError>
     })
 }
 
-/// Returns the part of a DEVICE or BYPASS line, and nothing for another line. A DEVICE line takes the next device.
+/// Returns the part of a DEVICE or BYPASS line, and `None` for any other line. A DEVICE line takes the next device.
 fn part_of_line(
     alloc: Global,
     statement: &ChainStatement,

@@ -11,8 +11,8 @@ use indexmap::IndexMap;
 use std::alloc::{AllocError, Global};
 use std::marker::Model;
 
-/// The number of rows that are searched for one with the same pins. A board of many different
-/// devices has few rows to share, and must not pay for each pair of them.
+/// The number of rows that a search for a row with the same pins compares. On a board of many different devices
+/// few rows can be shared, and comparing every two rows would take too long.
 const ROWS_COMPARED: usize = 16;
 
 /// Returns the port bits of a part, and none for a part in BYPASS.
@@ -143,7 +143,7 @@ fn row_among(rows: &[PinRow<'_>], bits: &[PortBit]) -> Option<usize>
     None
 }
 
-/// Returns the number of a row with these pins. Adds one if none of the first `ROWS_COMPARED` rows has them.
+/// Returns the number of a row with these pins. Adds a row if none of the first `ROWS_COMPARED` rows has these pins.
 pub fn row_of<'a>(
     alloc: Global,
     rows: &mut Vec<PinRow<'a>>,

@@ -71,7 +71,7 @@ fn bit_in(rows: &[PinRow<'_>], numbers: &[usize], part: u32, pin: &[u8]) -> Opti
     }
 }
 
-/// Returns the place of a pin, which is found by the number of its part and that part's row.
+/// Returns the place of a pin, found by the number of the pin's part and the row of this part.
 fn place_in(
     by_name: &IndexMap<&[u8], u32>,
     rows: &[PinRow<'_>],
@@ -92,7 +92,7 @@ fn place_in(
 /// The places of the pins of a chain's parts. The model is the list of the parts.
 ///
 /// Most boards have many equal devices. One row of pins for each different device stays
-/// in the processor's cache, and one table of all pins does not.
+/// in the processor's cache, but one table of all pins does not.
 #[derive(Drop)]
 pub struct PinPlaces<'a> {
     parts: &'a [Part],

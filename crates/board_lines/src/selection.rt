@@ -150,7 +150,7 @@ fn chain_limit(parts: &[(u32, &[u8])]) -> Option<BoardFault>
     }
 }
 
-/// Returns the line of the name at this place of the list, as word 1: a refusal names a chain line as a whole.
+/// Returns the spot of the name at this place of the list. The word is always 1, since a refusal names a whole chain line.
 pub fn spot_at(named: &[(u32, &[u8])], place: usize) -> Option<Spot>
     ensures { result ≡ spot_at (map (λ n. (n.0, n.1.now)) named.now) place }
 {

@@ -13,7 +13,7 @@ use std::alloc::{AllocError, Global};
 /// A pin: the name of its part, and its own name.
 pub type PinName<'a> = (&'a [u8], &'a [u8]);
 
-/// The number of a net and a pin in it, and the place of the word that says so.
+/// A word that names a pin: the number of the net, the pin, and the place of the word.
 pub type NetWord<'a> = ((u32, PinName<'a>), Spot);
 
 /// The names of the nets in a net file.
@@ -71,7 +71,7 @@ fn push_line<'a>(
     Ok(())
 }
 
-/// Returns the words that name pins, of all lines. `numbers` has the number of each line's net.
+/// Returns the words of all lines that name pins. `numbers` has the number of each line's net.
 pub fn net_words<'a>(
     alloc: Global,
     numbers: &[u32],

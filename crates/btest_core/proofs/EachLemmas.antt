@@ -3,12 +3,12 @@ use Rattle.std.proofs.Common.{◌≡◌, List, [], ◌∷◌, ◌++◌, Result, 
 use Rattle.btest_core.specs.declared.fault.InputFault.{InputFault}
 use Rattle.btest_core.specs.Answers.{EachOf}
 
--- an answer, after values that were found before
+-- the answer, with the values of `front` before its own values
 abbrev pub behind : {B : Type 0} → List B → Result (List B) InputFault → Result (List B) InputFault
 behind front (Ok values) = Ok (front ++ values)
 behind front (Err fault) = Err fault
 
--- what the items that are left give completes the answer
+-- an answer for the remaining items, with the values of `front` before it, is an answer for all items
 abbrev pub Completes : {A B : Type 0} → (A → Result B InputFault → Type 0) → List A → List A → List B → Type 0
 Completes {A} {B} IsOf all rest front = (answer : Result (List B) InputFault) → EachOf IsOf rest answer → EachOf IsOf all (behind front answer)
 

@@ -15,7 +15,7 @@ use Rattle.board_lines.specs.Names.{named}
 use Rattle.board_lines.specs.declared.names.Naming.TheVariants.{Part as PartName, Entity as EntityName}
 use Rattle.btest_core.specs.IdentsRead.{Ident, first_bypass}
 
--- without a BYPASS line, each part of the chain is that of a DEVICE line
+-- if there is no BYPASS line, there are as many DEVICE lines as parts
 abbrev AreDescribed : List ChainLine → Type 0
 AreDescribed lines = first_bypass lines ≡ None → length (named EntityName lines) ≡ length (named PartName lines)
 
@@ -34,7 +34,7 @@ described (line ∷ lines) none = described_more line.line line.statement lines 
 abbrev pub idents_of : List RawDevice → List Ident
 idents_of devices = map (λ device. device.idcode) devices
 
--- as many patterns as parts
+-- if there is no BYPASS line, a chain has 1 to 255 patterns
 pub count_idents : (lines : List ChainLine) (devices : List RawDevice) → IsChain lines → length devices ≡ length (named EntityName lines) → first_bypass lines ≡ None → (0 < length (idents_of devices)) × (length (idents_of devices) ≤ most_parts)
 count_idents lines devices chain number none =
     let same : length (idents_of devices) ≡ length devices = length-map devices (λ (device : RawDevice). device.idcode) in
@@ -48,6 +48,6 @@ each_whole : (devices : List RawDevice) → AllByRecursion IsDevice devices → 
 each_whole [] all = tt
 each_whole (device ∷ devices) all = (all.0.codes.idcode_length, each_whole devices all.1)
 
--- the patterns of devices that keep the rules
+-- each pattern of devices that keep the rules has 32 symbols
 pub whole_idents : (devices : List RawDevice) → AllByRecursion IsDevice devices → All IsWhole (idents_of devices)
 whole_idents devices all = All-from_recursion IsWhole (idents_of devices) (each_whole devices all)

@@ -26,7 +26,7 @@ each_length : (parts : List Part) → AllByRecursion (λ part. IsPart part.kind)
 each_length [] all = tt
 each_length (part ∷ parts) all = (in_bounds part.kind all.0, each_length parts all.1)
 
--- the lengths of parts that have the names of a selected chain's lines
+-- if parts have the names of a selected chain's lines, the instruction lengths of the parts are in bounds
 pub lengths_in_bounds : (lines : List ChainLine) (parts : List Part) → IsChain lines → map (λ part. part.name) parts ≡ names_of (named PartName lines) → All (λ part. IsPart part.kind) parts → AreLengths (map (λ part. instruction_length part.kind) parts)
 lengths_in_bounds lines parts chain names kinds =
     let lengths : length (map (λ (part : Part). instruction_length part.kind) parts) ≡ length parts = length-map parts (λ (part : Part). instruction_length part.kind) in

@@ -36,7 +36,7 @@ use Rattle.btest_core.proofs.JoinLemmas.{kept}
 use Rattle.btest_core.proofs.OneLemmas.{same_ok}
 use Rattle.btest_core.proofs.SomeLemmas.{selected}
 
--- the properties of devices, selections, chain files and boards
+-- laws of the lower crates on devices, selections, chain files and boards, which these proofs take as arguments
 abbrev pub SoundKeep : Type 0
 SoundKeep = (entity : Entity) (given : Option (List ℕ)) (device : RawDevice) → IsSound entity given device → IsDevice device
 
@@ -59,7 +59,7 @@ follows_ok : {A B : Type 0} (first : Result A InputFault → Type 0) (next : A �
 follows_ok first next value (inl (found, is, answers)) = (found, is, answers)
 follows_ok first next value (inr (fault, is, answers)) = absurd cc
 
--- the lines of a file, and the joined files
+-- if `in_file` gives a value, the file has the same value; `in_link_ok` says this of joined files
 in_file_ok : {A : Type 0} (of_file : LineFault → InputFault) (answer : Result A LineFault) (value : A) → ◌≡◌ {A = Result A InputFault} (Ok value) (in_file of_file answer) → answer ≡ Ok value
 in_file_ok of_file (Ok v) value same = cc
 in_file_ok of_file (Err fault) value same = absurd cc
@@ -68,13 +68,13 @@ in_link_ok : (answer : Result Joined LinkFault) (value : Joined) → ◌≡◌ {
 in_link_ok (Ok v) value same = cc
 in_link_ok (Err fault) value same = absurd cc
 
--- the device of a text
+-- the device of a text keeps the rules of a device
 pub device_keeps : SoundKeep → (text : List ℕ) (device : RawDevice) → IsDeviceText text (Ok device) → IsDevice device
 device_keeps sound text device is =
     let step = follows_ok (IsEntityOf text 0) (λ entity. IsDeviceIn entity (0, None)) device is in
     sound step.0 None device step.2
 
--- the devices that are chosen: one for each choice
+-- there are `count` devices, and each keeps the rules of a device
 record AreKept (count : ℕ) (devices : List RawDevice) : Type 0 where
   each : AllByRecursion IsDevice devices
   number : length devices ≡ count
@@ -93,7 +93,7 @@ chosen_keep sound entities (choice ∷ choices) devices are =
       number = omega (arith, keep.number);
     })
 
--- a chain and its devices
+-- the chain keeps its rules, and each DEVICE line has a device that keeps the rules of a device
 record IsKeptChain (lines : List ChainLine) (devices : List RawDevice) : Type 0 where
   chain : IsChain lines
   kept : AreKept (length (named EntityName lines)) devices
@@ -113,7 +113,7 @@ devices_keep sound chains counts lines texts devices are =
     let step = follows_ok (AreEntities texts) (AreSelected lines) devices are in
     selected_keep sound chains counts lines step.0 devices step.2
 
--- the board of joined files
+-- the board of joined files keeps the rules of a board
 board_keeps_joined : BoardsKeep → (lines : List ChainLine) (nets : List NetLine) (devices : List RawDevice) (board : RawBoard) → AllByRecursion (λ line. HasLength line.statement) lines → IsKeptChain lines devices → IsJoinedBoard lines nets devices (Ok board) → IsBoard board
 board_keeps_joined boards lines nets devices board lengths keep is =
     let step = follows_ok (Is (in_link (joined_files lines nets))) (λ joined. Is (in_board (board_of joined.chain joined.nets devices))) board is in

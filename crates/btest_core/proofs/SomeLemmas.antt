@@ -26,7 +26,7 @@ use Rattle.btest_core.specs.BoardRead.{AreChainLengths, IsBoardRead}
 use Rattle.btest_core.specs.IdentsRead.{AreIdents}
 use Rattle.btest_core.proofs.ChoiceLemmas.{zip_firsts}
 
--- some answer is of this kind
+-- `IsAnswer` holds of some answer
 abbrev pub HasAnswer : {A : Type 0} → (Result A InputFault → Type 0) → Type 0
 HasAnswer {A} IsAnswer = (answer : Result A InputFault) × IsAnswer answer
 
@@ -45,7 +45,7 @@ some_each IsOf [] some = some_is (Ok [])
 some_each IsOf (item ∷ items) some =
     some_follows (IsOf item) _ some.0 (λ value is. some_follows (EachOf IsOf items) _ (some_each IsOf items some.1) (λ values are. some_is (Ok (value ∷ values))))
 
--- each item is of this kind
+-- if P holds of everything, P holds of each item of a list
 each_is : {A : Type 0} (P : A → Type 0) → ((item : A) → P item) → (items : List A) → AllByRecursion P items
 each_is P is [] = tt
 each_is P is (item ∷ items) = (is item, each_is P is items)
@@ -54,7 +54,7 @@ each_more : {A : Type 0} (P Q : A → Type 0) → ((item : A) → P item → Q i
 each_more P Q more [] all = tt
 each_more P Q more (item ∷ items) all = (more item all.0, each_more P Q more items all.1)
 
--- the properties of tokens, entities and devices
+-- laws of the lower crates, which these proofs take as arguments: tokens, entities and devices have an answer
 abbrev pub SomeLexed : Type 0
 SomeLexed = (text : List ℕ) → (tokens : List Token) × (answer : Result (Unit {0}) LexFault) × lexer.IsAnswer text tokens answer
 
@@ -64,7 +64,7 @@ SomeParsed = (text : List ℕ) (tokens : List Lexeme) → (answer : Result Entit
 abbrev pub SomeChecked : Type 0
 SomeChecked = (entity : Entity) (given : Option (List ℕ)) → (answer : Result RawDevice DeviceFault) × check.IsAnswer entity given answer
 
--- the property of selections
+-- the law of selections, which these proofs take as an argument
 abbrev pub SelectsWithin : Type 0
 SelectsWithin = (lines : List ChainLine) (entities : List Entity) (numbers : List ℕ) → selection lines entities ≡ Ok numbers → All (λ number. number < length entities) numbers
 

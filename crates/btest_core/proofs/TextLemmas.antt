@@ -1,4 +1,4 @@
--- The texts that a loop has yet to read, and the entities found so far.
+-- The texts that a loop has yet to read, and the entities of the texts so far.
 use Rattle.std.proofs.Common.{◌≡◌, ℕ, ◌+◌, ◌<◌, ◌≤◌, List, [], ◌∷◌, map, drop, length, slice_index_or, ap, sym, ◌∙◌, subst, Vec, Global}
 use Rattle.std.specs.List.{enumerate_from}
 use Rattle.std.proofs.lemmas.List.{drop_all, at_drop_more}
@@ -13,7 +13,7 @@ bytes_of texts = map (λ text. text.items) texts
 abbrev pub numbered : ℕ → List (Vec ℕ Global) → List (ℕ × List ℕ)
 numbered n texts = enumerate_from n (bytes_of texts)
 
--- what the texts that are left say completes the entities
+-- an answer for the remaining texts, with the entities of `front` before it, is an answer for all texts
 abbrev pub CompletesTexts : List (Vec ℕ Global) → List (ℕ × List ℕ) → List Entity → Type 0
 CompletesTexts texts rest front = Completes IsEntityOfText (numbered 0 texts) rest front
 

@@ -3,7 +3,7 @@ use Rattle.std.specs.Prelude.{◌≡◌, ◌⊎◌, List, [], ◌∷◌, Option,
 use Rattle.btest_core.specs.declared.fault.InputFault.{InputFault}
 use Rattle.btest_core.specs.declared.fault.InputFault.TheVariants.{Memory}
 
--- if the first step gives a value, the answer is that of the next step for this value; if it gives a fault, the answer is this fault
+-- the answer of two steps: the next step's answer for the value of the first step, or the first step's fault
 abbrev pub Follows : {A B : Type 0} → (Result A InputFault → Type 0) → (A → Result B InputFault → Type 0) → Result B InputFault → Type 0
 Follows {A} first next answer =
     ((value : A) × first (Ok value) × next value answer) ⊎ ((fault : InputFault) × first (Err fault) × (answer ≡ Err fault))
@@ -12,12 +12,12 @@ Follows {A} first next answer =
 abbrev pub Is : {A : Type 0} → Result A InputFault → Result A InputFault → Type 0
 Is this answer = answer ≡ this
 
--- each item gives a value, and the answer is these values in order; or the answer is the first item's fault
+-- the answer for a list of items: the values of the items in order, or the fault of the first item that has one
 abbrev pub EachOf : {A B : Type 0} → (A → Result B InputFault → Type 0) → List A → Result (List B) InputFault → Type 0
 EachOf IsOf [] answer = Is (Ok []) answer
 EachOf IsOf (item ∷ items) answer = Follows (IsOf item) (λ value. Follows (EachOf IsOf items) (λ values. Is (Ok (value ∷ values)))) answer
 
--- the fault, or nothing if it is a refusal of memory, since no definition speaks of memory
+-- the fault, or nothing for a refusal of memory, since no definition speaks of memory
 abbrev pub input_told : InputFault → Option InputFault
 input_told (Memory error) = None
 input_told fault = Some fault

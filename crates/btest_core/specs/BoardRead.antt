@@ -1,4 +1,4 @@
--- What the texts of a board denote.
+-- The instruction lengths and the board that texts denote.
 use Rattle.std.specs.Prelude.{ℕ, ◌≤◌, List, length, map, Result, Ok}
 use Rattle.std.specs.List.{All}
 use Rattle.board_defs.specs.Limits.{most_parts, IsInstructionLength}
@@ -22,7 +22,7 @@ use Rattle.btest_core.specs.DevicesRead.{AreDevices}
 abbrev pub AreFileLengths : List ChainLine → List (List ℕ) → Result (List ℕ) InputFault → Type 0
 AreFileLengths lines texts = Follows (AreDevices lines texts) (λ devices. Is (Ok (map (λ part. instruction_length part.kind) (chain_parts lines devices))))
 
--- the instruction lengths of a chain file, given as a text, or the first fault
+-- the instruction lengths of the chain file in a text, or the first fault
 abbrev pub AreChainLengths : List ℕ → List (List ℕ) → Result (List ℕ) InputFault → Type 0
 AreChainLengths chain texts = Follows (Is (in_file Chain (chain_lines chain))) (λ lines. AreFileLengths lines texts)
 

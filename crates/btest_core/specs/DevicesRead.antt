@@ -14,7 +14,7 @@ use Rattle.btest_core.specs.Answers.{Follows, Is, EachOf}
 use Rattle.btest_core.specs.InputFaults.{in_board}
 use Rattle.btest_core.specs.TextsRead.{IsEntityOf, AreEntities}
 
--- the package of a DEVICE line, which gives one or none
+-- the package that a DEVICE line gives, or `Some None` if the line gives no package; `None` for any other line
 abbrev pub package_in : ChainStatement → Option (Option (List ℕ))
 package_in (DeviceLine part entity given) = Some given
 package_in (Bypass part bits) = None
@@ -27,11 +27,11 @@ package_in (LinkLine part first second) = None
 abbrev pub Chosen : Type 0
 Chosen = ℕ × Option (List ℕ)
 
--- what the DEVICE lines choose, in order; `numbers` has the number of each line's text
+-- the choices of the DEVICE lines, in order; `numbers` has the number of each line's text
 abbrev pub chosen : List ChainLine → List ℕ → List Chosen
 chosen lines numbers = zip numbers (filter_map (λ line. package_in line.statement) lines)
 
--- what an entity is in a package: its device, if that keeps every rule, or the first rule or string that fails, with the text's number
+-- the device of an entity in a package if this device keeps every rule, or the first rule or string that fails, with the number of the text
 abbrev pub IsDeviceIn : Entity → Chosen → Result RawDevice InputFault → Type 0
 IsDeviceIn entity choice (Ok device) = IsSound entity choice.1 device
 IsDeviceIn entity choice (Err (Device text fault)) = (text ≡ choice.0) × IsFirst entity choice.1 fault
@@ -44,15 +44,15 @@ IsDeviceIn entity choice (Err (Link fault)) = ⊥
 IsDeviceIn entity choice (Err (NoIdent line)) = ⊥
 IsDeviceIn entity choice (Err (Memory error)) = ⊥
 
--- the same for the entity whose number the choice gives
+-- like `IsDeviceIn`, for the entity whose number the choice gives
 abbrev pub IsDeviceOf : List Entity → Chosen → Result RawDevice InputFault → Type 0
 IsDeviceOf entities choice answer = (entity : Entity) × (slice_get entities choice.0 ≡ Some entity) × IsDeviceIn entity choice answer
 
--- the devices of the DEVICE lines, in order, or the first fault; the lines select among the entities, and each choice must be sound
+-- the devices of the DEVICE lines, in order, or the first fault of the selection among the entities or, after the selection, of a device
 abbrev pub AreSelected : List ChainLine → List Entity → Result (List RawDevice) InputFault → Type 0
 AreSelected lines entities = Follows (Is (in_board (selection lines entities))) (λ numbers. EachOf (IsDeviceOf entities) (chosen lines numbers))
 
--- the same, for the entities that the texts describe
+-- like `AreSelected`, for the entities that the texts describe
 abbrev pub AreDevices : List ChainLine → List (List ℕ) → Result (List RawDevice) InputFault → Type 0
 AreDevices lines texts = Follows (AreEntities texts) (AreSelected lines)
 

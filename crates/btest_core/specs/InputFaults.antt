@@ -16,7 +16,7 @@ file_fault of_file (line.Statement n) = of_file (line.Statement n)
 file_fault of_file (line.Word n) = of_file (line.Word n)
 file_fault of_file (line.Number n) = of_file (line.Number n)
 
--- what a chain or net file gives, with its fault as a fault of the inputs
+-- the answer of a chain or net file, with its fault as a fault of the inputs
 abbrev pub in_file : {A : Type 0} → (LineFault → InputFault) → Result A LineFault → Result A InputFault
 in_file of_file (Ok lines) = Ok lines
 in_file of_file (Err fault) = Err (file_fault of_file fault)
@@ -38,7 +38,7 @@ board_fault (board.Limit which) = Board (board.Limit which)
 board_fault (board.NoPullNet spot) = Board (board.NoPullNet spot)
 board_fault (board.PullTwice spot) = Board (board.PullTwice spot)
 
--- what the board rules give, with their fault as a fault of the inputs
+-- the answer of the board rules, with their fault as a fault of the inputs
 abbrev pub in_board : {A : Type 0} → Result A BoardFault → Result A InputFault
 in_board (Ok value) = Ok value
 in_board (Err fault) = Err (board_fault fault)

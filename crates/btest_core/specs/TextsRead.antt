@@ -20,18 +20,18 @@ pub record IsEntity (text : List ℕ) (entity : Entity) : Type 0 where
   pub are : AreTokens text tokens
   pub derives : Derives (lexemes text tokens) entity
 
--- the text's first bad place comes after some tokens
+-- `fault` is at the text's first bad place, which comes after some tokens
 pub record IsLexFault (text : List ℕ) (fault : LexFault) : Type 0 where
   pub tokens : List Token
   pub stops : lexer.IsFault text tokens fault
 
--- the text's tokens derive no entity, for this reason
+-- the text's tokens derive no entity, and `fault` says why
 pub record IsParseFault (text : List ℕ) (fault : ParseFault) : Type 0 where
   pub tokens : List Token
   pub are : AreTokens text tokens
   pub stops : parser.IsFault text (lexemes text tokens) fault
 
--- the first fault of the BSDL text of this number
+-- the first fault of BSDL text n
 abbrev pub IsTextFault : List ℕ → ℕ → InputFault → Type 0
 IsTextFault text n (Lex number fault) = (number ≡ n) × IsLexFault text fault
 IsTextFault text n (Parse number fault) = (number ≡ n) × IsParseFault text fault
@@ -43,7 +43,7 @@ IsTextFault text n (Link fault) = ⊥
 IsTextFault text n (NoIdent line) = ⊥
 IsTextFault text n (Memory error) = ⊥
 
--- what BSDL text n gives: its entity, or its first fault
+-- the answer of BSDL text n: its entity, or its first fault
 abbrev pub IsEntityOf : List ℕ → ℕ → Result Entity InputFault → Type 0
 IsEntityOf text n (Ok entity) = IsEntity text entity
 IsEntityOf text n (Err fault) = IsTextFault text n fault
@@ -51,6 +51,6 @@ IsEntityOf text n (Err fault) = IsTextFault text n fault
 abbrev pub IsEntityOfText : ℕ × List ℕ → Result Entity InputFault → Type 0
 IsEntityOfText numbered = IsEntityOf numbered.1 numbered.0
 
--- what texts give: their entities, or the first fault of the first text that has one
+-- the answer of texts: their entities, or the first fault of the first text that has a fault
 abbrev pub AreEntities : List (List ℕ) → Result (List Entity) InputFault → Type 0
 AreEntities texts = EachOf IsEntityOfText (enumerate_from 0 texts)

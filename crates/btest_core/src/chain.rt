@@ -80,7 +80,7 @@ fn file_lengths(alloc: Global, file: &ChainFile, bsdl: &[Vec<u8>]) -> Result<Vec
 }
 
 /// Returns the instruction lengths of a chain, in bits, in the order from TDI to TDO: 1 to 255 lengths
-/// of 2 to 255 bits. Otherwise returns the first fault of, in this order: the chain file, the BSDL
+/// of 2 to 255 bits. Otherwise returns the first fault, in this order: the chain file, the BSDL
 /// texts, the board rules on the chain, and the devices of its DEVICE lines.
 pub fn read_chain(alloc: Global, chain: &[u8], bsdl: &[Vec<u8>]) -> Result<Vec<u32>, InputFault>
     requires size { length chain.now < 2 ^ 32 }

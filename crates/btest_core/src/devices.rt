@@ -22,8 +22,8 @@ use bsdl_parser::Entity;
 use device_check::{DeviceFault, device};
 use std::alloc::{AllocError, Global};
 
-/// Returns the device that a BSDL text describes in its default package, or the text's first fault, in
-/// which the text has the number 0.
+/// Returns the device that a BSDL text describes in its default package, or the text's first fault. In the fault
+/// the text has the number 0.
 pub fn read_device(alloc: Global, bytes: &[u8]) -> Result<Device, InputFault>
     requires { length bytes.now < 2 ^ 32 }
     ensures { Gives input_told (λ device. device) (IsDeviceText bytes.now) result }
@@ -89,7 +89,7 @@ fn earlier(chosen: &[(u32, Option<&[u8]>)], i: usize) -> Option<usize>
     None
 }
 
-// Returns the device of the choice at place `i`. `devices` has the devices of the choices before it. If one of them is the same choice,
+// Returns the device of the choice at place `i`. `devices` has the devices of the earlier choices. If an earlier choice is the same,
 // its device is copied.
 fn next_device(
     alloc: Global,
@@ -133,7 +133,7 @@ fn chosen_devices(
     Ok(devices)
 }
 
-// Returns the package of a DEVICE line, which gives one or none, and `None` for another line.
+// Returns the package that a DEVICE line gives, or `Some(None)` if the line gives no package. Returns `None` for any other line.
 fn package_in(statement: &ChainStatement) -> Option<Option<&[u8]>>
     ensures { option_map option_copied result ≡ package_in statement.now }
 {
@@ -156,7 +156,7 @@ fn packages<'a>(alloc: Global, lines: &'a [ChainLine]) -> Result<Vec<Option<&'a 
     Ok(list)
 }
 
-// Returns what the DEVICE lines choose, in order: the number of a text, and a package or none.
+// Returns the choices of the DEVICE lines, in order: the number of a text, and the package if the line gives one.
 fn chosen<'a>(
     alloc: Global,
     lines: &'a [ChainLine],
@@ -233,7 +233,7 @@ fn selected_devices(
     }
 }
 
-/// Returns the devices of the DEVICE lines of a chain, in order, or the first fault of, in this order: the texts,
+/// Returns the devices of the DEVICE lines of a chain, in order, or the first fault, in this order: the texts,
 /// the board rules on the chain, and the devices.
 pub(crate) fn devices(
     alloc: Global,

@@ -1,4 +1,4 @@
-// Why texts denote nothing.
+// The reasons why texts denote nothing.
 ghost use Rattle.std.specs.Prelude.{◌≡◌, alloc_error};
 ghost use Rattle.btest_core.specs.declared.fault.InputFault.TheVariants.{Memory};
 
@@ -23,7 +23,7 @@ pub enum InputFault {
     /// The first bad place of a BSDL text. Texts are numbered from 0 in the order in which they are given.
     #[error("text {text}: {fault}")]
     Lex { text: u32, fault: LexFault },
-    /// Why the tokens of a BSDL text are no entity.
+    /// The reason why the tokens of a BSDL text are no entity.
     #[error("text {text}: {fault}")]
     Parse { text: u32, fault: ParseFault },
     /// The first board rule that fails.

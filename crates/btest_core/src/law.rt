@@ -33,8 +33,8 @@ pub fn inputs_have_one_answer()
     selected_are_entities();
 }
 
-/// What texts denote keeps the rules. A device keeps those of a device, and a board those of a board. There
-/// are 1 to 255 entries for a chain's identification codes, and each pattern has 32 symbols.
+/// A device that a text denotes keeps the rules of a device, and a board that texts denote keeps the rules of a board. A chain
+/// has 1 to 255 entries for its identification codes, and each pattern has 32 symbols.
 pub fn inputs_keep_rules()
     ensures device { (text : List ℕ) (device : RawDevice) → IsDeviceText text (Ok device) → IsDevice device }
     ensures idents { (chain : List ℕ) (texts : List (List ℕ)) (idents : List Ident) → AreIdents chain texts (Ok idents)

@@ -1,4 +1,4 @@
-//! From the texts of a board to what they denote, or the first fault in them.
+//! Finds what the texts of a board denote, or the first fault in them.
 #![tactic(auto)]
 
 mod board;

@@ -12,7 +12,7 @@ use bsdl_parser::{Entity, ParseFault, parse};
 use std::alloc::Global;
 
 /// Returns the entity that a BSDL text describes, or the text's first fault. `text` is the number of the text
-/// in that fault.
+/// in this fault.
 pub fn read_entity(alloc: Global, bytes: &[u8], text: u32) -> Result<Entity, InputFault>
     requires { length bytes.now < 2 ^ 32 }
     ensures read { Gives input_told (λ entity. entity) (IsEntityOf bytes.now text) result }

@@ -1,4 +1,4 @@
--- The answers of small texts, by the definition.
+-- The answers that the definition gives for small texts.
 use Rattle.std.proofs.Common.{◌≡◌, true, false, Ok, Err, [], ◌∷◌, refl}
 use Rattle.std.specs.Prelude.{codes}
 use Rattle.text_lines.specs.Words.{words_of}
@@ -14,7 +14,7 @@ no_rows : log_rows (codes "#\n") 0 5 ≡ Ok []
 unfolding words_of
 no_rows = refl
 
--- a bit above the five is 1
+-- a row needs five bits, and the next bit of its digits is 1
 high_digit : log_rows (codes "#\n20\n2") 2 5 ≡ Err (Digit 2)
 unfolding words_of
 high_digit = refl
@@ -31,17 +31,17 @@ too_few : log_rows (codes "02\n# 02") 2 5 ≡ Err (Missing 1)
 unfolding words_of
 too_few = refl
 
--- whatever the row holds
+-- a row too many is a fault, whatever it contains
 too_many : log_rows (codes "02\n\n0G 02") 1 5 ≡ Err (Extra 3)
 unfolding words_of
 too_many = refl
 
--- one digit where two are wanted: the length is wrong, whatever the digit is
+-- one digit instead of two is a wrong length, whatever the digit is
 short_wrong_digit : log_rows (codes "G") 1 5 ≡ Err (Length 1)
 unfolding words_of
 short_wrong_digit = refl
 
--- a wrong row comes before a row too many
+-- the fault of a wrong row comes before the fault of a row too many
 wrong_and_too_many : log_rows (codes "#\n0G\n02\n") 1 5 ≡ Err (Digit 2)
 unfolding words_of
 wrong_and_too_many = refl

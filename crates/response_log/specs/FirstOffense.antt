@@ -1,4 +1,4 @@
--- The one fault that is reported of a text that is not a log.
+-- The fault that is reported for a text that is not a log.
 use Rattle.std.specs.Prelude.{◌≡◌, ◌↔◌, ℕ, ◌<◌, Bool, List, [], ◌∷◌, ◌++◌, length, All, Some, Err}
 use Rattle.bt_bits.specs.Hex.{digit_count}
 use Rattle.text_lines.specs.Words.{Word}
@@ -22,9 +22,9 @@ pub record StandsBehind (len : ℕ) (lines : List NumberedLine) (line : Numbered
   pub rows : All (IsRow len) before
   pub count : length before ≡ found
 
--- The one fault of lines with words, of which `rows` must be rows of `len` bits: the first line that must be a row and is not, with a wrong
--- length or otherwise with a wrong digit; or the first line after the last row that is wanted; or, if every line is a row, that there are too
--- few
+-- The one fault of lines with words, of which `rows` must be rows of `len` bits. If a line must be a row and is not, the first such line has
+-- the fault: `Length` if its length is wrong, and otherwise `Digit`. If the first `rows` lines are rows and another line follows, that line
+-- has the fault `Extra`. If every line is a row but there are too few, the fault is `Missing`.
 abbrev pub IsFirstOffense : ℕ → ℕ → List NumberedLine → LogFault → Type 0
 IsFirstOffense rows len lines (Length n) = (line : NumberedLine) × (found : ℕ) × StandsBehind len lines line found × (found < rows) × (line.number ≡ n) × ¬ HasLength len line
 IsFirstOffense rows len lines (Digit n) = (line : NumberedLine) × (found : ℕ) × StandsBehind len lines line found × (found < rows) × (line.number ≡ n) × HasLength len line × ¬ IsRow len line
@@ -32,7 +32,7 @@ IsFirstOffense rows len lines (Extra n) = (line : NumberedLine) × StandsBehind 
 IsFirstOffense rows len lines (Missing found) = All (IsRow len) lines × (length lines ≡ found) × (found < rows)
 IsFirstOffense rows len lines (Memory e) = ⊥
 
--- a fault is reported of a text exactly if it is the first offense
+-- the fault that is reported for a text is its first offense
 abbrev pub FirstOffenseIsTold : Type 0
 FirstOffenseIsTold = (text : List ℕ) (rows len : ℕ) (fault : LogFault) → (log_rows text rows len ≡ Err fault) ↔ IsFirstOffense rows len (row_lines text) fault
 
@@ -42,6 +42,6 @@ pub record HasOneOffense (text : List ℕ) (rows len : ℕ) : Type 0 where
   pub is : IsFirstOffense rows len (row_lines text) fault
   pub one : (other : LogFault) → IsFirstOffense rows len (row_lines text) other → other ≡ fault
 
--- it has one exactly if it is not a log
+-- a text has exactly one first offense if it is not a log, and only then
 abbrev pub OneOffenseOrLog : Type 0
 OneOffenseOrLog = (text : List ℕ) (rows len : ℕ) → HasOneOffense text rows len ↔ ((log : List (List Bool)) → ¬ IsLogOf text rows len log)

@@ -8,7 +8,7 @@ abbrev pub kept_rows : ℕ → ℕ → List ℕ → List (List Bool)
 kept_rows len zero digits = []
 kept_rows len (suc rows) digits = row_bits len (take (digit_count len) digits) ∷ kept_rows len rows (drop (digit_count len) digits)
 
--- the digits of each row hold the bits of the row, and 0 above them
+-- the digits of each row have the bits of the row, and 0 in the bits above them
 abbrev pub AreWhole : ℕ → ℕ → List ℕ → Type 0
 AreWhole len zero digits = Unit {0}
 AreWhole len (suc rows) digits = (take (digit_count len) digits ≡ digits_of (row_bits len (take (digit_count len) digits))) × AreWhole len rows (drop (digit_count len) digits)

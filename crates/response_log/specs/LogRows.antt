@@ -11,7 +11,7 @@ pub record NumberedLine : Type 0 where
   pub number : ℕ
   pub words : List Word
 
--- the line with this number, its first word, and what comes after that
+-- the line with this number and this first word, followed by the words of `behind`
 abbrev pub line_of : ℕ → Word → List ℕ → NumberedLine
 line_of n word behind = record { number = n; words = word ∷ words_of behind }
 
@@ -31,7 +31,7 @@ has_words line = holds_word line.words
 abbrev pub row_lines : List ℕ → List NumberedLine
 row_lines text = filter has_words (numbered 1 (slice_split is_newline text))
 
--- the word of a line that has just one
+-- the word of a line that has exactly one word
 abbrev pub only_word : List Word → Option Word
 only_word [] = None
 only_word (word ∷ []) = Some word
@@ -46,20 +46,20 @@ word_fault len n None = Some (Length n)
 word_fault len n (Some word) =
     if length word == digit_count len then (if is_some (field_bits len word) then None else Some (Digit n)) else Some (Length n)
 
--- the offense of a line that must be a row of `len` bits, if it has one: it is not one word of as many digits as the bits need; otherwise a
--- byte is not a digit, or a bit above the bits is 1
+-- the offense of a line that must be a row of `len` bits. It is `Length` if the line is not one word of as many digits as the bits need. It is
+-- `Digit` if the length is right, but a byte is not a digit or a bit above the `len` bits is 1
 abbrev pub row_fault : ℕ → NumberedLine → Option LogFault
 row_fault len line = word_fault len line.number (only_word line.words)
 
--- the offenses of lines, in order, if `rows` rows are wanted: those of the first `rows` lines that are not rows, and every later line,
--- whatever it holds
+-- the offenses of lines, in order, if `rows` rows are wanted: the offense of each of the first `rows` lines that has one, and then every later
+-- line, whatever it contains
 abbrev pub offenses : ℕ → ℕ → List NumberedLine → List LogFault
 offenses rows len lines = filter_map (row_fault len) (take rows lines) ++ map (λ line. Extra line.number) (drop rows lines)
 
 abbrev pub Answer : Type 0
 Answer = Result (List (List Bool)) LogFault
 
--- the rows of lines without an offense, or that there are fewer than are wanted
+-- the rows of lines without an offense, or `Missing` if there are fewer than `rows`
 abbrev pub wanted_rows : ℕ → ℕ → List NumberedLine → Answer
 wanted_rows rows len lines = if nat_lt (length lines) rows then Err (Missing (length lines)) else Ok (filter_map (bits_of_line len) lines)
 
@@ -71,16 +71,16 @@ first_or answer (fault ∷ faults) = Err fault
 abbrev pub rows_of_lines : ℕ → ℕ → List NumberedLine → Answer
 rows_of_lines rows len lines = first_or (wanted_rows rows len lines) (offenses rows len lines)
 
--- the `rows` rows of a text with `len` bits each, or the reason why it is not such a log
+-- the log of `rows` rows with `len` bits each in a text, or the first offense
 abbrev pub log_rows : List ℕ → ℕ → ℕ → Answer
 log_rows text rows len = rows_of_lines rows len (row_lines text)
 
--- the log in a text: each line with words is a row, and there are as many rows as are wanted
+-- `log` is the log in the text: each line with words is a row, and there are `rows` rows
 pub record IsLogOf (text : List ℕ) (rows len : ℕ) (log : List (List Bool)) : Type 0 where
   pub lines : map (bits_of_line len) (row_lines text) ≡ map Some log
   pub count : length log ≡ rows
 
--- what a fault says
+-- the fault, or nothing for a refusal of memory, since no definition speaks of memory
 abbrev pub log_told : LogFault → Option LogFault
 log_told (Memory e) = None
 log_told fault = Some fault

@@ -5,7 +5,7 @@ ghost use Rattle.response_log.specs.declared.fault.LogFault.TheVariants.{Memory}
 use std::alloc::AllocError;
 use thiserror::Error;
 
-/// The first line with an offense, or too few rows, or a refusal of memory. Lines are numbered from 1.
+/// The reason why a text is not a log, or a refusal of memory. Lines are numbered from 1.
 #[derive(Debug, Drop, Error)]
 pub enum LogFault {
     /// A byte of the row is not a hexadecimal digit, or a bit above the bits of the row is 1.
@@ -17,7 +17,7 @@ pub enum LogFault {
     /// No line has an offense, but there are only this many rows.
     #[error("only {0} rows")]
     Missing(u64),
-    /// The line of the first row too many, whatever it holds.
+    /// The line with words that comes after the last wanted row, whatever it contains.
     #[error("line {0}: row too many")]
     Extra(u32),
     #[error("out of memory")]

@@ -15,10 +15,12 @@ use bt_bits::{HexFault, read_digits};
 use std::alloc::Global;
 use text_lines::{first_line, next_word};
 
-/// Reads a log of `rows` rows with `len` bits each from any bytes. A refusal names the first line with an offense: `Length`, or
-/// otherwise `Digit`, if the line must be a row and is not; `Extra` if it has words and comes after the last row that is wanted.
-/// If no line has an offense and there are fewer rows, the answer is `Missing`. The log takes one byte of memory for each byte
-/// of the text.
+/// Reads a log of `rows` rows with `len` bits each from any bytes. The fault is that of the first line with an offense. A line that
+/// must be a row gives `Length` if it is not one word with as many digits as the bits need. It gives `Digit` if only a digit is
+/// wrong, or a bit above the `len` bits is 1. A line with words gives `Extra` if it comes after the last wanted row. If no line has
+/// an offense but there are too few rows, the fault is `Missing`.
+///
+/// The log takes one byte of memory for each byte of the text.
 pub fn log(alloc: Global, bytes: &[u8], rows: u64, len: u32) -> Result<Log, LogFault>
     requires { length bytes.now < 2 ^ 32 }
     ensures read { Gives log_told (λ log. log) (λ said. log_rows bytes.now rows len ≡ said) result }
@@ -27,8 +29,8 @@ pub fn log(alloc: Global, bytes: &[u8], rows: u64, len: u32) -> Result<Log, LogF
     log_of(alloc, Vec::from_slice(alloc, bytes)?, rows, len)
 }
 
-/// Like `log`, but takes over the text and writes the digits over it. Beside the text it only takes memory for one row, and never
-/// more than the text has.
+/// Like `log`, but takes ownership of the text and writes the digits over it. Besides the text it takes memory only for one row,
+/// and for no more bytes than the text has.
 pub fn log_of(alloc: Global, mut text: Vec<u8>, rows: u64, len: u32) -> Result<Log, LogFault>
     requires { length text.items < 2 ^ 32 }
     ensures read { Gives log_told (λ log. log) (λ said. log_rows text.items rows len ≡ said) result }
@@ -39,9 +41,9 @@ pub fn log_of(alloc: Global, mut text: Vec<u8>, rows: u64, len: u32) -> Result<L
     Ok(Log::of(text, rows, len))
 }
 
-// Writes the digits of all rows, row after row, over the text from its start on, and returns their number. A row has no more
-// digits than its line has bytes, so they never reach a line that is still to be read. They go through a row of their own,
-// since the last digit of a word is the first digit of its row.
+// Writes the digits of all rows, row after row, over the text from its start on, and returns the number of digits. A row has no
+// more digits than its line has bytes, so the digits never reach a line that is still to be read. Each row is first read into
+// `row`, since the last digit of a word is the first digit of its row.
 fn keep_rows(alloc: Global, text: &mut [u8], rows: u64, len: u32) -> Result<usize, LogFault>
     requires { length text.old < 2 ^ 32 }
     ensures read { Gives log_told (λ kept. kept_rows len rows (take kept text.new)) (λ said. log_rows text.old rows len ≡ said) result }
@@ -97,8 +99,8 @@ fn put_row(text: &mut [u8], at: usize, row: &[u8])
     text[at..at + row.len()].copy_from_slice(row);
 }
 
-// Reads a line that must be a row into `digits`, from its first word and what comes after it. If the word has fewer digits than
-// a row, there may be fewer places.
+// Reads a line that must be a row into `digits`. `word` is the line's first word, and `behind` is the rest of the line. If the
+// word has fewer digits than a row, `digits` may have fewer places than a row.
 fn read_row(
     line: u32,
     word: &[u8],

@@ -26,7 +26,7 @@ use Rattle.board_build.specs.declared.marked.MarkedWord.{MarkedWord}
 use Rattle.board_lines.specs.NetWords.{Pin, NetWord, same_pin, net_of, pin_of, spot_of, is_among}
 use Rattle.board_lines.specs.ChainParts.{PinPlace, place_of_pin, described_names}
 
--- there is a driving entry, and it has no control
+-- there is a driving entry, and the entry has no control
 abbrev pub is_free : Option Cell → Bool
 is_free None = false
 is_free (Some cell) = is_none cell.ctl
@@ -36,7 +36,7 @@ abbrev pub is_free_bit : Option RawDevice → ℕ → Bool
 is_free_bit None bit = false
 is_free_bit (Some device) bit = is_free (driving_entry device bit)
 
--- there are `bits` flags; the flag of a port bit says whether the driver that these entries give the bit is always on
+-- there are `bits` flags; the flag of a port bit says whether the first of these entries that drives the bit has no control
 pub record AreFlags (cells : List Cell) (bits : ℕ) (flags : List Bool) : Type 0 where
   pub size : length flags ≡ bits
   pub each : (bit : ℕ) → bit < bits → slice_index_or flags bit false ≡ is_free (find (drives_bit bit) cells)
@@ -49,7 +49,7 @@ abbrev pub is_free_at : List Part → Option PinAt → Bool
 is_free_at parts None = false
 is_free_at parts (Some at) = is_free_bit (device_of parts at.part) at.bit
 
--- a word, and facts about its pin: whether its part is described, its place, whether its part is inert, whether it is an always-on driver
+-- a word with facts about its pin: whether the pin's part is described, the place of the pin, whether the part is inert, and whether the pin is an always-on driver
 pub record Marked : Type 0 where
   pub word : NetWord
   pub described : Bool
@@ -66,7 +66,7 @@ mark parts places inerts word = record {
   always_on = is_free_at parts (place_of_pin places (pin_of word));
 }
 
--- a marked word of the code, as the definitions have it
+-- the record of the definitions for a marked word of the code
 abbrev pub seen : MarkedWord → Marked
 seen m = record {
   word = ((m.net, (m.part.now, m.pin.now)), m.spot);
@@ -76,7 +76,7 @@ seen m = record {
   always_on = m.always_on;
 }
 
--- the marked word of a borrowed word, by functions that give the facts about its pin; a pin with a place belongs to a described part
+-- the marked word of a borrowed word; the functions give the facts about the word's pin, and a pin with a place belongs to a described part
 abbrev pub mark_by : List Part → (Bor (List ℕ) → Bool) → (Bor (List ℕ) × Bor (List ℕ) → Option PinAt) → (Bor (List ℕ) → Bool) → (ℕ × (Bor (List ℕ) × Bor (List ℕ))) × Spot → MarkedWord
 mark_by parts described place inert w = record {
   net = w.0.0;
@@ -89,7 +89,7 @@ mark_by parts described place inert w = record {
   always_on = is_free_at parts (place w.0.1);
 }
 
--- a net with this borrowed name and these pins
+-- the net with this borrowed name and these pins; the functions say whether it is a supply, and which value it is pulled to
 abbrev pub net_by : (Bor (List ℕ) → Bool) → (Bor (List ℕ) → Option Bool) → Bor (List ℕ) × List NetPin → Net
 net_by supply pull p = record { name = p.0.now; supply = supply p.0; pull = pull p.0; pins = p.1 }
 
@@ -107,17 +107,17 @@ pin_with m = record { part = (pin_of m.word).0; pin = (pin_of m.word).1; at = m.
 abbrev pub group_of : List Marked → ℕ → List NetPin
 group_of words n = map pin_with (filter (λ m. number_of m == n) words)
 
--- the groups after this word, if there is one
+-- the groups, with the pin of this word added to the group of its net if there is a word
 abbrev pub groups_after : Option MarkedWord → ℕ → List (List NetPin) → List (List NetPin)
 groups_after None count groups = groups
 groups_after (Some word) count groups = if nat_lt word.net count then slice_set groups word.net (slice_index_or groups word.net [] ++ pin_with (seen word) ∷ []) else groups
 
--- the nets after this name and this group, if there are both
+-- the nets, with the net made from this name and this group appended if both are there
 abbrev pub nets_after : {A G N : Type 0} → (A × G → N) → Option A → Option G → List N → List N
 nets_after f None group nets = nets
 nets_after f (Some name) group nets = nets ++ option_to_list (option_map (λ g. f (name, g)) group)
 
--- the marks after this word, if there is one
+-- the marks, with the mark of this word appended if there is a word
 abbrev pub marks_after : {A N : Type 0} → (A → N) → Option A → List N → List N
 marks_after f None marks = marks
 marks_after f (Some word) marks = marks ++ f word ∷ []

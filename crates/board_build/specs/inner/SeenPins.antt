@@ -1,4 +1,4 @@
--- Whether two words name the same pin, by the places of the pins.
+-- The test whether two words name the same pin, by the places of the pins.
 use Rattle.std.specs.Prelude.{ℕ, ◌==◌, Bool, false, ◌&&◌, List, [], Option, Some, None, slice_index_or}
 use Rattle.std.proofs.Common.{Bor}
 use Rattle.indexmap.specs.IndexSet.{IndexSet, contains}
@@ -7,7 +7,7 @@ use Rattle.board_lines.specs.NetWords.{lent_pin, same_pin}
 use Rattle.board_build.specs.declared.marked.MarkedWord.{MarkedWord}
 use Rattle.board_build.specs.inner.Marked.{Marked, same_pins}
 
--- two pins are the same: by their places, or by their names if neither has a place
+-- two pins are the same if they have the same place; if neither has a place, their names decide
 abbrev pub at_one_place : Option PinAt → Option PinAt → Bool → Bool
 at_one_place None None same = same
 at_one_place None (Some q) same = false
@@ -21,7 +21,7 @@ are_one a b = at_one_place a.at b.at (same_pins a b)
 abbrev pub is_flagged : List (List Bool) → PinAt → Bool
 is_flagged rows at = slice_index_or (slice_index_or rows at.part []) at.bit false
 
--- a pin is known by the flag of its place, or by its name if it has no place
+-- a pin is known if the flag of its place is set, or, for a pin without a place, if the set has its names
 abbrev pub is_known_at : {S : Type 0} → List (List Bool) → IndexSet (Bor (List ℕ) × Bor (List ℕ)) S → Option PinAt → Bor (List ℕ) × Bor (List ℕ) → Bool
 is_known_at rows unplaced None pin = contains (λ a b. same_pin (lent_pin a) (lent_pin b)) unplaced pin
 is_known_at rows unplaced (Some at) pin = is_flagged rows at

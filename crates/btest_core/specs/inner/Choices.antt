@@ -1,4 +1,4 @@
--- What the DEVICE lines choose, with borrowed packages, and the devices of the first choices.
+-- The choices of the DEVICE lines with borrowed packages, and the devices of the first choices.
 use Rattle.std.specs.Prelude.{◌≡◌, ℕ, List, Option, Some, Ok, map, option_copied, slice_get}
 use Rattle.std.specs.Borrow.{Bor}
 use Rattle.board_defs.specs.declared.device.RawDevice.{RawDevice}
@@ -12,6 +12,6 @@ Lent = ℕ × Option (Bor (List ℕ))
 abbrev pub choices_of : List Lent → List Chosen
 choices_of chosen = map (λ choice. (choice.0, option_copied choice.1)) chosen
 
--- each device is that of the choice at its place
+-- each device belongs to the choice at the same place
 abbrev pub AreOfChoices : List Entity → List Chosen → List RawDevice → Type 0
 AreOfChoices entities choices devices = (i : ℕ) (choice : Chosen) (device : RawDevice) → slice_get choices i ≡ Some choice → slice_get devices i ≡ Some device → IsDeviceOf entities choice (Ok device)

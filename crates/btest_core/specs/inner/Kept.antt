@@ -1,4 +1,4 @@
--- What joining keeps of the files.
+-- The properties of the files that joining keeps.
 use Rattle.std.specs.Prelude.{◌≡◌, List}
 use Rattle.std.specs.List.{AllByRecursion}
 use Rattle.board_files.specs.declared.chain_file.ChainLine.{ChainLine}

@@ -1,4 +1,4 @@
--- Each name of the list is one of a described part.
+-- Each name of the list is the name of a described part.
 use Rattle.std.proofs.Common.{map, ap, ◌∙◌}
 use Rattle.std.proofs.lemmas.Result.{IfOk-weaker}
 use Rattle.first_places.specs.Places.{first_place}

@@ -1,4 +1,4 @@
--- The pulls of the list are those of the lines.
+-- The list has the pulls of the lines.
 use Rattle.std.proofs.Common.{map, ap, ◌∙◌}
 use Rattle.std.proofs.lemmas.Result.{IfOk-weaker}
 use Rattle.board_lines.specs.LineRules.{pull_of_net}

@@ -1,4 +1,4 @@
--- One net more.
+-- The loop adds one more net.
 use Rattle.std.proofs.Common.{◌∙◌, map, ap}
 use Rattle.std.specs.Prelude.{is_some, slice_get}
 use Rattle.std.specs.Vec.Iter.{into_iter_items}

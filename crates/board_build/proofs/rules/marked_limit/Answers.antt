@@ -1,4 +1,4 @@
--- As many pins are counted.
+-- The code counts as many pins as the definition.
 use Rattle.std.proofs.Common.{◌≡◌, ◌∙◌, length, map, [], ap, sym, arith, Some, None}
 use Rattle.std.specs.Prelude.{nat_lt, false, if◌then◌else◌}
 use Rattle.std.proofs.lemmas.List.{length-map}

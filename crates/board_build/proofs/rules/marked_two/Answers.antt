@@ -1,4 +1,4 @@
--- The same net is repeated.
+-- The code and the definition find the same repeated net.
 use Rattle.std.proofs.Common.{◌∙◌, ◌==◌, ap}
 use Rattle.std.specs.Prelude.{option_map}
 use Rattle.std.proofs.lemmas.Result.{IfOk-weaker}

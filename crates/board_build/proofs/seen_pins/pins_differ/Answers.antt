@@ -18,7 +18,7 @@ either : (now same among : Bool) → (same ≡ true → now ≡ true) → (among
 either now true among here before e = here refl
 either now false among here before e = before e
 
--- one word more differs from those before it, and its pin is known
+-- the next word differs from the earlier words, and its pin is now known
 pins_more : (words : List MarkedWord) (i : ℕ) (x : MarkedWord) (old now : MarkedWord → Bool) → i < length words → get_or words i x ≡ x →
     old x ≡ false → ((m : MarkedWord) → are_one (seen x) (seen m) ≡ true → now m ≡ true) → ((m : MarkedWord) → old m ≡ true → now m ≡ true) →
     first_repeated (λ a b. are_one (seen a) (seen b)) words ≡ repeated_from (λ a b. are_one (seen a) (seen b)) (take i words) (drop i words) →
@@ -31,7 +31,7 @@ pins_more words i x old now within read fresh added kept differ known = (
       (seen_step (λ s. are_one (seen s) (seen m)) words i x (cond (are_one (seen x) (seen m)) true (list_any (λ s. are_one (seen s) (seen m)) (take i words))) (list_any (λ s. are_one (seen s) (seen m)) (take i words)) within read refl refl ∙ among),
 )
 
--- the same for the word at this place, whatever the default of the look-up is
+-- like `pins_more`, but for any default of the look-up
 pins_at : (words : List MarkedWord) (i : ℕ) (d : MarkedWord) (old now : MarkedWord → Bool) → i < length words →
     old (get_or words i d) ≡ false → ((m : MarkedWord) → are_one (seen (get_or words i d)) (seen m) ≡ true → now m ≡ true) → ((m : MarkedWord) → old m ≡ true → now m ≡ true) →
     first_repeated (λ a b. are_one (seen a) (seen b)) words ≡ repeated_from (λ a b. are_one (seen a) (seen b)) (take i words) (drop i words) →

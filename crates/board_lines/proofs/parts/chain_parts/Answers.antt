@@ -1,4 +1,4 @@
--- The part of one line more.
+-- The loop adds the part of one more line.
 use Rattle.std.proofs.Common.{sym, subst}
 use Rattle.std.specs.Prelude.{All}
 use Rattle.std.specs.Vec.Iter.{into_iter_items}

@@ -1,4 +1,4 @@
--- One part more has its row.
+-- The loop adds one more part with its row.
 use Rattle.std.proofs.Common.{ap, ◌∙◌, Some}
 use Rattle.board_lines.proofs.PinLemmas.{rows_step}
 use Rattle.board_lines.proofs.places.rows_of.Goals as goal

@@ -1,4 +1,4 @@
--- The first fault, or the numbers.
+-- The answer is the first fault, or the numbers if there is no fault.
 use Rattle.std.proofs.Common.{◌∙◌, map, ap, sym}
 use Rattle.std.specs.Prelude.{unwrap_or}
 use Rattle.board_lines.specs.Faults.{unless}

@@ -3,7 +3,7 @@ use Rattle.bsdl_parser.specs.Entity.{HaveKinds, IsSmall}
 use Rattle.btest_core.proofs.TextLemmas.{CompletesTexts, numbered}
 use Rattle.btest_core.proofs.texts.entities.Given as goal
 
--- the entities so far, and what the texts that are left do to them
+-- there is an entity for each text so far, and the entities of the remaining texts complete the answer
 abbrev pub invariant-loop-text : goal.invariant-loop-text
 invariant-loop-text l = record {
   read : CompletesTexts l.texts (numbered l.text (drop l.text l.texts)) l.entities.items;

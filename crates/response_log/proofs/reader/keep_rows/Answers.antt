@@ -1,4 +1,4 @@
--- A line at a time.
+-- The loop reads one line at a time.
 use Rattle.std.proofs.Common.{◌≡◌, ◌+◌, ◌*◌, ◌≤◌, ◌++◌, length, take, drop, ap, ◌∙◌, sym, subst, rules, arith, Ok, Err, ℕ}
 use Rattle.std.specs.Prelude.{IfSome}
 use Rattle.std.proofs.lemmas.List.{length-take-le, with_items_is}

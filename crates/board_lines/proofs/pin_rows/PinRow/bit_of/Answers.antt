@@ -1,4 +1,4 @@
--- The row's map answers for its pins.
+-- The row's map agrees with the pins of the row.
 use Rattle.std.proofs.Common.{ap, ◌∙◌}
 use Rattle.board_lines.specs.PinRows.{bit_of_pin}
 use Rattle.board_lines.proofs.pin_rows.PinRow.bit_of.Goals as goal

@@ -1,4 +1,4 @@
--- The part and its row give the place of the definition.
+-- The number of the part and its row give the place that the definition gives.
 use Rattle.std.proofs.Common.{ap, ◌∙◌}
 use Rattle.indexmap.specs.IndexMap.{get_by}
 use Rattle.board_files.specs.Names.{same_word}
