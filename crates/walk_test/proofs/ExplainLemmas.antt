@@ -1,5 +1,5 @@
--- A set of groups explains a log if and only if each compared cell of a walk net reads in each row whether the net that carries 1 is joined
--- with its own.
+-- A set of groups explains a log if and only if each compared cell of a walk net reads in each row whether its net is joined with the net
+-- that carries 1.
 use Rattle.std.proofs.Common.{◌≡◌, ◌≢◌, ◌⊎◌, inl, inr, ℕ, zero, suc, ◌+◌, ◌*◌, ◌<◌, ◌≤◌, ◌==◌, Bool, true, false, List, [], ◌∷◌, length, take, get_or, Option, Some, None, is_some, refl, sym, ◌∙◌, ap, subst, arith}
 use Rattle.std.specs.Prelude.{◌↔◌, slice_get, count_by, All, Contains}
 use Rattle.std.proofs.lemmas.Bool.{cases_eq}
@@ -46,7 +46,7 @@ group_nets board groups are n k e =
     has_from_all (λ (m : ℕ). Contains (walk_nets board) m) g.group n
     (has_from_all (λ (group : List ℕ). All (λ m. Contains (walk_nets board) m) group) groups g.group are.walked (has_at groups g.index g.group g.stands)) g.member
 
--- a group has another net
+-- a group of two or more nets has a net other than `n`
 pub another : (group : List ℕ) (n : ℕ) → 2 ≤ length group → Rises group → (m : ℕ) × Has group m × (m ≢ n)
 another [] n some rise = absurd (omega (arith, some))
 another (x ∷ []) n some rise = absurd (omega (arith, some))
@@ -81,7 +81,7 @@ shorts_are_faults board groups safe are = by_setting (walk_setting board) refl
         faults_of board groups (groups_ordered board groups are)
         (λ n k g. walked_covered board walk n (safe walk e) (walk_has board walk e n (group_nets board groups are n k g)))
 
--- a compared bit of a scan
+-- a bit of a scan that the mask marks has an expected value
 mask_bit : (bits : List ScanBit) (i : ℕ) → get_or (mask_bits bits) i false ≡ true → (b : ScanBit) × (v : Bool) × (slice_get bits i ≡ Some b) × (b.expect ≡ Some v)
 mask_bit [] i e = cc e
 mask_bit (b ∷ bits) zero e = by_expect b.expect refl e
@@ -96,11 +96,11 @@ bit_mask [] i b v e q = cc e
 bit_mask (a ∷ bits) zero b v e q = let same : a ≡ b = cc e in ap (λ (x : ScanBit). is_some x.expect) same ∙ ap (λ (o : Option Bool). is_some o) q
 bit_mask (a ∷ bits) (suc i) b v e q = bit_mask bits i b v e q
 
--- where the bits of a walk net's cells are compared does not depend on what is shifted in
+-- the compared positions of a scan do not depend on the row that the scan shifts in
 mask_any : (board : RawBoard) (scan : RowScan) → mask_bits (joined (row_bits board scan)) ≡ mask_of board scan.before
 mask_any board scan = mask_laid board scan ∙ sym (mask_laid board (record { now = quiet_row; before = scan.before }))
 
--- in each row each compared cell of a walk net has whether the net that carries 1 is joined with its own
+-- in each row, each compared cell of a walk net reads whether its net is joined with the net that carries 1
 abbrev pub ShowJoined : RawBoard → List Ctl → List (List Bool) → List (List ℕ) → Type 0
 ShowJoined board walk log groups =
     (j one : ℕ) (logged : List Bool) (d : DriverCell) (s : IsDriverCell board walk d) (r : ReaderCell) → IsReaderCell board s.net r → (r.place == d.place) ≡ false →
@@ -138,7 +138,7 @@ module _ (board : RawBoard) (rules : IsBoard board) (walk : List Ctl) (is : walk
       one_times : (k : ℕ) → 1 * k ≡ k
       one_times k = grind arith
 
-  -- what a compared cell captures in row j
+  -- the bit that a compared cell captures in row j
   module _ (j one : ℕ) (at : slice_get (walk_nets board) j ≡ Some one) (d : DriverCell) (s : IsDriverCell board walk d) (r : ReaderCell) (q : IsReaderCell board s.net r) (other : (r.place == d.place) ≡ false) (choice : Choice) where
     w : WalkedBy board walk d.net
     w = record { net = s.net; is_net = s.is_net; driver = d.place; observing = s.observing }
@@ -210,7 +210,7 @@ module _ (board : RawBoard) (rules : IsBoard board) (walk : List Ctl) (is : walk
           subst (λ (t : RowScan). AgreeWhereCompared (joined (row_bits board t)) logged (row_captured board faults t.before choice)) same
           (agree_from (joined (row_bits board (scan_of x))) logged (row_captured board faults (walk_row board walk x) choice) (λ i b u y eb eu ey. each i b u y eb eu ey b.expect refl))
 
-  -- the shape of a log
+  -- a log with a row of `data_bits` bits for each walk net has the shape that the scans need
   pub shaped : (log : List (List Bool)) → length log ≡ length (walk_nets board) → All (λ row. length row ≡ data_bits board) log → HasShape board scans log
   shaped log rows bits = record { rows = rows ∙ count_is board walk is ∙ sym rows_are ∙ sym (rows_counted board scans); bits = bits }
 

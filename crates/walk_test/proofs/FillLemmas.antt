@@ -1,4 +1,4 @@
--- Which rows a walk keeps, and which it fills in.
+-- The rows that a walk keeps, and the rows that it fills in.
 use Rattle.std.proofs.Common.{◌≡◌, ◌⊎◌, inl, inr, ℕ, zero, suc, ◌+◌, ◌<◌, ◌≤◌, ◌==◌, ◌^◌, Bool, true, false, cond, List, [], ◌∷◌, length, take, map, get_or, set, replicate, Option, Some, None, is_some, unwrap_or, refl, sym, ◌∙◌, ap, subst, arith}
 use Rattle.std.specs.Prelude.{slice_get, filter, count_by, nat_lt, option_map, option_and_then}
 use Rattle.std.specs.Option.{option_to_list}
@@ -47,7 +47,7 @@ use Rattle.walk_test.proofs.CellLemmas.{WalkedBy}
 use Rattle.walk_test.proofs.NetLemmas.{walk_at, place_of_walk, count_is, marked_is, no_nets}
 use Rattle.walk_test.proofs.RowLemmas.{CellsOf, cells_of_plan, one_driver, length-tdi, marked_row, cleared_row, mask_same, one_at, tdo_here, laid_here, net_cells}
 
--- a width has a bit
+-- the codes of a plan have at least one bit
 pub some_width : (board : RawBoard) (plan : PlanTables) → IsPlanOf board plan → 1 ≤ plan.width
 some_width board plan p = by_width plan.width p.width_is
   where
@@ -58,7 +58,7 @@ some_width board plan p = by_width plan.width p.width_is
         absurd (omega (arith, enough, none))
     by_width (suc w) e = omega arith
 
--- the first setting of a walk's passes
+-- the first of a walk's settings is the walk setting
 pub first_setting : {X : Type 0} (settings : List X) (o : Option X) → settings ≡ option_to_list o → slice_get settings 0 ≡ o
 first_setting settings o are = ap (λ l. slice_get l 0) are ∙ by_setting o
   where
@@ -66,7 +66,7 @@ first_setting settings o are = ap (λ l. slice_get l 0) are ∙ by_setting o
     by_setting None = refl
     by_setting (Some x) = refl
 
--- the rows of a plan that a walk takes its own from
+-- the rows of a plan from which a walk's rows are made
 module _ (board : RawBoard) (plan : PlanTables) (p : IsPlanOf board plan) where
   pub first_shifted : tdi_bits (joined (row_bits board (scan_of_pass board plan 0 0))) ≡ tdi_of board (first_row board plan)
   first_shifted =
@@ -75,7 +75,7 @@ module _ (board : RawBoard) (plan : PlanTables) (p : IsPlanOf board plan) where
   pub first_marked : mask_bits (joined (row_bits board (scan_of_pass board plan 0 1))) ≡ mask_of board (first_row board plan)
   first_marked = mask_laid board (scan_of_pass board plan 0 1) ∙ sym (mask_laid board (record { now = quiet_row; before = first_row board plan }))
 
--- the nets and the cells of a walk by the pins of its board's nets
+-- the nets and the cells of a walk, from the pins of the board's nets
 module _ (board : RawBoard) (rules : IsBoard board) (pins : NetPins) (p : AreNetPins board pins) (walk : List Ctl) where
   drivers_at : (n : ℕ) (net : Net) → slice_get board.nets n ≡ Some net → get_or pins.drivers n [] ≡ drivers_of board net
   drivers_at n net e =
@@ -149,7 +149,7 @@ module _ (board : RawBoard) (rules : IsBoard board) (pins : NetPins) (p : AreNet
           subst (λ (l : List ReaderCell). let c : NetCells = record { driver = d.position; compared = positions_beside d.place l } in AreNetCells board walk n c) (sym (readers_at n w.net w.is_net))
           (subst (λ (i : ℕ). let c : NetCells = record { driver = d.position; compared = positions_beside i (readers_of board w.net.pins) } in AreNetCells board walk n c) (sym place) made)
 
--- the tables of a walk, from what each of them is
+-- tables whose parts are built as `walk_parts` builds them are the tables of a walk
 module _ (board : RawBoard) (rules : IsBoard board) (plan : PlanTables) (p : IsPlanOf board plan) (passes : plan.passes ≡ option_to_list (walk_setting board)) (t : WalkTables) (is_plan : t.plan ≡ plan) (pins : NetPins) (q : AreNetPins board pins)
     (nets : t.nets ≡ nets_by pins (walk_setting board) (length board.nets)) (cells : t.cells ≡ cells_of pins (walk_setting board) t.nets) (rows_made : AreMade board plan t.cells t.rows) where
   plan_is : IsPlanOf board t.plan
@@ -177,7 +177,7 @@ module _ (board : RawBoard) (rules : IsBoard board) (plan : PlanTables) (p : IsP
     walk_cells : CellsOf board walk
     walk_cells = cells_of_plan board plan walk p one_pass
 
-    -- the net at a place, and its cells
+    -- the net at a place is a walk net, and its cells are at the same place
     at_place : (i n : ℕ) → slice_get t.nets i ≡ Some n → WalkedBy board walk n
     at_place i n e = (walk_at board walk is i n (sym (ap (λ (l : List ℕ). slice_get l i) walk_nets_are) ∙ e)).by
 
@@ -246,14 +246,14 @@ module _ (board : RawBoard) (rules : IsBoard board) (plan : PlanTables) (p : IsP
             subst (λ (w : List Ctl). AreWalkTables board w t) same (tables_are walk e);
       }
 
--- the scans of the walking test
+-- the first three scans do not depend on the rows
 early_same : (board : RawBoard) (ts us : List RowScan) (k : ℕ) → k < 3 → slice_get (board_scans board ts) k ≡ slice_get (board_scans board us) k
 early_same board ts us zero less = refl
 early_same board ts us (suc zero) less = refl
 early_same board ts us (suc (suc zero)) less = refl
 early_same board ts us (suc (suc (suc k))) less = absurd (omega (arith, less))
 
--- the first three are those of any plan
+-- the first three scans are those of any plan
 pub early_filled : (board : RawBoard) (passes : List (List Ctl)) (width k : ℕ) (shape : Shape) (tdi tdo mask : List Bool) → k < 3 → FillsScan board passes width k shape tdi tdo mask → FillsWalk board k shape tdi tdo mask
 early_filled board passes width k shape tdi tdo mask less f = record {
   scan = early_same board (walk_row_list board) (row_scans (code_row board passes) width passes) k less ∙ f.scan;
@@ -295,7 +295,7 @@ module _ (board : RawBoard) (rules : IsBoard board) (t : WalkTables) (w : IsWalk
           ∙ ap (λ (i : ℕ). set (tdi_of board (still_row walk)) i true) a.driver_is
           ∙ marked_row board rules walk cells (marks j) a.driver a.is_driver driver_marked (λ m x on. only_marked m x on ∙ sym a.of_net)
 
-      -- the compared cells
+      -- each compared cell should read 1, and is within a data scan
       reader_in : (position : ℕ) → Has c.compared position → (get_or (tdo_of board (walk_row board walk j)) position false ≡ true) × (position < data_bits board)
       reader_in position has =
           let r = (a.compared position).0 (has_contains c.compared position has) in
@@ -348,7 +348,7 @@ module _ (board : RawBoard) (rules : IsBoard board) (t : WalkTables) (w : IsWalk
     pub length-still : length t.rows.still.bits ≡ data_bits board
     length-still = ap (λ (l : List Bool). length l) tables.still ∙ length-tdi board rules walk cells (still_row walk)
 
-  -- where the board has a pass, it has a walk setting
+  -- a board with a pass has a walk setting
   pub setting_there : 0 < length t.plan.passes → (walk : List Ctl) × (walk_setting board ≡ Some walk)
   setting_there some = by_setting (walk_setting board) refl
     where
@@ -358,7 +358,7 @@ module _ (board : RawBoard) (rules : IsBoard board) (t : WalkTables) (w : IsWalk
           absurd (omega (arith, some, none))
       by_setting (Some walk) e = (walk, e)
 
-  -- scan j of those after the EXTEST codes
+  -- scan j, counted from the first scan after the EXTEST codes
   abbrev scan_of : ℕ → RowScan
   scan_of j = record { now = now_of board (length t.nets) j; before = before_of board j }
 
@@ -405,7 +405,7 @@ module _ (board : RawBoard) (rules : IsBoard board) (t : WalkTables) (w : IsWalk
         masked = rows_masked are;
       }
 
--- the row of a place
+-- the row in which the net at place j carries 1
 module _ (board : RawBoard) (rules : IsBoard board) (t : WalkTables) (w : IsWalkOf board t) (some : 0 < length t.plan.passes) (j : ℕ) (less : j < length t.nets) (c : NetCells) (at : slice_get t.cells j ≡ Some c) where
   abbrev walk : List Ctl
   walk = (setting_there board rules t w some).0
@@ -442,7 +442,7 @@ module _ (board : RawBoard) (rules : IsBoard board) (t : WalkTables) (w : IsWalk
   pub row_has_one : list_any (λ bit. bit) (mask_of board (before_of board (suc j))) ≡ true
   row_has_one = ap (λ (r : TestRow). list_any (λ bit. bit) (mask_of board r)) row_of_walk ∙ some_masked board rules t w walk is j (get_or t.nets j 0) net_is c at
 
--- there are cells at each place
+-- there are as many cells as walk nets
 pub cells_count : (board : RawBoard) (rules : IsBoard board) (t : WalkTables) (w : IsWalkOf board t) → 0 < length t.plan.passes → length t.cells ≡ length t.nets
 cells_count board rules t w some = let s = setting_there board rules t w some in (w.tables s.0 s.1).count
 
@@ -455,14 +455,14 @@ mask_length board rules t w some =
 pub still_length : (board : RawBoard) (rules : IsBoard board) (t : WalkTables) (w : IsWalkOf board t) → 0 < length t.plan.passes → length t.rows.still.bits ≡ data_bits board
 still_length board rules t w some = let s = setting_there board rules t w some in length-still board rules t w s.0 s.1
 
--- nothing is compared of the first
+-- the quiet row expects nothing and compares nothing
 pub first_tdo : (board : RawBoard) → replicate (data_bits board) false ≡ tdo_of board quiet_row
 first_tdo board = quiet_tdo board (record { now = quiet_row; before = quiet_row }) refl
 
 pub first_mask : (board : RawBoard) → replicate (data_bits board) false ≡ mask_of board quiet_row
 first_mask board = quiet_mask board (record { now = quiet_row; before = quiet_row }) refl
 
--- something is compared exactly in the rows after the first
+-- scan j compares something exactly if j is not 0
 pub compare_is : (board : RawBoard) (rules : IsBoard board) (t : WalkTables) (w : IsWalkOf board t) → 0 < length t.plan.passes → (j : ℕ) → j ≤ length t.nets → (mask : List Bool) → mask ≡ mask_of board (before_of board j) → nat_lt 0 j ≡ list_any (λ bit. bit) mask
 compare_is board rules t w some zero le mask is =
     sym (ap (λ (l : List Bool). list_any (λ bit. bit) l) (is ∙ sym (first_mask board)) ∙ none_of_zeros (data_bits board))
@@ -472,7 +472,7 @@ compare_is board rules t w some (suc j) le mask is =
     let less : nat_lt 0 (suc j) ≡ true = lt-ltb 0 (suc j) (omega arith) in
     less ∙ sym (ap (λ (l : List Bool). list_any (λ bit. bit) l) is ∙ row_has_one board rules t w some j (omega (arith, le)) c.0 c.1)
 
--- a scan after the EXTEST codes is one of a board with a pass
+-- if scan k comes after the EXTEST codes, the board has a pass
 pub past_codes : (t : WalkTables) (k : ℕ) → 3 ≤ k → k < Rattle.walk_test.specs.Tables.scan_count t → (0 < length t.plan.passes) × (k ≤ 3 + length t.nets)
 past_codes t k past less = by_passes t.plan.passes less
   where
@@ -480,7 +480,7 @@ past_codes t k past less = by_passes t.plan.passes less
     by_passes [] h = absurd (omega (arith, past, h))
     by_passes (pass ∷ passes) h = (omega arith, omega (arith, h))
 
--- there are at most as many walk nets as nets
+-- the board has no more walk nets than nets
 pub nets_few : (board : RawBoard) → length (walk_nets board) ≤ length board.nets
 nets_few board = at_most (λ n. is_walk_net board (walk_setting board) (slice_get board.nets n)) 0 (length board.nets)
   where
@@ -492,7 +492,7 @@ nets_few board = at_most (λ n. is_walk_net board (walk_setting board) (slice_ge
         by_test true h = omega (arith, h)
         by_test false h = omega (arith, h)
 
--- the rows of a walk with a pass, by the cells that stand at a place
+-- the rows of a walk with a pass, from the cells at each place
 module _ (board : RawBoard) (rules : IsBoard board) (t : WalkTables) (w : IsWalkOf board t) (some : 0 < length t.plan.passes) where
   net_there : (j : ℕ) (c : NetCells) → slice_get t.cells j ≡ Some c → j < length t.nets
   net_there j c at = omega (arith, slice_get_within t.cells j c at, cells_count board rules t w some)

@@ -1,4 +1,4 @@
--- Groups as lists: who is together in one, and that this says which list they are.
+-- Groups as lists: two lists of groups are equal if the same nets are together in a group.
 use Rattle.std.proofs.Common.{◌≡◌, ◌⊎◌, inl, inr, ℕ, zero, suc, ◌+◌, ◌<◌, ◌≤◌, ◌==◌, Bool, true, false, cond, List, [], ◌∷◌, length, Option, Some, None, refl, sym, ◌∙◌, ap, subst, arith}
 use Rattle.std.specs.Prelude.{slice_get, Contains}
 use Rattle.std.specs.List.{list_any}
@@ -14,12 +14,12 @@ use Rattle.walk_test.specs.inner.Reading.{is_one_group, are_joined}
 abbrev pub Rises : List ℕ → Type 0
 Rises xs = InOrder (λ a b. a < b) xs
 
--- rising numbers
+-- the first of rising numbers is the least
 le_first : (x : ℕ) (xs : List ℕ) (y : ℕ) → Rises (x ∷ xs) → Has (x ∷ xs) y → x ≤ y
 le_first x xs y rise (inl e) = omega (arith, e)
 le_first x xs y rise (inr has) = omega (arith, rise.0 y has)
 
--- they are the same where they have the same numbers
+-- two rising lists with the same numbers are equal
 rising_same : (xs ys : List ℕ) → Rises xs → Rises ys → ((x : ℕ) → Has xs x → Has ys x) → ((x : ℕ) → Has ys x → Has xs x) → xs ≡ ys
 rising_same [] [] p q to from = refl
 rising_same [] (y ∷ ys) p q to from = absurd (from y (inl refl))
@@ -58,7 +58,7 @@ Apart one other = (n : ℕ) → Has one n → Has other n → ⊥
 abbrev pub Before : List ℕ → List ℕ → Type 0
 Before one other = least_of one < least_of other
 
--- groups in their order
+-- the groups are in order: each rises, no two share a net, and their least nets rise
 pub record AreOrdered (groups : List (List ℕ)) : Type 0 where
   pub several : (group : List ℕ) → Has groups group → 2 ≤ length group
   pub rise : (group : List ℕ) → Has groups group → Rises group
@@ -80,11 +80,11 @@ groups_ordered board groups are = record {
   order = pairs_order Before groups are.order;
 }
 
--- two nets in one group
+-- some group has both nets
 abbrev pub Together : List (List ℕ) → ℕ → ℕ → Type 0
 Together groups a b = (group : List ℕ) × Has groups group × Has group a × Has group b
 
--- a net in the group of a list, and in one behind it
+-- a net of the first group is in no later group
 first_only : (group : List ℕ) (groups : List (List ℕ)) (other : List ℕ) (n : ℕ) → AreOrdered (group ∷ groups) → Has group n → Has (group ∷ groups) other → Has other n → group ≡ other
 first_only group groups other n p in_first (inl same) in_other = same
 first_only group groups other n p in_first (inr has) in_other = absurd (p.apart.0 other has n in_first in_other)
@@ -116,7 +116,7 @@ module _ (g : List ℕ) (gs : List (List ℕ)) (h : List ℕ) (hs : List (List �
       by_place (l, inl first, la, lb) = absurd (p.apart.0 k has a (subst (λ (s : List ℕ). Has s a) (sym (same ∙ first)) la) in_a)
       by_place (l, inr later, la, lb) = (l, later, la, lb)
 
--- who is together says which groups they are
+-- if the same nets are together in two lists of groups, the lists are equal
 pub one_list : (groups others : List (List ℕ)) → AreOrdered groups → AreOrdered others → ((a b : ℕ) → Together groups a b → Together others a b) → ((a b : ℕ) → Together others a b → Together groups a b) → groups ≡ others
 one_list [] [] p q to from = refl
 one_list [] (h ∷ hs) p q to from =
@@ -130,7 +130,7 @@ one_list (g ∷ gs) (h ∷ hs) p q to from =
     let same : g ≡ h = rising_same g h (p.rise g (inl refl)) (q.rise h (inl refl)) (first_within g gs h hs p q to least) (first_within h hs g gs q p from (sym least)) in
     cons_path same (one_list gs hs (tail_ordered g gs p) (tail_ordered h hs q) (rest_within g gs h hs p q to same) (rest_within h hs g gs q p from (sym same)))
 
--- the group of a net
+-- a test over a group's nets finds net n exactly if the group has net n
 any_in : (group : List ℕ) (n : ℕ) → Has group n → list_any (λ m. m == n) group ≡ true
 any_in group n has = has_any (λ m. m == n) group n has (eq-eqb n n refl)
 
@@ -166,7 +166,7 @@ group_is k (first ∷ groups) (suc index) group n apart e has = by_test (group_i
         let z : suc k + index ≡ k + suc index = omega arith in
         later ∙ ap (λ (m : ℕ). Some m) z
 
--- nets in one group
+-- if two nets have the same group number, some group has both
 pub together_of : (groups : List (List ℕ)) (a b : ℕ) → is_one_group (group_of groups a) (group_of groups b) ≡ true → Together groups a b
 together_of groups a b e = by_first (group_of groups a) refl e
   where
@@ -195,7 +195,7 @@ one_group groups a b apart (group, has, in_a, in_b) =
     ∙ ap (λ (o : Option ℕ). is_one_group (Some (0 + at.0)) o) (group_is 0 groups at.0 group b apart at.1 in_b)
     ∙ eq-eqb (0 + at.0) (0 + at.0) refl
 
--- joined nets
+-- joined nets are equal or in one group
 pub joined_cases : (groups : List (List ℕ)) (a b : ℕ) → are_joined groups a b ≡ true → (a ≡ b) ⊎ Together groups a b
 joined_cases groups a b e = by_case (or_cases (a == b) (is_one_group (group_of groups a) (group_of groups b)) e)
   where
@@ -217,7 +217,7 @@ module _ (groups : List (List ℕ)) (ordered : AreOrdered groups) where
       by_case (inl same) = joined_self groups b a (sym same)
       by_case (inr (group, has, in_a, in_b)) = joined_in b a (group, has, in_b, in_a)
 
-  -- the group of a net is one
+  -- a net is in one group at most
   pub one_of : (group other : List ℕ) (n : ℕ) → Has groups group → Has groups other → Has group n → Has other n → group ≡ other
   one_of group other n has also in_one in_other =
       let p = has_place groups group has in
@@ -238,7 +238,7 @@ module _ (groups : List (List ℕ)) (ordered : AreOrdered groups) where
           let one : g ≡ h = one_of g h b has also in_b of_b in
           joined_in a c (g, has, in_a, subst (λ (l : List ℕ). Has l c) (sym one) of_c)
 
-  -- nets that are joined are joined with the same nets
+  -- if two nets are joined, they are joined with the same nets
   pub joined_same : (a b c : ℕ) → are_joined groups a b ≡ true → are_joined groups a c ≡ are_joined groups b c
   joined_same a b c e = same_answer (are_joined groups a c) (are_joined groups b c) (λ f. joined_across b a c (joined_swap a b e) f) (λ f. joined_across a b c e f)
 

@@ -29,7 +29,7 @@ use Rattle.walk_test.proofs.NetLemmas.{walk_has, count_is, no_nets}
 use Rattle.walk_test.proofs.RowLemmas.{cells_there}
 use Rattle.walk_test.proofs.ExplainLemmas.{ShowJoined, explained_shows, explained_rows, shorts_are_faults}
 
--- a text that is one of two
+-- the text of the walking test is harmless, with a walk setting and without one
 pub walk_harmless : WalkSafe → ((board : RawBoard) (walk : List Ctl) → IsBoard board → IsSafe board (holds walk) → IsHarmless board (walk_text board walk)) →
     ((board : RawBoard) (passes : List (List Ctl)) (width : ℕ) → IsBoard board → ((x : ℕ) (pass : List Ctl) → slice_get passes x ≡ Some pass → IsSafe board (holds pass)) → IsHarmless board (pass_text board passes width)) → WalkHarmless
 walk_harmless safe walks passes board rules = by_setting (walk_setting board) refl
@@ -38,7 +38,7 @@ walk_harmless safe walks passes board rules = by_setting (walk_setting board) re
     by_setting None e = subst (λ (o : Option (List Ctl)). IsHarmless board (svf_text (board_scans board (scans_by board o)))) (sym e) (passes board [] 0 rules (λ x pass at. cc at))
     by_setting (Some walk) e = subst (λ (o : Option (List Ctl)). IsHarmless board (svf_text (board_scans board (scans_by board o)))) (sym e) (walks board walk rules (safe board walk rules e))
 
--- the number of scans
+-- a walk has as many scans as the walking test
 pub scans_counted : ScansCounted
 scans_counted board t is = by_setting (walk_setting board) refl
   where
@@ -58,7 +58,7 @@ scans_counted board t is = by_setting (walk_setting board) refl
         ∙ omega (arith, nets, long, all)
         ∙ sym (ap (λ (o : Option (List Ctl)). length (board_scans board (scans_by board o))) e)
 
--- the rows follow one another
+-- the rows of the walking test follow each other as the scans of a test must
 pub in_turn : WalkSafe → ((board : RawBoard) (walk : List Ctl) → IsSafe board (holds walk) → AreInTurn board (walk_row_scans board walk)) → (board : RawBoard) → IsBoard board → AreInTurn board (walk_row_list board)
 in_turn safe walks board rules = by_setting (walk_setting board) refl
   where
@@ -84,7 +84,7 @@ no_groups board (group ∷ groups) none are =
 module _ (safe : WalkSafe) (by_rows : (board : RawBoard) (faults : FaultSet) (scans : List RowScan) (log : List (List Bool)) → IsBoard board → AreInTurn board scans → ExplainedBy board faults scans log ↔ (HasShape board scans log × IsCapturedBy board faults scans log))
     (compare : (board : RawBoard) (walk : List Ctl) → IsBoard board → CompareRows (walk_row board) (count_by (is_walked board walk) board.nets) (walk ∷ []) (compared_scans board (walk_row_scans board walk)))
     (turns : (board : RawBoard) (walk : List Ctl) → IsSafe board (holds walk) → AreInTurn board (walk_row_scans board walk)) where
-  -- what a set of groups that explains a log says of it
+  -- in a log that a set of groups explains, the compared cells read what the set says
   pub shown_by : (board : RawBoard) (walk : List Ctl) (log : List (List Bool)) (groups : List (List ℕ)) → IsBoard board → walk_setting board ≡ Some walk → Explain board log groups →
       ShowJoined board walk log groups × (length log ≡ length (walk_nets board))
   shown_by board walk log groups rules is explain =

@@ -1,4 +1,4 @@
--- Rows of a log by their digits, as far as their bits are compared.
+-- Rows of a log by their digits, at the compared positions.
 use Rattle.std.proofs.Common.{◌≡◌, ◌⊎◌, inl, inr, ℕ, zero, suc, ◌+◌, ◌*◌, ◌/◌, ◌%◌, ◌<◌, ◌≤◌, ◌==◌, ◌^◌, Bool, true, false, ◌&&◌, List, [], ◌∷◌, length, get_or, min, Decides, refl, sym, ap, ◌∙◌, arith}
 use Rattle.std.specs.Int.{bit_at}
 use Rattle.std.specs.Int.Bits.{bit_and, bit_xor}
@@ -12,7 +12,7 @@ use Rattle.response_log.specs.Kept.{AreRowDigits}
 use Rattle.walk_test.specs.inner.Digits.{bit_of, is_one, differing, IsFresh, IsMarked}
 use Rattle.walk_test.specs.inner.Reading.{bit_in, AreSameRows, StartsGroup, AreStarted}
 
--- no bit of the digits of bits is 1 past the end
+-- the bits of a digit behind the last bit of a row are 0
 bit_off : (n k : ℕ) → n / 2 ^ k % 2 ≡ 0 → digit_bit n k ≡ false
 bit_off n k is = ap (λ (m : ℕ). m == 1) is
 
@@ -56,7 +56,7 @@ mask_within mask at on = by_side (cases_lt at (length mask))
     by_side (inl less) = less
     by_side (inr past) = let bad : false ≡ true = sym (get_or_past mask at false past) ∙ on in cc bad
 
--- what is compared, by its digits
+-- the compared positions, by the digits of the mask
 module _ (mask : List Bool) (marks : List ℕ) (are : marks ≡ digits_of mask) where
   mark_bit : (at : ℕ) → bit_of marks at ≡ get_or mask at false
   mark_bit at = ap (λ (l : List ℕ). bit_of l at) are ∙ by_side (cases_lt at (length mask))
@@ -73,7 +73,7 @@ module _ (mask : List Bool) (marks : List ℕ) (are : marks ≡ digits_of mask) 
       let same : get_or marks k 0 ≡ get_or (digits_of mask) k 0 = ap (λ (l : List ℕ). get_or l k 0) are in
       omega (arith, same, digits_of-below mask k 0 (omega (arith, less, ap length are)))
 
--- a row of a log that is as long
+-- a row of a log that is as long as the mask
 module _ (log : List (List Bool)) (mask : List Bool) (marks : List ℕ) (are : marks ≡ digits_of mask) (j : ℕ) (row : List ℕ) (digits : AreRowDigits (get_or log j []) row) (long : length (get_or log j []) ≡ length mask) where
   pub row_count : length row ≡ length marks
   row_count = digits.count ∙ ap digit_count long ∙ sym (marks_count mask marks are)
@@ -90,7 +90,7 @@ module _ (log : List (List Bool)) (mask : List Bool) (marks : List ℕ) (are : m
       let on : get_or mask at false ≡ true = sym (mark_bit mask marks are at) ∙ r.0 in
       (on, sym (row_bit at on) ∙ r.1)
 
-  -- whether a position is compared and reads 1
+  -- a position is compared and reads 1 exactly if the mask and the log have a 1 there
   one_read : (at : ℕ) → is_one row marks at ≡ (get_or mask at false && bit_in log j at)
   one_read at = by_test (get_or mask at false) refl
     where
@@ -98,11 +98,11 @@ module _ (log : List (List Bool)) (mask : List Bool) (marks : List ℕ) (are : m
       by_test true on = one_is at (bit_in log j at) on refl
       by_test false off = ap (λ (m : Bool). m && bit_of row at) (mark_bit mask marks are at ∙ off)
 
-  -- without one no group starts
+  -- if the position of a net does not read 1, no group starts with the net
   pub not_started : (own none : ℕ) (old : List ℕ) (t : Bool) → t ≡ is_one row marks own → t ≡ false → Decides t (StartsGroup log mask j own none old)
   not_started own none old t is off = (λ e. let bad : true ≡ false = sym e ∙ off in cc bad, λ s. is ∙ one_read own ∙ s.is_read)
 
-  -- where positions are marked, the group of a row starts
+  -- if position `own` reads 1, whether a group starts depends on whether all positions that read 1 are fresh
   module _ (none : ℕ) (old : List ℕ) (count : length old ≡ length mask) where
     pub starts : (own : ℕ) → is_one row marks own ≡ true → (t : Bool) → Decides t (IsFresh row marks none old (length old)) → Decides t (StartsGroup log mask j own none old)
     starts own one t d = (
@@ -116,7 +116,7 @@ module _ (log : List (List Bool)) (mask : List Bool) (marks : List ℕ) (are : m
       kept = λ at on off. m.kept at (omega (arith, mask_within mask at on, count)) (one_is at false on off);
     }
 
--- two rows
+-- two rows agree at the compared bits of a digit exactly if their difference, under the mask, is 0
 module _ (a b m k : ℕ) where
   masked_same : bit_and (bit_xor a b) m ≡ 0 → digit_bit m k ≡ true → digit_bit a k ≡ digit_bit b k
   masked_same none on =

@@ -1,4 +1,4 @@
--- The walk nets: which they are, their places, and how many.
+-- The walk nets, their places, and their number.
 use Rattle.std.proofs.Common.{◌≡◌, ℕ, zero, suc, ◌+◌, ◌<◌, ◌==◌, Bool, true, false, cond, List, [], ◌∷◌, length, take, Option, Some, None, refl, sym, ◌∙◌, ap, subst, arith}
 use Rattle.std.specs.Prelude.{slice_get, filter, count_by, is_some, Contains}
 use Rattle.std.specs.List.{range_with_len}
@@ -20,7 +20,7 @@ use Rattle.walk_test.proofs.CellLemmas.{WalkedBy}
 count_cons : {X : Type 0} (p : X → Bool) (x : X) (xs : List X) → count_by p (x ∷ xs) ≡ cond (p x) 1 0 + count_by p xs
 count_cons p x xs = sum_by-cons (λ y. cond (p y) 1 0) x xs
 
--- numbers from k on, of which a test of the items at their places keeps some
+-- the numbers from k on whose items pass a test
 module _ {X : Type 0} (p : X → Bool) (q : ℕ → Bool) where
   abbrev Tests : ℕ → List X → Type 0
   Tests k xs = (i : ℕ) (x : X) → slice_get xs i ≡ Some x → q (k + i) ≡ p x
@@ -42,7 +42,7 @@ module _ {X : Type 0} (p : X → Bool) (q : ℕ → Bool) where
       by_test true e rest = ap (λ (b : Bool). length (cond b (k ∷ kept (k + 1) xs) (kept (k + 1) xs))) e ∙ omega (arith, rest)
       by_test false e rest = ap (λ (b : Bool). length (cond b (k ∷ kept (k + 1) xs) (kept (k + 1) xs))) e ∙ omega (arith, rest)
 
-  -- what stands at a place
+  -- number n, at place i of the kept numbers, is the number of an item that passes
   pub record KeptAt (k : ℕ) (xs : List X) (i n : ℕ) : Type 0 where
     pub place : ℕ
     pub item : X
@@ -99,11 +99,11 @@ module _ {X : Type 0} (p : X → Bool) (q : ℕ → Bool) where
           let z : 0 + count_by p (take place xs) ≡ count_by p (take place xs) = omega arith in
           ap (λ (b : Bool). slice_get (cond b (k ∷ kept (k + 1) xs) (kept (k + 1) xs)) (0 + count_by p (take place xs))) t ∙ ap (λ (m : ℕ). slice_get (kept (k + 1) xs) m) z
 
--- the walk nets rise
+-- the numbers of the walk nets rise
 pub nets_rise : (board : RawBoard) → Rises (walk_nets board)
 nets_rise board = order_filter (λ a b. a < b) (λ n. is_walk_net board (walk_setting board) (slice_get board.nets n)) (range_with_len 0 (length board.nets)) (order_range 0 (length board.nets))
 
--- without a walk setting there is none
+-- without a walk setting there are no walk nets
 pub no_nets : (board : RawBoard) → walk_setting board ≡ None → walk_nets board ≡ []
 no_nets board none = drop_all' (range_with_len 0 (length board.nets))
   where
@@ -124,7 +124,7 @@ module _ (board : RawBoard) (walk : List Ctl) (is : walk_setting board ≡ Some 
       ∙ ap (λ (o : Option (List Ctl)). is_walk_net board o (slice_get board.nets i)) is
       ∙ ap (λ (o : Option Net). is_walk_net board (Some walk) o) e
 
-  -- the number of rows
+  -- there are as many walk nets as nets that the walk setting observes
   pub count_is : length (walk_nets board) ≡ count_by (is_walked board walk) board.nets
   count_is = kept_length (is_walked board walk) test 0 board.nets tests
 
@@ -156,7 +156,7 @@ module _ (board : RawBoard) (walk : List Ctl) (is : walk_setting board ≡ Some 
       let z : 0 + n ≡ n = omega arith in
       at_kept (is_walked board walk) test 0 board.nets tests n w.net w.is_net (ap (λ (o : Option ℕ). is_some o) w.observing) ∙ ap (λ (m : ℕ). Some m) z
 
-  -- the net that carries 1 in a row is the one at its place
+  -- in row j, the walk net at place j carries 1 and no other walk net does
   pub marked_is : (j one : ℕ) → slice_get (walk_nets board) j ≡ Some one → (n : ℕ) → WalkedBy board walk n → (count_by (is_walked board walk) (take n board.nets) == j) ≡ (n == one)
   marked_is j one at n w =
       same_answer (count_by (is_walked board walk) (take n board.nets) == j) (n == one)

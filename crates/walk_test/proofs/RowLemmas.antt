@@ -40,7 +40,7 @@ use Rattle.walk_test.specs.Tables.{tdi_of, mask_of, still_row, AreNetCells}
 use Rattle.walk_test.specs.inner.Tables.{tdo_of, positions_beside}
 use Rattle.walk_test.proofs.CellLemmas.{WalkedBy, compared_of, compared_device, compared_position}
 
--- items that set one bit by two tests: the rows differ only where an item stands whose bits differ
+-- each item sets one bit in two rows, by two tests: the rows differ at place i only if an item whose two bits differ has this place
 apart_at : {X : Type 0} (place : X → ℕ) (f g : X → Bool) (xs : List X) (s t : List Bool) (i : ℕ) → length s ≡ length t →
     (get_or s i false ≡ get_or t i false) ⊎ ((x : X) × Has xs x × (place x ≡ i) × (f x ≡ g x → ⊥)) →
     (get_or (assigned place f s xs) i false ≡ get_or (assigned place g t xs) i false) ⊎ ((x : X) × Has xs x × (place x ≡ i) × (f x ≡ g x → ⊥))
@@ -80,7 +80,7 @@ apart_at {X} place f g (x ∷ xs) s t i long h = by_rest (apart_at place f g xs 
     lift : Differ xs → Differ (x ∷ xs)
     lift (y, has, at, ne) = (y, inr has, at, ne)
 
-    -- an item whose bits differ stands there, or the bits agree so far
+    -- a later item whose bits differ has this place, or the bits agree so far
     by_rest : (after ⊎ Differ xs → (get_or (assigned place f (set s (place x) (f x)) xs) i false ≡ get_or (assigned place g (set t (place x) (g x)) xs) i false) ⊎ Differ xs) →
         after ⊎ Differ (x ∷ xs) → (get_or (assigned place f (set s (place x) (f x)) xs) i false ≡ get_or (assigned place g (set t (place x) (g x)) xs) i false) ⊎ Differ (x ∷ xs)
     by_rest ih (inr d) = inr d
@@ -91,7 +91,7 @@ apart_at {X} place f g (x ∷ xs) s t i long h = by_rest (apart_at place f g xs 
         by_end (inl k) = inl k
         by_end (inr d) = inr (lift d)
 
--- a 1 comes from an item that set it, or was there
+-- an item set a bit that is 1, or the bit was 1 before
 one_from : {X : Type 0} (place : X → ℕ) (f : X → Bool) (xs : List X) (s : List Bool) (i : ℕ) → get_or (assigned place f s xs) i false ≡ true →
     (get_or s i false ≡ true) ⊎ ((x : X) × Has xs x × (place x ≡ i) × (f x ≡ true))
 one_from place f [] s i e = inl e
@@ -108,7 +108,7 @@ one_from {X} place f (x ∷ xs) s i e = by_later (one_from place f xs (set s (pl
     by_later (inl k) = by_place (cases_eq i (place x)) (cases_lt i (length s)) k
     by_later (inr (y, has, at, one)) = inr (y, inr has, at, one)
 
--- the cells by which a setting observes nets, and those that read each net
+-- the driver cells by which a setting observes nets, and the cells that read each net
 pub record CellsOf (board : RawBoard) (walk : List Ctl) : Type 0 where
   pub drivers : List DriverCell
   pub only : (d : DriverCell) → Has drivers d → IsDriverCell board walk d
@@ -134,7 +134,7 @@ cells_of_plan board plan walk p is =
           );
     }
 
--- the driver cell of a net is one
+-- a net has one driver cell at most
 pub one_driver : (board : RawBoard) (walk : List Ctl) (d e : DriverCell) → IsDriverCell board walk d → IsDriverCell board walk e → d.net ≡ e.net → (d.place ≡ e.place) × (d.position ≡ e.position)
 one_driver board walk d e p q same =
     let nets : Some p.net ≡ Some q.net = sym p.is_net ∙ ap (λ (n : ℕ). slice_get board.nets n) same ∙ q.is_net in
@@ -155,7 +155,7 @@ driver_within board rules walk d s =
     let drives = drives_by t.device s.at.bit s.entry (sym (entry_on board s.at t.device t.is_device) ∙ s.is_entry) in
     omega (arith, s.position_is, (laid_at (steady board (λ c. false)) board s.at.part t.device s.entry.num t.is_device (t.wired.num_below drives.index s.entry drives.stands)).0)
 
--- rows in which each walk net carries a bit
+-- rows in which each walk net carries a bit of its own
 module _ (board : RawBoard) (rules : IsBoard board) (walk : List Ctl) (cells : CellsOf board walk) where
   abbrev mark_row : (ℕ → Bool) → TestRow
   mark_row f = pass_row walk (λ n. Some (f n))
@@ -171,7 +171,7 @@ module _ (board : RawBoard) (rules : IsBoard board) (walk : List Ctl) (cells : C
   pub length-tdi : (row : TestRow) → length (tdi_of board row) ≡ data_bits board
   length-tdi row = ap (λ (l : List Bool). length l) (tdi_laid board (record { now = row; before = quiet_row })) ∙ length-laid (row_cells board row) board
 
-  -- two rows differ at the cells of drivers of nets that carry different bits
+  -- two rows differ only at the driver cells of nets that carry different bits
   tdi_differ : (f g : ℕ → Bool) (i : ℕ) → (get_or (tdi_of board (mark_row f)) i false ≡ get_or (tdi_of board (mark_row g)) i false) ⊎ ((d : DriverCell) × Has cells.drivers d × (d.position ≡ i) × (f d.net ≡ g d.net → ⊥))
   tdi_differ f g i = by_case (apart_at (λ (d : DriverCell). d.position) (bit f) (bit g) cells.drivers start start i refl (inl refl))
     where
@@ -183,14 +183,14 @@ module _ (board : RawBoard) (rules : IsBoard board) (walk : List Ctl) (cells : C
       by_case (inl e) = inl (ap (λ (l : List Bool). get_or l i false) (tdi_is f) ∙ e ∙ sym (ap (λ (l : List Bool). get_or l i false) (tdi_is g)))
       by_case (inr d) = inr d
 
-  -- the cell of a driver has its net's bit
+  -- the driver cell of a net has the bit that the net carries
   tdi_at : (f : ℕ → Bool) (d : DriverCell) → IsDriverCell board walk d → (d.position < length (tdi_of board (mark_row f))) × (get_or (tdi_of board (mark_row f)) d.position false ≡ f d.net)
   tdi_at f d s = (within, value)
     where
       within : d.position < length (tdi_of board (mark_row f))
       within = omega (arith, driver_within board rules walk d s, length-tdi (mark_row f))
 
-      -- the row in which only the net's bit is turned differs there
+      -- the place and the bit of a driver cell
       one : DriverCell → ℕ × Bool
       one x = (x.position, f x.net)
 
@@ -211,7 +211,7 @@ module _ (board : RawBoard) (rules : IsBoard board) (walk : List Ctl) (cells : C
           off : Bool
           off = Rattle.tap_defs.specs.board.TestRows.steady_bit board (holds walk) s.at.part (standing board rules d.net s.net d.place s.pin s.at s.is_net s.is_pin s.is_at).device s.entry.num
 
-  -- one net's cell set over the row in which none carries 1
+  -- a row with one 1 is the row without a 1, with the driver cell of one net set
   pub marked_row : (f : ℕ → Bool) (d : DriverCell) → IsDriverCell board walk d → f d.net ≡ true → ((n : ℕ) → WalkedBy board walk n → f n ≡ true → n ≡ d.net) → set (tdi_of board (still_row walk)) d.position true ≡ tdi_of board (mark_row f)
   marked_row f d s on alone =
       assigned_is (λ (x : DriverCell). x.position) (λ x. true) (d ∷ []) (tdi_of board (still_row walk)) (tdi_of board (mark_row f)) (length-tdi (still_row walk) ∙ sym (length-tdi (mark_row f)))
@@ -236,7 +236,7 @@ module _ (board : RawBoard) (rules : IsBoard board) (walk : List Ctl) (cells : C
           let same : x.net ≡ d.net = alone x.net (record { net = q.net; is_net = q.is_net; driver = x.place; observing = q.observing }) (true_of (f x.net) ne) in
           inr (d, inl refl, sym (one_driver board walk x d q s same).1 ∙ at)
 
-  -- the row in which none carries 1, from another: the cells of the drivers cleared
+  -- the row without a 1 is any row with all driver cells cleared
   pub cleared_row : {X : Type 0} (place : X → ℕ) (xs : List X) (f : ℕ → Bool) → ((x : X) → Has xs x → (d : DriverCell) × IsDriverCell board walk d × (place x ≡ d.position)) → ((d : DriverCell) → IsDriverCell board walk d → (x : X) × Has xs x × (place x ≡ d.position)) →
       assigned place (λ x. false) (tdi_of board (mark_row f)) xs ≡ tdi_of board (still_row walk)
   cleared_row {X} place xs f right cover =
@@ -251,7 +251,7 @@ module _ (board : RawBoard) (rules : IsBoard board) (walk : List Ctl) (cells : C
       by_place i (inl e) = inl e
       by_place i (inr (d, has, at, ne)) = let c = cover d (cells.only d has) in inr (c.0, c.1, c.2 ∙ at)
 
-  -- what is compared
+  -- the row of zeros from which the compared bits are set
   abbrev zeros : List Bool
   zeros = laid (λ part device cell. false) board
 
@@ -270,7 +270,7 @@ module _ (board : RawBoard) (rules : IsBoard board) (walk : List Ctl) (cells : C
       mask_laid board (record { now = quiet_row; before = mark_row f })
       ∙ sym (mask_compared board rules walk (λ n. Some (f n)) (bit f) cells.drivers cells.only cells.every (λ d has. refl) cells.readers cells.are)
 
-  -- it does not depend on the bits
+  -- the compared positions do not depend on the bits that the nets carry
   pub mask_same : (f g : ℕ → Bool) → mask_of board (mark_row f) ≡ mask_of board (mark_row g)
   mask_same f g = mask_is f ∙ sym (mask_is g)
 
@@ -279,7 +279,7 @@ module _ (board : RawBoard) (rules : IsBoard board) (walk : List Ctl) (cells : C
       tdo_laid board (record { now = quiet_row; before = mark_row f })
       ∙ sym (tdo_compared board rules walk (λ n. Some (f n)) (bit f) cells.drivers cells.only cells.every (λ d has. refl) cells.readers cells.are)
 
-  -- a compared cell: the driver by which its net is observed, and the cell that reads it beside
+  -- a compared cell: the driver by which its net is observed, and a cell that reads the net beside this driver
   pub record ComparedAt (position : ℕ) : Type 0 where
     pub driver : DriverCell
     pub is_driver : IsDriverCell board walk driver
@@ -323,7 +323,7 @@ module _ (board : RawBoard) (rules : IsBoard board) (walk : List Ctl) (n : ℕ) 
   abbrev c : Compared board (holds walk) n net
   c = compared_of board rules walk n net is_net d observing r q other
 
-  -- what rows of cells' bits have there
+  -- a row of cells' bits has the bit of this cell at the cell's position
   pub laid_here : (g : ℕ → RawDevice → ℕ → Bool) → (r.position < data_bits board) × (get_or (laid g board) r.position false ≡ g c.k c.device c.cell)
   laid_here g =
       let l = laid_at g board c.k c.device c.cell (compared_device board rules walk n net is_net d observing r q other) c.below in
@@ -342,7 +342,7 @@ module _ (board : RawBoard) (rules : IsBoard board) (walk : List Ctl) (n : ℕ) 
       ∙ (laid_here (λ part device cell. unwrap_or (expect_bit board (pass_row walk (λ m. Some (f m))) part device cell) false)).1
       ∙ ap (λ (o : Option Bool). unwrap_or o false) (expects board (pass_row walk (λ m. Some (f m))) n net c)
 
--- the cells of a walk net, by the definitions alone
+-- the cells of a walk net, from the definitions alone
 beside_positions : (place : ℕ) (readers : List ReaderCell) (position : ℕ) → Has (positions_beside place readers) position → (r : ReaderCell) × Has readers r × ((r.place == place) ≡ false) × (r.position ≡ position)
 beside_positions place readers position h =
     let m = map_has (λ (r : ReaderCell). r.position) (filter (λ r. not (r.place == place)) readers) position h in
@@ -381,7 +381,7 @@ net_cells board walk n w position readers only every at =
       some = some_items (positions_beside w.driver readers) first.0.position (positions_has w.driver readers first.0 (every first.0 first.1) first.2);
     }
   where
-    -- some cell reads the net beside its driver
+    -- some cell reads the net at another pin than the driver's
     first : (r : ReaderCell) × IsReaderCell board w.net r × ((r.place == w.driver) ≡ false)
     first =
         let beside : reads_beside board w.driver 0 w.net.pins ≡ true = beside_observing board (holds walk) w.net w.driver w.observing in
@@ -392,7 +392,7 @@ net_cells board walk n w position readers only every at =
         not_false true e = cc e
         not_false false e = refl
 
--- the cells of each walk net
+-- each walk net has cells
 pub cells_there : (board : RawBoard) (walk : List Ctl) (n : ℕ) → WalkedBy board walk n → (cells : NetCells) × AreNetCells board walk n cells
 cells_there board walk n w =
     let d = driver_cell board walk n w.net w.driver w.is_net w.observing in

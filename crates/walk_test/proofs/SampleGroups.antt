@@ -1,5 +1,5 @@
--- Sets of groups of small boards: which lists are such sets, what a board shows with their shorts, which of them explain a log, and their
--- text.
+-- Sets of groups of small boards: the lists that are sets of groups, the rows that the boards capture with their shorts, the logs that
+-- they explain, and their texts.
 use Rattle.std.proofs.Common.{◌≡◌, inl, inr, ℕ, zero, suc, ◌+◌, ◌<◌, ◌≤◌, Bool, List, [], ◌∷◌, length, map, Some, refl, subst, arith}
 use Rattle.std.specs.Prelude.{codes, Contains, All}
 use Rattle.std.specs.Fmt.{digits}
@@ -30,14 +30,14 @@ use Rattle.walk_test.specs.GroupText.{groups_text}
 use Rattle.walk_test.specs.inner.Tables.{walk_row_of}
 use Rattle.walk_test.proofs.SampleTests.{two_passes, two_passes_nets}
 
--- what the three nets show in the three rows, with the shorts of these groups and where each free bit is 0
+-- every free bit is 0
 abbrev all_off : Choice
 all_off = record { parts = λ k. record { ir = λ i. off; cells = λ i. off; latches = λ i. off; tdo = off; other = off }; shorts = λ k. off; tdi = off }
 
 abbrev shown : List (List ℕ) → List (List Bool)
 shown groups = map (λ j. row_captured three_wires (or_shorts groups) (walk_row_of three_wires j) all_off) (0 ∷ 1 ∷ 2 ∷ [])
 
--- the receivers of the three nets read this
+-- a row in which the receivers of the three nets read these bits
 abbrev read_row : Bool → Bool → Bool → List Bool
 read_row first second third = third ∷ off ∷ first ∷ second ∷ off ∷ off ∷ off ∷ off ∷ []
 
@@ -56,7 +56,7 @@ second_and_third_shown = refl
 all_shown : shown ((0 ∷ 1 ∷ 2 ∷ []) ∷ []) ≡ read_row on on on ∷ read_row on on on ∷ read_row on on on ∷ []
 all_shown = refl
 
--- four nets from two drivers to two receivers, with names of their own
+-- four nets from two drivers to two receivers; parts, pins and nets have their own names
 abbrev part_of : List ℕ → RawDevice → Part
 part_of name device = record { name = name; kind = Described device }
 
@@ -75,7 +75,7 @@ four_wires = record {
 four_wires_rules : IsBoard four_wires
 four_wires_rules = board_of four_wires refl
 
--- a group of two of them
+-- a group of the first and the third net
 abbrev one_short : List (List ℕ)
 one_short = (0 ∷ 2 ∷ []) ∷ []
 
@@ -93,7 +93,7 @@ one_short_is = record {
     above n (inl e) = omega (arith, e)
     above n (inr has) = absurd has
 
--- a group of one net, nets that do not rise, a net in two groups, and groups whose least nets do not rise
+-- lists that are no set of groups: a group of one net, nets that do not rise, a net in two groups, and groups whose least nets do not rise
 abbrev NoGroups : List (List ℕ) → Type 0
 NoGroups groups = AreGroups four_wires groups → ⊥
 
@@ -109,7 +109,7 @@ in_two h = h.disjoint 0 1 [] (omega arith) (omega arith) 1 (1, omega arith, refl
 later_first : NoGroups ((2 ∷ 3 ∷ []) ∷ (0 ∷ 1 ∷ []) ∷ [])
 later_first h = let less : 2 < 0 = h.order 0 1 [] (omega arith) (omega arith) in absurd (omega (arith, less))
 
--- a net of the board that does not walk
+-- a net of the board that is no walk net
 unwalked : AreGroups two_passes ((0 ∷ 2 ∷ []) ∷ []) → ⊥
 unwalked h = not_there (subst (λ (nets : List ℕ). Contains nets 2) two_passes_nets (h.walked 0 [] (omega arith) 1 0 (omega arith)))
   where
@@ -118,11 +118,11 @@ unwalked h = not_there (subst (λ (nets : List ℕ). Contains nets 2) two_passes
     not_there (suc zero, less, e) = cc e
     not_there (suc (suc k), less, e) = absurd (omega (arith, less))
 
--- a log in which the first three nets read this in the first three rows, and the fourth reads itself alone
+-- a log with these first three rows, and with a fourth row in which only the fourth net reads 1
 abbrev log_of : List Bool → List Bool → List Bool → List (List Bool)
 log_of first second third = first ∷ second ∷ third ∷ (off ∷ on ∷ off ∷ off ∷ off ∷ off ∷ off ∷ off ∷ []) ∷ []
 
--- in every run the first and the third net show the Or of what they are driven to
+-- in every run, the first and the third net read the Or of the bits that they are driven with
 abbrev or_log : List (List Bool)
 or_log = log_of (read_row on off on) (read_row off on off) (read_row on off on)
 
@@ -136,12 +136,12 @@ or_explained = record {
   };
 }
 
--- each row of a log that is explained is what the cells capture
+-- each row of an explained log is what the cells capture
 rows_pass : (log : List (List Bool)) → Explain four_wires log one_short →
     CapturesPass four_wires (or_shorts one_short) quiet_row (walk_row_list four_wires) (scans_by_log (map (scan_of_row four_wires) (walk_row_list four_wires)) log)
 rows_pass log h = (log_captured four_wires four_wires_rules (or_shorts one_short) (walk_row_list four_wires) log).0 h.explained.passes
 
--- a log that shows their And is not explained, nor is one in which only the first net reads the third
+-- the group explains neither a log of the And of the two nets nor a log in which only the first net reads the third
 abbrev IsUnexplained : List (List Bool) → Type 0
 IsUnexplained log = Explain four_wires log one_short → ⊥
 
@@ -151,7 +151,7 @@ and_log h = both_ways _ refl ((rows_pass _ h).1.0 all_off)
 one_way_log : IsUnexplained (log_of (read_row on off off) (read_row off on off) (read_row on off on))
 one_way_log h = both_ways _ refl ((rows_pass _ h).1.0 all_off)
 
--- each group has its nets in order
+-- the nets of each group are in order
 two_groups_text : groups_text four_wires (Some ((0 ∷ 2 ∷ []) ∷ (1 ∷ 3 ∷ []) ∷ [])) ≡ codes "GROUPS 2\nGROUP 2\nNET A\nNET C\nGROUP 2\nNET B\nNET D\n"
 unfolding groups_text digits
 two_groups_text = refl

@@ -1,4 +1,4 @@
--- The one set of groups that explains a log, by the labels of the walk nets.
+-- The labels of the walk nets give the one set of groups that explains a log.
 use Rattle.std.proofs.Common.{◌≡◌, inl, inr, ℕ, zero, suc, ◌<◌, ◌≤◌, ◌==◌, Bool, true, false, cond, ◌&&◌, List, [], ◌∷◌, length, take, map, get_or, Option, Some, None, Decides, refl, sym, ◌∙◌, ap, subst, arith}
 use Rattle.std.specs.Prelude.{◌↔◌, slice_get, count_by, All, Contains, Result, Ok, Err, IfOk, option_map}
 use Rattle.std.specs.List.{list_all}
@@ -42,7 +42,7 @@ use Rattle.walk_test.proofs.ExplainLemmas.{ShowJoined, shaped, shows_explained}
 use Rattle.walk_test.proofs.LawLemmas.{setting_is, shown_by}
 use Rattle.walk_test.proofs.LabelLemmas.{first_low, first_holds, first_same, label_is, first_compared, each_shows, shows_each, own_label, IsDecided, shows_decided, are_groups, joined_labels}
 
--- the driver cells of nets that a setting observes, and the cells that read each net
+-- the driver cells of these nets, by which the setting observes them
 record DriversOf (board : RawBoard) (walk : List Ctl) (nets : List ℕ) : Type 0 where
   drivers : List DriverCell
   only : (d : DriverCell) → Has drivers d → IsDriverCell board walk d
@@ -119,7 +119,7 @@ some_cells board walk (n ∷ nets) walked = by_rest (cells_there board walk n (w
             subst (λ (k : ℕ). AreNetCells board walk k x) net (subst (λ (y : NetCells). AreNetCells board walk n y) same is_c)
         are (suc i) m x e f = rest.are i m x e f
 
--- a compared cell of a net
+-- this position is that of a compared cell of net n
 record ComparedCell (board : RawBoard) (walk : List Ctl) (n position : ℕ) : Type 0 where
   driver : DriverCell
   is_driver : IsDriverCell board walk driver
@@ -145,14 +145,14 @@ compared_cell board walk n c a p h =
       position_is = r.3;
     }
 
--- its position
+-- the position of a compared cell is within a data scan
 pub position_within : (board : RawBoard) → IsBoard board → (walk : List Ctl) (n : ℕ) (c : NetCells) → AreNetCells board walk n c → (p : ℕ) → Has c.compared p → p < data_bits board
 position_within board rules walk n c a p h =
     let x : ComparedCell board walk n p = compared_cell board walk n c a p h in
     let here = laid_here board rules walk x.driver.net x.is_driver.net x.is_driver.is_net x.driver.place x.is_driver.observing x.reader x.is_reader x.other (λ k device cell. false) in
     omega (arith, here.0, x.position_is)
 
--- the cells of a walk's nets, where the board has a pass
+-- the cells of a walk's nets, if the board has a pass
 pub record Walked (board : RawBoard) (cells : List NetCells) : Type 0 where
   pub walk : List Ctl
   pub is : walk_setting board ≡ Some walk
@@ -168,7 +168,7 @@ walked board t w some = by_setting (walk_setting board) refl
         let are : CellsAre board walk t.nets t.cells = record { count = tables.count; are = tables.cells } in
         record { walk = walk; is = e; are = subst (λ (l : List ℕ). CellsAre board walk l t.cells) w.nets are }
 
--- the same of a walk that is seen as these tables
+-- like `walked`, for a walk whose tables and cells are given by equations
 pub walked_at : (board : RawBoard) (seen t : WalkTables) (cells : List NetCells) (passes : ℕ) → IsWalkOf board seen → t ≡ seen → cells ≡ t.cells → passes ≡ length t.plan.passes → (passes ≡ 0 → ⊥) → Walked board cells
 walked_at board seen t cells passes w same are count some =
     let all : cells ≡ seen.cells = are ∙ ap (λ (x : WalkTables). x.cells) same in
@@ -181,7 +181,7 @@ nets_at board seen t nets w same are = are ∙ ap (λ (x : WalkTables). x.nets) 
 pub nets_in_order : (board : RawBoard) (nets : List ℕ) → nets ≡ walk_nets board → Rise nets
 nets_in_order board nets are = subst (λ (l : List ℕ). Rise l) (sym are) (order_pairs (λ a b. a < b) (walk_nets board) (nets_rise board))
 
--- each position is within a row of so many bits, and each net has one
+-- each net has a compared position, and each position is within a data scan
 module _ (board : RawBoard) (rules : IsBoard board) (cells : List NetCells) (w : Walked board cells) where
   net_cells_at : (c : NetCells) → Has cells c → (n : ℕ) × AreNetCells board w.walk n c
   net_cells_at c h =
@@ -199,16 +199,16 @@ module _ (board : RawBoard) (rules : IsBoard board) (cells : List NetCells) (w :
         within = all_from_has (λ (p : ℕ). p < len) c.compared (λ p k. omega (arith, is, position_within board rules w.walk a.0 c a.1 p k));
       })
 
--- what is said of a log with its nets, by each of the two
+-- a property of a log with its nets holds of the log and the nets one by one
 pub by_parts : (it : LoggedNets) (log : List (List Bool)) (cells : List NetCells) → it.log ≡ log → it.nets ≡ cells → (P : List (List Bool) → List NetCells → Type 0) → P it.log it.nets → P log cells
 by_parts it log cells log_is nets_are P p = subst (λ (n : List NetCells). P log n) nets_are (subst (λ (l : List (List Bool)). P l it.nets) log_is p)
 
--- what follows from what is said of a value that may be there
+-- if a value has P whenever there is one, and Q follows from P, the value has Q
 pub ok_then : {T E : Type 0} (r : Result T E) {P Q : T → Type 0} → IfOk r P → ((x : T) → P x → Q x) → IfOk r Q
 ok_then (Ok x) h f = f x h
 ok_then (Err e) h f = tt
 
--- no walk setting: the groups are none
+-- without a walk setting there are no scans, which are in turn
 no_scans : (board : RawBoard) → AreInTurn board []
 no_scans board = record { follow = tt; safe = λ x scan at. cc at }
 
@@ -275,7 +275,7 @@ module _ (safe : WalkSafe) (by_rows : (board : RawBoard) (faults : FaultSet) (sc
     some : (i : ℕ) (c : NetCells) → slice_get cells i ≡ Some c → 0 < length c.compared
     some i c e = let a : AreNetCells board walk (get_or nets i 0) c = are.are i (get_or nets i 0) c (net_at i c e) e in a.some
 
-    -- each compared cell of a net reads in each row whether the net is joined with the one that carries 1
+    -- each compared cell of a net reads in each row whether its net is joined with the net that carries 1
     abbrev CellsJoined : List (List ℕ) → Type 0
     CellsJoined groups = (i j a b p : ℕ) (c : NetCells) → slice_get nets i ≡ Some a → slice_get cells i ≡ Some c → slice_get nets j ≡ Some b → Has c.compared p → bit_in log j p ≡ are_joined groups a b
 
@@ -304,7 +304,7 @@ module _ (safe : WalkSafe) (by_rows : (board : RawBoard) (faults : FaultSet) (sc
         ap (λ (row : List Bool). get_or row r.position false) (sym (get_or_from_slice_get log j logged [] e))
         ∙ joined place.0 j d.net one r.position c place.1 stands at has
 
-    -- the groups by the labels explain the log where each compared cell reads what these say
+    -- the groups of the labels explain the log if each compared cell reads what the labels say
     module _ (shape : All (λ row. length row ≡ data_bits board) log) (shows : ShowsAll log labels cells) where
       abbrev own : (i k : ℕ) → slice_get labels i ≡ Some k → (k ≤ i) × (slice_get labels k ≡ Some k)
       own = own_label log cells long some shows
@@ -336,7 +336,7 @@ module _ (safe : WalkSafe) (by_rows : (board : RawBoard) (faults : FaultSet) (sc
           (shaped board rules walk is set (compare board walk rules) groups groups_are log rows shape) (cells_of board walk is) (joined_shown groups joined) in
           record { are = groups_are; explained = subst (λ (o : Option (List Ctl)). ExplainedBy board (or_shorts groups) (scans_by board o) log) (sym is) by_walk }
 
-    -- where some groups explain it, each does
+    -- if some set of groups explains the log, each compared cell reads what the labels say
     module _ (groups : List (List ℕ)) (explains : Explain board log groups) where
       ordered : AreOrdered groups
       ordered = groups_ordered board groups explains.are
@@ -347,11 +347,11 @@ module _ (safe : WalkSafe) (by_rows : (board : RawBoard) (faults : FaultSet) (sc
       joined_cells : CellsJoined groups
       joined_cells = cells_joined groups (shown_by safe by_rows compare turns board walk log groups rules is explains).0
 
-      -- the first compared cell reads the nets that are joined with its own
+      -- the first compared cell of a net reads 1 exactly in the rows of the nets that are joined with its net
       first_reads : (i j a b : ℕ) (c : NetCells) → slice_get nets i ≡ Some a → slice_get cells i ≡ Some c → slice_get nets j ≡ Some b → bit_in log j (first_cell c) ≡ are_joined groups a b
       first_reads i j a b c ni ci nj = joined_cells i j a b (first_cell c) c ni ci nj (first_compared c (some i c ci))
 
-      -- so the label is the place of the first of these
+      -- so the label of a net is the place of the first net that is joined with this net
       label_joined : (i a : ℕ) (c : NetCells) → slice_get nets i ≡ Some a → slice_get cells i ≡ Some c → (n : ℕ) × (slice_get nets (label_of log c) ≡ Some n) × (are_joined groups a n ≡ true)
       label_joined i a c ni ci =
           let on : bit_in log i (first_cell c) ≡ true = first_reads i i a a c ni ci ni ∙ joined_self groups a a refl in
@@ -397,19 +397,19 @@ module _ (safe : WalkSafe) (by_rows : (board : RawBoard) (faults : FaultSet) (sc
           ∙ sym (ap (λ (k : ℕ). k == label_of log d) (label_read i c ci))
           ∙ sym (ap (λ (k : ℕ). get_or labels i 0 == k) (label_read j d dj)))
 
-    -- whether it is shown decides it
+    -- the answer is the groups of the labels if the log shows the labels, and otherwise none
     pub found_by : All (λ row. length row ≡ data_bits board) log → (shown : Bool) → Decides shown (ShowsAll log labels cells) → AreFound board log (cond shown (Some (groups_by nets labels)) None)
     found_by shape true d = explain shape (d.0 refl)
     found_by shape false d = λ groups explains. let bad : false ≡ true = d.1 (all_show groups explains) in cc bad
 
-  -- without a walk setting no group explains each log of the shape
+  -- without a walk setting, the empty set of groups explains each log of the right shape
   none_explain : (board : RawBoard) → IsBoard board → walk_setting board ≡ None → (log : List (List Bool)) → HasShape board [] log → Explain board log []
   none_explain board rules none log shape = record {
     are = none_are board;
     explained = subst (λ (o : Option (List Ctl)). ExplainedBy board (or_shorts []) (scans_by board o) log) (sym none) ((by_rows board (or_shorts []) [] log rules (no_scans board)).1 (shape, λ x scan logged choice at. cc at));
   }
 
-  -- a board without a pass
+  -- the answer for a board without a pass is the empty set of groups
   pub found_nothing : (board : RawBoard) → IsBoard board → (log : List (List Bool)) → length (option_to_list (walk_setting board)) ≡ 0 → length log ≡ length (walk_nets board) → AreFound board log (Some [])
   found_nothing board rules log passes rows = by_setting (walk_setting board) refl passes
     where
@@ -419,7 +419,7 @@ module _ (safe : WalkSafe) (by_rows : (board : RawBoard) (faults : FaultSet) (sc
           let no_rows : length log ≡ 0 = rows ∙ ap (λ (l : List ℕ). length l) (no_nets board e) in
           none_explain board rules e log (record { rows = no_rows ∙ sym (rows_counted board []); bits = λ k d less. absurd (omega (arith, less, no_rows)) })
 
-  -- the same of a walk
+  -- like `found_nothing`, for a walk whose tables are given by equations
   pub nothing_at : (board : RawBoard) → IsBoard board → (seen t : WalkTables) (log : List (List Bool)) (passes : ℕ) (found : List (List ℕ)) → IsWalkOf board seen → t ≡ seen → passes ≡ length t.plan.passes → passes ≡ 0 →
       length log ≡ length seen.nets → found ≡ [] → Explain board log found
   nothing_at board rules seen t log passes found w same count zero_passes rows empty =
@@ -427,7 +427,7 @@ module _ (safe : WalkSafe) (by_rows : (board : RawBoard) (faults : FaultSet) (sc
       sym (ap (λ (l : List (List Ctl)). length l) w.passes) ∙ sym (ap (λ (x : WalkTables). length x.plan.passes) same) ∙ sym count ∙ zero_passes in
       subst (λ (l : List (List ℕ)). Explain board log l) (sym empty) (found_nothing board rules log none (rows ∙ ap (λ (l : List ℕ). length l) w.nets))
 
-  -- what the groups by the labels are, where they are given only if all is shown
+  -- like `found_by`, for nets and labels that are given by equations
   pub found_at : (board : RawBoard) → IsBoard board → (cells : List NetCells) → Walked board cells → (log : List (List Bool)) → length log ≡ length (walk_nets board) → All (λ row. length row ≡ data_bits board) log →
       (given read used : List ℕ) → given ≡ walk_nets board → read ≡ map (label_of log) cells → used ≡ map (label_of log) cells → (shown : Bool) → Decides shown (ShowsAll log read cells) →
       (found : Option (List (List ℕ))) → found ≡ cond shown (Some (groups_by given used)) None → AreFound board log found
@@ -439,14 +439,14 @@ module _ (safe : WalkSafe) (by_rows : (board : RawBoard) (faults : FaultSet) (sc
       ∙ ap (λ (l : List ℕ). cond shown (Some (groups_by (walk_nets board) l)) None) used_is))
       (found_by board rules w.walk w.is log cells w.are rows bits shown by_labels)
 
-  -- where nothing is shown, no groups explain the log
+  -- if the log does not show the labels, no set of groups explains the log
   pub none_found : (board : RawBoard) → IsBoard board → (cells : List NetCells) → Walked board cells → (log : List (List Bool)) → length log ≡ length (walk_nets board) → All (λ row. length row ≡ data_bits board) log →
       (ShowsAll log (map (label_of log) cells) cells → ⊥) → AreFound board log None
   none_found board rules cells w log rows bits hidden =
       let decides : Decides false (ShowsAll log (map (label_of log) cells) cells) = (λ e. cc e, λ shows. absurd (hidden shows)) in
       found_at board rules cells w log rows bits (walk_nets board) (map (label_of log) cells) (map (label_of log) cells) refl refl refl false decides None refl
 
-  -- and where all is shown, those by the labels do
+  -- if the log shows the labels, the groups of the labels explain the log
   pub groups_found : (board : RawBoard) → IsBoard board → (cells : List NetCells) → Walked board cells → (log : List (List Bool)) → length log ≡ length (walk_nets board) → All (λ row. length row ≡ data_bits board) log →
       (nets labels used : List ℕ) → nets ≡ walk_nets board → labels ≡ map (label_of log) cells → used ≡ labels → ShowsAll log labels cells → (groups : List (List ℕ)) → groups ≡ groups_by nets used → AreFound board log (Some groups)
   groups_found board rules cells w log rows bits nets labels used nets_are are used_are shows groups groups_are =

@@ -5,7 +5,7 @@ use Rattle.line_printer.specs.Prints.{line_of}
 use Rattle.board_defs.specs.declared.board.Net.{Net}
 use Rattle.board_defs.specs.declared.board.RawBoard.{RawBoard}
 
--- the name of a net
+-- the name of a net, or nothing if there is no net
 abbrev pub name_of : Option Net → List ℕ
 name_of None = []
 name_of (Some net) = net.name
@@ -21,7 +21,7 @@ net_line board n = line_of (codes "NET " ∷ net_name board n ∷ [])
 abbrev pub size_line : ℕ → List ℕ
 size_line size = line_of (codes "GROUP " ∷ decimal size ∷ [])
 
--- the lines of a group: its size, and its nets
+-- the lines of a group: the line with its size, and then the lines of its nets
 abbrev pub group_text : RawBoard → List ℕ → List ℕ
 group_text board group = size_line (length group) ++ flat_map (net_line board) group
 
@@ -29,7 +29,7 @@ group_text board group = size_line (length group) ++ flat_map (net_line board) g
 abbrev pub count_line : ℕ → List ℕ
 count_line count = line_of (codes "GROUPS " ∷ decimal count ∷ [])
 
--- the groups that explain a log, or that no set of groups does
+-- the text of the groups that explain a log, or the line that says that no set of groups does
 unfoldable pub groups_text : RawBoard → Option (List (List ℕ)) → List ℕ
 groups_text board None = line_of (codes "GROUPS none" ∷ [])
 groups_text board (Some groups) = count_line (length groups) ++ flat_map (group_text board) groups

@@ -17,7 +17,7 @@ use Rattle.walk_test.specs.Tables.{IsWalkOf, scan_count}
 abbrev pub WalkSafe : Type 0
 WalkSafe = (board : RawBoard) (walk : List Ctl) → IsBoard board → walk_setting board ≡ Some walk → IsSafe board (holds walk)
 
--- the walk setting holds those controls of the first pass that are not the control of a switching driver
+-- the walk setting holds a control exactly if the first pass holds it and it is not the control of a switching driver
 abbrev pub WalkKept : Type 0
 WalkKept = (board : RawBoard) (pass walk : List Ctl) (c : Ctl) → slice_get (passes_of board) 0 ≡ Some pass → walk_setting board ≡ Some walk → holds walk c ≡ (holds pass c && not (switches_some board c))
 
@@ -33,7 +33,7 @@ ShortsAreFaults = (board : RawBoard) (groups : List (List ℕ)) → IsBoard boar
 abbrev pub GroupsRespond : Type 0
 GroupsRespond = (board : RawBoard) (groups : List (List ℕ)) → IsBoard board → AreGroups board groups → (log : List (List Bool)) × Explain board log groups
 
--- any two such logs agree at every compared bit
+-- any two logs that one set of groups explains agree at every compared bit
 abbrev pub OneResponse : Type 0
 OneResponse = (board : RawBoard) (groups : List (List ℕ)) (log other : List (List Bool)) → IsBoard board → Explain board log groups → Explain board other groups → AgreeOn board (walk_row_list board) log other
 
@@ -41,6 +41,6 @@ OneResponse = (board : RawBoard) (groups : List (List ℕ)) (log other : List (L
 abbrev pub OneSet : Type 0
 OneSet = (board : RawBoard) (log : List (List Bool)) (groups others : List (List ℕ)) → IsBoard board → Explain board log groups → Explain board log others → groups ≡ others
 
--- a walk has as many scans as the walking test
+-- the scan count that the tables of a walk give is the number of scans in the board's walking test
 abbrev pub ScansCounted : Type 0
 ScansCounted = (board : RawBoard) (walk : WalkTables) → IsWalkOf board walk → scan_count walk ≡ length (walk_scans board)

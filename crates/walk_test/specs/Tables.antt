@@ -1,4 +1,4 @@
--- What a walk keeps of a board: its plan, its nets with their cells, and what all rows share.
+-- The tables that a walk keeps of a board: its plan, its nets with their cells, and the rows that all scans share.
 use Rattle.std.specs.Prelude.{◌≡◌, ◌↔◌, ℕ, suc, ◌+◌, ◌<◌, ◌==◌, Bool, false, List, [], ◌∷◌, length, Some, slice_get, Contains}
 use Rattle.std.specs.Option.{option_to_list}
 use Rattle.board_defs.specs.declared.board.Net.{Net}
@@ -16,11 +16,11 @@ use Rattle.walk_test.specs.declared.tables.NetCells.{NetCells}
 use Rattle.walk_test.specs.declared.tables.WalkTables.{WalkTables}
 use Rattle.walk_test.specs.WalkTest.{walk_setting, walk_nets}
 
--- the bits that the scan of a row shifts in
+-- the bits that a scan shifts in for a row
 abbrev pub tdi_of : RawBoard → TestRow → List Bool
 tdi_of board row = tdi_bits (joined (row_bits board (record { now = row; before = quiet_row })))
 
--- a 1 for each position at which the scan after the one that shifts the row in compares what it captures
+-- a 1 for each position that the next scan compares, the scan after the one that shifts in the row
 abbrev pub mask_of : RawBoard → TestRow → List Bool
 mask_of board row = mask_bits (joined (row_bits board (record { now = quiet_row; before = row })))
 
@@ -28,7 +28,7 @@ mask_of board row = mask_bits (joined (row_bits board (record { now = quiet_row;
 abbrev pub still_row : List Ctl → TestRow
 still_row walk = record { setting = holds walk; carried = λ n. Some false }
 
--- the cells of a walk net: that of the driver by which the setting observes it, and those that are compared
+-- the cells of a walk net: the cell of the driver by which the setting observes the net, and the compared cells
 pub record AreNetCells (board : RawBoard) (walk : List Ctl) (n : ℕ) (cells : NetCells) : Type 0 where
   pub net : Net
   pub is_net : slice_get board.nets n ≡ Some net
@@ -46,7 +46,7 @@ pub record AreWalkTables (board : RawBoard) (walk : List Ctl) (t : WalkTables) :
   pub still : t.rows.still.bits ≡ tdi_of board (still_row walk)
   pub mask : t.rows.mask.bits ≡ mask_of board (still_row walk)
 
--- the walk of a board
+-- the tables of the board's walk
 pub record IsWalkOf (board : RawBoard) (t : WalkTables) : Type 0 where
   pub plan : IsPlanOf board t.plan
   pub passes : t.plan.passes ≡ option_to_list (walk_setting board)

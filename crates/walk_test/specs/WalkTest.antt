@@ -12,11 +12,11 @@ use Rattle.tap_defs.specs.board.BoardScans.{RowScan, board_scans, is_walked, wal
 use Rattle.tap_defs.specs.chain.Scan.{Scan}
 use Rattle.tap_defs.specs.chain.Text.{svf_text}
 
--- the pin is a switching driver of the net, and this is its control
+-- the pin is a switching driver of the net, and `c` is its control
 abbrev pub is_switched_by : RawBoard → Ctl → Net → NetPin → Bool
 is_switched_by board c net pin = switches board net pin && is_by c (drive board net pin)
 
--- the control is the one of a switching driver
+-- `c` is the control of a switching driver of the board
 abbrev pub switches_some : RawBoard → Ctl → Bool
 switches_some board c = list_any (λ net. list_any (is_switched_by board c net) net.pins) board.nets
 
@@ -34,11 +34,11 @@ is_walk_net board None net = false
 is_walk_net board (Some walk) None = false
 is_walk_net board (Some walk) (Some net) = is_walked board walk net
 
--- the numbers of the walk nets, which the walk setting observes, in net order
+-- the numbers of the walk nets, in net order: the nets that the walk setting observes
 abbrev pub walk_nets : RawBoard → List ℕ
 walk_nets board = filter (λ n. is_walk_net board (walk_setting board) (slice_get board.nets n)) (range_with_len 0 (length board.nets))
 
--- the data scans after the EXTEST codes; without a pass there are none
+-- the data scans after the EXTEST codes; without a pass there are no such scans
 abbrev pub scans_by : RawBoard → Option (List Ctl) → List RowScan
 scans_by board None = []
 scans_by board (Some walk) = walk_row_scans board walk

@@ -1,14 +1,14 @@
-// Rows by the values of their digits, which are compared many at a time.
+// Rows by the values of their digits. A comparison takes many digits at a time.
 ghost use Rattle.std.specs.Prelude.{◌≡◌, ℕ, ◌+◌, ◌*◌, ◌/◌, ◌≤◌, ◌<◌, ◌^◌, false, length, slice_index_or, ◌↔◌, IsTrue};
 ghost use Rattle.std.specs.Bool.{OnTrue};
 ghost use Rattle.walk_test.specs.inner.Digits.{is_one, differing, AreClear};
 
 use bt_bits::digit_bit;
 
-// The number of digits that are read before a test may end the loop. Most digits of a row are 0.
+// The number of digits in a block. A search tests whole blocks first, since most digits of a row are 0.
 const BLOCK: usize = 64;
 
-/// A row as the values of its digits, and as many digits with a 1 for each compared bit of the row.
+/// A row as the values of its digits. `mask` has as many digits, with a 1 for each compared bit of the row.
 #[derive(Clone, Copy)]
 pub struct MaskedRow<'a> {
     pub digits: &'a [u8],
@@ -28,7 +28,7 @@ fn digit_at(digits: &[u8], place: usize) -> u8
 }
 
 impl MaskedRow<'_> {
-    /// Returns whether a position is compared and reads 1. No position past the end does.
+    /// Returns whether a position is compared and reads 1. The result is false past the end.
     #[inline]
     pub fn is_one(&self, at: usize) -> bool
         ensures { result ≡ is_one self.now.digits.now self.now.mask.now at }
@@ -50,7 +50,7 @@ impl MaskedRow<'_> {
         ones == 0
     }
 
-    // Skips blocks of `block` digits that have no compared 1, from `from` on. Returns where they end.
+    // Skips blocks of `block` digits that have no compared 1, from `from` on. Returns the place where the skipped blocks end.
     #[inline]
     fn blocks_end(&self, from: usize, block: usize) -> usize
         requires from { from ≤ length self.now.digits.now }
@@ -66,7 +66,8 @@ impl MaskedRow<'_> {
         k
     }
 
-    // Skips digits that have no compared 1, from `from` on: first block by block, and then digit by digit. Returns where they end.
+    // Skips digits that have no compared 1, from `from` on: first block by block, and then digit by digit. Returns the place where the
+    // skipped digits end.
     fn next_marked(&self, from: usize) -> usize
         requires { from ≤ length self.now.digits.now }
         ensures past { from ≤ result }
@@ -76,7 +77,7 @@ impl MaskedRow<'_> {
         self.blocks_end(self.blocks_end(from, BLOCK), 1)
     }
 
-    /// Returns a later position than this one. No position between the two is compared and reads 1.
+    /// Returns a position after `at`. No position between the two is compared and reads 1.
     #[inline]
     pub fn position_after(&self, at: usize) -> usize
         requires few { length self.now.digits.now < 2 ^ 60 }
@@ -91,8 +92,8 @@ impl MaskedRow<'_> {
         }
     }
 
-    /// Returns whether another row of as many digits reads the same at every compared position. The loop goes through all digits without a
-    /// branch, so the machine can take many at a time.
+    /// Returns whether another row with as many digits reads the same at every compared position. The loop goes through all digits without
+    /// a branch, so the processor can compare many digits at a time.
     pub fn is_alike(&self, other: &[u8]) -> bool
         requires { length other.now ≡ length self.now.digits.now }
         ensures { IsTrue result ↔ ((k : ℕ) → k < length self.now.mask.now → differing self.now.digits.now other.now self.now.mask.now k ≡ 0) }

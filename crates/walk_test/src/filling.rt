@@ -1,4 +1,4 @@
-// Fills rows with a scan of the walking test.
+// Fills the rows of a scan of the walking test.
 ghost use Rattle.std.specs.Prelude.{◌≡◌, ◌+◌, ◌<◌, ◌≤◌, true, length, slice_get, option_copied};
 ghost use Rattle.board_defs.specs.Pins.{data_bits};
 ghost use Rattle.plan_tables.specs.Assigned.{assigned};
@@ -14,7 +14,7 @@ use bt_bits::Row;
 use std::marker::Model;
 use tap_defs::{ScanRows, Shape};
 
-// A board with a walk of it that has a pass. It fills the scans after the EXTEST codes.
+// A board with a pass, and its walk. Fills the scans after the EXTEST codes.
 #[derive(Drop)]
 struct RowFiller<'a> {
     board: &'a Board,
@@ -68,7 +68,7 @@ impl<'a> RowFiller<'a> {
         RowFiller { board, tables }
     }
 
-    // Fills `tdi` with row `j`, in which walk net `j` carries 1, or with the quiet row after the last net.
+    // Fills `tdi` with row `j`. Walk net `j` carries 1 in this row. After the last walk net the row is the quiet row.
     fn shift(&self, j: usize, tdi: &mut Row)
         requires { data_bits self.now.board ≤ tdi.old.room }
         ensures bits { tdi.new.bits ≡ shifted_in self.now j }
@@ -84,8 +84,8 @@ impl<'a> RowFiller<'a> {
         }
     }
 
-    // Fills `tdo` and `mask` for scan `j`, which captures while row `j - 1` is in the latches: the compared cells of the walk net that
-    // carries 1 in that row should read 1, and all other compared cells 0. Scan 0 compares nothing.
+    // Fills `tdo` and `mask` for scan `j`, which captures while row `j - 1` is in the latches. The compared cells of the walk net that
+    // carries 1 in that row should read 1, and all other compared cells should read 0. Scan 0 compares nothing.
     fn compare(&self, j: usize, tdo: &mut Row, mask: &mut Row)
         requires row { j ≤ length self.now.tables.nets }
         requires tdo_room { data_bits self.now.board ≤ tdo.old.room }
@@ -107,7 +107,7 @@ impl<'a> RowFiller<'a> {
         }
     }
 
-    // Fills the three rows with scan `j` of those after the EXTEST codes.
+    // Fills the three rows with scan `j`, counted from the first scan after the EXTEST codes.
     fn fill(&self, j: usize, rows: &mut ScanRows) -> Shape
         requires row { j ≤ length self.now.tables.nets }
         requires room { EachHasRoom (IsRoom self.now.board) rows.old }

@@ -17,7 +17,7 @@ use response_log::Log;
 use std::alloc::{AllocError, Global};
 use tap_defs::board_law::{logs_by_rows, rows_compared, scans_in_turn};
 
-// Returns, for each place of a net, the nets that have this place as their label, in order.
+// Returns a list of nets for each place of a net: the nets that have this place as their label, in order.
 fn all_members(alloc: Global, nets: &[u32], labels: &[u32]) -> Result<Vec<Items<u32>>, AllocError>
     requires { length labels.now ≡ length nets.now }
     ensures { IfOk result (λ lists. lists.items ≡ map (members nets.now labels.now) (range_with_len 0 (length labels.now))) }
@@ -62,12 +62,12 @@ fn groups_by(alloc: Global, nets: &[u32], labels: &[u32]) -> Result<Vec<Group>, 
 }
 
 /// Returns the set of groups of walk nets that explains a log of the walking test, or `None` exactly if no set does. There is at most one
-/// such set. Its groups are in the order of their least nets. The walk must be that of the board, and the log must have a row for each
-/// walk net, each as long as a data scan. The nets of the groups are nets of the board.
+/// such set. Its groups are in the order of their least nets. The walk must be that of the board. The log must have a row for each
+/// walk net, and each row must be as long as a data scan. The nets of the groups are nets of the board.
 ///
 /// A set of groups explains the log if every run of the test, with the Or shorts of these groups and no other fault, gives each
-/// compared bit of the log. The log is read once, row by row, many bits at a time. Making the groups takes time in proportion to
-/// the nets.
+/// compared bit of the log. The log is read once, row by row, many bits at a time. Forming the groups takes time in proportion to
+/// the number of nets.
 pub fn groups(
     alloc: Global,
     board: &Board,

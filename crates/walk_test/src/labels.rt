@@ -1,4 +1,4 @@
-// The label of each walk net: the place of the first one whose 1 it reads.
+// The label of each walk net: the place of the first walk net whose 1 the net reads.
 ghost use Rattle.std.specs.Prelude.{◌≡◌, map, slice_index_or, IfOk, MatchOption};
 ghost use Rattle.std.specs.List.{list_all};
 ghost use Rattle.walk_test.specs.inner.Reading.{first_at, first_in, is_even, label_of, ShowsAll};
@@ -19,7 +19,7 @@ pub fn first_of(net: &NetCells) -> u32
     }
 }
 
-/// Returns the first row of a position. `firsts` has the first row of each position.
+/// Returns the first row of a position. `firsts` has the first row of each position, and `none` stands for no row.
 #[inline]
 pub fn row_at(firsts: &[u32], at: u32, none: u32) -> u32
     ensures { result ≡ slice_index_or firsts.now at none }
@@ -63,8 +63,8 @@ fn labels_in(
     Ok(labels)
 }
 
-/// Returns the labels of the walk nets of a log, or `None` if some compared cell reads in some row other than the labels say. The log is
-/// read once, row by row.
+/// Returns the labels of the walk nets of a log. Returns `None` if some compared cell reads in some row something else than the labels
+/// say. The log is read once, row by row.
 pub fn shown_labels(alloc: Global, log: &WalkLog<'_>) -> Result<Option<Vec<u32>>, AllocError>
     ensures { IfOk result (λ found. MatchOption found (ShowsAll log.now.log (map (label_of log.now.log) log.now.nets) log.now.nets → ⊥) (λ labels. (labels.items ≡ map (label_of log.now.log) log.now.nets) × ShowsAll log.now.log labels.items log.now.nets)) }
 {

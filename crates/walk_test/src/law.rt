@@ -31,7 +31,7 @@ pub fn walk_harmless()
     passes_harmless();
 }
 
-/// A walk has as many scans as the walking test.
+/// The scan count that the tables of a walk give is the number of scans in the board's walking test.
 pub fn scans_counted()
     ensures { ScansCounted }
 {}
@@ -58,7 +58,7 @@ pub fn one_set()
     scans_in_turn();
 }
 
-/// Each log of a board's walking test has exactly one answer: the set of groups that explains it, or that no set does.
+/// Each log of a board's walking test has exactly one answer: the set of groups that explains the log, or that no set does.
 pub fn logs_have_one_set()
     ensures some { (board : RawBoard) (log : List (List Bool)) → IsBoard board → (found : Option (List (List ℕ))) × AreFound board log found }
     ensures one { OneSet }

@@ -45,7 +45,7 @@ fn is_read_beside(readers: &[ReaderCell], place: u32) -> bool
     readers.iter().any(|r| r.place != place)
 }
 
-// Returns the driver if one of these cells reads a pin other than its own.
+// Returns the driver if one of these cells reads a pin other than the driver's.
 fn where_read(driver: NetDriver, readers: &[ReaderCell]) -> Option<NetDriver>
     ensures { result ≡ (if is_read_beside readers.now driver then Some driver else None) }
 {
@@ -56,7 +56,7 @@ fn where_read(driver: NetDriver, readers: &[ReaderCell]) -> Option<NetDriver>
     }
 }
 
-// Returns the items of net `n` in a table that has a list for each net. Past the end there are none.
+// Returns the items of net `n` in a table that has a list for each net. The result is empty past the end.
 fn items_at<T>(rows: &[Items<T>], n: u32) -> &[T]
     ensures { result.now ≡ slice_index_or rows.now n [] }
 {
@@ -78,7 +78,7 @@ fn readers_at(pins: &NetPins, net: u32) -> &[ReaderCell]
     items_at(pins.readers.as_slice(), net)
 }
 
-// Returns the driver by which the walk setting observes a net, if it does.
+// Returns the driver by which the walk setting observes a net, if there is one.
 fn observer(pins: &NetPins, walk: &Setting, net: u32) -> Option<NetDriver>
     ensures { result ≡ observer_in pins.now walk.now net }
 {
@@ -141,7 +141,7 @@ fn net_cells(
     }
 }
 
-// Adds a number if it is wanted.
+// Adds the number if `is_one` is true.
 fn push_if(nets: &mut Vec<u32>, n: u32, is_one: bool) -> Result<(), AllocError>
     ensures { OnOk result (nets.new.items ≡ nets.old.items ++ (if is_one then n ∷ [] else [])) }
 {
@@ -194,7 +194,7 @@ fn clear_drivers(cells: &[NetCells], row: &mut Row)
     }
 }
 
-// Returns the nets below `count` that the first of these settings observes, or none if there is no setting.
+// Returns the nets below `count` that the first of these settings observes, or no nets if there is no setting.
 fn first_nets(
     alloc: Global,
     pins: &NetPins,
@@ -222,7 +222,7 @@ fn walk_nets(
     Ok(Items::of(first_nets(alloc, pins, passes, count)?))
 }
 
-// Returns the cells of these nets while the first of the settings is on, or none if there is no setting.
+// Returns the cells of these nets under the first of the settings, or no cells if there is no setting.
 fn first_cells(
     alloc: Global,
     pins: &NetPins,
@@ -249,7 +249,7 @@ fn walk_cells(
     Ok(Items::of(first_cells(alloc, pins, passes, nets)?))
 }
 
-// Makes empty rows with room for a scan of data.
+// Returns empty rows with room for a data scan.
 fn blank_rows(alloc: Global, board: &Board) -> Result<WalkRows, AllocError>
     ensures { IfOk result (HasRoom (data_bits board.now)) }
 {
@@ -259,8 +259,8 @@ fn blank_rows(alloc: Global, board: &Board) -> Result<WalkRows, AllocError>
     Ok(WalkRows { still, mask })
 }
 
-/// Makes the parts of a walk from the pins of its board's nets and the first pass of its test. The rows are still empty: `fill_rows`
-/// fills them from the plan. Nothing fails after the plan is made, so no exit drops a plan.
+/// Returns the parts of a walk, made from the pins of its board's nets and the first pass of its test. The rows are still empty: `fill_rows`
+/// fills them from the plan. Nothing fails once the plan is made, so no exit drops a plan.
 pub fn walk_parts(
     alloc: Global,
     board: &Board,
@@ -288,8 +288,8 @@ pub fn walk_parts(
     })
 }
 
-/// Fills the rows of a walk from its plan and the cells of its nets: the first row of the pass, in which no walk net carries 1, and where
-/// it is compared. The rows have room for a scan of data. Without a pass they stay unchanged.
+/// Fills the rows of a walk from its plan and the cells of its nets: the first row of the pass with no walk net at 1, and the compared
+/// positions. The rows must have room for a data scan. Without a pass the rows stay unchanged.
 pub fn fill_rows(board: &Board, plan: &Plan, cells: &[NetCells], rows: &mut WalkRows)
     requires plan { IsPlanOf board.now plan.now }
     requires room { HasRoom (data_bits board.now) rows.old }
@@ -298,7 +298,7 @@ pub fn fill_rows(board: &Board, plan: &Plan, cells: &[NetCells], rows: &mut Walk
     if plan.pass_count() == 0 {
         return;
     }
-    // `still` takes the expected bits, which nothing needs, until the next call fills it.
+    // `still` takes the expected bits, which nobody needs, until the next call fills it with the row.
     plan.fill_compared(board, 0, 0, &mut rows.still, &mut rows.mask);
     plan.fill_shifted(board, 0, 0, &mut rows.still);
     clear_drivers(cells, &mut rows.still);

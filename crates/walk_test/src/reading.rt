@@ -1,4 +1,4 @@
-// Reads the rows of a log in order, and finds for each compared position the first row in which it reads 1.
+// Reads the rows of a log in order, and finds the first row in which each compared position reads 1.
 ghost use Rattle.std.specs.Prelude.{◌≡◌, ℕ, ◌<◌, nat_lt, length, map, slice_index_or, ◌↔◌, IsTrue, MatchBool};
 ghost use Rattle.std.specs.Bool.{OnFalse, OnTrue};
 ghost use Rattle.bt_bits.specs.Hex.{digit_count};
@@ -9,8 +9,8 @@ use crate::digits::MaskedRow;
 use crate::labels::{first_of, row_at};
 use crate::walk_log::WalkLog;
 
-// Notes row `j` for each compared position that reads 1 in it. Returns whether none of them had a row before. A position without a
-// row has `none` in its place. If one had a row, `firsts` may have been changed in part.
+// Notes row `j` for each compared position that reads 1 in this row. Returns whether none of these positions had a row before. The place
+// of a position without a row has `none`. If the result is false, `firsts` may be changed in part.
 fn mark_row(firsts: &mut [u32], row: &MaskedRow<'_>, j: u32, none: u32) -> bool
     requires { length row.now.digits.now ≡ digit_count (length firsts.old) }
     ensures fresh { IsTrue result ↔ IsFresh row.now.digits.now row.now.mask.now none firsts.old (length firsts.old) }
@@ -29,8 +29,8 @@ fn mark_row(firsts: &mut [u32], row: &MaskedRow<'_>, j: u32, none: u32) -> bool
     true
 }
 
-// Returns whether position `at` is compared and reads 1 in row `j`, and no position that does so had a row before. If so, all of them
-// have row `j` now.
+// Returns whether a group starts in row `j`: position `at` is compared and reads 1, and no compared position that reads 1 had a row before.
+// If so, all compared positions that read 1 now have row `j`.
 fn start_group(log: &WalkLog<'_>, firsts: &mut [u32], at: u32, j: u32, none: u32) -> bool
     requires row { j < length log.now.log }
     requires firsts { length firsts.old ≡ length log.now.mask }
@@ -50,8 +50,8 @@ fn are_same_rows(log: &WalkLog<'_>, j: u32, other: u32) -> bool
     log.row(j).is_alike(log.row(other).digits)
 }
 
-// Reads row `j`, in which the net with position `at` carries 1, and returns whether it agrees with the earlier rows. If the position
-// reads 1 in an earlier row, row `j` should read what that row does. Otherwise a group starts with the net.
+// Reads row `j`, in which the net with position `at` carries 1. Returns whether the row agrees with the earlier rows. If the position
+// reads 1 in an earlier row, row `j` must read the same as that row. Otherwise a group starts with the net.
 fn read_row(log: &WalkLog<'_>, firsts: &mut [u32], at: u32, j: u32, none: u32) -> bool
     requires row { j < length log.now.log }
     requires firsts { length firsts.old ≡ length log.now.mask }
@@ -66,8 +66,8 @@ fn read_row(log: &WalkLog<'_>, firsts: &mut [u32], at: u32, j: u32, none: u32) -
     }
 }
 
-/// Reads the rows of all nets, in order. Returns whether each row reads what the earlier rows imply. If so, each compared position then
-/// has the first row in which it reads 1. Before, each position must have the number of rows.
+/// Reads the rows of all nets, in order. Returns whether each row reads what the earlier rows imply. If so, `firsts` then has for each
+/// compared position the first row in which it reads 1. Before the call, each place of `firsts` must have the number of rows.
 pub fn read_rows(log: &WalkLog<'_>, firsts: &mut [u32]) -> bool
     requires firsts { length firsts.old ≡ length log.now.mask }
     requires blank { (at : ℕ) → slice_index_or firsts.old at (length log.now.log) ≡ length log.now.log }

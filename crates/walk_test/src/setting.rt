@@ -13,7 +13,7 @@ use net_pins::BoardPins;
 use scan_planner::law::useful_planned;
 use std::alloc::{AllocError, Global};
 
-// Returns the control if it is cell `num` and disables at the pull.
+// Returns the control if its cell is cell `num` and the net is pulled to the disable value.
 fn own_switch(part: u32, num: u32, pull: Option<bool>, control: Control) -> Option<Ctl>
     ensures { result ≡ own_switch part num pull (Some control) }
 {
@@ -72,7 +72,7 @@ fn add_pins(
     Ok(())
 }
 
-// Adds the controls of the switching drivers of net `n`. A guarded net has none.
+// Adds the controls of the switching drivers of net `n`. A guarded net has no switching driver.
 fn add_net(
     board: &BoardPins<'_>,
     n: usize,
@@ -140,7 +140,7 @@ fn only(alloc: Global, setting: Setting) -> Result<Vec<Setting>, AllocError>
     Ok(settings)
 }
 
-/// Returns the passes of a plan for the walk: the walk setting, if there is a pass.
+/// Returns the passes of a plan for the walk: the walk setting if the board has a pass, and otherwise no pass.
 pub fn walk_settings(
     alloc: Global,
     board: &BoardPins<'_>,

@@ -3,22 +3,22 @@ use board_defs::{Items, Setting};
 use bt_bits::Row;
 use scan_planner::Plan;
 
-/// The positions of the cells of a walk net: that of its driver, and those that are compared.
+/// The positions of the cells of a walk net: the cell of its driver, and the compared cells.
 #[derive(Debug, Drop)]
 pub struct NetCells {
     pub driver: u32,
     pub compared: Items<u32>,
 }
 
-/// What all rows of a walk share: the bits to shift in while no walk net carries 1, and the positions to compare. If there is no
-/// pass, neither is needed.
+/// The rows that all scans of a walk share: the bits to shift in while no walk net carries 1, and the positions to compare. A walk
+/// without a pass needs neither row.
 #[derive(Drop)]
 pub struct WalkRows {
     pub still: Row,
     pub mask: Row,
 }
 
-/// What a walk is made of beside the pins of the board's nets: the passes of its plan, the walk nets and the cells of each, and the rows
+/// The parts of a walk besides the pins of the board's nets: the passes of its plan, the walk nets and the cells of each, and the rows
 /// that all scans are made from.
 #[derive(Drop)]
 pub struct WalkParts {
@@ -28,7 +28,7 @@ pub struct WalkParts {
     pub rows: WalkRows,
 }
 
-/// The tables of a walk: the plan, whose only pass is the walk setting, or which has no pass; the walk nets and the cells of each;
+/// The tables of a walk. The plan has the walk setting as its only pass, or no pass. The other tables are the walk nets, the cells of each,
 /// and the rows from which all scans are made.
 #[derive(Drop)]
 pub struct WalkTables {

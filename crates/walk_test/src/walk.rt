@@ -1,4 +1,4 @@
-// A walk, and its scans.
+// A walk and its scans.
 ghost use Rattle.std.specs.Prelude.{◌≡◌, ◌<◌, slice_get, IfOk};
 ghost use Rattle.board_defs.specs.Passes.{passes_of};
 ghost use Rattle.net_pins.specs.Tables.{AreNetPins};
@@ -17,7 +17,7 @@ use std::alloc::{AllocError, Global};
 use std::marker::Model;
 use tap_defs::{ScanRows, Shape};
 
-/// The walking test of a board: its walk nets with their cells, and what its rows share.
+/// The walking test of a board: its walk nets with their cells, and the rows that its scans share.
 ///
 /// The walk setting is the first pass of the board's test without the controls of switching drivers. The walk nets are the nets
 /// that it observes. A board without a pass has no walk net.
@@ -38,8 +38,8 @@ impl Model for Walk {
 }
 
 impl Walk {
-    /// Returns the walk of a board, from the first pass of its test, if it has one. Later passes are ignored. It calls `of`
-    /// with the pins of the board's nets, for callers that have not made them.
+    /// Returns the walk of a board, made from the first pass of its test, if there is a pass. Later passes are ignored. A caller that has the
+    /// pins of the board's nets calls `of`.
     pub fn new(alloc: Global, board: &Board, passes: &[Setting]) -> Result<Walk, AllocError>
         requires { slice_get passes.now 0 ≡ slice_get (passes_of board.now) 0 }
         ensures { IfOk result (λ walk. IsWalkOf board.now walk) }
@@ -86,7 +86,7 @@ impl Walk {
         self.tables.nets.as_slice()
     }
 
-    /// Returns the number of scans: three, and if the board has a pass, one for each walk net and one for the quiet row.
+    /// Returns the number of scans: three, and if the board has a pass, one more for each walk net and one for the quiet row.
     pub fn scans(&self) -> u64
         ensures { result ≡ scan_count self.now }
     {
@@ -97,8 +97,8 @@ impl Walk {
         }
     }
 
-    /// Fills the rows with scan `k` of the walking test, counted from 0, and returns its shape. The board must be that of the walk, `k`
-    /// must be below the number of scans, and each row must have room for the longer register. Allocates nothing.
+    /// Fills the rows with scan `k` of the walking test, counted from 0, and returns the scan's shape. The board must be that of the walk,
+    /// `k` must be below the number of scans, and each row must have room for the longer register. Allocates nothing.
     pub fn fill(&self, board: &Board, k: u64, tdi: &mut Row, tdo: &mut Row, mask: &mut Row) -> Shape
         requires walk { IsWalkOf board.now self.now }
         requires scan { k < scan_count self.now }

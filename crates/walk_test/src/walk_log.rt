@@ -13,7 +13,7 @@ use response_log::Log;
 use std::alloc::{AllocError, Global};
 use std::marker::Model;
 
-/// A log, the cells of the nets whose rows it has, and the compared bits of each row, which are at the positions of these cells.
+/// A log, the cells of the nets whose rows the log has, and the compared bits of each row, which are at the positions of these cells.
 #[derive(Drop)]
 pub struct WalkLog<'a> {
     log: &'a Log,
@@ -31,7 +31,7 @@ impl<'a> Model for WalkLog<'a> {
     ghost invariant = { λ a. AreLoggedNets (logged_nets a.log.now a.nets.now a.mask.bits) };
 }
 
-// Returns a row of `len` bits in which the compared bits are 1.
+// Returns a row of `len` bits with a 1 at each compared position of the nets.
 fn compared_row(alloc: Global, nets: &[NetCells], len: u32) -> Result<Row, AllocError>
     ensures { IfOk result (λ row. row.bits ≡ compared_bits len nets.now) }
 {
@@ -44,7 +44,7 @@ fn compared_row(alloc: Global, nets: &[NetCells], len: u32) -> Result<Row, Alloc
 }
 
 impl<'a> WalkLog<'a> {
-    /// Returns the log with these nets. It must have a row of `len` bits for each of them.
+    /// Returns the log with these nets. The log must have a row of `len` bits for each net.
     pub fn of(
         alloc: Global,
         log: &'a Log,
@@ -90,7 +90,7 @@ impl<'a> WalkLog<'a> {
         self.mask.len()
     }
 
-    /// Returns row `j`, with the bits that are compared.
+    /// Returns row `j` with the mask of the compared bits.
     #[inline]
     pub fn row(&self, j: u32) -> MaskedRow<'_>
         requires { j < length self.now.log }

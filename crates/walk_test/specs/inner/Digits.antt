@@ -7,23 +7,23 @@ use Rattle.bt_bits.specs.Digits.{digit_bit}
 abbrev pub bit_of : List ℕ → ℕ → Bool
 bit_of digits at = digit_bit (slice_index_or digits (at / 4) 0) (at % 4)
 
--- a position is compared and reads 1
+-- position `at` is compared and reads 1
 abbrev pub is_one : List ℕ → List ℕ → ℕ → Bool
 is_one row mask at = bit_of mask at && bit_of row at
 
--- the digits `from..to` have no position that is compared and reads 1
+-- no position in the digits `from..to` is compared and reads 1
 abbrev pub AreClear : List ℕ → List ℕ → ℕ → ℕ → Type 0
 AreClear row mask from to = (k : ℕ) → from ≤ k → k < to → bit_and (slice_index_or row k 0) (slice_index_or mask k 0) ≡ 0
 
--- the compared bits of a digit in which two rows differ
+-- the compared bits of digit k in which two rows differ
 abbrev pub differing : List ℕ → List ℕ → List ℕ → ℕ → ℕ
 differing row other mask k = bit_and (bit_xor (slice_index_or row k 0) (slice_index_or other k 0)) (slice_index_or mask k 0)
 
--- no position below `end` that is compared and reads 1 has a row yet
+-- the positions below `end` that are compared and read 1 have no row yet
 abbrev pub IsFresh : List ℕ → List ℕ → ℕ → List ℕ → ℕ → Type 0
 IsFresh row mask none firsts end = (at : ℕ) → at < end → at < length firsts → is_one row mask at ≡ true → slice_index_or firsts at none ≡ none
 
--- the positions below `end` that are compared and read 1 have row j, and the other positions below it have what they had
+-- the positions below `end` that are compared and read 1 have row j, and the other positions below `end` are unchanged
 pub record IsMarked (row mask : List ℕ) (j none : ℕ) (old new : List ℕ) (end : ℕ) : Type 0 where
   pub marked : (at : ℕ) → at < end → at < length old → is_one row mask at ≡ true → slice_index_or new at none ≡ j
   pub kept : (at : ℕ) → at < end → is_one row mask at ≡ false → slice_index_or new at none ≡ slice_index_or old at none

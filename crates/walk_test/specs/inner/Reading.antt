@@ -1,4 +1,4 @@
--- How walk nets read one another, and how a log shows it.
+-- The walk nets that are joined by groups, and how a log shows them.
 use Rattle.std.specs.Prelude.{◌≡◌, ℕ, suc, ◌<◌, ◌≤◌, ◌==◌, nat_le, nat_lt, ◌^◌, Bool, true, false, if◌then◌else◌, ◌&&◌, ◌||◌, List, [], ◌∷◌, length, fold, replicate, Option, Some, None, slice_get, slice_index_or, All, Contains}
 use Rattle.std.specs.List.{list_all, flat_map, range_with_len}
 use Rattle.board_defs.specs.Pins.{is_same}
@@ -12,11 +12,11 @@ abbrev pub is_one_group : Option ℕ → Option ℕ → Bool
 is_one_group None other = false
 is_one_group (Some k) other = is_in_short other k
 
--- the nets are the same, or in the same group
+-- the nets are the same net, or in the same group
 abbrev pub are_joined : List (List ℕ) → ℕ → ℕ → Bool
 are_joined groups a b = (a == b) || is_one_group (group_of groups a) (group_of groups b)
 
--- the bit of a log at this position of a row
+-- the bit of a log in this row at this position
 abbrev pub bit_in : List (List Bool) → ℕ → ℕ → Bool
 bit_in log row at = slice_index_or (slice_index_or log row []) at false
 
@@ -25,15 +25,15 @@ abbrev pub first_one : List (List Bool) → ℕ → ℕ
 first_one [] at = 0
 first_one (row ∷ log) at = if slice_index_or row at false then 0 else suc (first_one log at)
 
--- the label of a walk net: the place of the first walk net whose 1 its first compared cell reads
+-- the label of a walk net: the first row in which its first compared cell reads 1, which is the place of the net that carries this 1
 abbrev pub label_of : List (List Bool) → NetCells → ℕ
 label_of log cells = first_one log (slice_index_or cells.compared 0 0)
 
--- its first compared position
+-- the first compared position of a net
 abbrev pub first_at : NetCells → ℕ
 first_at cells = slice_index_or cells.compared 0 0
 
--- the first row of a net; `firsts` has the first row of each position
+-- the first row of a net; `firsts` has the first row of each position, and `none` stands for no row
 abbrev pub first_in : ℕ → List ℕ → NetCells → ℕ
 first_in none firsts cells = slice_index_or firsts (first_at cells) none
 
@@ -41,25 +41,25 @@ first_in none firsts cells = slice_index_or firsts (first_at cells) none
 abbrev pub is_even : ℕ → List ℕ → NetCells → Bool
 is_even none firsts cells = list_all (λ at. slice_index_or firsts at none == first_in none firsts cells) cells.compared
 
--- `len` bits, with a 1 at each compared position of the nets
+-- the bits, with a 1 at each compared position of the net
 abbrev pub with_compared : List Bool → NetCells → List Bool
 with_compared bits cells = assigned (λ at. at) (λ at. true) bits cells.compared
 
 abbrev pub compared_bits : ℕ → List NetCells → List Bool
 compared_bits len nets = fold with_compared (replicate len false) nets
 
--- `mask` has a 1 exactly at the compared positions of the nets, and each net has one
+-- `mask` has a 1 exactly at the compared positions of the nets, and each net has a compared position
 pub record AreCompared (nets : List NetCells) (mask : List Bool) : Type 0 where
   pub all : (i at : ℕ) (net : NetCells) → slice_get nets i ≡ Some net → Contains net.compared at → slice_index_or mask at false ≡ true
   pub only : (at : ℕ) → slice_index_or mask at false ≡ true → (i : ℕ) × (net : NetCells) × (slice_get nets i ≡ Some net) × Contains net.compared at
   pub some : (i : ℕ) (net : NetCells) → slice_get nets i ≡ Some net → 0 < length net.compared
 
--- a net has compared positions, and each is within a row of `len` bits
+-- the net has compared positions, and each is within a row of `len` bits
 pub record HasPlaces (len : ℕ) (net : NetCells) : Type 0 where
   pub some : 0 < length net.compared
   pub within : All (λ at. at < len) net.compared
 
--- a log, the nets whose rows it has, and the positions at which a row is compared
+-- a log, the nets whose rows the log has, and the compared positions of a row
 pub record LoggedNets : Type 0 where
   pub log : List (List Bool)
   pub nets : List NetCells
@@ -68,7 +68,7 @@ pub record LoggedNets : Type 0 where
 abbrev pub logged_nets : List (List Bool) → List NetCells → List Bool → LoggedNets
 logged_nets log nets mask = record { log = log; nets = nets; mask = mask }
 
--- each net has a row, and each row is compared at the positions of the nets
+-- each net has a row, and the mask has the compared positions of the nets
 pub record AreLoggedNets (it : LoggedNets) : Type 0 where
   pub few : length it.log < 2 ^ 32
   pub rows : length it.log ≡ length it.nets
@@ -79,52 +79,52 @@ pub record AreLoggedNets (it : LoggedNets) : Type 0 where
 abbrev pub AreSameRows : List (List Bool) → List Bool → ℕ → ℕ → Type 0
 AreSameRows log mask j other = (at : ℕ) → slice_index_or mask at false ≡ true → bit_in log j at ≡ bit_in log other at
 
--- row j starts a group of the net with position `own`: it is compared and reads 1, and no compared position that reads 1 has a row yet
+-- a group starts in row j with the net of position `own`: the position is compared and reads 1, and no compared position that reads 1 has an earlier row
 pub record StartsGroup (log : List (List Bool)) (mask : List Bool) (j own none : ℕ) (firsts : List ℕ) : Type 0 where
   pub is_read : (slice_index_or mask own false && bit_in log j own) ≡ true
   pub fresh : (at : ℕ) → slice_index_or mask at false ≡ true → bit_in log j at ≡ true → slice_index_or firsts at none ≡ none
 
--- the compared positions that read 1 in row j have this row, and the others have what they had
+-- the compared positions that read 1 in row j have row j, and the other compared positions are unchanged
 pub record AreStarted (log : List (List Bool)) (mask : List Bool) (j none : ℕ) (old new : List ℕ) : Type 0 where
   pub marked : (at : ℕ) → slice_index_or mask at false ≡ true → bit_in log j at ≡ true → slice_index_or new at none ≡ j
   pub kept : (at : ℕ) → slice_index_or mask at false ≡ true → bit_in log j at ≡ false → slice_index_or new at none ≡ slice_index_or old at none
 
--- the row, if it is below row j, or else none
+-- the row if it is before row j, and otherwise `none`
 abbrev pub below : ℕ → ℕ → ℕ → ℕ
 below j none row = if nat_lt row j then row else none
 
--- row k reads 1 exactly at the compared positions with the same first row as `own`, the position of its net; that row is k or before it
+-- row k reads 1 exactly at the compared positions with the same first row as `own`, the position of its net. This first row is row k or an earlier row
 pub record IsRowRight (log : List (List Bool)) (mask : List Bool) (k own : ℕ) : Type 0 where
   pub low : first_one log own ≤ k
   pub reads : (at : ℕ) → slice_index_or mask at false ≡ true → bit_in log k at ≡ (first_one log at == first_one log own)
 
--- the first j rows are right, and each compared position has the first of these rows in which it reads 1
+-- the first j rows are right, and `firsts` has for each compared position the first of these rows in which the position reads 1
 pub record AreRead (log : List (List Bool)) (mask : List Bool) (nets : List NetCells) (none j : ℕ) (firsts : List ℕ) : Type 0 where
   pub right : (k : ℕ) (net : NetCells) → k < j → slice_get nets k ≡ Some net → IsRowRight log mask k (first_at net)
   pub found : (at : ℕ) → slice_index_or mask at false ≡ true → slice_index_or firsts at none ≡ below j none (first_one log at)
 
--- in row j all compared cells of the net at place i read 1 exactly if its label is that of the net at place j
+-- in row j, all compared cells of the net at place i read 1 if the nets at places i and j have the same label, and otherwise 0
 abbrev pub net_shows : List (List Bool) → List ℕ → ℕ → ℕ → NetCells → Bool
 net_shows log labels j i cells = list_all (λ at. is_same (bit_in log j at) (slice_index_or labels i 0 == slice_index_or labels j 0)) cells.compared
 
--- in row j the cells of each net do so; the same in each row
+-- row j shows the labels: the cells of each net read what the labels say
 abbrev pub ShowsIn : List (List Bool) → List ℕ → List NetCells → ℕ → Type 0
 ShowsIn log labels cells j = (i : ℕ) (net : NetCells) → slice_get cells i ≡ Some net → net_shows log labels j i net ≡ true
 
 abbrev pub ShowsAll : List (List Bool) → List ℕ → List NetCells → Type 0
 ShowsAll log labels cells = (j : ℕ) → j < length cells → ShowsIn log labels cells j
 
--- the nets with a label, in order
+-- the nets with label k, in order
 abbrev pub members : List ℕ → List ℕ → ℕ → List ℕ
 members [] labels k = []
 members (n ∷ nets) [] k = []
 members (n ∷ nets) (label ∷ labels) k = if label == k then n ∷ members nets labels k else members nets labels k
 
--- the nets as a group, if they are two or more
+-- the nets as a group if there are two or more, and otherwise no group
 abbrev pub where_several : List ℕ → List (List ℕ)
 where_several nets = if nat_le 2 (length nets) then nets ∷ [] else []
 
--- the nets with label k as a group, if they are two or more
+-- the nets with label k as a group if there are two or more, and otherwise no group
 abbrev pub group_at : List ℕ → List ℕ → ℕ → List (List ℕ)
 group_at nets labels k = if nat_le 2 (length (members nets labels k)) then members nets labels k ∷ [] else []
 

@@ -1,4 +1,4 @@
--- How the controls of switching drivers are found.
+-- The controls of switching drivers, found pin by pin.
 use Rattle.std.specs.Prelude.{ℕ, ◌==◌, Bool, ◌&&◌, if◌then◌else◌, List, [], fold, Option, Some, None}
 use Rattle.board_defs.specs.declared.device.Control.{Control}
 use Rattle.board_defs.specs.declared.device.Cell.{Cell}
@@ -10,12 +10,12 @@ use Rattle.board_defs.specs.declared.board.Ctl.{Ctl}
 use Rattle.board_defs.specs.Pins.{entry_at, guarded, is_pulled_to}
 use Rattle.board_defs.specs.Settings.{inserted}
 
--- the control of a driver, if it is its own cell and the net is pulled to the disable value
+-- the control of a driver, if the driver's own cell is the control cell and the net is pulled to the disable value
 abbrev pub own_switch : ℕ → ℕ → Option Bool → Option Control → Option Ctl
 own_switch part num pull None = None
 own_switch part num pull (Some control) = if (control.cell == num) && is_pulled_to control.disable pull then Some (record { part = part; cell = control.cell }) else None
 
--- the same, from the driving entry, and from the place of the pin
+-- like `own_switch`, from the driving entry; `pin_switch` below starts from the place of the pin
 abbrev pub entry_switch : ℕ → Option Bool → Option Cell → Option Ctl
 entry_switch part pull None = None
 entry_switch part pull (Some cell) = own_switch part cell.num pull cell.ctl
@@ -33,7 +33,7 @@ with_some setting (Some c) = inserted c setting
 abbrev pub with_pins : RawBoard → Option Bool → List Ctl → List NetPin → List Ctl
 with_pins board pull setting pins = fold (λ s pin. with_some s (pin_switch board pull pin.at)) setting pins
 
--- the setting, with those of a net; if the net is guarded, none of its pins is a switching driver
+-- the setting, with the controls of the switching drivers of a net; no pin of a guarded net is a switching driver
 abbrev pub with_net : RawBoard → List Ctl → Net → List Ctl
 with_net board setting net = if guarded board net then setting else with_pins board net.pull setting net.pins
 

@@ -1,4 +1,4 @@
--- Terms for the proofs alone. What a walk keeps of a board: its plan, its nets with their cells, and what all rows share.
+-- Terms for the proofs alone: the plan, the nets with their cells, and the shared rows that a walk keeps of a board.
 use Rattle.std.specs.Prelude.{◌≡◌, ℕ, zero, suc, ◌<◌, ◌≤◌, ◌==◌, Bool, false, not, if◌then◌else◌, List, [], length, map, filter, Option, Some, None, is_some, option_and_then, slice_get, slice_index_or}
 use Rattle.std.specs.List.{range_with_len}
 use Rattle.board_defs.specs.declared.board.RawBoard.{RawBoard}
@@ -19,7 +19,7 @@ use Rattle.walk_test.specs.declared.tables.WalkTables.{WalkTables}
 use Rattle.walk_test.specs.WalkTest.{walk_setting}
 use Rattle.walk_test.specs.Tables.{tdi_of, mask_of}
 
--- the bits that the scan after a row is expected to capture, and 0 where nothing is compared
+-- the bits that the scan after a row should capture, with 0 at the positions that are not compared
 abbrev pub tdo_of : RawBoard → TestRow → List Bool
 tdo_of board row = tdo_bits (joined (row_bits board (record { now = quiet_row; before = row })))
 
@@ -40,7 +40,7 @@ observer_in pins walk n =
 abbrev pub positions_beside : ℕ → List ReaderCell → List ℕ
 positions_beside place readers = map (λ r. r.position) (filter (λ r. not (r.place == place)) readers)
 
--- the cells of a net that is observed by this driver
+-- the cells of a net that this driver observes
 abbrev pub cells_by : NetPins → ℕ → Option NetDriver → NetCells
 cells_by pins n None = record { driver = 0; compared = [] }
 cells_by pins n (Some d) = record { driver = d.position; compared = positions_beside d.place (slice_index_or pins.readers n []) }
@@ -53,7 +53,7 @@ cells_in pins walk n = cells_by pins n (observer_in pins walk n)
 abbrev pub nets_in : NetPins → List Ctl → ℕ → List ℕ
 nets_in pins walk count = filter (λ n. is_some (observer_in pins walk n)) (range_with_len 0 count)
 
--- the same, if there is a setting; without one there are none
+-- the nets that the setting observes, or no nets if there is no setting
 abbrev pub nets_by : NetPins → Option (List Ctl) → ℕ → List ℕ
 nets_by pins None count = []
 nets_by pins (Some walk) count = nets_in pins walk count
@@ -62,7 +62,7 @@ abbrev pub cells_of : NetPins → Option (List Ctl) → List ℕ → List NetCel
 cells_of pins None nets = []
 cells_of pins (Some walk) nets = map (cells_in pins walk) nets
 
--- the rows of a walk, as they are made from its plan and the cells of its nets
+-- the rows of a walk are made from the first row of the plan and the cells of the walk nets
 pub record AreMade (board : RawBoard) (plan : PlanTables) (cells : List NetCells) (rows : WalkRows) : Type 0 where
   pub still : 0 < length plan.passes → rows.still.bits ≡ cleared (tdi_of board (first_row board plan)) cells
   pub mask : 0 < length plan.passes → rows.mask.bits ≡ mask_of board (first_row board plan)
@@ -72,7 +72,7 @@ pub record HasRoom (bits : ℕ) (rows : WalkRows) : Type 0 where
   pub still : bits ≤ rows.still.room
   pub mask : bits ≤ rows.mask.room
 
--- the controls of the walk setting, or none if the board has no pass
+-- the controls of the walk setting, or no controls if the board has no pass
 abbrev pub walk_controls : Option (List Ctl) → List Ctl
 walk_controls None = []
 walk_controls (Some walk) = walk
@@ -81,7 +81,7 @@ walk_controls (Some walk) = walk
 abbrev pub walk_row_of : RawBoard → ℕ → TestRow
 walk_row_of board j = walk_row board (walk_controls (walk_setting board)) j
 
--- the row that scan j after the EXTEST codes shifts in, and the one that it compares
+-- the row that scan j after the EXTEST codes shifts in; `before_of` is the row that this scan compares
 abbrev pub now_of : RawBoard → ℕ → ℕ → TestRow
 now_of board count j = row_now (walk_row_of board) count j
 
@@ -96,7 +96,7 @@ pub record BoardWalk : Type 0 where
 abbrev pub board_walk : RawBoard → WalkTables → BoardWalk
 board_walk board tables = record { board = board; tables = tables }
 
--- the bits that scan j after the EXTEST codes shifts in, those that it expects, and the positions at which it compares
+-- the bits that scan j after the EXTEST codes shifts in; the next two definitions are the bits that it expects, and the positions that it compares
 abbrev pub shifted_in : BoardWalk → ℕ → List Bool
 shifted_in it j = tdi_of it.board (now_of it.board (length it.tables.nets) j)
 
@@ -106,7 +106,7 @@ expected_in it j = tdo_of it.board (before_of it.board j)
 abbrev pub compared_in : BoardWalk → ℕ → List Bool
 compared_in it j = mask_of it.board (before_of it.board j)
 
--- the cells at the place before this one, and none before the first
+-- the cells at the place before place j, or nothing for the first place
 abbrev pub cells_before : List NetCells → ℕ → Option NetCells
 cells_before cells zero = None
 cells_before cells (suc j) = slice_get cells j

@@ -3,6 +3,6 @@ use Rattle.walk_test.specs.GroupText.{net_line}
 use Rattle.line_printer.proofs.PutLemmas.{Completes, texts_after}
 use Rattle.walk_test.proofs.listing.put_nets.Given as goal
 
--- what is said of the nets that are left completes the list
+-- the text so far, followed by the text of the remaining nets, is the text of all nets
 abbrev pub invariant-loop-n : goal.invariant-loop-n
 invariant-loop-n g l = Completes (g.K.Sink.shown l.fn.out) (g.K.Sink.shown l.out) (texts_after (net_line l.board) l.nets l.n-index) (flat_map (net_line l.board) l.nets)

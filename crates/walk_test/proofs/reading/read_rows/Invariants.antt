@@ -2,7 +2,7 @@ use Rattle.std.proofs.Common.{◌≡◌, length}
 use Rattle.walk_test.specs.inner.Reading.{AreRead}
 use Rattle.walk_test.proofs.reading.read_rows.Given as goal
 
--- the rows so far are read
+-- the first j rows are read
 abbrev pub invariant-loop-j : goal.invariant-loop-j
 invariant-loop-j l = record {
   long : length l.firsts ≡ length l.fn.firsts;
