@@ -1,4 +1,4 @@
--- Texts of small boards, worked by hand.
+-- Texts of small boards, worked out by hand.
 use Rattle.std.proofs.Common.{◌≡◌, ◌==◌, ◌+◌, [], ◌∷◌, map, refl}
 use Rattle.std.specs.Prelude.{codes, count_by}
 use Rattle.std.specs.List.{range_with_len}
@@ -14,7 +14,7 @@ chain_of_two : chain_text 2 ≡ codes "DEVICE U1 GEN -\nDEVICE U2 GEN -\n"
 unfolding chain_text digits
 chain_of_two = refl
 
--- a net to the next part, and one from the last part to the first
+-- a net from a part to the next part, and a net from the last part to the first
 first_ring : ring_line 2 1 0 ≡ codes "NET R1_0 U1.1 U2.33\n"
 unfolding digits
 first_ring = refl
@@ -40,7 +40,7 @@ bus_of_three : bus_line 3 7 ≡ codes "NET B7 U1.72 U2.72 U3.72\n"
 unfolding digits
 bus_of_three = refl
 
--- a line for each of the 32k + 8 nets
+-- the net file of k parts has 32k + 8 lines, one for each net
 nets_of_one : count_by (λ byte. byte == 10) (net_text 1) ≡ 40
 unfolding net_text digits
 nets_of_one = refl
@@ -49,7 +49,7 @@ nets_of_two : count_by (λ byte. byte == 10) (net_text 2) ≡ 72
 unfolding net_text digits
 nets_of_two = refl
 
--- cells on both sides of each border between the kinds of cells
+-- the last and the first cell of each kind
 last_control : cell_line 4 ≡ codes "\"4 (BC_1, *, control, 1),\" &\n"
 unfolding digits
 last_control = refl
@@ -78,7 +78,7 @@ last_cell : cell_line 76 ≡ codes "\"76 (BC_7, B(7), bidir, X, 4, 1, Z)\";\n"
 unfolding digits
 last_cell = refl
 
--- all cells, in order: five controls, the outputs with a control for each eight of them, the inputs, and the pins of the bus with one
+-- all cells, in order: five controls, the outputs with one control for each eight outputs, the inputs, and the bus pins with one
 -- cells 0 to 4
 control_cells : map cell_line (range_with_len 0 5) ≡
     codes "\"0 (BC_1, *, control, 1),\" &\n"
@@ -181,7 +181,7 @@ bus_pins : numbers 65 8 ≡ codes "65,66,67,68,69,70,71,72"
 unfolding digits
 bus_pins = refl
 
--- the first cell is in line 16, and one line ends the text after the 77 cells
+-- the first cell is in line 16, and one line follows the 77 cells
 lines_of_device : count_by (λ byte. byte == 10) bsdl_text ≡ 15 + 77 + 1
 unfolding bsdl_text head_text map_line attributes_text digits
 lines_of_device = refl

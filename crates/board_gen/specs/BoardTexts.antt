@@ -1,9 +1,9 @@
--- The chain file and the net file of a generated board with k parts, U1 to Uk. Each part has 32 outputs, each of which drives
--- an input of the next part, and 8 pins on a bus that all parts share.
+-- The chain file and the net file of a generated board with k parts, U1 to Uk. Each part has 32 outputs, 32 inputs and 8 bus pins.
+-- Each output drives an input of the next part, and all parts share the bus.
 use Rattle.std.specs.Prelude.{ℕ, ◌+◌, ◌==◌, List, ◌++◌, codes, decimal, if◌then◌else◌}
 use Rattle.std.specs.List.{flat_map, range_with_len}
 
--- the texts of `count` numbers, from `first` on
+-- the texts of `count` consecutive numbers; the first number is `first`
 abbrev pub each : (ℕ → List ℕ) → ℕ → ℕ → List ℕ
 each text first count = flat_map text (range_with_len first count)
 
@@ -15,7 +15,7 @@ part_line part = codes "DEVICE U" ++ decimal part ++ codes " GEN -\n"
 unfoldable pub chain_text : ℕ → List ℕ
 chain_text k = each part_line 1 k
 
--- the word of a pin in the net file, after a blank
+-- a blank, and then the word of a pin in the net file
 abbrev pub pin_word : ℕ → ℕ → List ℕ
 pin_word part pin = codes " U" ++ decimal part ++ codes "." ++ decimal pin
 

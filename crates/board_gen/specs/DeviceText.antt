@@ -1,9 +1,9 @@
--- The BSDL text of GEN, the device of generated boards: 32 outputs with a control for each 8 of them, 32
--- inputs, and 8 pins of a bus with one control.
+-- The BSDL text of GEN, the device of generated boards. GEN has 32 outputs with one control for each 8 outputs, 32
+-- inputs, and 8 bus pins with one control.
 use Rattle.std.specs.Prelude.{ℕ, ◌+◌, ◌-◌, ◌/◌, ◌==◌, List, ◌++◌, codes, decimal, nat_lt, if◌then◌else◌}
 use Rattle.board_gen.specs.BoardTexts.{each}
 
--- `count` numbers from `first` on, with commas between them
+-- `count` consecutive numbers with commas between them; the first number is `first`
 abbrev pub numbers : ℕ → ℕ → List ℕ
 numbers first count = decimal first ++ each (λ n. codes "," ++ decimal n) (first + 1) (count - 1)
 
@@ -15,7 +15,7 @@ cell_text cell =
     if nat_lt cell 69 then codes " (BC_1, D(" ++ decimal (cell - 37) ++ codes "), input, X)"
     else codes " (BC_7, B(" ++ decimal (cell - 69) ++ codes "), bidir, X, 4, 1, Z)"))
 
--- the line of a cell; that of the last cell ends the string
+-- the line of a cell; the line of the last cell ends the string
 abbrev pub cell_line : ℕ → List ℕ
 cell_line cell = codes "\"" ++ decimal cell ++ cell_text cell ++ (if cell == 76 then codes "\";\n" else codes ",\" &\n")
 

@@ -5,7 +5,7 @@ ghost use Rattle.board_gen.specs.BoardTexts.{each, chain_text, part_line, net_te
 use crate::pieces::push_numbered;
 use std::alloc::{AllocError, Global};
 
-// The number of nets between a part and the next one.
+// The number of nets between a part and the next part.
 const RING: u32 = 32;
 
 // The number of nets of the bus.
@@ -54,7 +54,7 @@ fn push_rings(text: &mut Vec<u8>, number: u32) -> Result<(), AllocError>
     Ok(())
 }
 
-// Appends the nets from a part to the next one.
+// Appends the nets from a part to the next part.
 fn push_ring(text: &mut Vec<u8>, number: u32, part: u32) -> Result<(), AllocError>
     requires { part ≤ 255 }
     ensures { OnOk result (text.new.items ≡ text.old.items ++ each (ring_line number part) 0 32) }
@@ -65,7 +65,7 @@ fn push_ring(text: &mut Vec<u8>, number: u32, part: u32) -> Result<(), AllocErro
     Ok(())
 }
 
-// Appends the net of a bit from a part to the next one.
+// Appends the net of a bit from a part to the next part.
 fn push_ring_line(text: &mut Vec<u8>, number: u32, part: u32, bit: u32) -> Result<(), AllocError>
     requires part { part ≤ 255 }
     requires bit { bit < 32 }

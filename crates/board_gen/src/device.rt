@@ -54,7 +54,7 @@ fn push_map(text: &mut Vec<u8>) -> Result<(), AllocError>
     text.extend_from_slice(b")\";\n")
 }
 
-// Appends the numbers from `first` on, `count` of them, with commas between them.
+// Appends `count` consecutive numbers with commas between them. The first number is `first`.
 fn push_numbers(text: &mut Vec<u8>, first: u32, count: u32) -> Result<(), AllocError>
     requires some { 1 ≤ count }
     requires few { first + count < 1000 }
@@ -105,7 +105,7 @@ fn push_cell_line(text: &mut Vec<u8>, cell: u32) -> Result<(), AllocError>
     text.extend_from_slice(end_of(cell))
 }
 
-// Returns the end of the line of a cell. That of the last cell ends the string.
+// Returns the end of the line of a cell. The line of the last cell ends the string.
 fn end_of(cell: u32) -> &'static [u8]
     ensures { result.now ≡ (if cell == 76 then codes "\";\n" else codes ",\" &\n") }
 {
@@ -128,7 +128,7 @@ fn push_cell(text: &mut Vec<u8>, cell: u32) -> Result<(), AllocError>
     }
 }
 
-// Appends the cell of an output. Each eight outputs have one control.
+// Appends the cell of an output. There is one control for each eight outputs.
 fn push_output(text: &mut Vec<u8>, index: u32) -> Result<(), AllocError>
     ensures { OnOk result (text.new.items ≡ text.old.items ++ (codes " (BC_1, Q(" ++ decimal index ++ codes "), output3, X, " ++ decimal (index / 8) ++ codes ", 1, Z)")) }
 {

@@ -1,4 +1,4 @@
-//! Boards of any size up to the longest chain, as texts: a ring of nets between the parts, and a bus.
+//! Boards of 1 to 255 parts, as texts: a ring of nets between the parts, and a bus.
 #![tactic(auto)]
 
 mod board;
@@ -23,7 +23,7 @@ pub struct Made {
     pub bsdl: Vec<u8>,
 }
 
-/// Returns the texts of the board with `number` parts, from 1 to 255. It has 32 nets for each part, and the 8 nets of the bus.
+/// Returns the texts of the board with `number` parts, from 1 to 255. The board has 32 nets for each part, and the 8 nets of the bus.
 /// Each text has at most 4,194,304 bytes. Fails only if memory is refused.
 pub fn make(alloc: Global, number: u32) -> Result<Made, AllocError>
     requires some { 1 ≤ number }

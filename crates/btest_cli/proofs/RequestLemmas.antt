@@ -12,7 +12,7 @@ same_request e = cc
 none_made : {a : Request} → ◌≡◌ {A = Option Request} None (Some a) → ⊥
 none_made e = cc e
 
--- a property that holds of each command with its texts
+-- if P holds of each kind of command with its texts, P holds of every request
 module _ (P : Command → List Text → Request → Type 0) (of_chain : (names : ChainNames) (chain : Text) (bsdl : List Text) → P (Chain names) (chain ∷ bsdl) (request.Chain (chain_texts chain bsdl)))
     (of_ident : (names : ChainNames) (chain : Text) (bsdl : List Text) → P (Ident names) (chain ∷ bsdl) (request.Ident (chain_texts chain bsdl))) (of_device : (name bsdl : Text) → P (Device name) (bsdl ∷ []) (request.Device bsdl))
     (of_cover : (names : BoardNames) (chain nets : Text) (bsdl : List Text) → P (Cover names) (chain ∷ nets ∷ bsdl) (request.Cover (board_texts chain nets bsdl)))
@@ -52,13 +52,13 @@ module _ (P : Command → List Text → Request → Type 0) (of_chain : (names :
   by_request (Batch workers name names) (log ∷ chain ∷ []) made e = absurd (none_made e)
   by_request (Batch workers name names) (log ∷ chain ∷ nets ∷ bsdl) made e = subst (P (Batch workers name names) (log ∷ chain ∷ nets ∷ bsdl)) (same_request e) (of_batch workers name names log chain nets bsdl)
 
--- the number of a command is that of its request
+-- if the number of a command is in its range, the number of the request is in its range
 pub numbered : (command : Command) (texts : List Text) (made : Request) → request_of command texts ≡ Some made → HasNumber command → IsNumbered made
 numbered =
     by_request (λ command texts made. HasNumber command → IsNumbered made) (λ names chain bsdl has. tt) (λ names chain bsdl has. tt) (λ name bsdl has. tt) (λ names chain nets bsdl has. tt) (λ names chain nets bsdl has. tt) (λ names chain nets bsdl has. tt)
     (λ parts texts has. has) (λ workers name names log chain nets bsdl has. has) (λ name names log chain nets bsdl has. tt) (λ workers name names log chain nets bsdl has. has)
 
--- as many texts as a command has names make a request
+-- a command makes a request of as many texts as it has names
 abbrev pub MakesRequest : Command → List Text → Type 0
 MakesRequest command texts = (made : Request) × (request_of command texts ≡ Some made)
 

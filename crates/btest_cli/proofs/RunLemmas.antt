@@ -1,4 +1,4 @@
--- Runs of a command: what they leave, and that nothing is missing.
+-- Runs of a command: what each run leaves, and that every kind of run is covered.
 use Rattle.std.proofs.Common.{◌≡◌, ℕ, zero, suc, Bool, true, false, nat_lt, length, List, [], ◌∷◌, Option, Some, None, Result, Ok, Err, refl, sym, ap, ◌∙◌, subst, inl, inr}
 use Rattle.std.specs.Prelude.{IfSome, map, take, ◌++◌, if◌then◌else◌}
 use Rattle.std.proofs.lemmas.List.{append-nil}
@@ -47,7 +47,7 @@ use Rattle.btest_cli.specs.inner.Reads.{IsUnread, OfRequest, Reads}
 use Rattle.btest_cli.specs.inner.Failures.{IsPut, IsUnput, wanted_view, unread_status, unread_line, unput_status, unput_line}
 use Rattle.btest_cli.specs.inner.RunOf.{IsRunOf}
 
--- a line that was written, wholly or in part
+-- the notes took the line that was written, wholly or in part
 pub took_or_cut : {T E : Type 0} {old new : Shown} {line : Text} (r : Result T E) → Puts old new line r → TookOrCut old new line
 took_or_cut (Ok x) puts = inl puts.whole
 took_or_cut (Err e) puts = inr (puts.cause, puts.cut)
@@ -75,7 +75,7 @@ all_asked command asked asked' asks = subst (Asks asked asked') (wanted_names co
 all_wanted : (command : Command) (asked asked' : List Text) → Asks asked asked' (names_of command) → Asks asked asked' (names_in (wanted_of command))
 all_wanted command asked asked' asks = subst (Asks asked asked') (sym (wanted_names command)) asks
 
--- the request that was read
+-- if the texts of a command were read, they make the request
 pub was_read : (command : Command) {held held' : Held} {before now : Text → ℕ} {asked asked' : List Text} {request : Request} → Reads (OfRequest command) (wanted_of command) held held' before now asked asked' (Ok request) → IsReadAs held command asked asked' request
 was_read command {held} {held'} {before} {now} {asked} {asked'} reads = record {
   texts = reads.told.texts;
@@ -117,7 +117,7 @@ refused_run command held before now asked asked' reading line out notes notes' r
   memory_asks = λ e. absurd cc;
 }
 
--- a run for which there was not enough memory
+-- a run in which memory ran out
 pub memory_run : (command : Command) (held : Held) (before now : Text → ℕ) (asked asked' : List Text) (out notes notes' : Shown) → AsksSome command asked asked' → TookOrCut notes notes' memory_line → IsRunOf command held before now asked asked' out out notes notes' status.NoMemory
 memory_run command held before now asked asked' out notes notes' asks noted = record {
   no_usage = λ e. cc;
@@ -133,7 +133,7 @@ memory_run command held before now asked asked' out notes notes' asks noted = re
   memory_asks = λ e. asks;
 }
 
--- nothing was asked for
+-- a run that asked for no text asked for the first 0 names
 pub none_asked : (command : Command) (asked : List Text) → AsksSome command asked asked
 none_asked command asked = (zero, sym (append-nil asked))
 
@@ -141,7 +141,7 @@ pub none_asked_for : (command : Option Command) (asked : List Text) → IfSome c
 none_asked_for None asked = tt
 none_asked_for (Some command) asked = none_asked command asked
 
--- the first of all names
+-- the first names of a joined list are those of the first list
 first_of : (first others : List Text) → take (length first) (first ++ others) ≡ first
 first_of [] others = refl
 first_of (name ∷ first) others = ap (λ (l : List Text). name ∷ l) (first_of first others)
@@ -205,7 +205,7 @@ run_unput command held before now asked asked' request unput.Write out out' note
 run_unput command held before now asked asked' request unput.Memory out out' notes notes' read is noted =
     same_out command held before now asked asked' out out' notes notes' status.NoMemory is (memory_run command held before now asked asked' out notes notes' (asked_all command asked asked' read.asks) noted)
 
--- a text whose count rose is one of these
+-- if the count of a text among these rose, the count of one of these names rose
 rose_in : (before now : Text → ℕ) (front : List Wanted) (last : Wanted) (after : List Wanted) → Rose (before last.name) (now last.name) → SomeRose before now (names_in (front ++ last ∷ after))
 rose_in before now [] last after rose = inl rose
 rose_in before now (wanted ∷ front) last after rose = inr (rose_in before now front last after rose)
@@ -214,15 +214,15 @@ pub rose_among : (command : Command) (held : Held) (before now : Text → ℕ) (
 rose_among command held before now asked asked' last up_to rose =
     subst (SomeRose before now) (ap names_in (sym up_to.are) ∙ wanted_names command) (rose_in before now up_to.before last up_to.after rose)
 
--- texts give at most one outcome
+-- a reading gives at most one outcome
 abbrev pub OneOutcome : Type 0
 OneOutcome = (command : Command) (reading : Reading) (a b : Result Text Text) → IsOutcome command reading a → IsOutcome command reading b → a ≡ b
 
--- texts that were read give some outcome
+-- a known reading gives some outcome
 abbrev pub SomeOutcome : Type 0
 SomeOutcome = (command : Command) (held : Held) (reading : Reading) → known_reading held (wanted_of command) ≡ Some reading → (outcome : Result Text Text) × IsOutcome command reading outcome
 
--- a refusal of memory may come instead of any outcome
+-- `NoMemory` may come instead of any outcome
 settles_memory : (rose : Type 0) (outcome : Result Text Text) → Settles rose outcome status.NoMemory
 settles_memory rose (Ok text) = λ calm. inr refl
 settles_memory rose (Err line) = inr refl
@@ -236,7 +236,7 @@ pub memory_for : SomeOutcome → (command : Option Command) (held : Held) (befor
 memory_for some None held before now out_rose = tt
 memory_for some (Some command) held before now out_rose = memory_complete some command held (SomeRose before now (names_of command)) out_rose
 
--- there is at most one reading, if it is known
+-- a known reading is the only reading
 pub one_reading : (held : Held) (wanted : List Wanted) (reading other : Reading) → known_reading held wanted ≡ Some reading → IsRead held wanted other → other ≡ reading
 one_reading None [] reading other known read =
     let same : ◌≡◌ {A = Option Reading} (Some other) (Some reading) = sym read.1 ∙ known in
@@ -257,7 +257,7 @@ same_outcome held command reading other a b one known is gives_a gives_b =
 apart : {text line : Text} → ◌≡◌ {A = Result Text Text} (Ok text) (Err line) → ⊥
 apart e = cc e
 
--- if no count rose, the outcome of what was read settles the status
+-- a run of a command is complete: if no count rose, the outcome settles the status
 pub run_complete : OneOutcome → SomeOutcome → (command : Command) (held : Held) (before now : Text → ℕ) (asked asked' : List Text) (out out' notes notes' : Shown) (ended : Status) → IsRunOf command held before now asked asked' out out' notes notes' ended
     → IsComplete held command (SomeRose before now (names_of command)) (Rose out.faults out'.faults) ended
 run_complete one some command held before now asked asked' out out' notes notes' ended run = λ reading known no_rise.
@@ -284,7 +284,7 @@ run_complete one some command held before now asked asked' out out' notes notes'
         let told = run.cut refl in absurd (apart (same_outcome held command reading (Read told.read.texts) (Ok told.text) (Err line) one known told.read.read (told.request, told.read.made, told.gives) gives))
     settle (Err line) status.NoMemory reading known gives no_rise run = inr refl
 
--- what is found in texts, as an outcome
+-- the outcome for what is found in texts
 abbrev said : {A F : Type 0} → (A → Text) → (F → Text) → Result A F → Result Text Text
 said text_of line_of (Ok value) = Ok (text_of value)
 said text_of line_of (Err fault) = Err (line_of fault)
@@ -302,7 +302,7 @@ one_said text_of line_of IsFound a b one says_a says_b =
     let y = found_of text_of line_of IsFound b says_b in
     x.2 ∙ ap (said text_of line_of) (one x.0 y.0 x.1 y.1) ∙ sym y.2
 
--- the properties of the texts of devices, chains, their codes, and boards
+-- laws that these proofs take as arguments: the texts of a device, of a chain, of its codes and of a board have at most one answer
 abbrev OneDevice : Type 0
 OneDevice = (text : Text) → AtMostOne (IsDeviceText text)
 
@@ -315,7 +315,7 @@ OneIdents = (chain : Text) (texts : List Text) → AtMostOne (AreIdents chain te
 abbrev OneBoard : Type 0
 OneBoard = (chain nets : Text) (texts : List Text) → AtMostOne (IsBoardRead chain nets texts)
 
--- a text of logs has at most one meaning for the board that others denote
+-- a text of logs has at most one meaning for the board that the other texts denote
 abbrev OneJudged : {L E A : Type 0} → Judging L E A → Type 0
 OneJudged judging = (text chain nets : Text) (texts : List Text) → AtMostOne (OnDenoted judging text chain nets texts)
 
@@ -323,7 +323,7 @@ OneJudged judging = (text chain nets : Text) (texts : List Text) → AtMostOne (
 abbrev FindsOne : {L E A : Type 0} → Judging L E A → Type 0
 FindsOne {L} {E} {A} judging = (board : RawBoard) (contents : L) (x y : A) → IsBoard board → judging.Finds board contents x → judging.Finds board contents y → x ≡ y
 
--- what texts denote keeps the rules of a board
+-- the board that texts denote keeps the rules of a board
 abbrev KeepRules : Type 0
 KeepRules = (chain nets : Text) (texts : List Text) (board : RawBoard) → Denotes chain nets texts board → IsBoard board
 
@@ -356,7 +356,7 @@ module _ (boards : OneBoard) (rules : KeepRules) {L E A : Type 0} (judging : Jud
   one_denoted : (a b : RawBoard) → Denotes chain nets texts a → Denotes chain nets texts b → a ≡ b
   one_denoted a b is_a is_b = same_board a b (boards chain nets texts (Ok a) (Ok b) is_a is_b)
 
-  -- a text that is wrong for the board holds nothing
+  -- a text with contents for the board has no fault
   no_wrong : (board : RawBoard) (contents : L) (fault : TextFault) → judging.read text board ≡ Ok contents → IsWrong judging text board fault → ⊥
   no_wrong board contents fault holds wrong = not_both contents wrong.cause (sym holds ∙ wrong.fails)
 
@@ -492,7 +492,7 @@ wanted_count (word.Diagnose workers log names) = ap suc (count_of (board_names n
 wanted_count (word.Groups log names) = ap suc (count_of (board_names names))
 wanted_count (word.Batch workers log names) = ap suc (count_of (board_names names))
 
--- some answer is found
+-- `IsFound` holds of some answer
 abbrev HasAnswer : {A F : Type 0} → (Result A F → Type 0) → Type 0
 HasAnswer {A} {F} IsFound = (answer : Result A F) × IsFound answer
 
@@ -506,7 +506,7 @@ says text_of line_of IsFound (Err fault) found = (Err (line_of fault), inr (faul
 some_said : {A F : Type 0} (text_of : A → Text) (line_of : F → Text) (IsFound : Result A F → Type 0) → HasAnswer IsFound → HasOutcome (IsSaid text_of line_of IsFound)
 some_said text_of line_of IsFound some = says text_of line_of IsFound some.0 some.1
 
--- the properties of the texts of devices, chains, their codes, and boards
+-- laws that these proofs take as arguments: the texts of a device, of a chain, of its codes and of a board have an answer
 abbrev SomeDevice : Type 0
 SomeDevice = (text : Text) → HasAnswer (IsDeviceText text)
 
@@ -519,11 +519,11 @@ SomeIdents = (chain : Text) (texts : List Text) → HasAnswer (AreIdents chain t
 abbrev SomeBoard : Type 0
 SomeBoard = (chain nets : Text) (texts : List Text) → HasAnswer (IsBoardRead chain nets texts)
 
--- a text of logs has a meaning for the board that others denote
+-- a text of logs has a meaning for the board that the other texts denote
 abbrev SomeJudged : {L E A : Type 0} → Judging L E A → Type 0
 SomeJudged judging = (text chain nets : Text) (texts : List Text) → HasAnswer (OnDenoted judging text chain nets texts)
 
--- something is found in the contents of a text
+-- something is found in all contents of a text
 abbrev FindsSome : {L E A : Type 0} → Judging L E A → Type 0
 FindsSome {L} {E} {A} judging = (board : RawBoard) (contents : L) → IsBoard board → (found : A) × judging.Finds board contents found
 
@@ -558,7 +558,7 @@ some_verdicts some board rules (block ∷ blocks) =
 some_each : SomeDiagnosis → FindsSome judging_each
 some_each some board blocks rules = let told = some_verdicts some board rules blocks in ((blocks, told.0), (refl, told.1))
 
--- texts of logs have a meaning
+-- each text of logs has a meaning
 pub record LogsSaySome : Type 0 where
   pub diagnoses : SomeJudged diagnosing
   pub groups : SomeJudged grouping

@@ -1,16 +1,16 @@
--- The line of the first fault of a command's texts, and the names in it.
+-- The line for the first fault of a command's texts, and the names in this line.
 use Rattle.std.specs.Prelude.{[], ◌∷◌, codes}
 use Rattle.command_line.specs.Words.{Text, Command, Chain, Device, Cover, Svf, Walk, Ident, Make, Diagnose, Groups, Batch}
 use Rattle.refusal_lines.specs.Refusals.{Names, input_fault_line, log_fault_line, batch_fault_line}
 use Rattle.commands.specs.LogRead.{TextFault, Input, Log, Batch as OfBatch}
 
--- the first fault of the texts and of the logs
+-- the line for the first fault of the texts or of the logs
 abbrev pub text_fault_line : Names → TextFault → Text
 text_fault_line names (Input fault) = input_fault_line names fault
 text_fault_line names (Log rows fault) = log_fault_line names.log rows fault
 text_fault_line names (OfBatch rows fault) = batch_fault_line names.log rows fault
 
--- the names of the texts of a command, by what they hold
+-- the names of the texts of a command, each name in the place for its kind of text
 abbrev pub roles_of : Command → Names
 roles_of (Chain names) = record { log = []; chain = names.chain; nets = []; bsdl = names.bsdl }
 roles_of (Device bsdl) = record { log = []; chain = []; nets = []; bsdl = bsdl ∷ [] }

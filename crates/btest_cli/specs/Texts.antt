@@ -7,11 +7,11 @@ pub record Wanted : Type 0 where
   pub name : Text
   pub limit : ℕ
 
--- a chain file, a net file or a BSDL text of this name
+-- a chain file, a net file or a BSDL text with this name
 abbrev pub text_called : Text → Wanted
 text_called name = record { name = name; limit = 4194304 }
 
--- a response log or a batch of logs of this name
+-- a response log or a batch of logs with this name
 abbrev pub log_called : Text → Wanted
 log_called name = record { name = name; limit = 67108864 }
 
@@ -35,7 +35,7 @@ names_in texts = map (λ text. text.name) texts
 abbrev pub Held : Type 0
 Held = Option (Text → Option Text)
 
--- what reading texts gives: the texts, or the first that is too long
+-- the result of reading texts: all texts, or the first text that is too long
 pub data Reading : Type 0 where
   Read : List Text → Reading
   TooLong : Wanted → Reading
@@ -49,23 +49,23 @@ abbrev pub read_first : Wanted → Option Text → Option Reading → Option Rea
 read_first wanted None rest = None
 read_first wanted (Some text) rest = if nat_lt wanted.limit (length text) then Some (TooLong wanted) else and_text text rest
 
--- what reading these texts in order gives, if the store holds a text for each that is read
+-- the result of reading these texts in order, if the store holds each text that is read
 abbrev pub reading_of : (Text → Option Text) → List Wanted → Option Reading
 reading_of held [] = Some (Read [])
 reading_of held (wanted ∷ others) = read_first wanted (held wanted.name) (reading_of held others)
 
--- the same, if these are the texts that are read
+-- the result of reading these texts, if `found` are the texts that the store gives
 abbrev pub reading_in : List Wanted → List Text → Option Reading
 reading_in [] found = Some (Read [])
 reading_in (wanted ∷ others) [] = None
 reading_in (wanted ∷ others) (text ∷ found) = read_first wanted (Some text) (reading_in others found)
 
--- this is what reading the texts gives: from what the store holds, if it tells that, or else from some texts
+-- the result of reading the texts: from what the store holds if the store tells it, and otherwise from some texts
 abbrev pub IsRead : Held → List Wanted → Reading → Type 0
 IsRead None texts reading = (found : List Text) × (reading_in texts found ≡ Some reading)
 IsRead (Some held) texts reading = reading_of held texts ≡ Some reading
 
--- what reading these texts gives, if that is known: the store tells what it holds, or there is no text to read
+-- the result of reading these texts, if it is known: the store tells what it holds, or there is no text to read
 abbrev pub known_reading : Held → List Wanted → Option Reading
 known_reading held [] = Some (Read [])
 known_reading None (wanted ∷ others) = None
@@ -76,7 +76,7 @@ abbrev pub IsText : Held → Text → Text → Type 0
 IsText None name text = Unit {0}
 IsText (Some held) name text = held name ≡ Some text
 
--- a text has more bytes than the limit; if the store tells what it holds, it holds this text under the name
+-- the text has more bytes than the limit; a store that tells what it holds has such a text under the name
 abbrev pub IsLong : Held → Wanted → Type 0
 IsLong None wanted = (text : Text) × (wanted.limit < length text)
 IsLong (Some held) wanted = (text : Text) × (held wanted.name ≡ Some text) × (wanted.limit < length text)
@@ -85,7 +85,7 @@ IsLong (Some held) wanted = (text : Text) × (held wanted.name ≡ Some text) ×
 abbrev pub Asks : List Text → List Text → List Text → Type 0
 Asks old new names = new ≡ old ++ names
 
--- the texts before this one were read, then this one was asked for, and no other
+-- the texts before `last` were read, and then `last` was asked for, but no later text
 pub record IsReadUpTo (held : Held) (texts : List Wanted) (last : Wanted) (old new : List Text) : Type 0 where
   pub before : List Wanted
   pub after : List Wanted
@@ -94,7 +94,7 @@ pub record IsReadUpTo (held : Held) (texts : List Wanted) (last : Wanted) (old n
   pub read : IsRead held before (Read found)
   pub asked : Asks old new (names_in before ++ last.name ∷ [])
 
--- what was asked for if this was read: all texts, or those up to the first that is too long
+-- the names that were asked for if this is the reading: all names, or the names up to the first text that is too long
 abbrev pub AsksFor : Held → List Wanted → Reading → List Text → List Text → Type 0
 AsksFor held texts (Read found) old new = Asks old new (names_in texts)
 AsksFor held texts (TooLong last) old new = IsReadUpTo held texts last old new

@@ -13,7 +13,7 @@ use refusal_lines::{
     put_not_written, put_too_long,
 };
 
-/// Why the texts of a command were not all read.
+/// The reason why the texts of a command were not all read.
 #[derive(Drop)]
 pub enum Unread<'a> {
     /// This text is too long.

@@ -1,4 +1,4 @@
-// Reading the texts of a command, by what they hold.
+// Reads the texts of a command, each as the kind that the command wants.
 ghost use Rattle.std.specs.Prelude.{◌∷◌, map};
 ghost use Rattle.command_line.specs.Words.{board_names, chain_names};
 ghost use Rattle.command_line.specs.CommandView.{board_view, chain_view, command_view};

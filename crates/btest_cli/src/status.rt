@@ -1,4 +1,4 @@
-// How a run ended.
+// The ways in which a run can end.
 ghost use Rattle.std.specs.Prelude.{◌≡◌};
 ghost use Rattle.btest_cli.specs.ExitNumbers.{exit_number};
 

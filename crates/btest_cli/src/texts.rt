@@ -1,4 +1,4 @@
-// Reading texts.
+// Reads texts from a store.
 ghost use Rattle.std.specs.Prelude.{◌≡◌, [], ◌∷◌, map, string_bytes};
 ghost use Rattle.btest_cli.specs.Texts.{log_called, text_called};
 ghost use Rattle.btest_cli.specs.inner.Failures.{wanted_view};
@@ -23,7 +23,7 @@ pub struct Wanted<'a> {
     pub limit: u32,
 }
 
-// Returns a chain file, a net file or a BSDL text of this name, as a text to read.
+// Returns the chain file, net file or BSDL text with this name, as a text to read.
 fn text_called<'a>(name: &'a str) -> Wanted<'a>
     ensures { wanted_view result ≡ text_called name.entry.now }
 {
@@ -33,7 +33,7 @@ fn text_called<'a>(name: &'a str) -> Wanted<'a>
     }
 }
 
-// Returns a response log or a batch of logs of this name, as a text to read.
+// Returns the response log or batch of logs with this name, as a text to read.
 fn log_called<'a>(name: &'a str) -> Wanted<'a>
     ensures { wanted_view result ≡ log_called name.entry.now }
 {
@@ -82,7 +82,7 @@ pub fn read_log<'a, S: Store>(
     read_wanted(alloc, log_called(name), store)
 }
 
-/// Reads BSDL texts in order, up to the first that is not read or is too long.
+/// Reads BSDL texts in order. Stops at the first text that is not read or is too long.
 pub fn read_texts<'a, S: Store>(
     alloc: Global,
     names: BsdlNames<'a>,

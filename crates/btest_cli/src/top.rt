@@ -1,4 +1,4 @@
-// The top call.
+// The top call of the program.
 ghost use Rattle.std.specs.Prelude.{◌≡◌, ◌≢◌, ◌⊎◌, map, None, string_bytes};
 ghost use Rattle.bt_base.specs.Counts.{Rose};
 ghost use Rattle.command_line.specs.Words.{HasNumber, command_of, names_of};
@@ -47,10 +47,10 @@ pub fn run<R: Threads + Sync, S: Store, K: Sink, N: Sink, G: Gate>(
     ensures done { result ≡ Status.Done → ForCommand words.now (λ c. IsDone (S.held store.old) c (S.asked store.old) (S.asked store.new) (K.shown out.old) (K.shown out.new)) }
     ensures silent { result ≡ Status.Done → N.shown notes.new ≡ N.shown notes.old }
 
-    // Refused: what was read has a first fault, and `notes` took its line. No text was asked for after one that is too long.
+    // Refused: what was read has a first fault, and `notes` took the line for it. No text was asked for after a text that is too long.
     ensures refused { result ≡ Status.Refused → ForCommand words.now (λ c. IsRefused (S.held store.old) c (S.asked store.old) (S.asked store.new) (N.shown notes.old) (N.shown notes.new)) }
 
-    // ReadFault: the texts before one were read, the count of that one rose, none was asked for after it, and `notes` took its line.
+    // ReadFault: the texts before one text were read, the count of this text rose, no later text was asked for, and `notes` took its line.
     ensures read { result ≡ Status.ReadFault → ForCommand words.now (λ c. IsNotRead (S.held store.old) c (S.faults store.old) (S.faults store.new) (S.asked store.old) (S.asked store.new) (N.shown notes.old) (N.shown notes.new)) }
 
     // WriteFault: the count of `out` rose, and `out` took some first bytes of the text.
@@ -58,12 +58,12 @@ pub fn run<R: Threads + Sync, S: Store, K: Sink, N: Sink, G: Gate>(
     ensures cut { result ≡ Status.WriteFault → ForCommand words.now (λ c. IsCutShort (S.held store.old) c (S.asked store.old) (S.asked store.new) (K.shown out.old) (K.shown out.new)) }
     ensures write_noted { result ≡ Status.WriteFault → TookOrCut (N.shown notes.old) (N.shown notes.new) write_line }
 
-    // At every other status, refused memory among them, nothing was written to `out`.
+    // At every status but Done and WriteFault, nothing was written to `out`. This is also true if memory ran out.
     ensures untouched { result ≢ Status.Done → result ≢ Status.WriteFault → K.shown out.new ≡ K.shown out.old }
     ensures memory_noted { result ≡ Status.NoMemory → TookOrCut (N.shown notes.old) (N.shown notes.new) memory_line }
     ensures memory_asks { result ≡ Status.NoMemory → ForCommand words.now (λ c. AsksSome c (S.asked store.old) (S.asked store.new)) }
 
-    // If no count rose, the texts settle the status, unless memory ran out. If a command reads no text, the store need not tell its texts.
+    // If no count rose, the texts settle the status, unless memory ran out. For a command that reads no text, this holds for every store.
     ensures complete { ForCommand words.now (λ c. IsComplete (S.held store.old) c
         (SomeRose (S.faults store.old) (S.faults store.new) (names_of c)) (Rose (K.shown out.old).faults (K.shown out.new).faults) result) }
 {
@@ -114,7 +114,7 @@ fn run_command<R: Threads + Sync, S: Store, K: Sink, N: Sink, G: Gate>(
     }
 }
 
-// Returns the names of the texts of a command, by what they hold.
+// Returns the names of the texts of a command, each name in the place for its kind of text.
 fn roles_of<'a>(command: Command<'a>) -> Names<'a>
     ensures { names_view result ≡ roles_of (command_view command.entry) }
 {
@@ -154,7 +154,7 @@ fn roles_of<'a>(command: Command<'a>) -> Names<'a>
     }
 }
 
-// Writes what a request gives. The clause holds for all names of its texts.
+// Writes the outcome of a request. The clause holds for all names of its texts.
 fn answer<R: Threads + Sync, K: Sink, G: Gate>(
     rt: &R,
     alloc: Global,

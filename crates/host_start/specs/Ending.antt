@@ -11,7 +11,7 @@ use Rattle.btest_cli.specs.ExitNumbers.{exit_number}
 use Rattle.btest_cli.specs.Texts.{Held}
 use Rattle.btest_cli.specs.Outcome.{AsksSome, ForCommand, IsComplete, IsCutShort, IsDone, IsNotRead, IsRefused, SomeRose, TookOrCut}
 
--- the words were run on this store, with these sinks for the text and for the line of refusal, and `number` is that of the status
+-- the words were run on this store, with these sinks for the text and for the line of refusal, and `number` is the exit number of the status
 pub record IsEndOf (words : List (String Global)) (held : Held) (before now : Text → ℕ) (asked asked' : List Text) (out out' notes notes' : Shown) (number : ℕ) : Type 0 where
   pub ended : Status
   pub exits : number ≡ exit_number ended

@@ -1,5 +1,5 @@
 //! The program over the real files and streams. It passes the words of its command line to `run`, and exits with the number of the status
-//! that comes back. It is a crate of its own, and the program is one call of it.
+//! that `run` returns. The program itself is one call of this crate.
 #![tactic(auto)]
 
 ghost use Rattle.std.specs.Prelude.{◌≡◌, ◌≢◌, IfErr, IfOk, IsErr};
@@ -41,7 +41,7 @@ fn end_with<R: Threads + Sync, S: Store, K: Sink, N: Sink>(
     run(rt, alloc, words, store, out, notes, &OpenGate).number()
 }
 
-// Ends without words, and returns the exit status. If memory ran out before there were words, nothing is written.
+// Ends a run that got no words, and returns the exit status. If memory ran out, nothing is written.
 fn end_without<N: Sink>(error: &io::Error, notes: &mut N) -> u8
     ensures no_words { error_kind error.now ≢ ErrorKind.OutOfMemory → (result ≡ 2) × TookOrCut (N.shown notes.old) (N.shown notes.new) usage_line }
     ensures no_memory { error_kind error.now ≡ ErrorKind.OutOfMemory → (result ≡ 5) × (N.shown notes.new ≡ N.shown notes.old) }
@@ -53,7 +53,8 @@ fn end_without<N: Sink>(error: &io::Error, notes: &mut N) -> u8
     Status::Usage.number()
 }
 
-// Returns the exit status for the words from the system. Words that it can't give, such as words that are not UTF-8, are no command.
+// Returns the exit status for the words from the system. Words that the system can't give, for example since they are not UTF-8, count as
+// no command.
 fn end_of<R: Threads + Sync, S: Store, K: Sink, N: Sink>(
     rt: &R,
     alloc: Global,
@@ -62,7 +63,7 @@ fn end_of<R: Threads + Sync, S: Store, K: Sink, N: Sink>(
     out: &mut K,
     notes: &mut N,
 ) -> u8
-    // The system gave words, and they were run.
+    // The system gave words, and these words were run.
     ensures run { IfOk words.now (λ words. IsEndOf words.items (S.held store.old) (S.faults store.old) (S.faults store.new) (S.asked store.old) (S.asked store.new)
         (K.shown out.old) (K.shown out.new) (N.shown notes.old) (N.shown notes.new) result) }
 
@@ -79,7 +80,7 @@ fn end_of<R: Threads + Sync, S: Store, K: Sink, N: Sink>(
     }
 }
 
-/// Runs the words of the command line on the files of the system and standard output, with `notes` for the lines of refusal. The
+/// Runs the words of the command line on the files of the system and standard output. `notes` takes the lines of refusal. The
 /// number of the status is the exit status.
 pub fn start<R, E>(rt: &R, notes: E) -> ExitCode
 where

@@ -1,4 +1,4 @@
--- What each command promises, from what its text is worth.
+-- The promise of each command follows from what its text is worth.
 use Rattle.std.proofs.Common.{◌≡◌, ◌∙◌, ℕ, Bool, List, [], ◌∷◌, Option, Result, Ok, Err, refl, sym, ap, subst, inl, inr}
 use Rattle.std.specs.Prelude.{◌↔◌, Some}
 use Rattle.board_defs.specs.declared.board.RawBoard.{RawBoard}
@@ -98,7 +98,7 @@ module _ (run : Run) (is : IsRun run) (one : SayOne) where
       prints run is (Make parts) on.0 [] on.1 _ refl _ (λ line gives. not_both (one.board chain nets (bsdl_text ∷ []) (Ok board) (Err gives.0) denotes gives.1))
       (λ text gives worth. gives.2 ∙ ap summary (same_board chain nets (bsdl_text ∷ []) board gives.0 denotes gives.1))
 
-  -- a log that is read on the board has no fault, nor have the files
+  -- if a log is read on the board, the log and the other files have no fault
   read_well : {L E : Type 0} (read : Text → RawBoard → Result L E) (log chain nets : Text) (bsdl : List Text) (board : RawBoard) (contents : L) → Denotes chain nets bsdl board → read log board ≡ Ok contents
       → (other : RawBoard) (fault : E) → Denotes chain nets bsdl other → read log other ≡ Err fault → ⊥
   read_well {L} {E} read log chain nets bsdl board contents denotes holds other fault also fails =

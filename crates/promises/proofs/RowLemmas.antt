@@ -1,4 +1,4 @@
--- A row of a log has as many bits as are wanted.
+-- A row of a log has as many bits as the log needs.
 use Rattle.std.proofs.Common.{◌≡◌, ℕ, suc, ◌*◌, ◌≤◌, ◌==◌, Bool, true, false, cond, Option, Some, None, option_and_then, List, [], ◌∷◌, length, map, drop, take, refl, subst, ◌∙◌, length-append, arith}
 use Rattle.std.specs.Prelude.{◌||◌, All, IfSome, not}
 use Rattle.std.specs.List.{list_all}
@@ -9,12 +9,12 @@ use Rattle.bt_bits.specs.Hex.{digit_count, digit_bits, joined_bits, text_bits, c
 use Rattle.text_lines.specs.Words.{Word}
 use Rattle.response_log.specs.LogRows.{NumberedLine, bits_of_line, only_word}
 
--- there are `n` bits, if there are bits
+-- if there are bits, there are `n` bits
 abbrev AreMany : ℕ → Option (List Bool) → Type 0
 AreMany n bits = IfSome bits (λ b. length b ≡ n)
 
--- A digit has four bits, if it is one. This is a record, so that a proof can go through the tests of a digit without naming what each of
--- them leaves.
+-- If a digit has bits, there are four. This is a record, so that a proof can go through the tests of a digit without naming what each test
+-- leaves.
 record AreFour (bits : Option (List Bool)) : Type 0 where
   four : AreMany 4 bits
 

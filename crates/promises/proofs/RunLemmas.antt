@@ -1,4 +1,4 @@
--- What a run of a command leaves, from the clauses of `run`.
+-- The clauses of `run` say what a run of a command leaves.
 use Rattle.std.proofs.Common.{◌≡◌, ◌≢◌, ◌⊎◌, ◌∙◌, List, Option, Some, Result, Ok, Err, sym, ap, subst, inl, inr}
 use Rattle.std.specs.Prelude.{IfSome}
 use Rattle.bt_base.specs.Counts.{Rose}
@@ -24,7 +24,7 @@ use Rattle.promises.proofs.GiveLemmas.{is_gives, not_both}
 pub same_some : {x y : Text} → ◌≡◌ {A = Option Text} (Some x) (Some y) → x ≡ y
 same_some e = cc
 
--- the bytes that a sink in memory took
+-- if the sink in memory takes the bytes, the output takes them
 pub out_taken : (run : Run) (bytes : Text) → Takes (out_of run.old) (out_of run.new) bytes → Puts run bytes
 out_taken run bytes takes = same_some takes.taken
 
@@ -38,19 +38,19 @@ nothing_put run same = same_some (ap (λ (shown : Shown). shown.taken) same)
 nothing_noted : (run : Run) → notes_of run.new ≡ notes_of run.old → run.new.notes ≡ run.old.notes
 nothing_noted run same = same_some (ap (λ (shown : Shown). shown.taken) same)
 
--- two different statuses are not the same
+-- a run has only one status
 pub apart : {s : Status} (a b : Status) → s ≡ a → s ≡ b → (a ≡ b → ⊥) → ⊥
 apart a b one other differ = differ (sym one ∙ other)
 
 module _ (run : Run) (is : IsRun run) (command : Command) (asks : Asks run command) where
-  -- what the clauses say about the command of the words
+  -- the clauses of `run` hold of the command of the words
   pub here : (P : Command → Type 0) → IfSome (command_of run.words) P → P command
   here P all = subst (λ (c : Option Command). IfSome c P) (command_is run command asks) all
 
   pub none_rose : NoReadFailed run command → SomeRose run.old.unread run.new.unread (names_of command) → ⊥
   none_rose calm rose = let one = some_rose run.old.unread run.new.unread (names_of command) rose in calm one.0 one.1 one.2
 
-  -- what was read settles the status
+  -- the outcome of what was read settles the status
   pub settled : (reading : Reading) → known_reading run.old.held (wanted_of command) ≡ Some reading → NoReadFailed run command → (outcome : Result Text Text) × IsOutcome command reading outcome × Settles (Rose run.old.unwritten run.new.unwritten) outcome run.status
   settled reading known calm =
       here (λ c. IsComplete run.old.held c (SomeRose run.old.unread run.new.unread (names_of c)) (Rose run.old.unwritten run.new.unwritten) run.status) is.complete reading known (none_rose calm)
@@ -64,7 +64,7 @@ module _ (run : Run) (is : IsRun run) (command : Command) (asks : Asks run comma
   pub cut_here : run.status ≡ WriteFault → IsCutShort run.old.held command run.old.asked run.new.asked (out_of run.old) (out_of run.new)
   cut_here e = here (λ c. IsCutShort run.old.held c run.old.asked run.new.asked (out_of run.old) (out_of run.new)) (is.cut e)
 
-  -- a fault of what was read is refused
+  -- if what was read has a fault, the run is refused
   pub ends_refused : SayOne → (reading : Reading) (line : Text) → known_reading run.old.held (wanted_of command) ≡ Some reading → IsOutcome command reading (Err line) → EndsWith run command Refused
   ends_refused one reading line known fault calm = let told = settled reading known calm in by_outcome told.0 told.1 told.2
     where
@@ -72,7 +72,7 @@ module _ (run : Run) (is : IsRun run) (command : Command) (asks : Asks run comma
       by_outcome (Ok text) given settles = absurd (not_both (one.outcome command reading (Ok text) (Err line) given fault))
       by_outcome (Err other) given settles = settles
 
-  -- and the text of none is written
+  -- if what was read has a fault, no text is written
   pub not_done : SayOne → (reading : Reading) (line : Text) → known_reading run.old.held (wanted_of command) ≡ Some reading → IsOutcome command reading (Err line) → run.status ≢ Done
   not_done one reading line known fault e =
       let told = done_here e in
@@ -94,18 +94,18 @@ module _ (run : Run) (is : IsRun run) (command : Command) (asks : Asks run comma
         let same = one_reading run.old.held (wanted_of command) (Read texts) (Read others) known read in
         cc
 
-    -- what is given for the texts that were read is given for those of the files
+    -- an outcome for the texts that were read is an outcome for the texts of the files
     given : (request : Request) (text : Text) → IsReadAs run.old.held command run.old.asked run.new.asked request → IsGiven (roles_of command) request (Ok text) → Gives command texts (Ok text)
     given request text read gives =
         let made = subst (λ (l : List Text). request_of command l ≡ Some request) (texts_are read.texts read.read) read.made in
         is_gives command texts (Ok text) (request, made, gives)
 
-    -- if a text was printed, or begun, the files give one
+    -- if a text was printed in whole or in part, the files give a text
     pub gives_text : (run.status ≡ Done) ⊎ (run.status ≡ WriteFault) → (text : Text) × Gives command texts (Ok text)
     gives_text (inl e) = let told = done_here e in (told.text, given told.request told.text told.read told.gives)
     gives_text (inr e) = let told = cut_here e in (told.text, given told.request told.text told.read told.gives)
 
-    -- a command that writes a text for which P holds
+    -- a command whose text has the property P keeps the promise to print
     pub prints : (request : Request) → request_of command texts ≡ Some request → (P : Text → Type 0) → ((line : Text) → Gives command texts (Err line) → ⊥) → ((text : Text) → Gives command texts (Ok text) → IsWorthFor request text → P text) → Prints run command P
     prints request made P sound worth = record {
       asks = λ e. (done_here e).read.asks;

@@ -1,6 +1,6 @@
--- What each command promises, seen from the text that a run wrote: a text that is another one, or worth less, is refused, and so is one
--- that was written, or begun, for files that denote no board or hold no log of it. The files may have any texts with the properties
--- stated here.
+-- The promise of each command, seen from the text that a run wrote. Runs that break a promise are refused: runs that wrote another text, or a
+-- text that is worth less, and runs that wrote a text, in whole or in part, for files that denote no board or hold no log of the board. The
+-- files may have any texts with the properties stated here.
 use Rattle.std.proofs.Common.{◌≡◌, ◌≢◌, ◌↔◌, ◌⊎◌, ◌∙◌, ℕ, ◌+◌, ◌≤◌, Bool, true, false, List, [], ◌∷◌, ◌++◌, length, sum, Option, Some, None, Ok, refl, sym, ap, subst, length-append, arith}
 use Rattle.std.specs.Prelude.{codes}
 use Rattle.board_defs.specs.declared.board.RawBoard.{RawBoard}
@@ -56,7 +56,7 @@ chain_names = record { chain = codes "c"; bsdl = codes "b" ∷ [] }
 abbrev board_names : BoardNames
 board_names = record { chain = codes "c"; nets = codes "n"; bsdl = codes "b" ∷ [] }
 
--- the words of these names, which are asked for
+-- the names of the files that `chain` asks for
 abbrev chain_files : List Text
 chain_files = codes "c" ∷ codes "b" ∷ []
 
@@ -66,7 +66,7 @@ board_files = codes "c" ∷ codes "n" ∷ codes "b" ∷ []
 abbrev log_files : List Text
 log_files = codes "g" ∷ board_files
 
--- the commands on a log; one worker
+-- the commands on a log, with one worker
 abbrev diagnose : Command
 diagnose = Diagnose 1 (codes "g") board_names
 
@@ -76,7 +76,7 @@ batch = Batch 1 (codes "g") board_names
 abbrev groups : Command
 groups = Groups (codes "g") board_names
 
--- the words of these
+-- the words of these commands
 abbrev diagnose_words : List Text
 diagnose_words = codes "diagnose" ∷ codes "1" ∷ log_files
 
@@ -86,7 +86,7 @@ batch_words = codes "batch" ∷ codes "1" ∷ log_files
 abbrev groups_words : List Text
 groups_words = codes "groups" ∷ log_files
 
--- the text and one more line end, of which the meaning of a test says nothing
+-- a text with one more line end is another text, although its meaning may be the same
 past : (text : Text) → text ++ 10 ∷ [] ≡ text → ⊥
 past text same =
     let more : length (text ++ 10 ∷ []) ≡ length text + 1 = length-append text (10 ∷ []) in
@@ -94,7 +94,7 @@ past text same =
     omega (arith, more, count)
 
 module _ (held : Held) where
-  -- runs that wrote this text
+  -- runs that wrote the given text
   abbrev chain_run : Text → Run
   chain_run text = run_of chain_words held Done chain_files text []
 
@@ -110,7 +110,7 @@ module _ (held : Held) where
         let told = (tests chain_names lines bsdl lengths (((refl, omega arith), refl), each) are).puts refl in
         (told.2.2, ap meaning told.1 ∙ told.2.3, told.2.4 wiring parts same)
 
-    -- another number of parts
+    -- the text fails on a chain with another number of parts
     chain_fails : (text : Text) → TestsChain (chain_run text) → (wiring : Wiring) (parts : List TestLogic) → AreIrLengths (ir_lengths parts) → length parts ≢ length lengths → sum (ir_lengths parts) ≤ sum lengths
         → (clocks : List Clock) × (meaning text ≡ Some clocks) × FailsOn wiring parts clocks
     chain_fails text tests wiring parts wide other within =
@@ -226,10 +226,10 @@ module _ (held : Held) where
   other_summary : (board : RawBoard) → Denotes (made.chain_text 2) (made.net_text 2) (bsdl_text ∷ []) board → SumsUp (run_of (codes "make" ∷ codes "2" ∷ []) None Done [] (summary board ++ 10 ∷ []) []) → ⊥
   other_summary board denotes sums = let told = (sums 2 board (((codes "2", refl, refl), refl), tt) denotes).puts refl in past (summary board) (told.1 ∙ told.2)
 
--- Runs that wrote a text, or began one, although the files denote no board, or the log is not one of their board.
+-- Runs that wrote a text, in whole or in part, although the files denote no board, or the log is not a log of the board.
 module _ (held : Held) (lines nets : Text) (bsdl : List Text) (status : Status) (ended : (status ≡ Done) ⊎ (status ≡ WriteFault)) (text : Text) where
   module _ (log : Text) (each : HoldsEach held (files_of diagnose) (log ∷ lines ∷ nets ∷ bsdl)) where
-    -- it may be one of another board
+    -- the log may be that of another board
     diagnosed_without_board : (other : RawBoard) (rows : List (List Bool)) → HoldsLog other (svf_row_scans other) log rows → ((board : RawBoard) → Denotes lines nets bsdl board → ⊥) → RestsOnLog (run_of diagnose_words held status log_files text []) → ⊥
     diagnosed_without_board other rows holds none rests =
         let told = rests 1 (codes "g") board_names log lines nets bsdl (((codes "1", refl, (refl, omega arith)), refl), each) ended in

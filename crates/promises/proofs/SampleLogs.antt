@@ -1,5 +1,5 @@
--- Texts that hold a log of the test of a small board or a batch of them, and texts that hold none, worked by hand. The board has four data
--- bits, and its test two SDR statements that compare.
+-- Texts that hold a log of the test of a small board, or a batch of logs, and texts that hold none, worked out by hand. The board has four
+-- data bits, and its test has two SDR statements that compare.
 use Rattle.std.proofs.Common.{◌≡◌, ◌∙◌, ℕ, Bool, true, false, List, [], ◌∷◌, length, Some, refl, sym, ap, arith}
 use Rattle.std.specs.Prelude.{All, codes}
 use Rattle.std.proofs.lemmas.List.{length-map}
@@ -105,7 +105,7 @@ no_blocks = record {
   each = tt;
 }
 
--- a block whose lines are one row, and one with a second id in its title
+-- a block with only one row, and a block with two ids in its title
 block_of_one_row : (found : Block) → HoldsBlock wires (record { title = codes "BOARD A"; below = codes "1" ∷ [] }) found → ⊥
 unfolding words_of
 block_of_one_row found holds =

@@ -1,6 +1,6 @@
--- Runs that break a promise, one for each thing that a promise says, worked by hand. Each breaks that thing alone. There are also runs that
--- a promise must cover, since only the read of another name failed, or only a write to the notes; and some that break nothing. The files
--- may have any texts with the properties stated here.
+-- Runs that break a promise, worked out by hand: for each fact that a promise states, a run in which only this fact is false. Other runs are
+-- covered by a promise, since only the read of another name or a write to the notes failed. Some runs break nothing. The files may have any
+-- texts with the properties stated here.
 use Rattle.std.proofs.Common.{◌≡◌, ◌⊎◌, ◌∙◌, ℕ, zero, suc, ◌+◌, ◌<◌, ◌≤◌, Bool, true, false, List, [], ◌∷◌, ◌++◌, length, map, cond, Option, Some, None, Result, Ok, Err, refl, sym, ap, subst, inl, inr, length-append, arith}
 use Rattle.std.specs.Prelude.{Contains, codes, take}
 use Rattle.std.specs.Str.{bytes_eq}
@@ -19,15 +19,15 @@ use Rattle.promises.specs.Promises.{FilesGive, FindsOutcome, RestsOnFiles, Tells
 use Rattle.promises.proofs.WordLemmas.{command_is, none_asked}
 use Rattle.promises.proofs.RunLemmas.{same_some}
 
--- the ends of a store that tells this, with what was asked for, written and noted; no read and no write failed
+-- the ends with a store that holds these texts, and with what was asked for, written and noted; no read and no write failed
 abbrev pub ends : Held → List Text → Text → Text → Ends
 ends held asked out notes = record { held = held; asked = asked; unread = λ name. 0; out = out; unwritten = 0; notes = notes; unnoted = 0 }
 
--- a run of these words that starts with nothing asked for, written or noted, and leaves this
+-- a run of these words; at its start nothing was asked for, written or noted, and at its end these names were asked for and these texts written
 abbrev pub run_of : List Text → Held → Status → List Text → Text → Text → Run
 run_of words held status asked out notes = record { words = words; old = ends held [] [] []; new = ends held asked out notes; status = status }
 
--- the words of `device`, of `chain` and of `svf`, and the names of their files
+-- the words of `device`, `chain` and `svf`, and the names of their files
 abbrev pub device_words : List Text
 device_words = codes "device" ∷ codes "b" ∷ []
 
@@ -55,7 +55,7 @@ svf = Svf (record { chain = codes "c"; nets = codes "n"; bsdl = codes "b" ∷ []
 abbrev b_asked : List Text
 b_asked = codes "b" ∷ []
 
--- a store that tells that it holds no file
+-- a store that holds no file, and tells so
 abbrev empty : Held
 empty = Some (λ name. None)
 
@@ -63,23 +63,23 @@ calm : Rose 0 0 → ⊥
 calm (inl less) = omega (arith, less)
 calm (inr last) = omega (arith, last)
 
--- two texts that are not one
+-- two texts that differ
 apart : (one other : Text) → bytes_eq one one ≡ true → bytes_eq one other ≡ false → one ≡ other → ⊥
 apart one other same differ is =
     let z : true ≡ false = sym same ∙ ap (bytes_eq one) is ∙ differ in
     cc z
 
--- a text that is none of the first bytes of another one
+-- the first text is not a beginning of the second
 no_front : (one line : Text) → bytes_eq one one ≡ true → bytes_eq one [] ≡ false → ((count : ℕ) → bytes_eq one (take (suc count) line) ≡ false) → (count : ℕ) → one ≡ take count line → ⊥
 no_front one line same some differ zero is = apart one [] same some is
 no_front one line same some differ (suc count) is = apart one (take (suc count) line) same (differ count) is
 
--- the notes took nothing, and so not this line
+-- the notes took nothing, so they did not take this line
 none_noted : (words : List Text) (held : Held) (status : Status) (asked : List Text) (out line : Text) → bytes_eq [] line ≡ false → Notes (run_of words held status asked out []) line → ⊥
 none_noted words held status asked out line some (inl is) = apart [] line refl some is
 none_noted words held status asked out line some (inr (rose, cut)) = calm rose
 
--- the statuses that a run may end with, and another one
+-- the run ended with neither of two statuses
 neither : (status one other : Status) → (status ≡ one → ⊥) → (status ≡ other → ⊥) → (status ≡ one) ⊎ (status ≡ other) → ⊥
 neither status one other first second (inl is) = first is
 neither status one other first second (inr is) = second is
@@ -98,17 +98,17 @@ noted_whole line = inl refl
 noted_in_part : (line : Text) (count : ℕ) → Notes (unnoted (noting (take count line))) line
 noted_in_part line count = inr (inl (omega arith), (count, refl))
 
--- some first bytes of the line, although no write failed
+-- the notes took only the first bytes of the line, although no write failed
 noted_in_part_alone : Notes (noting (codes "us")) usage_line → ⊥
 noted_in_part_alone (inl is) = apart (codes "us") usage_line refl refl is
 noted_in_part_alone (inr (rose, cut)) = calm rose
 
--- bytes that the line does not begin with, although a write failed
+-- the notes took bytes with which the line does not begin, although a write failed
 noted_other : Notes (unnoted (noting (codes "x"))) usage_line → ⊥
 noted_other (inl is) = apart (codes "x") usage_line refl refl is
 noted_other (inr (rose, (count, is))) = no_front (codes "x") usage_line refl refl (λ n. refl) count is
 
--- `device` prints the text 1
+-- `device` prints the text with the single byte 1
 abbrev PrintsOne : Run → Type 0
 PrintsOne run = Prints run device (λ text. text ≡ 1 ∷ [])
 
@@ -133,18 +133,18 @@ prints_more prints =
 prints_with_note : PrintsOne (run_of device_words empty Done b_asked (1 ∷ []) (1 ∷ [])) → ⊥
 prints_with_note prints = let count : 1 ≡ 0 = ap length (prints.silent refl) in absurd (omega (arith, count))
 
--- a part of a line, although only a write to the notes failed
+-- the notes took a part of a line, although only a write to the notes failed
 prints_with_part : PrintsOne (unnoted (run_of device_words empty Done b_asked (1 ∷ []) (codes "us"))) → ⊥
 prints_with_part prints = let count : 2 ≡ 0 = ap length (prints.silent refl) in absurd (omega (arith, count))
 
 prints_refused : PrintsOne (run_of device_words empty Refused b_asked [] []) → ⊥
 prints_refused prints = neither Refused Done NoMemory (λ e. cc) (λ e. cc) (prints.ends calm (λ name among rose. calm rose))
 
--- no write of the output failed, and no read of its file
+-- the status is WriteFault, although no write of the output failed and no read of the file failed
 prints_unwritten : PrintsOne (run_of device_words empty WriteFault b_asked [] []) → ⊥
 prints_unwritten prints = neither WriteFault Done NoMemory (λ e. cc) (λ e. cc) (prints.ends calm (λ name among rose. calm rose))
 
--- nor does a failed write to the notes count as one to the output
+-- the status is WriteFault, although only a write to the notes failed
 prints_unnoted : PrintsOne (unnoted (run_of device_words empty WriteFault b_asked [] [])) → ⊥
 prints_unnoted prints = neither WriteFault Done NoMemory (λ e. cc) (λ e. cc) (prints.ends calm (λ name among rose. calm rose))
 
@@ -157,7 +157,7 @@ only_name : (name : Text) → Contains (codes "b" ∷ []) name → name ≡ code
 only_name name (zero, below, is) = sym is
 only_name name (suc k, below, is) = absurd (omega (arith, below))
 
--- no read of a file failed, if only that of another file did
+-- if only the read of another file failed, no read of this file failed
 was_read : (name other : Text) → bytes_eq name other ≡ false → (file : Text) → file ≡ other → Rose 0 (cond (bytes_eq name file) 1 0) → ⊥
 was_read name other differ file is rose =
     let same : cond (bytes_eq name file) 1 0 ≡ 0 = ap (λ (n : Text). cond (bytes_eq name n) 1 0) is ∙ ap (λ (b : Bool). cond b 1 0) differ in
@@ -195,7 +195,7 @@ usage_that_read tells =
     let count : 1 ≡ 0 = ap (λ (unread : Text → ℕ). unread (codes "b")) (tells.1 nothing).2 in
     absurd (omega (arith, count))
 
--- the store held no file, and after the run it no longer tells what it holds
+-- before the run the store holds no file, and after the run it no longer tells what it holds
 abbrev forgotten : Run
 forgotten = let run = run_of [] empty Usage [] [] usage_line in record run { new = record run.new { held = None } }
 
@@ -209,7 +209,7 @@ is_device run command one other =
     let same : ◌≡◌ {A = Option Command} (Some command) (Some device) = sym (command_is run command other) ∙ command_is run device one in
     cc
 
--- a listing has bytes, and does not begin with this one
+-- a listing has bytes and does not begin with this line
 some_listing : (described : RawDevice) → ◌≡◌ {A = Text} [] (device_text described) → ⊥
 unfolding device_text
 some_listing described is = apart [] (device_text described) refl refl is
@@ -226,7 +226,7 @@ module _ (text : Text) (short : length text ≤ 4194304) where
   on_text : (status : Status) (asked : List Text) (out notes : Text) → RunsOn (run_of device_words holding status asked out notes) device (text ∷ [])
   on_text status asked out notes = ((refl, refl), (refl, short, tt))
 
-  -- what files give there is given for the text
+  -- an outcome that the files of this store give is given for the text
   only_text : (texts : List Text) → HoldsEach holding (files_of device) texts → text ∷ [] ≡ texts
   only_text [] each = absurd each
   only_text (one ∷ []) each = ap (λ (t : Text). t ∷ []) (same_some each.0)
@@ -258,7 +258,7 @@ module _ (text : Text) (short : length text ≤ 4194304) where
   device_gives status asked out notes command asks outcome gives =
       given_text outcome (subst (λ (c : Command). FilesGive (run_of device_words holding status asked out notes) c outcome) (is_device (run_of device_words holding status asked out notes) command (refl, refl) asks) gives)
 
-  -- A file with a first fault, whose line is not empty, is refused, and by its line.
+  -- A file has a first fault, and its line is not empty. The run must be refused with this line.
 
   refused_without_fault : ((line : Text) → Gives device (text ∷ []) (Err line) → ⊥) → TellsFault (run_of device_words holding Refused b_asked [] (1 ∷ [])) → ⊥
   refused_without_fault sound tells = let told = ((tells.1 device (text ∷ []) (on_text Refused b_asked [] (1 ∷ []))).0 refl).1 in sound told.0 told.1
@@ -281,7 +281,7 @@ module _ (text : Text) (short : length text ≤ 4194304) where
     refused_unasked : TellsFault (run_of device_words holding Refused [] [] line) → ⊥
     refused_unasked tells = let count : 0 ≡ 1 = ap length ((tells.1 device (text ∷ []) (on_text Refused [] [] line)).0 refl).0 in absurd (omega (arith, count))
 
-    -- the same if a read of the file failed
+    -- a failed read of the file is no excuse for Done or WriteFault
     fault_done : TellsFault (failing (codes "b") (run_of device_words holding Done b_asked [] [])) → ⊥
     fault_done tells = ((tells.1 device (text ∷ []) ((refl, refl), (refl, short, tt))).1 line gives).0 refl
 
@@ -292,7 +292,7 @@ module _ (text : Text) (short : length text ≤ 4194304) where
     fault_as_usage tells =
         neither Usage Refused NoMemory (λ e. cc) (λ e. cc) (((tells.1 device (text ∷ []) (on_text Usage b_asked [] [])).1 line gives).2 (λ name among rose. calm rose))
 
-    -- the read of another name failed, which is no excuse
+    -- only the read of another name failed, which is no excuse
     fault_as_unread : TellsFault (failing (codes "x") (run_of device_words holding ReadFault [] [] (read_line (codes "x")))) → ⊥
     fault_as_unread tells =
         neither ReadFault Refused NoMemory (λ e. cc) (λ e. cc) (((tells.1 device (text ∷ []) ((refl, refl), (refl, short, tt))).1 line gives).2 (b_read device_words [] holding ReadFault [] (read_line (codes "x"))))
@@ -300,11 +300,11 @@ module _ (text : Text) (short : length text ≤ 4194304) where
     refused_as_told : RestsOnFiles (run_of device_words holding Refused b_asked [] line)
     refused_as_told = (λ e. absurd cc, λ e. absurd cc, λ e. (device, (refl, refl), line, inl (text ∷ [], (refl, short, tt), gives), inl refl))
 
-    -- the words ask for nothing
+    -- the words ask for no command
     refused_without_words : RestsOnFiles (run_of [] holding Refused b_asked [] line) → ⊥
     refused_without_words rests = let told = rests.2 refl in nothing_asked holding Refused b_asked [] line told.0 told.1
 
-  -- The listing of a device that a file describes is printed, or begun if a write of the output failed. Here the output took nothing, or
+  -- A file describes a device. The listing must be printed, in part if a write of the output failed. In these runs the output took nothing, or
   -- bytes with which no listing begins.
 
   -- a run in which a write of the output failed
@@ -317,7 +317,7 @@ module _ (text : Text) (short : length text ≤ 4194304) where
   unwritten_without_fault : TellsUnwritten (run_of device_words holding WriteFault b_asked [] write_line) → ⊥
   unwritten_without_fault tells = calm (tells refl).0
 
-  -- only a write of the notes failed
+  -- only a write to the notes failed
   unwritten_as_unnoted : TellsUnwritten (unnoted (run_of device_words holding WriteFault b_asked [] write_line)) → ⊥
   unwritten_as_unnoted tells = calm (tells refl).0
 
@@ -358,14 +358,14 @@ module _ (text : Text) (short : length text ≤ 4194304) where
     unwritten_as_told : RestsOnFiles (run_of device_words holding WriteFault b_asked (take 3 (device_text described)) [])
     unwritten_as_told = (λ e. absurd cc, λ e. (device, (refl, refl), device_text described, inl (text ∷ [], (refl, short, tt), (described, is, refl)), 3, refl), λ e. absurd cc)
 
-    -- the words ask for nothing
+    -- the words ask for no command
     done_without_words : RestsOnFiles (run_of [] holding Done b_asked (device_text described) []) → ⊥
     done_without_words rests = let told = rests.0 refl in nothing_asked holding Done b_asked (device_text described) [] told.0 told.1
 
     unwritten_without_words : RestsOnFiles (run_of [] holding WriteFault b_asked [] []) → ⊥
     unwritten_without_words rests = let told = rests.1 refl in nothing_asked holding WriteFault b_asked [] [] told.0 told.1
 
-    -- more was written than the listing, although the text describes only one device
+    -- the output took more than the listing, although the text describes only one device
     done_past_text : ((other : RawDevice) → IsDeviceText text (Ok other) → other ≡ described) → RestsOnFiles (run_of device_words holding Done b_asked (device_text described ++ 10 ∷ []) []) → ⊥
     done_past_text only rests =
         let told = rests.0 refl in
@@ -379,7 +379,7 @@ module _ (text : Text) (short : length text ≤ 4194304) where
   something_given : FindsOutcome (run_of device_words holding NoMemory [] [] []) → (outcome : Result Text Text) × Gives device (text ∷ []) outcome
   something_given finds = finds.1 device (text ∷ []) (on_text NoMemory [] [] [])
 
--- A file that is too long is refused, with its line.
+-- A file that is too long is refused, with its own line.
 module _ (text : Text) (over : 4194304 < length text) where
   abbrev too_long : Held
   too_long = Some (λ name. Some text)
@@ -390,7 +390,7 @@ module _ (text : Text) (over : 4194304 < length text) where
   abbrev long_c : IsTooLong too_long (files_of chain) c_file
   long_c = record { before = []; after = b_file ∷ []; are = refl; texts = []; each = tt; text = text; holds = refl; long = over }
 
-  -- the file after it was asked for
+  -- the file after the long one was asked for
   long_and_next : TellsLong (run_of chain_words too_long Refused (codes "c" ∷ codes "b" ∷ []) [] (long_line (codes "c") 4194304)) → ⊥
   long_and_next tells = let count : 2 ≡ 1 = ap length ((tells chain c_file ((refl, omega arith), refl) long_c).0 refl).0 in absurd (omega (arith, count))
 
@@ -400,7 +400,7 @@ module _ (text : Text) (over : 4194304 < length text) where
   long_without_note : TellsLong (run_of device_words too_long Refused b_asked [] []) → ⊥
   long_without_note tells = none_noted device_words too_long Refused b_asked [] (long_line (codes "b") 4194304) refl ((tells device b_file (refl, refl) long_b).0 refl).1
 
-  -- the same if a read of the file failed
+  -- a failed read of the file is no excuse for Done or WriteFault
   long_done : TellsLong (failing (codes "b") (run_of device_words too_long Done b_asked [] [])) → ⊥
   long_done tells = (tells device b_file (refl, refl) long_b).1 refl
 
@@ -413,7 +413,7 @@ module _ (text : Text) (over : 4194304 < length text) where
   long_as_unread : TellsLong (failing (codes "x") (run_of device_words too_long ReadFault [] [] (read_line (codes "x")))) → ⊥
   long_as_unread tells = neither ReadFault Refused NoMemory (λ e. cc) (λ e. cc) ((tells device b_file (refl, refl) long_b).3 (b_read device_words [] too_long ReadFault [] (read_line (codes "x"))))
 
--- With a store that holds no file, files give nothing, except for `make`.
+-- The files of a store that holds no file give nothing. Only `make` needs no file.
 
 no_file_given : (run : Run) → run.old.held ≡ empty → (outcome : Result Text Text) → FilesGive run device outcome → ⊥
 no_file_given run none outcome (inl (texts, each, gives)) = by_texts texts (subst (λ (held : Held). HoldsEach held (files_of device) texts) none each)
@@ -445,7 +445,7 @@ refused_on_no_file rests =
     let told = rests.2 refl in
     rests_on_no_file (run_of device_words empty Refused b_asked [] []) refl (refl, refl) told.0 told.1 (Err told.2) told.3
 
--- no read of its file failed, and yet no file is held
+-- no read of the file failed, and yet the store holds no file
 nothing_found : (status : Status) → (status ≡ NoMemory → ⊥) → FindsOutcome (run_of device_words empty status b_asked [] []) → ⊥
 nothing_found status other finds =
     let told = finds.0 device (refl, refl) (λ name among rose. calm rose) other in
@@ -456,7 +456,7 @@ nothing_found_otherwise finds =
     let told = finds.0 device (refl, refl) (b_read device_words b_asked empty ReadFault [] []) (λ e. cc) in
     no_file_given (failing (codes "x") (run_of device_words empty ReadFault b_asked [] [])) refl told.0 told.1
 
--- Memory ran out.
+-- Runs in which memory ran out.
 
 memory_with_text : TellsMemory (run_of device_words empty NoMemory [] (1 ∷ []) memory_line) → ⊥
 memory_with_text tells = let count : 1 ≡ 0 = ap length (tells refl).0 in absurd (omega (arith, count))
@@ -476,7 +476,7 @@ memory_out_of_order tells = let told = (tells refl).2 svf ((refl, omega arith), 
         first_of default [] = default
         first_of default (name ∷ names) = name
 
--- A file whose read failed is named, and it is the last that was asked for.
+-- The notes must name a file whose read failed, and this file must be the last that was asked for.
 
 abbrev last_of : Text → List Text → Text
 last_of first [] = first
@@ -486,7 +486,7 @@ last_is : (first : Text) (before : List Text) (name : Text) → last_of first (b
 last_is first [] name = refl
 last_is first (other ∷ before) name = last_is other before name
 
--- what was asked for last
+-- the last name that was asked for is the name of the file
 last_named : (first : Text) (others : List Text) (before : List Wanted) (file : Wanted) → first ∷ others ≡ map (λ f. f.name) before ++ file.name ∷ [] → file.name ≡ last_of first others
 last_named first others before file asked = sym (last_is first (map (λ f. f.name) before) file.name) ∙ sym (ap (last_of first) asked)
 
@@ -527,7 +527,7 @@ unread_without_note tells = let told = tells refl in by_note (read_line told.5.n
     by_note line some (inl is) = apart [] line refl some is
     by_note line some (inr (rose, cut)) = calm rose
 
--- the second file was asked for, and the first, which is held, is named
+-- the second file was asked for, but the notes name the first file, which the store holds
 abbrev first_for_second : Run
 first_for_second = none_read (Some (λ name. Some [])) svf_words (codes "c" ∷ codes "n" ∷ []) [] (read_line (codes "c"))
 
@@ -538,7 +538,7 @@ first_named tells = let told = tells refl in by_note told.5.name (last_named (co
     by_note name same (inl is) = apart (read_line (codes "c")) (read_line (codes "n")) refl refl (is ∙ ap read_line same)
     by_note name same (inr (rose, cut)) = calm rose
 
--- a file that is none of the command's
+-- the notes name a file that is none of the command's files
 other_file : TellsUnread (unread device_words (codes "x" ∷ []) [] (read_line (codes "x"))) → ⊥
 other_file tells =
     let told = tells refl in
@@ -555,7 +555,7 @@ other_file tells =
         let more : length (before ++ file ∷ after) ≡ length before + suc (length after) = length-append before (file ∷ after) in
         absurd (omega (arith, count, more))
 
--- the store does not hold the first file, and the second was asked for after it
+-- the store does not hold the first file, and yet the second file was asked for
 first_not_held : TellsUnread (unread svf_words (codes "c" ∷ codes "n" ∷ []) [] (read_line (codes "n"))) → ⊥
 first_not_held tells = let told = tells refl in by_before told.3 told.5 told.8 (told.10 (λ name. None) refl)
   where

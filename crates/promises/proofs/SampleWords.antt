@@ -1,4 +1,4 @@
--- Words that ask for a command, one for each, and words that ask for none, worked by hand.
+-- Words that ask for a command, for each command, and words that ask for no command, worked out by hand.
 use Rattle.std.proofs.Common.{ℕ, List, [], ◌∷◌, replicate, codes, refl, arith}
 use Rattle.command_line.specs.Words.{Text, ChainNames, BoardNames, Chain, Ident, Device, Cover, Svf, Walk, Make, Diagnose, Groups, Batch, board_called, log_called}
 use Rattle.btest_cli.specs.declared.status.Status.{Status}
@@ -11,11 +11,11 @@ chain_names = record { chain = codes "c"; bsdl = codes "b" ∷ codes "d" ∷ [] 
 abbrev board_names : BoardNames
 board_names = record { chain = codes "c"; nets = codes "n"; bsdl = codes "b" ∷ [] }
 
--- the words of those names
+-- the names of a board's files, as words
 abbrev board_words : List Text
 board_words = codes "c" ∷ codes "n" ∷ codes "b" ∷ []
 
--- `svf` with `count` BSDL files
+-- the words of `svf` with `count` BSDL files
 abbrev tested : ℕ → List Text
 tested count = codes "svf" ∷ codes "c" ∷ codes "n" ∷ replicate count (codes "b")
 

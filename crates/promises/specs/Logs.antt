@@ -1,4 +1,4 @@
--- What a text of logs holds, by its lines, and that texts are read accordingly.
+-- The log or batch that the lines of a text hold, and the promise that texts are read as their lines say.
 use Rattle.std.specs.Prelude.{◌≡◌, ◌↔◌, Bool, true, List, [], ◌∷◌, map, Some, Ok, codes}
 use Rattle.board_defs.specs.declared.board.RawBoard.{RawBoard}
 use Rattle.board_defs.specs.Pins.{data_bits}
@@ -14,8 +14,8 @@ use Rattle.btest_core.specs.BoardRead.{Denotes}
 use Rattle.commands.specs.LogRead.{test_blocks, test_log, walk_log}
 use Rattle.command_line.specs.Words.{Text}
 
--- the lines with words are these rows, each as one word: the hexadecimal digits of a bit for each position of a data scan. There is a
--- row for each SDR statement of these scans that compares, in order
+-- the lines with words are these rows. A row is one word, the hexadecimal digits of a bit for each position of a data scan. There is a row
+-- for each SDR statement of these scans that compares, in order
 pub record HoldsLog (board : RawBoard) (scans : List RowScan) (text : Text) (rows : List (List Bool)) : Type 0 where
   pub lines : map (bits_of_line (data_bits board)) (row_lines text) ≡ map Some rows
   pub shape : HasShape board scans rows
@@ -26,15 +26,15 @@ pub record HoldsBlock (board : RawBoard) (text : BlockText) (block : Block) : Ty
   pub id : is_word block.id ≡ true
   pub log : HoldsLog board (svf_row_scans board) (own_text text) block.log
 
--- the text is lines without words and then these blocks, each from its title up to the next title
+-- the text is lines without words and then these blocks; a block reaches from its title up to the next title
 pub record HoldsBlocks (board : RawBoard) (text : Text) (blocks : List Block) : Type 0 where
   pub front : List Text
   pub texts : List BlockText
   pub cut : IsCutTo text front texts
   pub each : EachPair (HoldsBlock board) texts blocks
 
--- on the board that files denote, a text is read as a log of its test, as one of its walking test or as a batch exactly if its lines
--- hold one
+-- on the board that files denote, a text is read as a log of the board's test, as a log of its walking test or as a batch exactly if the
+-- lines of the text hold such a log or batch
 pub record LinesAreRead : Type 0 where
   pub test : (chain nets : Text) (texts : List Text) (board : RawBoard) (log : Text) (rows : List (List Bool)) → Denotes chain nets texts board → (test_log log board ≡ Ok rows) ↔ HoldsLog board (svf_row_scans board) log rows
   pub walk : (chain nets : Text) (texts : List Text) (board : RawBoard) (log : Text) (rows : List (List Bool)) → Denotes chain nets texts board → (walk_log log board ≡ Ok rows) ↔ HoldsLog board (walk_row_list board) log rows

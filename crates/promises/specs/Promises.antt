@@ -1,4 +1,4 @@
--- What each command promises, in the words of the board and of its model, and what each other status means.
+-- The promise of each command, in the words of the board and of its model, and the meaning of each other status.
 use Rattle.std.specs.Prelude.{◌≡◌, ◌≢◌, ◌⊎◌, ◌↔◌, ℕ, ◌≤◌, Bool, true, false, List, [], ◌∷◌, ◌++◌, length, map, sum, take, Option, Some, Result, Ok, Err, AllPairs, Contains, Decides}
 use Rattle.bt_base.specs.Counts.{Rose}
 use Rattle.board_defs.specs.declared.board.RawBoard.{RawBoard}
@@ -46,8 +46,8 @@ use Rattle.promises.specs.Runs.{Run, Asks, AsksNothing, RunsOn, HoldsEach, IsToo
 use Rattle.promises.specs.Gives.{Gives, summary}
 use Rattle.promises.specs.Logs.{HoldsLog, HoldsBlocks}
 
--- `chain`: the text has a meaning. It passes on every chain of parts with the instruction lengths of the files, and fails on every chain
--- of one or more parts that has another number of parts and no more instruction bits, whatever the pins capture
+-- `chain`: the text has a meaning. It passes on every chain of parts with the instruction lengths of the files. It fails on every chain of
+-- one or more parts that has another number of parts and no more instruction bits. Both are true whatever the pins capture
 abbrev pub TestsChain : Run → Type 0
 TestsChain run =
     (names : ChainNames) (chain : Text) (bsdl : List Text) (lengths : List ℕ) → RunsOn run (Chain names) (chain ∷ bsdl) → AreChainLengths chain bsdl (Ok lengths) →
@@ -55,8 +55,8 @@ TestsChain run =
     × ((wiring : Wiring) (parts : List TestLogic) → ir_lengths parts ≡ lengths → PassesOn wiring parts clocks)
     × ((wiring : Wiring) (parts : List TestLogic) → AreIrLengths (ir_lengths parts) → length parts ≢ length lengths → sum (ir_lengths parts) ≤ sum lengths → FailsOn wiring parts clocks))
 
--- `ident`: the text has a meaning. On every chain of parts with the patterns of the files it passes if each code fits its pattern, and
--- fails if some code does not, whatever the pins capture
+-- `ident`: the text has a meaning. On every chain of parts with the patterns of the files the text passes if each code fits its pattern,
+-- and fails if some code does not fit, whatever the pins capture
 abbrev pub TestsIdents : Run → Type 0
 TestsIdents run =
     (names : ChainNames) (chain : Text) (bsdl : List Text) (patterns : List (Option (List Symbol))) → RunsOn run (Ident names) (chain ∷ bsdl) → AreIdents chain bsdl (Ok patterns) →
@@ -64,7 +64,7 @@ TestsIdents run =
     × ((wiring : Wiring) (parts : List TestLogic) → AreCoded patterns parts → all_fit patterns parts ≡ true → PassesOn wiring parts clocks)
     × ((wiring : Wiring) (parts : List TestLogic) → AreCoded patterns parts → all_fit patterns parts ≡ false → FailsOn wiring parts clocks))
 
--- `device`: the text is the listing of the device that the file describes, which keeps the rules of a device
+-- `device`: the text is the listing of the device that the file describes, and this device keeps the rules of a device
 abbrev pub ListsDevice : Run → Type 0
 ListsDevice run =
     (name text : Text) (device : RawDevice) → RunsOn run (Device name) (text ∷ []) → IsDeviceText text (Ok device) →
@@ -76,7 +76,7 @@ ListsCover run =
     (names : BoardNames) (chain nets : Text) (bsdl : List Text) (board : RawBoard) → RunsOn run (Cover names) (chain ∷ nets ∷ bsdl) → Denotes chain nets bsdl board →
     Prints run (Cover names) (λ text. (text ≡ cover_text board) × IsBoard board × IsCoverList board text)
 
--- `svf`: run by its meaning on the board from any state, the text is quiet after its reset under every fault set, passes without faults,
+-- `svf`: the text has a meaning. Run on the board from any state, it is quiet after its reset under every fault set, passes without faults,
 -- and fails under every nonempty set of observable faults
 abbrev pub TestsBoard : Run → Type 0
 TestsBoard run =
@@ -84,7 +84,7 @@ TestsBoard run =
     Prints run (Svf names) (λ text. (text ≡ board_text board) × (clocks : List Clock) × (meaning text ≡ Some clocks) × IsQuiet board clocks × PassOnBoard board no_faults clocks
     × ((faults : FaultSet) → IsObservable board faults → IsNonempty faults → FailOnBoard board faults clocks))
 
--- `walk`: run by its meaning on the board from any state, the text is quiet after its reset under every fault set; it passes without faults
+-- `walk`: the text has a meaning. Run on the board from any state, it is quiet after its reset under every fault set, and passes without faults
 abbrev pub WalksBoard : Run → Type 0
 WalksBoard run =
     (names : BoardNames) (chain nets : Text) (bsdl : List Text) (board : RawBoard) → RunsOn run (Walk names) (chain ∷ nets ∷ bsdl) → Denotes chain nets bsdl board →
@@ -95,15 +95,15 @@ abbrev pub SumsUp : Run → Type 0
 SumsUp run =
     (parts : ℕ) (board : RawBoard) → RunsOn run (Make parts) [] → Denotes (made.chain_text parts) (made.net_text parts) (bsdl_text ∷ []) board → Prints run (Make parts) (λ text. text ≡ summary board)
 
--- the text of the board's test means the clocks of the scans by which faults explain logs; each single fault explains a log; and all logs
--- that it explains have the same compared bits
+-- the meaning of the test's text is the clocks of its scans, by which faults explain logs. Each single fault explains a log, and all logs
+-- that one fault explains have the same compared bits
 pub record HasResponses (board : RawBoard) : Type 0 where
   pub means : meaning (board_text board) ≡ Some (test_clocks (svf_scans board))
   pub some : (single : Single) → IsSingle board single → (log : List (List Bool)) × Explains board single log
   pub one : (single : Single) (log other : List (List Bool)) → Explains board single log → Explains board single other → AgreeOn board (svf_row_scans board) log other
 
--- the log passes exactly if each compared bit is the expected one, and then nothing explains it; and the faults are exactly the single
--- faults that explain it, each once and in order
+-- the log passes exactly if each compared bit is the expected bit, and a log that passes has no faults. The faults are exactly the single
+-- faults that explain the log, each once and in order
 pub record IsDiagnosed (board : RawBoard) (log : List (List Bool)) (pass : Bool) (faults : List Single) : Type 0 where
   pub passes : Decides pass (IsExpected board (svf_row_scans board) log)
   pub none : pass ≡ true → faults ≡ []
@@ -118,15 +118,15 @@ DiagnosesLog run =
     RunsOn run (Diagnose workers name names) (log ∷ chain ∷ nets ∷ bsdl) → Denotes chain nets bsdl board → HoldsLog board (svf_row_scans board) log rows →
     Prints run (Diagnose workers name names) (λ text. HasResponses board × (pass : Bool) × (faults : List Single) × IsDiagnosed board rows pass faults × (text ≡ diag_text board pass faults))
 
--- and a text is printed, or begun, only if the files denote a board and the log is one of its test
+-- `diagnose` prints a text, in whole or in part, only if the files denote a board and the log is a log of the board's test
 abbrev pub RestsOnLog : Run → Type 0
 RestsOnLog run =
     (workers : ℕ) (name : Text) (names : BoardNames) (log chain nets : Text) (bsdl : List Text) →
     RunsOn run (Diagnose workers name names) (log ∷ chain ∷ nets ∷ bsdl) → (run.status ≡ Done) ⊎ (run.status ≡ WriteFault) →
     (board : RawBoard) × Denotes chain nets bsdl board × (rows : List (List Bool)) × HoldsLog board (svf_row_scans board) log rows
 
--- `batch`: if the file holds blocks with logs of the board's test, the printed text has, for each block in order, its title and the
--- diagnosis of its log by itself
+-- `batch`: if the file holds blocks with logs of the board's test, the printed text has a title and a diagnosis for each block, in order.
+-- The diagnosis of a block depends on the block's log alone
 abbrev pub DiagnosesBlocks : Run → Type 0
 DiagnosesBlocks run =
     (workers : ℕ) (name : Text) (names : BoardNames) (logs chain nets : Text) (bsdl : List Text) (board : RawBoard) (blocks : List Block) →
@@ -134,16 +134,16 @@ DiagnosesBlocks run =
     Prints run (Batch workers name names) (λ text. HasResponses board × (verdicts : List Verdict)
     × EachPair (λ block verdict. IsDiagnosed board block.log verdict.pass verdict.faults) blocks verdicts × (text ≡ batch_text board blocks verdicts))
 
--- and a text is printed, or begun, only if the files denote a board and the text holds blocks with logs of its test
+-- `batch` prints a text, in whole or in part, only if the files denote a board and the text holds blocks with logs of the board's test
 abbrev pub RestsOnBlocks : Run → Type 0
 RestsOnBlocks run =
     (workers : ℕ) (name : Text) (names : BoardNames) (logs chain nets : Text) (bsdl : List Text) →
     RunsOn run (Batch workers name names) (logs ∷ chain ∷ nets ∷ bsdl) → (run.status ≡ Done) ⊎ (run.status ≡ WriteFault) →
     (board : RawBoard) × Denotes chain nets bsdl board × (blocks : List Block) × HoldsBlocks board logs blocks
 
--- `groups`: if the file holds a log of the walking test, the printed text names the one set of groups of walk nets that explains it, or
--- says that there is none. A set explains a log if every run gives the log's compared bits, with each group shorted so that a 1 wins and
--- nothing else faulty. Each set explains some log, and all logs that it explains have the same compared bits
+-- `groups`: if the file holds a log of the walking test, the printed text names the one set of groups of walk nets that explains the log, or
+-- says that no set does. A set explains a log if every run with the set's shorts, in which a 1 wins, and no other fault gives the log's
+-- compared bits. Each set explains some log, and all logs that one set explains have the same compared bits
 abbrev pub FindsGroups : Run → Type 0
 FindsGroups run =
     (name : Text) (names : BoardNames) (log chain nets : Text) (bsdl : List Text) (board : RawBoard) (rows : List (List Bool)) →
@@ -153,20 +153,20 @@ FindsGroups run =
     × ((groups : List (List ℕ)) → AreGroups board groups → (other : List (List Bool)) × Explain board other groups)
     × ((groups : List (List ℕ)) (one other : List (List Bool)) → Explain board one groups → Explain board other groups → AgreeOn board (walk_row_list board) one other))
 
--- and a text is printed, or begun, only if the files denote a board and the log is one of its walking test
+-- `groups` prints a text, in whole or in part, only if the files denote a board and the log is a log of its walking test
 abbrev pub RestsOnWalkLog : Run → Type 0
 RestsOnWalkLog run =
     (name : Text) (names : BoardNames) (log chain nets : Text) (bsdl : List Text) →
     RunsOn run (Groups name names) (log ∷ chain ∷ nets ∷ bsdl) → (run.status ≡ Done) ⊎ (run.status ≡ WriteFault) →
     (board : RawBoard) × Denotes chain nets bsdl board × (rows : List (List Bool)) × HoldsLog board (walk_row_list board) log rows
 
--- Usage comes exactly if the words ask for no command, unless memory ran out. The store is as it was
+-- Usage comes exactly if the words ask for no command, unless memory ran out. The store stays unchanged
 abbrev pub TellsUsage : Run → Type 0
 TellsUsage run =
     (run.status ≡ Usage → AsksNothing run × PutsNothing run × Notes run usage_line)
     × (AsksNothing run → ((run.status ≡ Usage) ⊎ (run.status ≡ NoMemory)) × (run.new.asked ≡ run.old.asked) × (run.new.unread ≡ run.old.unread) × (run.new.held ≡ run.old.held))
 
--- Refused comes exactly if the files have a first fault, unless a read of one failed or memory ran out, and the notes take its line
+-- Refused comes exactly if the files have a first fault, unless a read of a file failed or memory ran out. The notes take the fault's line
 abbrev pub TellsFault : Run → Type 0
 TellsFault run =
     (run.status ≡ Refused → PutsNothing run)
@@ -174,36 +174,36 @@ TellsFault run =
     (run.status ≡ Refused → AsksFor run (names_of command) × ((line : Text) × Gives command texts (Err line) × Notes run line))
     × ((line : Text) → Gives command texts (Err line) → (run.status ≢ Done) × (run.status ≢ WriteFault) × EndsWith run command Refused))
 
--- the same if a file is longer than allowed. If the run is refused, no file after this one was asked for; if memory ran out, some may
--- have been (`TellsMemory`)
+-- Refused comes if a file is longer than allowed, unless a read of a file failed or memory ran out. A refused run asks for no file after this
+-- file. If memory ran out, later files may have been asked for (`TellsMemory`)
 abbrev pub TellsLong : Run → Type 0
 TellsLong run =
     (command : Command) (file : Wanted) → Asks run command → (long : IsTooLong run.old.held (files_of command) file) →
     (run.status ≡ Refused → AsksFor run (map (λ f. f.name) long.before ++ file.name ∷ []) × Notes run (long_line file.name file.limit))
     × (run.status ≢ Done) × (run.status ≢ WriteFault) × EndsWith run command Refused
 
--- what the files of a command give, if the store holds them: what their texts give, or else the line of the first that is too long
+-- the outcome that the files of a command give, if the store holds them: the outcome of their texts, or the line for the first file that is too long
 abbrev pub FilesGive : Run → Command → Result Text Text → Type 0
 FilesGive run command outcome =
     ((texts : List Text) × HoldsEach run.old.held (files_of command) texts × Gives command texts outcome)
     ⊎ ((file : Wanted) × IsTooLong run.old.held (files_of command) file × (outcome ≡ Err (long_line file.name file.limit)))
 
--- Done and WriteFault come only if the words ask for a command whose files give a text, and Refused only if they give a line
+-- Done and WriteFault come only if the words ask for a command whose files give a text. Refused comes only if the files give a line
 abbrev pub RestsOnFiles : Run → Type 0
 RestsOnFiles run =
     (run.status ≡ Done → (command : Command) × Asks run command × (text : Text) × FilesGive run command (Ok text) × Puts run text)
     × (run.status ≡ WriteFault → (command : Command) × Asks run command × (text : Text) × FilesGive run command (Ok text) × (count : ℕ) × Puts run (take count text))
     × (run.status ≡ Refused → (command : Command) × Asks run command × (line : Text) × FilesGive run command (Err line) × Notes run line)
 
--- if the words ask for a command and no read of its files failed, its files give a text or a line, unless memory ran out; and texts that
--- the store holds for them give one or the other, however the run ends
+-- if the words ask for a command, no read of its files failed and memory did not run out, the files give a text or a line. Texts that the
+-- store holds for the files give a text or a line however the run ends
 abbrev pub FindsOutcome : Run → Type 0
 FindsOutcome run =
     ((command : Command) → Asks run command → NoReadFailed run command → run.status ≢ NoMemory → (outcome : Result Text Text) × FilesGive run command outcome)
     × ((command : Command) (texts : List Text) → RunsOn run command texts → (outcome : Result Text Text) × Gives command texts outcome)
 
--- ReadFault comes only if the words ask for a command and a read of one of its files failed. The notes name this file. The files before it
--- were asked for, and none after it. A store that tells its files holds those before it
+-- ReadFault comes only if the words ask for a command and a read of one of its files failed. The notes name this file. The earlier files were
+-- asked for, and no later file was. A store that tells its files holds the earlier files
 abbrev pub TellsUnread : Run → Type 0
 TellsUnread run =
     run.status ≡ ReadFault → PutsNothing run
@@ -211,14 +211,14 @@ TellsUnread run =
     × Rose (run.old.unread file.name) (run.new.unread file.name) × AsksFor run (map (λ f. f.name) before ++ file.name ∷ []) × Notes run (read_line file.name)
     × ((held : Text → Option Text) → run.old.held ≡ Some held → (texts : List Text) × HoldsEach run.old.held before texts)
 
--- WriteFault comes only if a write of the output failed, and the output took some first bytes of the text
+-- WriteFault comes only if a write of the output failed. The output took some first bytes of the text
 abbrev pub TellsUnwritten : Run → Type 0
 TellsUnwritten run =
     run.status ≡ WriteFault → Rose run.old.unwritten run.new.unwritten × Notes run write_line
     × ((command : Command) (texts : List Text) → RunsOn run command texts → AsksFor run (names_of command) × ((text : Text) × Gives command texts (Ok text) × (count : ℕ) × Puts run (take count text)))
 
--- if memory ran out, nothing was written to the output, and some first files were asked for, each once and in order. Files after one that
--- is too long may be among them
+-- if memory ran out, nothing was written to the output. Some first files were asked for, each once and in order, perhaps also files after a
+-- file that is too long
 abbrev pub TellsMemory : Run → Type 0
 TellsMemory run =
     run.status ≡ NoMemory → PutsNothing run × Notes run memory_line × ((command : Command) → Asks run command → (count : ℕ) × AsksFor run (take count (names_of command)))

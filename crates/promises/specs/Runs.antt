@@ -1,4 +1,4 @@
--- One run of the program: its words, what it finds at its ends, and what it leaves there.
+-- One run of the program: its words, its status, and what is at its ends before and after it.
 use Rattle.std.specs.Prelude.{◌≡◌, ◌⊎◌, ℕ, ◌<◌, ◌≤◌, true, List, [], ◌∷◌, ◌++◌, length, map, take, codes, Some, None, Contains, String, string_bytes}
 use Rattle.std.specs.List.{list_all}
 use Rattle.std.specs.declared.alloc.Global.{Global}
@@ -12,8 +12,8 @@ use Rattle.btest_cli.specs.declared.status.Status.{Status}
 use Rattle.btest_cli.specs.declared.status.Status.TheVariants.{Done, NoMemory}
 use Rattle.promises.specs.declared.desk.Desk.{Desk}
 
--- the text that a store holds under each name, if the store tells; the names that it was asked for, and how often a read of each failed;
--- what the output and the notes took, and how often a write to each failed
+-- the text that a store holds under each name, if the store tells it; the names that were asked for, and how often a read of each name
+-- failed; and for the output and for the notes, the bytes that were taken, and how often a write failed
 pub record Ends : Type 0 where
   pub held : Held
   pub asked : List Text
@@ -23,7 +23,7 @@ pub record Ends : Type 0 where
   pub notes : Text
   pub unnoted : ℕ
 
--- the words of the command line, the ends before the run and after it, and the status
+-- the words of the command line, the ends before and after the run, and the status
 pub record Run : Type 0 where
   pub words : List Text
   pub old : Ends
@@ -33,7 +33,7 @@ pub record Run : Type 0 where
 abbrev pub run_of : List (String Global) → Ends → Ends → Status → Run
 run_of words old new status = record { words = map string_bytes words; old = old; new = new; status = status }
 
--- the ends, from what a store tells, with an output and notes in memory
+-- the ends with a store that tells this, and with an output and notes in memory
 abbrev pub ends_of : Held → List Text → (Text → ℕ) → MemSink → MemSink → Ends
 ends_of held asked unread out notes = record { held = held; asked = asked; unread = unread; out = taken_of out; unwritten = faults_of out; notes = taken_of notes; unnoted = faults_of notes }
 
@@ -43,7 +43,7 @@ desk_ends desk = ends_of (Some (text_of desk.store)) (asked_of desk.store) (λ n
 abbrev pub desk_run : List (String Global) → Desk → Desk → Status → Run
 desk_run words old new status = run_of words (desk_ends old) (desk_ends new) status
 
--- The limits on BSDL files and on workers are numerals here, not the names that the reader of the words has for them. They are promises of
+-- The limits on BSDL files and on workers are numbers here, although the reader of the words has names for them. They are promises of
 -- the program, so a limit that is changed only in the reader breaks a proof here. The limit on the parts of a generated board has its name,
 -- and samples fix it at 255.
 
@@ -68,7 +68,7 @@ AreWords (Diagnose workers log names) words = (number : Text) × (number_of 64 n
 AreWords (Groups log names) words = ThenBoard (codes "groups" ∷ log ∷ []) names words
 AreWords (Batch workers log names) words = (number : Text) × (number_of 64 number ≡ Some workers) × ThenBoard (codes "batch" ∷ number ∷ log ∷ []) names words
 
--- the run has the words of this command, none of which is empty or begins with a dash
+-- the run has the words of this command, and no word is empty or begins with a dash
 abbrev pub Asks : Run → Command → Type 0
 Asks run command = AreWords command run.words × (list_all is_plain run.words ≡ true)
 
@@ -76,30 +76,30 @@ Asks run command = AreWords command run.words × (list_all is_plain run.words �
 abbrev pub AsksNothing : Run → Type 0
 AsksNothing run = (command : Command) → Asks run command → ⊥
 
--- files of these names, each with at most 4 MiB
+-- files with these names, each with at most 4 MiB
 abbrev pub texts_called : List Text → List Wanted
 texts_called names = map (λ name. record { name = name; limit = 4194304 }) names
 
--- the files of a command, in order. A file of logs may have 64 MiB
+-- the files of a command, in order; a file of logs may have up to 64 MiB
 abbrev pub files_of : Command → List Wanted
 files_of (Diagnose workers log names) = record { name = log; limit = 67108864 } ∷ texts_called (board_names names)
 files_of (Groups log names) = record { name = log; limit = 67108864 } ∷ texts_called (board_names names)
 files_of (Batch workers log names) = record { name = log; limit = 67108864 } ∷ texts_called (board_names names)
 files_of command = texts_called (names_of command)
 
--- the store tells that it holds this text under the name
+-- the store tells what it holds, and holds this text under the name
 abbrev pub Holds : Held → Text → Text → Type 0
 Holds None name text = ⊥
 Holds (Some held) name text = held name ≡ Some text
 
--- the store does so for each of these files, and no text is too long
+-- the store holds a text for each of these files, and no text is too long
 abbrev pub HoldsEach : Held → List Wanted → List Text → Type 0
 HoldsEach held [] [] = Unit {0}
 HoldsEach held [] (text ∷ texts) = ⊥
 HoldsEach held (file ∷ files) [] = ⊥
 HoldsEach held (file ∷ files) (text ∷ texts) = Holds held file.name text × (length text ≤ file.limit) × HoldsEach held files texts
 
--- the file is the first of these that is longer than allowed, and the store holds those before it
+-- the file is the first of these files that is too long, and the store holds the files before it
 pub record IsTooLong (held : Held) (files : List Wanted) (file : Wanted) : Type 0 where
   pub before : List Wanted
   pub after : List Wanted
@@ -122,11 +122,11 @@ NoReadFailed run command = (name : Text) → Contains (names_of command) name �
 abbrev pub EndsWith : Run → Command → Status → Type 0
 EndsWith run command status = NoReadFailed run command → (run.status ≡ status) ⊎ (run.status ≡ NoMemory)
 
--- the store was asked for these names, in turn, and for no other
+-- the store was asked for these names in turn, and for no other name
 abbrev pub AsksFor : Run → List Text → Type 0
 AsksFor run names = run.new.asked ≡ run.old.asked ++ names
 
--- the output took these bytes, or nothing
+-- the output took these bytes; `PutsNothing` says that the output took nothing
 abbrev pub Puts : Run → Text → Type 0
 Puts run bytes = run.new.out ≡ run.old.out ++ bytes
 
@@ -138,7 +138,7 @@ abbrev pub Notes : Run → Text → Type 0
 Notes run line = (run.new.notes ≡ run.old.notes ++ line) ⊎ (Rose run.old.unnoted run.new.unnoted × ((count : ℕ) × (run.new.notes ≡ run.old.notes ++ take count line)))
 
 -- at Done each file was asked for once and in order, the output took exactly a text for which P holds, and the notes took nothing. The
--- status is Done unless a read of a file or a write of the output failed or memory ran out
+-- status is Done, unless a read of a file failed, a write of the output failed, or memory ran out
 pub record Prints (run : Run) (command : Command) (P : Text → Type 0) : Type 0 where
   pub asks : run.status ≡ Done → AsksFor run (names_of command)
   pub puts : run.status ≡ Done → (text : Text) × Puts run text × P text

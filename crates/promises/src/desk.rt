@@ -15,7 +15,7 @@ use std::thread::Threads;
 use tap_defs::board_law::{rows_compared, statements_compared};
 use walk_test::law::logs_have_one_set;
 
-/// What a run is given, and what it leaves.
+/// The store, the output and the notes of a run, in memory.
 #[derive(Drop)]
 pub struct Desk {
     pub alloc: Global,
@@ -65,7 +65,7 @@ pub(crate) fn run_on<R: Threads + Sync, S: Store, G: Gate>(
     run(rt, alloc, words, store, out, notes, gate)
 }
 
-/// A text is read as a log or a batch exactly if its lines hold one.
+/// A text is read as a log or a batch exactly if its lines hold a log or a batch.
 pub fn lines_are_read()
     ensures { LinesAreRead }
 {

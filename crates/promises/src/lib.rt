@@ -1,5 +1,5 @@
-//! What the program promises, command by command, in the words of the board and of its model. Each promise is proved from the clauses of
-//! `run` alone, and from the laws that texts and logs each have one answer.
+//! The promises of the program, command by command, in the words of the board and of its model. Each promise is proved from the clauses
+//! of `run` alone, and from the laws that texts and logs each have one answer.
 #![tactic(auto)]
 
 mod desk;

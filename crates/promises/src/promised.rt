@@ -1,4 +1,4 @@
-// What the program promises, in the order of its commands and then of the other statuses.
+// The promises of the program: first those of each command, and then those of the other statuses.
 ghost use Rattle.promises.specs.Runs.{desk_run, ends_of, run_of};
 ghost use Rattle.promises.specs.Promises.{DiagnosesBlocks, DiagnosesLog, FindsGroups, FindsOutcome, ListsCover, ListsDevice, RestsOnBlocks, RestsOnFiles, RestsOnLog, RestsOnWalkLog, SumsUp, TellsFault, TellsLong, TellsMemory, TellsUnread, TellsUnwritten, TellsUsage, TestsBoard, TestsChain, TestsIdents, WalksBoard};
 
@@ -9,7 +9,7 @@ use std::alloc::Global;
 use std::thread::Threads;
 
 impl Desk {
-    /// `chain` tells a chain with the parts of its files from one with another number of parts.
+    /// `chain` distinguishes a chain with the parts of its files from a chain with another number of parts.
     pub fn chain<R: Threads + Sync, G: Gate>(
         &mut self,
         rt: &R,
@@ -21,7 +21,7 @@ impl Desk {
         self.run(rt, words, gate)
     }
 
-    /// `ident` tells whether each part's code fits its pattern.
+    /// `ident` tests whether each part's code fits the pattern of the part.
     pub fn ident<R: Threads + Sync, G: Gate>(
         &mut self,
         rt: &R,
@@ -71,7 +71,7 @@ impl Desk {
         self.run(rt, words, gate)
     }
 
-    /// `diagnose` lists exactly the single faults that explain a log, and prints only if there is one.
+    /// `diagnose` lists exactly the single faults that explain a log, and prints only if the file holds a log.
     pub fn diagnose<R: Threads + Sync, G: Gate>(
         &mut self,
         rt: &R,
@@ -85,8 +85,8 @@ impl Desk {
         self.run(rt, words, gate)
     }
 
-    /// `batch` gives for each block its title and the diagnosis of its log by itself, and prints only if there are such
-    /// blocks.
+    /// `batch` writes the title and the diagnosis of each block, and prints only if the file holds such blocks. The diagnosis of
+    /// a block depends on the block's log alone.
     pub fn batch<R: Threads + Sync, G: Gate>(
         &mut self,
         rt: &R,
@@ -100,7 +100,7 @@ impl Desk {
         self.run(rt, words, gate)
     }
 
-    /// `groups` names the set of groups that explains a log, or says that there is none, and prints only if there is a
+    /// `groups` names the set of groups that explains a log, or says that no set does, and prints only if the file holds a
     /// log.
     pub fn groups<R: Threads + Sync, G: Gate>(
         &mut self,
@@ -115,7 +115,7 @@ impl Desk {
         self.run(rt, words, gate)
     }
 
-    /// Words that are no command, and no others, are answered by the usage line, and no file is read.
+    /// The usage line answers exactly the words that are no command, and no file is read for these words.
     pub fn usage<R: Threads + Sync, G: Gate>(
         &mut self,
         rt: &R,
@@ -127,7 +127,7 @@ impl Desk {
         self.run(rt, words, gate)
     }
 
-    /// A text is printed only if the words ask for a command whose files give it. Refused comes only if the files give the
+    /// A text is printed only if the words ask for a command whose files give this text. Refused comes only if the files give the
     /// line that is written. This says nothing about the lines of other statuses. Files that were read or that the store holds
     /// give a text or a line.
     pub fn outcome<R: Threads + Sync, G: Gate>(
@@ -142,7 +142,7 @@ impl Desk {
         self.run(rt, words, gate)
     }
 
-    /// Files with a first fault, and no others, are refused with its line.
+    /// Exactly the files with a first fault are refused, with the line for this fault.
     pub fn refused<R: Threads + Sync, G: Gate>(
         &mut self,
         rt: &R,
@@ -180,7 +180,7 @@ impl Desk {
     }
 }
 
-/// `make` sums up a generated board, whatever the store.
+/// `make` writes the summary of a generated board, for every store.
 pub fn make<R: Threads + Sync, S: Store, G: Gate>(
     rt: &R,
     alloc: Global,
@@ -195,7 +195,7 @@ pub fn make<R: Threads + Sync, S: Store, G: Gate>(
     run_on(rt, alloc, words, store, out, notes, gate)
 }
 
-/// If a file was not read, it is named, and a read of it failed, whatever the store.
+/// At ReadFault a read of a file failed and the notes name this file, for every store.
 pub fn read_fault<R: Threads + Sync, S: Store, G: Gate>(
     rt: &R,
     alloc: Global,

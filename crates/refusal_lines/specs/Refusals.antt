@@ -36,23 +36,23 @@ write_line = codes "cannot write\n"
 abbrev pub memory_line : Text
 memory_line = codes "out of memory\n"
 
--- a text, and what is wrong with it
+-- the name of a text, and what is wrong with the text
 abbrev pub about : Text → Text → Text
 about name wrong = whole (name ∷ wrong ∷ [])
 
--- a text has more bytes than the limit
+-- the line for a text with more bytes than the limit
 abbrev pub long_line : Text → ℕ → Text
 long_line name limit = whole (name ∷ codes ": longer than " ∷ decimal limit ∷ codes " bytes\n" ∷ [])
 
--- a line of a text, and what is wrong with it
+-- the name of a text, the number of a line, and what is wrong with the line
 abbrev pub at_line : Text → ℕ → Text → Text
 at_line name n wrong = whole (name ∷ codes " line " ∷ decimal n ∷ wrong ∷ [])
 
--- a word of a line of a text, and what is wrong with it
+-- the name of a text, the numbers of a line and a word, and what is wrong with the word
 abbrev pub at_spot : Text → Spot → Text → Text
 at_spot name spot wrong = whole (name ∷ codes " line " ∷ decimal spot.line ∷ codes " word " ∷ decimal spot.word ∷ wrong ∷ [])
 
--- a faulty line of a chain or net file
+-- the line for a faulty line of a chain or net file
 abbrev pub line_fault_line : Text → LineFault → Text
 line_fault_line name (line.Statement n) = at_line name n (codes ": no statement\n")
 line_fault_line name (line.Word n) = at_line name n (codes ": word not allowed\n")
@@ -66,7 +66,7 @@ pub record Names : Type 0 where
   pub nets : Text
   pub bsdl : List Text
 
--- the name of a BSDL text, by its number from 0
+-- the name of BSDL text n, counted from 0
 abbrev pub text_name : List Text → ℕ → Text
 text_name names n = unwrap_or (slice_get names n) []
 
@@ -105,18 +105,18 @@ parse_fault_line name (parse.Expected n) = at_line name n (codes ": not in the g
 parse_fault_line name (parse.Package n) = at_line name n (codes ": package text\n")
 parse_fault_line name (parse.Memory e) = memory_line
 
--- the name of the attribute with this number, whose string is read
+-- the name of the attribute with this number; the attribute has a string with a grammar of its own
 abbrev pub attribute_name : ℕ → Text
 attribute_name n =
     if n == 7 then codes "INSTRUCTION_OPCODE" else (if n == 8 then codes "INSTRUCTION_CAPTURE"
     else (if n == 10 then codes "BOUNDARY_REGISTER" else (if n == 12 then codes "IDCODE_REGISTER"
     else (if n == 13 then codes "COMPLIANCE_PATTERNS" else codes "PIN_MAP_STRING"))))
 
--- a rule of a device, with the first item that breaks it
+-- the line for a device rule that fails, with the first item that breaks the rule
 abbrev pub rule_line : Text → ℕ → ℕ → Text
 rule_line name number item = whole (name ∷ codes ": rule V" ∷ decimal number ∷ codes " item " ∷ decimal item ∷ codes "\n" ∷ [])
 
--- a string of a device, with the entry at which it leaves its grammar
+-- the line for a string of a device, with the entry at which the string leaves its grammar
 abbrev pub string_line : Text → ℕ → ℕ → Text
 string_line name attribute entry = whole (name ∷ codes ": " ∷ attribute_name attribute ∷ codes " entry " ∷ decimal entry ∷ codes "\n" ∷ [])
 
@@ -143,7 +143,7 @@ input_fault_line names (input.Link fault) = link_fault_line names.chain fault
 input_fault_line names (input.NoIdent line) = at_line names.chain line (codes ": part without a description\n")
 input_fault_line names (input.Memory e) = memory_line
 
--- the line for a log that must have `rows` rows
+-- the line for a text that is not a log of `rows` rows
 abbrev pub log_fault_line : Text → ℕ → LogFault → Text
 log_fault_line name rows (log.Digit n) = at_line name n (codes ": digit not allowed\n")
 log_fault_line name rows (log.Length n) = at_line name n (codes ": wrong length\n")
@@ -151,7 +151,7 @@ log_fault_line name rows (log.Extra n) = at_line name n (codes ": row too many\n
 log_fault_line name rows (log.Missing found) = whole (name ∷ codes ": " ∷ decimal found ∷ codes " rows of " ∷ decimal rows ∷ codes "\n" ∷ [])
 log_fault_line name rows (log.Memory e) = memory_line
 
--- the line for a block of a batch that is no log of `rows` rows; its board has the number `board`
+-- the line for a block of a batch that is not a log of `rows` rows; the block belongs to board `board`
 abbrev pub block_fault_line : Text → ℕ → ℕ → LogFault → Text
 block_fault_line name rows board (log.Digit n) = log_fault_line name rows (log.Digit n)
 block_fault_line name rows board (log.Length n) = log_fault_line name rows (log.Length n)
@@ -159,7 +159,7 @@ block_fault_line name rows board (log.Extra n) = log_fault_line name rows (log.E
 block_fault_line name rows board (log.Missing found) = whole (name ∷ codes " board " ∷ decimal board ∷ codes ": " ∷ decimal found ∷ codes " rows of " ∷ decimal rows ∷ codes "\n" ∷ [])
 block_fault_line name rows board (log.Memory e) = memory_line
 
--- the line for a batch of logs that must have `rows` rows each
+-- the line for a text that is not a batch of logs with `rows` rows each
 abbrev pub batch_fault_line : Text → ℕ → BatchFault → Text
 batch_fault_line name rows (batch.Start n) = at_line name n (codes ": no board yet\n")
 batch_fault_line name rows (batch.Title n) = at_line name n (codes ": board not allowed\n")

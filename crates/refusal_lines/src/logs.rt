@@ -1,4 +1,4 @@
-// The line of the first fault of a response log, and of a batch of logs.
+// The lines for the first fault of a response log or of a batch of logs.
 ghost use Rattle.std.specs.Prelude.{◌∷◌, [], codes, decimal};
 ghost use Rattle.bt_base.specs.Puts.{Puts};
 ghost use Rattle.line_printer.specs.Prints.{whole};
@@ -11,7 +11,7 @@ use bt_base::{PutFault, Sink};
 use itoa::Buffer;
 use response_log::LogFault;
 
-// Writes how many rows a log has, and how many it must have.
+// Writes the line for a log with too few rows: how many rows the log has, and how many it must have.
 fn put_missing_rows<N: Sink>(
     name: &str,
     found: u64,
@@ -37,7 +37,7 @@ fn put_missing_rows<N: Sink>(
     )
 }
 
-/// Writes the line of the first fault of a log that must have `rows` rows.
+/// Writes the line for the first fault of a log that must have `rows` rows.
 pub fn put_log_fault<N: Sink>(
     name: &str,
     rows: u64,
@@ -55,7 +55,7 @@ pub fn put_log_fault<N: Sink>(
     }
 }
 
-// Writes how many rows the log of a board has, and how many it must have.
+// Writes the line for a board's log with too few rows: how many rows the log has, and how many it must have.
 fn put_missing_of_board<N: Sink>(
     name: &str,
     board: u32,
@@ -86,7 +86,7 @@ fn put_missing_of_board<N: Sink>(
     )
 }
 
-// Writes the line for a block of a batch that is no log of `rows` rows.
+// Writes the line for a block of a batch that is not a log of `rows` rows.
 fn put_block_fault<N: Sink>(
     name: &str,
     rows: u64,
@@ -102,7 +102,7 @@ fn put_block_fault<N: Sink>(
     }
 }
 
-/// Writes the line of the first fault of a batch of logs that must have `rows` rows each.
+/// Writes the line for the first fault of a batch of logs that must have `rows` rows each.
 pub fn put_batch_fault<N: Sink>(
     name: &str,
     rows: u64,

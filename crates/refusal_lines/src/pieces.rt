@@ -8,7 +8,7 @@ use board_defs::Spot;
 use bt_base::{PutFault, Sink};
 use itoa::Buffer;
 
-// Writes a piece, and then the others in order.
+// Writes the first piece, and then the other pieces in order.
 pub fn put_all<N: Sink>(first: &[u8], others: &[&[u8]], notes: &mut N) -> Result<(), PutFault>
     ensures { Puts (N.shown notes.old) (N.shown notes.new) (first.now ++ whole (map (λ p. p.now) others.now)) result }
 {
@@ -19,7 +19,7 @@ pub fn put_all<N: Sink>(first: &[u8], others: &[&[u8]], notes: &mut N) -> Result
     Ok(())
 }
 
-// Writes the name of a text, the number of a line of it, and what is wrong with the line.
+// Writes the name of a text, the number of a line, and what is wrong with the line.
 pub fn put_at_line<N: Sink>(
     name: &str,
     line: u32,
@@ -37,7 +37,7 @@ pub fn put_at_line<N: Sink>(
     )
 }
 
-// Writes the name of a text, the line and the number of a word of it, and what is wrong with the word.
+// Writes the name of a text, the numbers of a line and a word, and what is wrong with the word.
 pub fn put_at_spot<N: Sink>(
     name: &str,
     spot: Spot,

@@ -1,4 +1,4 @@
-// The line of the first fault of a chain file, a net file and BSDL texts.
+// The lines for the first fault of a chain file, a net file and BSDL texts.
 ghost use Rattle.std.specs.Prelude.{◌≡◌};
 ghost use Rattle.bt_base.specs.Puts.{Puts};
 ghost use Rattle.refusal_lines.specs.Refusals.{attribute_name, board_fault_line, device_fault_line, input_fault_line, lex_fault_line, limit_line, line_fault_line, link_fault_line, parse_fault_line, rule_line, string_line};
@@ -29,7 +29,7 @@ fn put_line_fault<N: Sink>(name: &str, fault: &LineFault, notes: &mut N) -> Resu
     }
 }
 
-// Writes the line for limit `which`.
+// Writes the line for the limit with number `which`.
 fn put_limit<N: Sink>(which: u32, notes: &mut N) -> Result<(), PutFault>
     ensures { Puts (N.shown notes.old) (N.shown notes.new) (limit_line which) result }
 {
@@ -124,7 +124,7 @@ fn put_rule<N: Sink>(name: &str, rule: u32, item: u32, notes: &mut N) -> Result<
     )
 }
 
-// Returns the name of this attribute, whose string is read.
+// Returns the name of this attribute, which has a string with a grammar of its own.
 fn attribute_name(attribute: u32) -> &'static [u8]
     ensures { result.now ≡ attribute_name attribute }
 {

@@ -1,4 +1,4 @@
--- Why a command did not write its whole text: the status and the line.
+-- The status and the line of a command that did not write its whole text.
 use Rattle.std.specs.Prelude.{◌≡◌, ℕ, take, Result, Ok, Err}
 use Rattle.bt_base.specs.Counts.{Rose}
 use Rattle.bt_base.specs.Puts.{Shown, Takes}
@@ -16,7 +16,7 @@ use Rattle.refusal_lines.specs.Refusals.{Names, input_fault_line, log_fault_line
 use Rattle.btest_cli.specs.Outcome.{IsGiven}
 use Rattle.commands.specs.Worth.{IsWorthFor}
 
--- a text to read, as the definitions have it
+-- a text to read, as the definitions see it
 abbrev pub wanted_view : Lent → Wanted
 wanted_view wanted = record { name = wanted.name.now; limit = wanted.limit }
 
@@ -52,14 +52,14 @@ pub record IsCut (names : Names) (request : Request) (old new : Shown) : Type 0 
   pub bytes : ℕ
   pub takes : Takes old new (take bytes text)
 
--- the sink took the text that a request gives, and `IsWorthFor` holds of it
+-- the sink took the text that a request gives, and `IsWorthFor` holds of this text
 pub record IsPut (names : Names) (request : Request) (old new : Shown) : Type 0 where
   pub text : Text
   pub gives : IsGiven names request (Ok text)
   pub takes : Takes old new text
   pub worth : IsWorthFor request text
 
--- why the text of a request was not written whole
+-- the reason why the text of a request was not written whole, and what the sink took
 abbrev pub IsUnput : Names → Request → Shown → Shown → Unput → Type 0
 IsUnput names request old new (unput.Input fault) = IsGiven names request (Err (input_fault_line names fault)) × (new ≡ old)
 IsUnput names request old new (unput.Log rows fault) = IsGiven names request (Err (log_fault_line names.log rows fault)) × (new ≡ old)
@@ -67,7 +67,7 @@ IsUnput names request old new (unput.Batch rows fault) = IsGiven names request (
 IsUnput names request old new unput.Write = IsCut names request old new
 IsUnput names request old new unput.Memory = new ≡ old
 
--- what writing the text of a request leaves
+-- the answer of a request left these bytes: the whole text, or what the failure says
 abbrev pub IsAnswered : Names → Request → Shown → Shown → Result (Unit {0}) Unput → Type 0
 IsAnswered names request old new (Ok done) = IsPut names request old new
 IsAnswered names request old new (Err failure) = IsUnput names request old new failure
