@@ -1,4 +1,4 @@
-// The text of a chain's identity test.
+// The text of the identity test of a chain.
 ghost use Rattle.std.specs.Prelude.{◌≡◌, length, All, IfSome, IsTrue};
 
 use crate::missed::{Missed, expect};
@@ -27,7 +27,7 @@ fn are_whole(parts: &[Option<Code>]) -> bool
     parts.iter().all(is_whole)
 }
 
-// The digits of a pattern: 0, 1 and X. The last one is nearest TDO.
+// The digits of a pattern: 0, 1 and X. The last digit is nearest TDO.
 type Digits = [u8; 32];
 
 fn pattern(alloc: Global, digits: &Digits) -> Result<Code, AllocError> {
@@ -71,7 +71,7 @@ fn put_ident(
     Ok(write_ident(parts, &mut tdi, &mut tdo, &mut mask, &mut line, out))
 }
 
-// Returns the text with this statement between the head and the tail.
+// Returns a text with this statement between its head and its tail.
 fn text_of(alloc: Global, statement: &[u8]) -> Result<Vec<u8>, AllocError> {
     let mut text = HEAD.to_vec(alloc)?;
     text.extend_from_slice(statement)?;
@@ -125,7 +125,7 @@ fn compares_the_fixed_bits_of_patterns(rt: HostRuntime) -> Result<(), Missed> {
     Ok(())
 }
 
-// The fields of 2,040 digits: the text before each, eight digits that are repeated, and the text after it.
+// The fields of 2,040 digits. A field has a text before its digits, eight digits that are repeated, and a text after them.
 static FIELDS: [(&[u8], &[u8], &[u8]); 3] = [
     (b"TDI (", b"00000000", b")\n"),
     (b"TDO (", b"00000001", b")\n"),
@@ -162,7 +162,7 @@ fn puts_long_chains(rt: HostRuntime) -> Result<(), Missed> {
     expect(0, puts(rt.alloc(), &[Some(LOWEST); 255], &statement)?)
 }
 
-// The number of the put that fails, from 1, after four bytes, and the bytes that were taken.
+// The number of the put that fails once it has taken four bytes, counted from 1, and all bytes that were taken.
 static CUTS: [(u32, &[u8]); 3] = [
     (1, b"TRST"),
     (

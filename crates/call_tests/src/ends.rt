@@ -1,4 +1,4 @@
-// Files of the system, writers to them, and sinks in memory.
+// Files of the system, sinks over their writers, and sinks in memory.
 use crate::missed::{Missed, expect};
 use bt_base::{
     CountSink, FetchFault, Gate, HostSink, HostStore, MemSink, OpenGate, PutFault, Sink, Store,
@@ -9,7 +9,7 @@ use std::fs::File;
 use std::io::{BufWriter, Write};
 use std::rt::Files;
 
-// The name of a text, the most bytes that it may have, the answer, and the bytes that are fetched.
+// The name of a text, the most bytes that the text may have, the store's answer, and the fetched bytes.
 type Fetch = (&'static str, u32, Result<(), FetchFault>, &'static [u8]);
 
 static FETCHES: [Fetch; 5] = [
@@ -20,7 +20,7 @@ static FETCHES: [Fetch; 5] = [
     (".", 3, Err(FetchFault::Failed), b""),
 ];
 
-// Returns whether the store gives this answer and these bytes.
+// Returns whether the store gives this answer and these bytes for the name.
 fn gives(
     store: &mut impl Store,
     alloc: Global,
@@ -57,7 +57,7 @@ fn long_text(alloc: Global) -> Result<Vec<u8>, AllocError> {
     Ok(text)
 }
 
-// The most bytes that a text of 20,000 bytes may have, the answer, and the number of bytes that are fetched.
+// The most bytes that a text of 20,000 bytes may have, the store's answer, and the number of fetched bytes.
 static LONG: [(u32, Result<(), FetchFault>, usize); 2] = [
     (20_000, Ok(()), 20_000),
     (19_998, Err(FetchFault::TooLong), 19_999),
@@ -80,7 +80,7 @@ fn reads_a_file_in_many_chunks(rt: HostRuntime) -> Result<(), Missed> {
     given
 }
 
-// Bytes for a put, and its answer.
+// The bytes of a put, and the sink's answer.
 type Put = (&'static [u8], Result<(), PutFault>);
 
 // Returns whether the sink gives the expected answers to these puts, in order.
@@ -99,7 +99,7 @@ static WRITTEN: [Put; 3] = [(b"ab", Ok(())), (b"", Ok(())), (b"c", Ok(()))];
 
 static REFUSED: [Put; 1] = [(b"abc", Err(PutFault::Failed))];
 
-// Returns whether a file has this text after these puts, before the sink over its writer is dropped.
+// Returns whether a file has this text after these puts, while the sink over its writer still exists.
 fn shows<W: Write + Drop>(
     rt: &impl Files,
     alloc: Global,
@@ -139,7 +139,7 @@ static CUT: [Put; 3] = [
     (b"ghijklm", Err(PutFault::Failed)),
 ];
 
-// Returns whether a sink with room for eight bytes, whose second put fails after one byte, takes what it should.
+// Returns whether a sink with room for eight bytes takes the right bytes if its second put fails after one byte.
 fn is_cut(alloc: Global) -> Result<bool, AllocError> {
     let mut sink = MemSink::with_room(alloc, 8)?;
     sink.fail_at(2, 1)?;

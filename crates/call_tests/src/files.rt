@@ -6,7 +6,7 @@ use board_gen::make;
 use series_parts::{Joined, LinkFault, join};
 use std::alloc::{AllocError, Global};
 
-// A text, and the message for its first faulty line, or nothing.
+// A text, and the message for its first faulty line. The message is empty if there is no such line.
 type Answer = (&'static [u8], &'static str);
 
 static CHAIN_FILES: [Answer; 22] = [
@@ -18,21 +18,21 @@ static CHAIN_FILES: [Answer; 22] = [
     (b"INERT U.1", "line 1: word not allowed"),
     (b"LINK R1 1 2-", "line 1: word not allowed"),
     (b"BYPASS U1 +3", "line 1: number not allowed"),
-    // A part has no dot. The other words may have one.
+    // The name of a part may have no dot. The other words may have dots.
     (b"DEVICE U1 D.RV P.Q", ""),
     (b"DEVICE U.1 DRV -", "line 1: word not allowed"),
     (b"DEVICE U1 DRV P\x7f", "line 1: word not allowed"),
     (b"DEVICE U1 DR\xc3\xa9 -", "line 1: word not allowed"),
     (b"DEVICE U1 DRV", "line 1: no statement"),
     (b"DEVICE U1 DRV - -", "line 1: no statement"),
-    // A wrong number of words comes before a wrong word, and a wrong word before a wrong number.
+    // A wrong number of words is reported before a wrong word, and a wrong word before a wrong number.
     (b"DEVICE U.1 DRV", "line 1: no statement"),
     (b"BYPASS U.1 300", "line 1: word not allowed"),
     (b"PULL N\x01 2", "line 1: word not allowed"),
     (b"PULL N 2", "line 1: number not allowed"),
     (b"PULL N 01", "line 1: number not allowed"),
     (b"PULL N", "line 1: no statement"),
-    // A vertical tab and a form feed are no blanks here.
+    // A vertical tab and a form feed are no blanks in these files.
     (b"SUPPLY\x0bV", "line 1: no statement"),
     (b"SUPPLY V\x0c", "line 1: word not allowed"),
 ];
@@ -57,7 +57,7 @@ static NET_FILES: [Answer; 16] = [
         b"NET N A.1 A.2 A.3 A.4 A.5 A.6 A.7 A.8 A.9 A.10 A.11 A.12 A.13 A.14 A.15 A.16 A.17 A.18 A.19 A.20 A.21 A.22 A.23 A.24 A.25 A.26 A.27 A.28 A.29 A.30 A.31 A.32 A.33 A.34 A.35 A.36 A.37 A.38 A.39 A.40 A.41 A.42 A.43 A.44 A.45 A.46 A.47 A.48 A.49 A.50 A.51 A.52 A.53 A.54 A.55 A.56 A.57 A.58 A.59 A.60 A.61 A.62 A.63 A.64",
         "",
     ),
-    // as many words, the last of which has no pin
+    // 66 words, the last of which has no pin
     (
         b"NET N A.1 A.2 A.3 A.4 A.5 A.6 A.7 A.8 A.9 A.10 A.11 A.12 A.13 A.14 A.15 A.16 A.17 A.18 A.19 A.20 A.21 A.22 A.23 A.24 A.25 A.26 A.27 A.28 A.29 A.30 A.31 A.32 A.33 A.34 A.35 A.36 A.37 A.38 A.39 A.40 A.41 A.42 A.43 A.44 A.45 A.46 A.47 A.48 A.49 A.50 A.51 A.52 A.53 A.54 A.55 A.56 A.57 A.58 A.59 A.60 A.61 A.62 A.63 A",
         "line 1: word not allowed",
@@ -99,7 +99,7 @@ fn chain_files(rt: HostRuntime) -> Result<(), Missed> {
     Ok(())
 }
 
-// Returns whether a file with a net whose name has this many letters is a net file.
+// Returns whether a net file may have a net whose name has this many letters.
 fn has_long_name(alloc: Global, letters: usize) -> Result<bool, AllocError> {
     let mut text = String::from_str(alloc, "NET ")?;
     text.push_str(&"N".repeat(alloc, letters)?)?;
@@ -128,7 +128,7 @@ fn is_pin(pin: &PinWord) -> bool {
     pin.part.bytes() == b"u1".as_slice() && pin.pin.bytes() == b"A1.B".as_slice()
 }
 
-// Returns whether the file has just the line `NET n1 u1.a1.b`, the second line of its text.
+// Returns whether the file has only the line `NET n1 u1.a1.b`, the second line of its text, with the pin's own name in upper case.
 fn is_in_upper_case(file: &NetFile) -> bool {
     match file.lines() {
         [line] => match line.pins.as_slice() {
@@ -162,7 +162,7 @@ fn add_statement(shown: &mut Vec<u8>, statement: &ChainStatement) -> Result<(), 
     }
 }
 
-// Shows the net names of joined files, and the parts and nets of INERT, SUPPLY, PULL and LINK lines.
+// Appends the net names of joined files, and the parts and nets of the INERT, SUPPLY, PULL and LINK lines.
 fn show(shown: &mut Vec<u8>, joined: &Joined) -> Result<(), AllocError> {
     for line in joined.nets.lines() {
         add(shown, b" ", &line.name)?;
@@ -173,7 +173,7 @@ fn show(shown: &mut Vec<u8>, joined: &Joined) -> Result<(), AllocError> {
     Ok(())
 }
 
-// The result of joining a chain file and a net file: what the files show, or the line and the word of a missing pin.
+// The result of joining a chain file and a net file: the text that `show` gives for them, or the line and the word of a missing pin.
 #[derive(Clone, Copy)]
 enum Shown {
     Files(&'static [u8]),
@@ -246,19 +246,19 @@ static JOINED: [(&[u8], &[u8], Shown); 9] = [
     ),
     (b"LINK R1 1 2\nLINK R1 8 9", BOARD, Shown::Missing(2, 3)),
     (b"LINK R2 1 2", BOARD, Shown::Missing(1, 3)),
-    // Three nets in a row, and a fourth one apart.
+    // Three nets in a row, and a fourth net that is not joined.
     (
         b"LINK R2 1 2\nLINK R1 1 2",
         b"NET A R1.1\nNET B R1.2 R2.1\nNET X\nNET C R2.2",
         Shown::Files(b" A A X A inert R2 inert R1"),
     ),
-    // Two rows of three nets, which a fifth part joins.
+    // Two rows of three nets, and a resistor that joins the rows.
     (
         b"LINK R1 1 2\nLINK R2 1 2\nLINK R3 1 2\nLINK R4 1 2\nLINK R5 2 1",
         b"NET E R3.1\nNET F R3.2 R4.1\nNET G R4.2 R5.1\nNET A R1.1\nNET B R1.2 R2.1\nNET C R2.2 R5.2",
         Shown::Files(b" E E E E E E inert R1 inert R2 inert R3 inert R4 inert R5"),
     ),
-    // R1.1 is in A first, and B's first line comes before that of A.
+    // The first net with R1.1 is A, and the first line of B comes before the first line of A.
     (
         b"LINK R1 1 2",
         b"NET Z\nNET B R1.2\nNET A R1.1\nNET C R1.1\nNET B\nNET A",
@@ -279,7 +279,7 @@ fn series_parts_join_nets(rt: HostRuntime) -> Result<(), Missed> {
     Ok(())
 }
 
-// The texts of small boards, worked by hand.
+// The texts of small boards, worked out by hand.
 const CHAIN_OF_TWO: &[u8] = b"DEVICE U1 GEN -\nDEVICE U2 GEN -\n";
 
 const NETS_BEGIN: &[u8] = b"NET R1_0 U1.1 U2.33\nNET R1_1 U1.2 U2.34\n";
@@ -349,7 +349,7 @@ fn makes_the_text_of_the_device(rt: HostRuntime) -> Result<(), Missed> {
     expect(0, is_between(&made.bsdl, BSDL_BEGINS, BSDL_ENDS))
 }
 
-// The largest board is made at once, since the work is linear.
+// The largest board takes little time, since the work is linear in the number of parts.
 #[test]
 fn makes_the_largest_board(rt: HostRuntime) -> Result<(), Missed> {
     let made = make(rt.alloc(), 255)?;

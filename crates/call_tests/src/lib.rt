@@ -1,4 +1,4 @@
-//! Tests of the public calls of the lower crates: tables, and functions that go through them.
+//! Tests of the public calls of the lower crates. A test is a table, and a function that goes through its rows.
 #![tactic(auto)]
 
 #[cfg(test)]

@@ -1,4 +1,4 @@
-// Logs and batches of them, as texts. The values are worked by hand.
+// Logs and batches of logs, as texts. The values are worked out by hand.
 ghost use Rattle.std.specs.Prelude.{◌<◌, ◌^◌, length};
 
 use crate::missed::{Missed, expect};
@@ -7,7 +7,7 @@ use response_log::{Log, log};
 use std::alloc::{AllocError, Global};
 use std::thread::Threads;
 
-// Appends the bits of each row, the first one to the left, and a space after each row.
+// Appends the bits of each row, with bit 0 first, and a space after each row.
 fn push_bits(text: &mut String, log: &Log) -> Result<(), AllocError> {
     for row in 0..log.rows() {
         for at in 0..log.len() {
@@ -24,7 +24,7 @@ fn bits_of(alloc: Global, log: &Log) -> Result<String, AllocError> {
     Ok(text)
 }
 
-// A text, the number of its rows and of the bits in each, and its bits or its fault.
+// A text, the number of its rows, the number of bits in each row, and the bits of the log or its fault.
 type LogText = (&'static [u8], u64, u32, &'static str);
 
 static LOGS: [LogText; 20] = [
@@ -55,7 +55,7 @@ static LOGS: [LogText; 20] = [
     (b"3FF\n4FF\n3FF", 1, 10, "line 2: row too many"),
 ];
 
-// Returns the bits of a text, or its fault.
+// Returns the bits of the log in a text, or the text's fault.
 fn log_answer(alloc: Global, text: &[u8], rows: u64, len: u32) -> Result<String, AllocError>
     requires { length text.now < 2 ^ 32 }
 {
@@ -75,7 +75,7 @@ fn logs(rt: HostRuntime) -> Result<(), Missed> {
     Ok(())
 }
 
-// Returns the id of each block, and its bits.
+// Returns the id and the bits of each block.
 fn shown(alloc: Global, blocks: &[Block]) -> Result<String, AllocError> {
     let mut text = String::new(alloc);
     for block in blocks {
@@ -88,7 +88,7 @@ fn shown(alloc: Global, blocks: &[Block]) -> Result<String, AllocError> {
     Ok(text)
 }
 
-// Reads a text in `pieces` pieces, or at once if `pieces` is 0, and returns the answer.
+// Reads a text in `pieces` pieces, or as a whole if `pieces` is 0, and returns the answer.
 fn answer_in<R: Threads + Sync>(
     rt: &R,
     alloc: Global,
@@ -109,7 +109,7 @@ fn answer_in<R: Threads + Sync>(
     }
 }
 
-// Returns whether a text has this answer when it is read in several numbers of pieces, and at once.
+// Returns whether a text has this answer as a whole, and for several numbers of pieces.
 fn answers<R: Threads + Sync>(
     rt: &R,
     alloc: Global,
@@ -128,7 +128,7 @@ fn answers<R: Threads + Sync>(
     Ok(true)
 }
 
-// A text, the number of rows of each log, and its blocks or its fault.
+// A text, the number of rows of each log, and the text's blocks or its fault.
 type BatchText = (&'static [u8], u64, &'static str);
 
 static BATCHES: [BatchText; 29] = [
@@ -171,7 +171,7 @@ static BATCHES: [BatchText; 29] = [
         "board 1: line 4: row too many",
     ),
     (b"BOARD #\nBOARD A", 0, "line 1: board not allowed"),
-    // Lines that are not allowed where they are.
+    // Lines that are not allowed at their places.
     (b"1\nBOARD A", 2, "line 1: no board yet"),
     (b"\n# log\nboard A\nBOARD A", 2, "line 3: no board yet"),
     (b"1 # log\nBOARD\n", 2, "line 1: no board yet"),
@@ -207,7 +207,7 @@ fn title(alloc: Global, len: usize) -> Result<Vec<u8>, AllocError> {
     Ok(text)
 }
 
-// Returns an id of `len` bytes, and the colon that is shown after it.
+// Returns an id of `len` bytes, and the colon that `shown` puts after it.
 fn shown_title(alloc: Global, len: usize) -> Result<String, AllocError> {
     let mut text = "A".repeat(alloc, len)?;
     text.push(':')?;

@@ -1,12 +1,12 @@
-// Why a test fails.
+// The reasons why a test fails.
 use std::alloc::AllocError;
 use std::io;
 use thiserror::Error;
 
-/// Why a table does not hold.
+/// The reason why a table does not hold.
 #[derive(Debug, Drop, Error)]
 pub enum Missed {
-    /// The row with this number, from 0, gives something else.
+    /// The row with this number, counted from 0, has another result.
     #[error("row {0} gives something else")]
     Row(usize),
     #[error("out of memory")]

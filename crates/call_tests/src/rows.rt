@@ -5,7 +5,7 @@ use crate::missed::{Missed, expect};
 use bt_bits::{Column, HexFault, Line, Row, RowStack};
 use std::alloc::{AllocError, Global};
 
-// The number of bits of a row, the places of its 1 bits, and the digits to print: the first, their number, and their text.
+// The number of bits of a row, the places of its 1 bits, the first digit to print, the number of digits to print, and their text.
 type Printed = (u32, &'static [u32], u32, u32, &'static [u8]);
 
 static PRINTED: [Printed; 4] = [
@@ -102,7 +102,7 @@ fn a_line_takes_words_digits_and_numbers(rt: HostRuntime) -> Result<(), Missed> 
 
 static BITS: [bool; 5] = [true, false, true, true, true];
 
-// Returns whether a row takes the bits of a list instead of its own, and another row then takes the bits from it.
+// Returns whether a row takes the bits of a list in place of its own, and a second row then takes the bits of the first.
 fn is_copied(alloc: Global) -> Result<bool, AllocError> {
     let mut row = row_of(alloc, 300, &[0, 299])?;
     if row.len() == 300 {
@@ -148,7 +148,7 @@ fn has_row(alloc: Global, stack: &RowStack, number: u32, digits: &[u8]) -> Resul
     Ok(row.digits() == digits)
 }
 
-// Returns the stack of a row of six bits. Each column has the row's bit.
+// Returns a stack in which every row is the same row of six bits.
 fn common_stack(alloc: Global) -> Result<RowStack, AllocError> {
     let row = row_of(alloc, 6, &[1, 4])?;
     let mut common = RowStack::with_room(alloc, row.len())?;
@@ -156,14 +156,14 @@ fn common_stack(alloc: Global) -> Result<RowStack, AllocError> {
     Ok(common)
 }
 
-// A column of a stack.
+// A column of a stack: the bits of a number, or the same bit in every row.
 #[derive(Clone, Copy)]
 enum Bits {
     Of(u32),
     Same(bool),
 }
 
-// Columns at five places of a stack of six bits, and one past its end.
+// Columns at five places of a stack of six bits, and a column past the stack's end.
 static COLUMNS: [(u32, Bits); 6] = [
     (0, Bits::Of(0x8002)),
     (1, Bits::Same(false)),
@@ -180,7 +180,7 @@ fn column(bits: Bits) -> Column {
     }
 }
 
-// Returns the stack, with some columns of its own.
+// Returns a copy of the stack, with the columns of `COLUMNS` in place of its own.
 fn changed_stack(alloc: Global, common: &RowStack) -> Result<RowStack, AllocError> {
     let mut stack = RowStack::with_room(alloc, common.len())?;
     stack.copy_from(common);
@@ -224,7 +224,7 @@ static READ: [Read; 12] = [
     (b"2a5", 10, Ok(())),
 ];
 
-// Returns the answer of a row that reads a text.
+// Returns the answer of a row of `len` bits that reads the text.
 fn answer(alloc: Global, text: &[u8], len: u32) -> Result<Result<(), HexFault>, AllocError> {
     let mut row = Row::with_room(alloc, len)?;
     Ok(row.read_hex(text, len))

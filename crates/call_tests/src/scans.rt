@@ -9,7 +9,7 @@ use std::alloc::{AllocError, Global};
 use svf_writer::{write_chain, write_head, write_scan, write_tail};
 use tap_defs::Shape;
 
-// Returns whether each number may be the length of an instruction register.
+// Returns whether each number is a possible length of an instruction register.
 fn are_lengths(lengths: &[u32]) -> bool
     ensures { IsTrue result → All IsInstructionLength lengths.now }
 {
@@ -64,7 +64,7 @@ fn puts_the_chain_test(rt: HostRuntime) -> Result<(), Missed> {
     Ok(())
 }
 
-// Returns a row of `len` bits. Its first and last bits are 1, the others are 0.
+// Returns a row of `len` bits. The first and the last bit are 1, and the others are 0.
 fn tdi_of(alloc: Global, len: u32) -> Result<Row, AllocError>
     requires { 5 ≤ len }
     ensures { IfOk result (λ row. length row.bits ≡ len) }
@@ -76,7 +76,7 @@ fn tdi_of(alloc: Global, len: u32) -> Result<Row, AllocError>
     Ok(tdi)
 }
 
-// Writes a scan whose first and last bits are 1. If `compare` is true, it compares bit 4 with 1.
+// Writes a scan whose first and last bits are 1. If `compare` is true, the scan compares bit 4 with 1.
 #[tactic(auto, using(lists::proofs::ListLemmas::none_of_zeros))]
 fn put_scan(
     alloc: Global,
@@ -107,7 +107,7 @@ fn put_scan(
     }
 }
 
-// The number of a scan's bits, whether one of them is compared, and its text.
+// The number of a scan's bits, whether the scan compares one of them, and its text.
 type Scan = (u32, bool, &'static [u8]);
 
 static SCANS: [Scan; 5] = [
@@ -184,7 +184,7 @@ static SCAN_LINES: [&[u8]; 7] = [
     b"00000000010);\n",
 ];
 
-// Writes scans that need several lines: those of the chain test of 40 parts, or one of 300 bits.
+// Writes scans that need several lines: the chain test of 40 parts, or a scan of 300 bits.
 fn put_lines(
     alloc: Global,
     is_chain: bool,
@@ -197,7 +197,7 @@ fn put_lines(
     }
 }
 
-// Returns whether the sink takes these bytes and the answer is this one if put number `call`, counted from 1, fails after four bytes.
+// Returns whether the sink takes these bytes and gives this answer if put number `call`, counted from 1, fails after four bytes.
 fn is_cut(
     alloc: Global,
     is_chain: bool,
@@ -232,13 +232,13 @@ fn puts_each_line_at_once(rt: HostRuntime) -> Result<(), Missed> {
     lines_are_put(rt.alloc(), false, &SCAN_LINES)
 }
 
-// Writes the lines before the scans and after them.
+// Writes the lines before and after the scans.
 fn put_ends(out: &mut MemSink) -> Result<(), PutFault> {
     write_head(out)?;
     write_tail(out)
 }
 
-// The room of a sink, the answer, and the bytes that it takes.
+// The room of a sink, the answer of the writer, and the bytes that the sink takes.
 type End = (u32, Result<(), PutFault>, &'static [u8]);
 
 static ENDS: [End; 2] = [

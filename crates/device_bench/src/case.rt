@@ -3,15 +3,15 @@ use bsdl_strings::StringFault;
 use std::alloc::{AllocError, AllocFailed};
 use thiserror::Error;
 
-/// Why a table of cases does not hold.
+/// The reason why a table of cases does not hold.
 #[derive(Debug, Drop, Error)]
 pub enum CaseFault {
-    /// The first case that ends otherwise, counted from 0, and how it ends.
+    /// The first case that does not end as wanted.
     #[error("case {case} ends otherwise: {found}")]
     Ended {
-        /// The number of the case.
+        /// The number of the case, counted from 0.
         case: usize,
-        /// How it ends.
+        /// How the case ended.
         found: String,
     },
     /// A text has 2^32 bytes or more.
@@ -42,7 +42,7 @@ impl From<StringFault> for CaseFault {
     }
 }
 
-/// Compares how a case ends with how it should end.
+/// Compares how a case ended with how the case should end.
 pub fn compare(case: usize, found: String, wanted: &str) -> Result<(), CaseFault> {
     if found.as_str() == wanted {
         Ok(())

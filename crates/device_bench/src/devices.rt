@@ -10,18 +10,18 @@ use bsdl_parser::{ParseFault, parse};
 use device_check::{DeviceFault, device};
 use std::alloc::{AllocError, Global};
 
-/// Why a text describes no device.
+/// The reason why a text describes no device.
 #[derive(Debug, Drop)]
 pub enum TextFault {
     /// The text has no list of tokens.
     Lex(LexFault),
-    /// Its tokens derive no entity.
+    /// The tokens of the text derive no entity.
     Parse(ParseFault),
-    /// Its entity cannot be used.
+    /// The entity of the text describes no device.
     Device(DeviceFault),
 }
 
-/// Checks each text, in its default package: its device, or the line of its fault.
+/// Compares each text, in its default package, with the device that it should describe, or with the line of its fault.
 pub fn devices_hold(alloc: Global, cases: &[(Source, &'static str)]) -> Result<(), CaseFault> {
     for (case, (source, wanted)) in cases.iter().enumerate() {
         let text = source.bytes(alloc)?;
@@ -30,7 +30,7 @@ pub fn devices_hold(alloc: Global, cases: &[(Source, &'static str)]) -> Result<(
     Ok(())
 }
 
-/// Checks a text with each of these packages: its device, or the line of its fault.
+/// Compares the text, in each of these packages, with the device that it should describe, or with the line of its fault.
 pub fn packages_hold(
     alloc: Global,
     source: Source,
@@ -78,7 +78,7 @@ fn shown(alloc: Global, text: &[u8], package: Option<&[u8]>) -> Result<String, A
     }
 }
 
-/// Returns the entity, the package, the edition and the codes of a device, and the pin of each port bit.
+/// Returns a device as text: its entity, package, edition and codes, and the pin of each port bit.
 fn shown_device(alloc: Global, device: &Device) -> Result<String, AllocError> {
     let raw = device.raw();
     let mut shown = String::new(alloc);

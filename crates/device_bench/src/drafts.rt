@@ -1,4 +1,4 @@
-// What texts say of a device, with one rule broken at a time, and the device that such a text describes.
+// Texts that break a rule of devices, and the devices of texts that break none.
 ghost use Rattle.std.specs.Prelude.{◌≡◌, true};
 ghost use Rattle.device_rules.specs.Rules.{HasShortLists};
 
@@ -12,7 +12,7 @@ use bsdl_strings::{
 use device_rules::{Draft, TapPorts, first_rule, raw_device};
 use std::alloc::{AllocError, Global};
 
-/// What a text says, as strings.
+/// The contents of a BSDL text, mostly as strings.
 #[derive(Drop)]
 struct Texts {
     edition: Edition,
@@ -29,12 +29,12 @@ struct Texts {
     entries: &'static str,
 }
 
-/// A place at which a text differs from a text without faults.
+/// A part of a text that differs from a text without faults.
 #[derive(Clone, Copy)]
 pub enum Change {
-    /// No place.
+    /// No difference.
     None,
-    /// The range of the port Q: its bounds, and whether they are joined by `to`.
+    /// The range of the port Q: the two bounds, and true if `to` joins the bounds.
     Range(u32, u32, bool),
     /// TAP_SCAN_OUT.
     ScanOut(&'static str),
@@ -58,7 +58,7 @@ pub enum Change {
     Entries(u32, &'static str),
 }
 
-/// Checks each change: the rule that it breaks and the item, or zeros if it breaks none.
+/// Compares the rule that each change breaks, and the item of the rule, with the case. Zeros stand for no broken rule.
 pub fn rules_hold(alloc: Global, cases: &[(Change, (u32, u32))]) -> Result<(), CaseFault> {
     for (case, (change, (rule, item))) in cases.iter().enumerate() {
         expect_rule(alloc, case, &changed(&[*change]), *rule, *item)?;
@@ -66,7 +66,7 @@ pub fn rules_hold(alloc: Global, cases: &[(Change, (u32, u32))]) -> Result<(), C
     Ok(())
 }
 
-/// Tries the changes of each case together: the rule that is named and the item.
+/// Makes the changes of each case together. Compares the first rule that they break, and the item, with the case.
 pub fn orders_hold(
     alloc: Global,
     cases: &[(&'static [Change], (u32, u32))],
@@ -77,7 +77,7 @@ pub fn orders_hold(
     Ok(())
 }
 
-// Compares the rule that texts break, and its item, with those of a case.
+// Compares the rule that the texts break, and its item, with the case.
 fn expect_rule(
     alloc: Global,
     case: usize,
@@ -93,14 +93,15 @@ fn expect_rule(
     Ok(())
 }
 
-/// Checks these changes together. The result has each port bit with its index, its pin, whether it belongs to the TAP and whether
-/// the compliance patterns name it; then each cell with its port bit; and the number of ones in the preload code.
+/// Makes these changes together, and compares the device with the text. The text has each port bit with its index, its pin, whether the
+/// port bit belongs to the TAP, and whether the compliance patterns name it. Each cell with its port bit and the number of ones in
+/// the preload code follow.
 pub fn draft_holds(alloc: Global, changes: &[Change], wanted: &str) -> Result<(), CaseFault> {
     let shown = shown_device(alloc, &changed(changes))?;
     compare(0, shown, wanted)
 }
 
-/// Returns what the text of a device of two outputs says, with these changes.
+/// Returns the contents of the text of a device with two outputs, with these changes.
 fn changed(changes: &[Change]) -> Texts {
     let mut texts = sound();
     for change in changes {
@@ -228,7 +229,7 @@ fn no_taps(alloc: Global) -> TapPorts {
     }
 }
 
-/// Returns the draft of a text that says nothing.
+/// Returns a draft without contents.
 fn empty_draft(alloc: Global) -> Draft {
     Draft {
         entity: no_name(alloc),
@@ -247,7 +248,7 @@ fn empty_draft(alloc: Global) -> Draft {
     }
 }
 
-/// Adds the values of the strings.
+/// Adds the values of the strings to a draft.
 fn fill_strings(alloc: Global, texts: &Texts, draft: &mut Draft) -> Result<(), CaseFault> {
     draft.opcodes = opcodes_of(alloc, texts.opcodes)?;
     draft.capture = code_of(alloc, texts.capture)?;
@@ -278,13 +279,13 @@ fn is_short(draft: &Draft) -> bool
         && draft.entries.len() < 1000
 }
 
-/// Returns the number of the rule that is broken and the item, or zeros if none is broken.
+/// Returns the number of the broken rule and the item, or zeros if no rule is broken.
 fn broken(alloc: Global, texts: &Texts) -> Result<(u32, u32), CaseFault> {
     let mut draft = empty_draft(alloc);
     filled_broken(alloc, texts, &mut draft)
 }
 
-/// Fills an empty draft, and tries the rules on it.
+/// Fills an empty draft, and returns the number of the rule that it breaks and the item, or zeros.
 fn filled_broken(alloc: Global, texts: &Texts, draft: &mut Draft) -> Result<(u32, u32), CaseFault> {
     fill(alloc, texts, draft)?;
     if !is_short(draft) {
@@ -301,7 +302,7 @@ fn shown_device(alloc: Global, texts: &Texts) -> Result<String, CaseFault> {
     filled_shown(alloc, texts, &mut draft)
 }
 
-/// Fills an empty draft, and shows its device.
+/// Fills an empty draft, and returns its device as text.
 fn filled_shown(alloc: Global, texts: &Texts, draft: &mut Draft) -> Result<String, CaseFault> {
     fill(alloc, texts, draft)?;
     if !is_short(draft) || !(1 <= draft.boundary && draft.boundary < 1000) {

@@ -9,14 +9,14 @@ use bt_bits::Line;
 use device_check::write_device;
 use std::alloc::{AllocError, Global};
 
-/// What a listing must be.
+/// The listing that a case wants.
 #[derive(Clone, Copy)]
 enum Wanted<'a> {
-    /// This text.
+    /// The whole listing is this text.
     Whole(&'a str),
-    /// A text that ends with this one.
+    /// The listing ends with this text.
     End(&'a str),
-    /// It fails at this put. The sink has taken this many bytes, and the last of them are this text.
+    /// The put with this number fails. The sink has taken this many bytes, and their end is this text.
     Cut(u32, usize, &'a str),
 }
 
@@ -32,7 +32,7 @@ impl Wanted<'_> {
     }
 }
 
-/// Checks each text: the listing of its device.
+/// Compares the listing of each text's device with the case.
 pub fn listings_hold(alloc: Global, cases: &[(Source, &'static str)]) -> Result<(), CaseFault> {
     let mut line = Line::new(alloc)?;
     for (case, (source, wanted)) in cases.iter().enumerate() {
@@ -41,13 +41,13 @@ pub fn listings_hold(alloc: Global, cases: &[(Source, &'static str)]) -> Result<
     Ok(())
 }
 
-/// Checks the last lines of the listing of a text's device.
+/// Compares the end of the listing of a text's device with `end`.
 pub fn listing_ends(alloc: Global, source: Source, end: &str) -> Result<(), CaseFault> {
     let mut line = Line::new(alloc)?;
     try_source(alloc, 0, &source, Wanted::End(end), &mut line)
 }
 
-/// Checks the listing of a text's device with each of these failing puts: how many bytes the sink takes, and the last of them.
+/// Lets each of these puts fail while the listing is written. Compares the number of bytes that the sink takes, and their end, with the case.
 pub fn cuts_hold(
     alloc: Global,
     source: Source,
@@ -85,7 +85,7 @@ fn try_source(
     }
 }
 
-/// Checks the listing of a device. The line may hold what an earlier listing left.
+/// Compares the listing of a device with what is wanted. The line may still hold a part of an earlier listing.
 fn try_device(
     alloc: Global,
     case: usize,
@@ -113,7 +113,7 @@ fn described(alloc: Global, case: usize, source: &Source) -> Result<Device, Case
     }
 }
 
-/// Returns the fault of a case that ends like this.
+/// Returns the fault of a case that ended in this way.
 fn ended(case: usize, found: Result<String, AllocError>) -> CaseFault {
     match found {
         Ok(found) => CaseFault::Ended { case, found },

@@ -8,18 +8,18 @@ use bsdl_lexer::{LexFault, lex};
 use bsdl_parser::{Attr, AttrValue, Entity, ParseFault, Port, parse};
 use std::alloc::{AllocError, Global};
 
-/// How reading a text ends.
+/// How the reading of a text ends.
 #[derive(Clone, Copy, Debug, PartialEq, Eq)]
 pub enum Reading {
     /// The text describes an entity.
     Entity,
-    /// It has no list of tokens.
+    /// The text has no list of tokens.
     Lex(LexFault),
-    /// Its tokens derive no entity.
+    /// The tokens of the text derive no entity.
     Parse(ParseFault),
 }
 
-/// Checks each text: how reading it ends.
+/// Compares how the reading of each text ends with the case.
 pub fn readings_hold(alloc: Global, cases: &[(Source, Reading)]) -> Result<(), CaseFault> {
     for (case, (source, wanted)) in cases.iter().enumerate() {
         let text = source.bytes(alloc)?;
@@ -35,7 +35,7 @@ pub fn readings_hold(alloc: Global, cases: &[(Source, Reading)]) -> Result<(), C
     Ok(())
 }
 
-/// Checks each text: what it says of its entity, one item on each line.
+/// Compares the entity of each text with the case. There is one item of the entity on each line.
 pub fn entities_hold(alloc: Global, cases: &[(Source, &'static str)]) -> Result<(), CaseFault> {
     for (case, (source, wanted)) in cases.iter().enumerate() {
         let text = source.bytes(alloc)?;
@@ -48,7 +48,7 @@ pub fn entities_hold(alloc: Global, cases: &[(Source, &'static str)]) -> Result<
     Ok(())
 }
 
-/// Returns the entity of a text, or how reading the text ends.
+/// Returns the entity of a text, or how the reading of the text ends.
 fn entity_of(alloc: Global, text: &[u8]) -> Result<Entity, Reading>
     requires { length text.now < 2 ^ 32 }
 {
@@ -62,8 +62,8 @@ fn entity_of(alloc: Global, text: &[u8]) -> Result<Entity, Reading>
     }
 }
 
-/// Returns the name and the package, what is used, the pin maps, the ports with their modes and ranges, and the attributes with
-/// their numbers.
+/// Returns an entity as text: its name and default package, the packages that it uses, the pin maps, the ports with their modes and
+/// ranges, and the attributes with their numbers.
 fn shown_entity(alloc: Global, entity: &Entity) -> Result<String, AllocError> {
     let mut shown = String::from_str(alloc, "entity ")?;
     add_bytes(entity.name.bytes(), &mut shown)?;

@@ -1,4 +1,4 @@
-// Names and codes, as the cases write them.
+// Appends names and codes in the form in which the cases write them.
 use board_defs::{Code, Symbol};
 use std::alloc::AllocError;
 
@@ -10,7 +10,7 @@ pub fn add_bytes(bytes: &[u8], shown: &mut String) -> Result<(), AllocError> {
     }
 }
 
-/// Appends the symbols as a string has them, with the bit nearest TDO last.
+/// Appends the symbols in the order of a BSDL string: the symbol nearest TDO is last.
 pub fn add_code(code: &Code, shown: &mut String) -> Result<(), AllocError> {
     for symbol in code.symbols().iter().rev() {
         match symbol {

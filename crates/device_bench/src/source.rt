@@ -4,7 +4,7 @@ ghost use Rattle.std.specs.Prelude.{◌<◌, ◌^◌, length, IfOk};
 use crate::case::CaseFault;
 use std::alloc::{AllocError, Global};
 
-/// A two-bit driver. Its first entry is in line 16.
+/// A driver of two outputs. The first entry of its boundary register is in line 16.
 pub const DRV: &str = "entity DRV is
 generic (PHYSICAL_PIN_MAP : string := \"P\");
 port (TDI, TMS, TCK : in bit; TDO : out bit; Q : out bit_vector(1 to 2));
@@ -25,8 +25,8 @@ attribute BOUNDARY_REGISTER of DRV : entity is
 end DRV;
 ";
 
-/// A two-bit three-state buffer, in two packages. It is mostly in lower case, its attributes are in an unusual order, and
-/// some of them are not used.
+/// A two-bit three-state buffer, in two packages. Most of the text is in lower case, its attributes are in an unusual order, and
+/// some of them are not read.
 pub const BUF2: &str = "-- two-bit three-state buffer
 entity buf2 is
   generic (physical_pin_map : string := \"dw\");
@@ -60,7 +60,7 @@ entity buf2 is
 end buf2;
 ";
 
-/// The number of a line, from 1, and what replaces the line.
+/// The number of a line, counted from 1, and the text that replaces the line.
 pub type Line = (usize, &'static str);
 
 /// The text of a case.
@@ -72,22 +72,22 @@ pub enum Source {
     Buffer,
     /// The driver `DRV`, with these lines replaced.
     Driver(&'static [Line]),
-    /// This many lines of the driver, and then this text.
+    /// The first lines of the driver, as many as the number says, and then this text.
     Front(usize, &'static str),
-    /// This many lines of the driver, and then a text with a byte many times in it.
+    /// The first lines of the driver, and then a text in which one byte is repeated.
     Filled {
         /// The number of lines of the driver.
         lines: usize,
-        /// What comes before the bytes.
+        /// The text before the repeated byte.
         head: &'static str,
-        /// The byte.
+        /// The repeated byte.
         byte: u8,
-        /// The number of these bytes.
+        /// How often the byte is repeated.
         count: usize,
-        /// What comes after the bytes.
+        /// The text after the repeated byte.
         tail: &'static str,
     },
-    /// The driver, with a port of 500 bits in place of its outputs. Its pin map has this port alone, on pins 100 to 599.
+    /// The driver with a port of 500 bits in place of its outputs. Its pin map has only this port, on pins 100 to 599.
     Wide,
 }
 
@@ -105,7 +105,7 @@ impl Source {
     }
 }
 
-/// Returns the bytes of a string, if it is short enough to be read.
+/// Returns the bytes of a string, or `TooLong` if there are 2^32 or more.
 pub fn bytes_of(text: &str) -> Result<&[u8], CaseFault>
     ensures { IfOk result (λ bytes. length bytes.now < 2 ^ 32) }
 {
@@ -151,7 +151,7 @@ fn add_line(line: &str, made: &mut Vec<u8>) -> Result<(), AllocError> {
     Ok(())
 }
 
-/// Returns the driver, with these lines replaced.
+/// Returns the driver with these lines replaced.
 fn with_lines(alloc: Global, lines: &[(usize, &str)]) -> Result<Vec<u8>, AllocError> {
     let mut made = Vec::new(alloc);
     for (at, old) in DRV.lines().enumerate() {
@@ -163,7 +163,7 @@ fn with_lines(alloc: Global, lines: &[(usize, &str)]) -> Result<Vec<u8>, AllocEr
     Ok(made)
 }
 
-/// Returns the first lines of the driver.
+/// Returns the first `lines` lines of the driver.
 fn front_of(alloc: Global, lines: usize) -> Result<Vec<u8>, AllocError> {
     let mut made = Vec::new(alloc);
     for line in DRV.lines().take(lines) {
@@ -172,7 +172,7 @@ fn front_of(alloc: Global, lines: usize) -> Result<Vec<u8>, AllocError> {
     Ok(made)
 }
 
-/// Returns a pin map that gives a port D 500 pins of three digits.
+/// Returns a pin map in which port D has 500 pins with numbers of three digits.
 fn wide_map(alloc: Global) -> Result<String, AllocError> {
     let mut map = String::from_str(alloc, "constant P : PIN_MAP_STRING := \"D:(100")?;
     for pin in 101..600u32 {

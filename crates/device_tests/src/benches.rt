@@ -1,4 +1,4 @@
-//! Cases that don't hold. Each function of the bench must name such a case, whatever differs.
+//! Cases that don't hold. Each function of the bench must report such a case, whatever differs.
 use board_defs::Symbol;
 use bsdl_lexer::LexFault::{self, Byte};
 use bsdl_parser::ParseFault::Expected;
@@ -11,7 +11,7 @@ use device_bench::{
 };
 use std::alloc::Global;
 
-// Returns whether the answer names this case, and says that it ends so.
+// Returns whether the answer reports this case, with this text for how the case ended.
 fn names(answer: &Result<(), CaseFault>, number: usize, shown: &str) -> bool {
     match answer {
         Err(CaseFault::Ended { case, found }) => *case == number && found.as_str() == shown,
@@ -19,7 +19,7 @@ fn names(answer: &Result<(), CaseFault>, number: usize, shown: &str) -> bool {
     }
 }
 
-// Returns whether the answer names this case.
+// Returns whether the answer reports this case.
 fn names_case(answer: &Result<(), CaseFault>, number: usize) -> bool {
     match answer {
         Err(CaseFault::Ended { case, .. }) => *case == number,
@@ -27,7 +27,7 @@ fn names_case(answer: &Result<(), CaseFault>, number: usize) -> bool {
     }
 }
 
-// Returns the row as the case of an error, unless it holds.
+// Returns an error with the row as its case, unless `holds` is true.
 fn expect(alloc: Global, row: usize, holds: bool) -> Result<(), CaseFault> {
     if holds {
         return Ok(());
@@ -36,7 +36,7 @@ fn expect(alloc: Global, row: usize, holds: bool) -> Result<(), CaseFault> {
     Err(CaseFault::Ended { case: row, found })
 }
 
-// What is shown of a text.
+// The part of a text's meaning that a table compares.
 #[derive(Clone, Copy)]
 enum Shown {
     Device,
@@ -82,7 +82,7 @@ const OTHER_ENTITY: &str =
      3 port TDO\n4 port TMS\n5 port TCK\n6 number 2\n7 text BYPASS (11), EXTEST (00), SAMPLE (10)\n8 text 01\n\
      9 number 3\n10 text 0 (BC_1, Q(1), OUTPUT2, X),1 (BC_1, Q(2), OUTPUT2, X)\n";
 
-// A case that holds, one that doesn't, and how that ends.
+// What is compared, a case that holds, a case that doesn't, and how the second case ends.
 type Texts = (Shown, &'static [(Source, &'static str)], &'static str);
 
 static TEXTS: [Texts; 6] = [
@@ -138,7 +138,7 @@ fn wrong_texts_are_noticed(rt: HostRuntime) -> Result<(), CaseFault> {
 
 type Lexed = (Source, Result<(), LexFault>, usize);
 
-// Another number of tokens, another line, and no fault.
+// In each pair only the first case is right. The second has another number of tokens, another line, or no fault.
 static LEXINGS: [[Lexed; 2]; 3] = [
     [
         (Bytes(b"a;\xff"), Err(Byte(1)), 2),
@@ -163,7 +163,7 @@ fn wrong_lexings_are_noticed(rt: HostRuntime) -> Result<(), CaseFault> {
     Ok(())
 }
 
-// Two readings of which the first one holds, and how the second one ends.
+// Two readings, and how the second reading ends. Only the first holds.
 type Readings = (&'static [(Source, Reading)], &'static str);
 
 static READINGS: [Readings; 3] = [
@@ -193,7 +193,7 @@ fn wrong_readings_are_noticed(rt: HostRuntime) -> Result<(), CaseFault> {
     Ok(())
 }
 
-// Two strings of which the first one holds, and how the second one ends.
+// Two strings, and how the second string ends. Only the first holds.
 type Strings = (
     Grammar,
     &'static [(&'static str, Result<&'static str, u32>)],
@@ -258,7 +258,7 @@ fn wrong_strings_are_noticed(rt: HostRuntime) -> Result<(), CaseFault> {
     Ok(())
 }
 
-// Other symbols than those of the pattern 01, and fewer.
+// The first list has other symbols than the pattern 01, and the others have fewer.
 static SYMBOLS: [&[Symbol]; 3] = [&[Symbol::Zero, Symbol::One], &[Symbol::One], &[]];
 
 #[test]
@@ -272,7 +272,7 @@ fn wrong_symbols_are_noticed(rt: HostRuntime) -> Result<(), CaseFault> {
 
 const IN_DW: &str = "BUF2 DW Old 2 10 00 1 2 3 4 5 6 7 8 9 10 11";
 
-// Two packages of which the first one holds.
+// Two packages. Only the first holds.
 static PACKAGES: [(Option<&[u8]>, &str); 2] = [(None, IN_DW), (Some(b"FK"), IN_DW)];
 
 #[test]
@@ -289,7 +289,7 @@ fn wrong_packages_are_noticed(rt: HostRuntime) -> Result<(), CaseFault> {
     )
 }
 
-// Two rules of which the first one holds, and what the second change breaks.
+// Two rules, and what the second change breaks. Only the first holds.
 type Rules = (&'static [(Change, (u32, u32))], &'static str);
 
 static RULES: [Rules; 3] = [
@@ -330,7 +330,7 @@ fn wrong_orders_are_noticed(rt: HostRuntime) -> Result<(), CaseFault> {
     expect(rt.alloc(), 0, names(&answer, 1, "V2 item 5"))
 }
 
-// How many bytes are taken, and their end.
+// The number of the failing put, the number of bytes that are taken, and their end. In each pair only the first holds.
 static CUTS: [[(u32, usize, &str); 2]; 2] = [
     [(4, 45, ""), (5, 1068, "")],
     [(4, 45, ""), (6, 2055, " 598\n")],

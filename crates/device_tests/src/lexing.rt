@@ -32,7 +32,7 @@ fn every_form_of_token(rt: HostRuntime) -> Result<(), CaseFault> {
     tokens_hold(rt.alloc(), &FORMS)
 }
 
-// Blanks, and the first and last byte of the marks, each beside a byte that is none.
+// Blanks, and the first and last byte of the marks. Beside each is a byte that is neither a blank nor a mark.
 static LETTERS: [(Source, Result<(), LexFault>, usize); 9] = [
     (Bytes(b"a\x0bb\x0cc\td e\rf\ng"), Ok(()), 7),
     (Bytes(b"\x08"), Err(Byte(1)), 0),
@@ -40,9 +40,9 @@ static LETTERS: [(Source, Result<(), LexFault>, usize); 9] = [
     (Bytes(b"\x1f"), Err(Byte(1)), 0),
     (Bytes(b"!~"), Ok(()), 2),
     (Bytes(b"\x7f"), Err(Byte(1)), 0),
-    // A word may have a byte of its own, but not as its first one.
+    // An underscore or a digit may be in a word, but not at its beginning.
     (Bytes(b"a_1 _a 1a"), Ok(()), 5),
-    // A string may hold any byte but a quote and the ends of lines.
+    // A string may have any byte but a quote and the ends of lines.
     (Bytes(b"\"\x00\x0b\xff\""), Ok(()), 1),
     (Bytes(b"-- \x00\xff\"\r\na"), Ok(()), 1),
 ];

@@ -6,7 +6,7 @@ use device_bench::Source::{Buffer, Bytes, Driver, Filled, Front};
 use device_bench::{CaseFault, Reading, Source, entities_hold, readings_hold};
 
 static CHANGED: [(Source, Reading); 24] = [
-    // the text as it is; no generic; no ports; the generic twice
+    // A text without faults, no generic, no ports, and the generic twice.
     (Driver(&[(1, "entity DRV is\n")]), Entity),
     (Driver(&[(2, "")]), Parse(Expected(17))),
     (Driver(&[(3, "")]), Parse(Expected(17))),
@@ -14,7 +14,7 @@ static CHANGED: [(Source, Reading); 24] = [
         Driver(&[(3, "generic (PHYSICAL_PIN_MAP : string := \"P\");\n")]),
         Parse(Expected(3)),
     ),
-    // a port item twice; no default
+    // The ports twice, and a generic without a default.
     (
         Driver(&[(4, "port (A : buffer bit);\n")]),
         Parse(Expected(4)),
@@ -23,13 +23,13 @@ static CHANGED: [(Source, Reading); 24] = [
         Driver(&[(2, "generic (PHYSICAL_PIN_MAP : string);\n")]),
         Entity,
     ),
-    // a byte that begins no token, and a string that is not closed
+    // A byte that begins no token, and a string that is not closed.
     (
         Driver(&[(4, "\u{7}use STD_1149_1_1994.all;\n")]),
         Lex(Byte(4)),
     ),
     (Driver(&[(16, "\"0 (BC_1,\n")]), Lex(OpenString(16))),
-    // a word instead of an integer; ten digits; a clock of another kind
+    // A word instead of an integer, an integer of ten digits, and a clock of another kind.
     (
         Driver(&[(11, "attribute INSTRUCTION_LENGTH of DRV : entity is two;\n")]),
         Parse(Expected(11)),
@@ -48,7 +48,7 @@ static CHANGED: [(Source, Reading); 24] = [
         )]),
         Parse(Expected(10)),
     ),
-    // an attribute that is not used; one that is neither used nor closed
+    // An attribute that is not read, and then one that also has no semicolon.
     (
         Driver(&[(
             14,
@@ -57,7 +57,7 @@ static CHANGED: [(Source, Reading); 24] = [
         Entity,
     ),
     (Driver(&[(14, "attribute FOO\n")]), Entity),
-    // attributes that may be there at most once, and inout and linkage ports
+    // Attributes that may be there at most once, and inout and linkage ports.
     (
         Driver(&[(
             18,
@@ -79,7 +79,7 @@ static CHANGED: [(Source, Reading); 24] = [
         )]),
         Entity,
     ),
-    // the end of the entity, and what comes after it
+    // The end of the entity, and the text after it.
     (Driver(&[(18, "end ;\n-- package\n")]), Entity),
     (
         Driver(&[(18, "end DRV;\npackage X is\n")]),
@@ -95,9 +95,9 @@ static CHANGED: [(Source, Reading); 24] = [
     ),
     (Driver(&[(18, "package DRV;\n")]), Parse(Expected(18))),
     (Driver(&[(18, "end DRV\n\n")]), Parse(Expected(19))),
-    // the text of another device
+    // The text of another device.
     (Buffer, Entity),
-    // generic and ports exchanged
+    // Generic and ports exchanged.
     (
         Driver(&[
             (
@@ -137,7 +137,7 @@ fn parts_of_texts(rt: HostRuntime) -> Result<(), CaseFault> {
 }
 
 static LARGE: [(Source, Reading); 2] = [
-    // deep parentheses in an attribute that is not used
+    // Deep parentheses in an attribute that is not read.
     (
         Filled {
             lines: 17,
@@ -148,7 +148,7 @@ static LARGE: [(Source, Reading); 2] = [
         },
         Entity,
     ),
-    // one token too many
+    // One token too many.
     (
         Filled {
             lines: 0,
@@ -189,7 +189,7 @@ port Q Outward 1 to 2
 10 text 0 (BC_1, Q(1), OUTPUT2, X),1 (BC_1, Q(2), OUTPUT2, X)
 ",
     ),
-    // two packages, and attributes in any order
+    // Two packages, and attributes in an unusual order.
     (
         Buffer,
         "entity BUF2 DW

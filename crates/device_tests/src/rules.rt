@@ -1,4 +1,4 @@
-//! What texts say of a device, with one broken rule at a time, and the device that such a text describes.
+//! Texts that break a rule of devices, and the devices of texts that break none.
 use device_bench::{CaseFault, Change, draft_holds, orders_hold, rules_hold};
 
 static PORTS_AND_PINS: [(Change, (u32, u32)); 20] = [
@@ -40,14 +40,14 @@ static INSTRUCTIONS: [(Change, (u32, u32)); 20] = [
     (Change::Opcodes("SAMPLE (10), EXTEST (01)"), (6, 2)),
     (Change::Opcodes("SAMPLE (10), EXTEST (01, X0)"), (0, 0)),
     (Change::Opcodes("SAMPLE (10), BYPASS (10)"), (6, 3)),
-    // one of several codes is enough, and X fits any bit
+    // One right code is enough, and X fits any bit.
     (Change::Opcodes("SAMPLE (10), BYPASS (10, 11)"), (0, 0)),
     (Change::Opcodes("SAMPLE (10), BYPASS (1X)"), (0, 0)),
     (Change::Of2001("SAMPLE (10)"), (6, 2)),
     (Change::Of2001("PRELOAD (11), SAMPLE (10)"), (6, 1)),
     (Change::Of2001("PRELOAD (00), EXTEST (0X)"), (6, 2)),
     (Change::Of2001("PRELOAD (00), EXTEST (01)"), (0, 0)),
-    // SAMPLE does not preload if PRELOAD is listed
+    // SAMPLE does not preload if PRELOAD is listed.
     (
         Change::Of2001("SAMPLE (11), PRELOAD (00), EXTEST (01)"),
         (0, 0),
@@ -134,7 +134,7 @@ fn boundary_entries(rt: HostRuntime) -> Result<(), CaseFault> {
     rules_hold(rt.alloc(), &ENTRIES)
 }
 
-// Two rules that follow each other are broken, or two items of one rule: the first one is named.
+// Two consecutive rules are broken, or two items of one rule. The first is reported.
 static PORT_ORDER: [(&[Change], (u32, u32)); 7] = [
     (&[Change::Range(2, 1, true), Change::ScanOut("Q")], (2, 5)),
     (&[Change::ScanOut("Q"), Change::Clock("TDI")], (3, 3)),
@@ -200,7 +200,7 @@ fn instructions_come_before_entries(rt: HostRuntime) -> Result<(), CaseFault> {
 }
 
 static ENTRY_ORDER: [(Change, (u32, u32)); 9] = [
-    // a number that is too large, before one that is missing
+    // A cell number that is too large is reported before a missing cell.
     (
         Change::Entries(2, "1 (B, Q(1), output2, X), 5 (B, Q(2), output2, X)"),
         (8, 5),
@@ -231,7 +231,7 @@ static ENTRY_ORDER: [(Change, (u32, u32)); 9] = [
         Change::Entries(1, "0 (B, Q(1), output2, X), 0 (B, Q(1), output2, X)"),
         (12, 0),
     ),
-    // two cells with two entries each
+    // Two cells have two entries each.
     (
         Change::Entries(
             2,

@@ -1,4 +1,4 @@
-//! That values may go to another thread and be shared between threads.
+//! Tests that values may go to another thread and be shared between threads.
 use bsdl_lexer::{LexFault, Token, TokenKind};
 use bsdl_parser::{Attr, AttrValue, Constant, Entity, ParseFault, Port, Range};
 use bsdl_strings::{Compliance, Entry, MapEntry, Opcode, PortWord, StringFault};

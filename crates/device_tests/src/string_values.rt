@@ -11,25 +11,25 @@ static PIN_MAPS: [(&str, Result<&str, u32>); 18] = [
         "oe_n:A1, a:(A2,A3), y:(B1,B2), gnd:C1, vcc:C2, tdi:D1, tms:D2, tck:D3, tdo:D4",
         Ok("OE_N A1; A A2 A3; Y B1 B2; GND C1; VCC C2; TDI D1; TMS D2; TCK D3; TDO D4; "),
     ),
-    // one pin in parentheses; blanks around all parts, and no blanks; a pin that begins with `_`
+    // One pin in parentheses, blanks around all parts, no blanks, and a pin that begins with `_`.
     ("A:(1)", Ok("A 1; ")),
     ("\t A\t: ( 1 , 2 ) , B : 3 ", Ok("A 1 2; B 3; ")),
     ("A:(1,2),B:_3", Ok("A 1 2; B _3; ")),
-    // an empty string; a port without a pin; no name; a comma at the front
+    // An empty string, a port without a pin, an entry without a name, and a comma at the front.
     ("", Err(1)),
     (" ", Err(1)),
     ("A", Err(1)),
     ("3A:1, B:2", Err(1)),
     (",A:1", Err(1)),
-    // a comma is missing after the first, a middle and the last entry
+    // A comma is missing after the first, a middle or the last entry.
     ("A:1 B:2, C:3", Err(1)),
     ("A:1, B:2 C:3", Err(2)),
     ("A:1, B:(1,2), C:3 D", Err(3)),
-    // a comma at the end; a group that is not closed, and one without pins
+    // A comma at the end, a group that is not closed, and a group without pins.
     ("A:1, B:2,", Err(3)),
     ("A:1, B:(1,2, C:3", Err(2)),
     ("A:1, B:()", Err(2)),
-    // a pin of two words, and a byte that belongs to no part
+    // A pin of two words, and a byte that belongs to no part.
     ("A:1 2, B:3", Err(1)),
     ("A:1, B:2\n, C:3", Err(2)),
 ];
@@ -48,16 +48,16 @@ static OPCODES: [(&str, Result<&str, u32>); 11] = [
         "extest (00), sample (10), bypass (11, 01)",
         Ok("EXTEST 00; SAMPLE 10; BYPASS 11 01; "),
     ),
-    // X in a code, and codes of different lengths
+    // X in a code, and codes of different lengths.
     ("A(1x0),B( X , 01 )", Ok("A 1X0; B X 01; ")),
     ("", Err(1)),
     ("BYPASS (12), SAMPLE (10)", Err(1)),
     ("BYPASS 11", Err(1)),
-    // no code; a blank inside a code; a comma after the last code
+    // An instruction without a code, a blank inside a code, and a comma after the last code.
     ("BYPASS (11), SAMPLE (), EXTEST (00)", Err(2)),
     ("BYPASS (11), SAMPLE (1 0)", Err(2)),
     ("BYPASS (11), SAMPLE (10), EXTEST (00,)", Err(3)),
-    // a comma missing, and one at the end
+    // A missing comma, and a comma at the end.
     ("BYPASS (11) SAMPLE (10)", Err(1)),
     ("BYPASS (11), SAMPLE (10),", Err(3)),
 ];
@@ -91,14 +91,14 @@ static COMPLIANCE: [(&str, Result<&str, u32>); 16] = [
     ("(A, B(1), C) (1X0, 010)", Ok("A B[1] C  1X0 010")),
     (" ( en(7) ) ( 0 , 1 ) ", Ok("EN[7]  0 1")),
     ("(A)(X)", Ok("A  X")),
-    // the first parenthesis is missing, not closed, empty, or has a comma too many
+    // The first parenthesis is missing, not closed or empty, or has a comma too many.
     ("", Err(1)),
     ("A (1)", Err(1)),
     ("(A", Err(1)),
     ("() (1)", Err(1)),
     ("(A,) (1)", Err(1)),
     ("(A(1234567890)) (1)", Err(1)),
-    // the second is missing, has no codes, or is not the end
+    // The second parenthesis is missing, has no codes, or is not the end.
     ("(A)", Err(2)),
     ("(A),(1)", Err(2)),
     ("(A) (2)", Err(2)),
@@ -133,7 +133,7 @@ static BOUNDARY: [(&str, Result<&str, u32>); 17] = [
             "0 D Clock Zero; 1 * ControlR One; 2 * Internal Any; 3 D ObserveOnly Any; 4 D Bidir Any 1 false; ",
         ),
     ),
-    // each possible result
+    // Each possible disable result.
     (
         "0(C,D,OUTPUT2,1,0,1,WEAK0),1(C,D,OUTPUT2,1,1,1,WEAK1),2(C,D,OUTPUT3,0,999999999,1,PULL0),3(C,D,OUTPUT3,0,007,1,PULL1)",
         Ok(

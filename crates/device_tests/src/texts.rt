@@ -1,8 +1,8 @@
-// Lines of texts of 2001.
+// Lines that make a text one of the 2001 edition.
 
 pub const OF_2001: &str = "use STD_1149_1_2001.all;\n";
 
-/// Instructions of which EXTEST and PRELOAD are those of a text of 2001.
+/// Instructions with the EXTEST and PRELOAD codes of a text of 2001.
 pub const PRELOADS: &str =
     "attribute INSTRUCTION_OPCODE of DRV : entity is \"BYPASS (11), EXTEST (01), SAMPLE (10), PRELOAD (00)\";\n";
 

@@ -8,18 +8,18 @@ use std::alloc::{AllocError, Global};
 pub struct Command {
     /// The words.
     pub line: &'static str,
-    /// The names of its texts, in order.
+    /// The names of the texts that the run reads, in order.
     pub names: &'static [&'static str],
-    /// The text that it writes.
+    /// The text that the run writes.
     pub text: &'static str,
 }
 
-// The test of the board. With two nets each code has one 1, as in the walking test.
+// The test of the board. With two nets each code has a single 1, so this is also the walking test.
 const BOARD_TEST: &str = "TRST OFF;\nENDIR IDLE;\nENDDR IDLE;\nSTATE RESET;\nSTATE IDLE;\n\
      SIR 4 TDI (A) TDO (5) MASK (F);\nSDR 4 TDI (0);\nSIR 4 TDI (0) TDO (5) MASK (F);\n\
      SDR 4 TDI (4);\nSDR 4 TDI (8) TDO (1) MASK (3);\nSDR 4 TDI (0) TDO (2) MASK (3);\nSTATE RESET;\n";
 
-/// Each command.
+/// A run of each command.
 pub const COMMANDS: [Command; 10] = [
     Command {
         line: "chain c drv rcv",
@@ -77,7 +77,7 @@ pub const COMMANDS: [Command; 10] = [
     },
 ];
 
-/// Logs of the board: one of its test, one of its walking test, and a batch.
+/// Logs for the board: a log of its test, a log of its walking test, and a batch.
 pub const LOGS: [Named; 3] = [
     ("g", Plain("0\n2\n")),
     ("w", Plain("3\n3\n")),

@@ -6,7 +6,7 @@ use run_bench::{Ending, Row, RowFault, Rows, Table, tables_hold};
 use std::alloc::Global;
 use std::thread::Threads;
 
-// The most bytes of a text, and of a log.
+// The most bytes of a chain file, a net file or a BSDL text.
 const MOST: usize = 4_194_304;
 
 const MOST_OF_LOG: usize = 67_108_864;
@@ -20,7 +20,7 @@ fn limit(name: &str) -> usize {
     }
 }
 
-// Checks a command whose text of this name has one byte too many.
+// Checks that a command refuses a text of this name that has one byte too many.
 fn is_too_long(
     rt: &(impl Threads + Sync),
     alloc: Global,
@@ -35,7 +35,7 @@ fn is_too_long(
     bench.ends(rt, name, 0, line, Ending::Refused(&note))
 }
 
-// Checks a command whose text of this name has blanks after it, up to the limit.
+// Checks that a command writes its text if a text of this name is filled with blanks up to the limit.
 fn may_be_as_long(
     rt: &(impl Threads + Sync),
     alloc: Global,
@@ -95,13 +95,13 @@ fn every_text_may_have_its_limit(rt: HostRuntime) -> Result<(), RowFault> {
 }
 
 const BLANKS: [Row; 2] = [
-    // A log may be longer than any other text.
+    // A log may be longer than the other texts.
     Row {
         texts: &[("w", Repeated(" ", MOST + 1))],
         line: "groups w c n drv rcv",
         ending: Ending::Refused("w: 0 rows of 2\n"),
     },
-    // A batch of blanks has no block.
+    // A batch of only blanks has no block.
     Row {
         texts: &[("b", Repeated(" ", MOST + 1))],
         line: "batch 2 b c n drv rcv",

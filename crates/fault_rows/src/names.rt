@@ -1,15 +1,15 @@
-// The fault of each text, which is reported with the name of that text.
+// The fault of each text is reported with the name of this text.
 use run_bench::Text::Plain;
 use run_bench::{Ending, Named, Row, RowFault, Rows, Table, tables_hold};
 
-// A log of the board's test, one of its walking test, and a batch.
+// A log of the board's test, a log of its walking test, and a batch.
 const LOGS: [Named; 3] = [
     ("g", Plain("1\n2\n")),
     ("w", Plain("3\n3\n")),
     ("b", Plain("BOARD A\n1\n2\n")),
 ];
 
-// A chain file, a net file and a BSDL text, none of which is valid.
+// A chain file, a net file and a BSDL text that are all wrong.
 const CHAIN: Named = ("c", Plain("DEVICE U1 DRV\n"));
 
 const NETS: Named = ("n", Plain("NETS N1 U1.1\n"));

@@ -4,7 +4,7 @@ use run_bench::{Ending, RowFault};
 use std::alloc::Global;
 use std::thread::Threads;
 
-// Checks a failure of read number `call`, counted from 1, of the text with this name. The sink would fail as well.
+// Checks a run in which read number `call` fails, counted from 1. This is the read of the text with this name. Writes would fail as well.
 fn ends_at(
     rt: &(impl Threads + Sync),
     alloc: Global,
@@ -19,7 +19,7 @@ fn ends_at(
     bench.ends(rt, name, call as usize, line, Ending::NotRead(&note))
 }
 
-// Checks a failure of each read of a command.
+// Checks for each read of a command a run in which this read fails.
 fn ends_at_each(
     rt: &(impl Threads + Sync),
     alloc: Global,

@@ -6,12 +6,13 @@ use run_bench::{Ending, Row, RowFault, Rows, Table, Trouble, tables_hold};
 use std::alloc::Global;
 use std::thread::Threads;
 
-// Returns the first `count` characters of a text, or all of them if it has fewer.
+// Returns the first `count` characters of a text, or the whole text if it is shorter.
 fn first(text: &str, count: usize) -> &str {
     text.get(..count).unwrap_or(text)
 }
 
-// Checks a failure of put number `call`, counted from 1, after `taken` bytes. The lines before it have `before` bytes.
+// Checks a run in which put number `call` fails, counted from 1, once it took `taken` bytes. The lines of the earlier puts have
+// `before` bytes.
 fn is_cut(
     rt: &(impl Threads + Sync),
     alloc: Global,
@@ -27,7 +28,7 @@ fn is_cut(
     bench.ends(rt, command.line, call as usize, command.line, ending)
 }
 
-// Checks a failure of the put of each line of a command's text, after `taken` bytes.
+// Checks for each line of a command's text a run in which the put of the line fails once it took `taken` bytes.
 fn is_cut_at_each(
     rt: &(impl Threads + Sync),
     alloc: Global,
@@ -44,7 +45,7 @@ fn is_cut_at_each(
     Ok(())
 }
 
-// A failing write leaves the lines before it, and may take a part of its own.
+// A write that fails leaves the earlier lines, and perhaps a part of its own line.
 #[test]
 fn a_write_that_fails_leaves_the_lines_before_it(rt: HostRuntime) -> Result<(), RowFault> {
     for command in &COMMANDS {
@@ -66,7 +67,7 @@ fn puts_text(rt: &(impl Threads + Sync), alloc: Global, command: &Command) -> Re
     )
 }
 
-// The status stays if the notes take only a part of the line.
+// The status stays the same if the notes take only a part of the line.
 fn has_short_note(
     rt: &(impl Threads + Sync),
     alloc: Global,
@@ -88,7 +89,7 @@ fn every_command_puts_its_text_or_keeps_its_status(rt: HostRuntime) -> Result<()
     Ok(())
 }
 
-// A batch without a block has an empty text, which is put to the sink too.
+// A batch without a block has an empty text. The empty text is put to the sink, too.
 const EMPTY: [(Trouble, Row); 1] = [(
     Trouble::Put(1, 0),
     Row {

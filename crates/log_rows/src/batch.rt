@@ -1,4 +1,4 @@
-// The diagnoses of many logs in one text.
+// Rows for the command `batch`, which diagnoses many logs in one text.
 use run_bench::Text::Plain;
 use run_bench::{Bench, CHAIN, Ending, Line, NETS, Row, RowFault, Rows, Table, tables_hold};
 use std::alloc::{AllocError, Global};
@@ -23,7 +23,7 @@ const LOGS: [Line; 15] = [
         Ending::Refused("g board 1: 1 rows of 2\n"),
     ),
     ("1\nBOARD A\n", Ending::Refused("g line 1: no board yet\n")),
-    // A block without rows.
+    // The second block has no rows.
     (
         "BOARD A\n1\n2\nBOARD B\n",
         Ending::Refused("g board 2: 0 rows of 2\n"),
@@ -44,12 +44,12 @@ const LOGS: [Line; 15] = [
         "BOARD A\n1\nG\n2\n",
         Ending::Refused("g line 3: digit not allowed\n"),
     ),
-    // The word of a title as another word of a row.
+    // The word BOARD may be no second word of a row.
     (
         "BOARD A\n1\n1 BOARD\n",
         Ending::Refused("g line 3: wrong length\n"),
     ),
-    // A wrong title comes before any fault of a log.
+    // A wrong title is reported before any fault of a log.
     (
         "BOARD A\n1\nBOARD\n1\n2\n",
         Ending::Refused("g line 3: board not allowed\n"),
@@ -100,7 +100,7 @@ const ROWS: [Row; 9] = [
         line: "batch 2 g c",
         ending: Ending::Usage,
     },
-    // Without a pass a log has no row.
+    // The test of a board without a pass has no row in its logs.
     Row {
         texts: &[
             ("c", Plain("DEVICE U2 RCV -\n")),
@@ -139,7 +139,7 @@ fn each_block_is_diagnosed_by_itself(rt: HostRuntime) -> Result<(), RowFault> {
     tables_hold(&rt, rt.alloc(), &TABLES)
 }
 
-// Appends 10,000 blocks, and the text for them. In every second block a net stays at 0.
+// Appends 10,000 blocks to `logs`, and the text of their diagnoses to `text`. In every second block a net stays at 0.
 fn push_blocks(logs: &mut String, text: &mut String) -> Result<(), AllocError> {
     for number in 0..5_000 {
         write!(logs, "BOARD A{number}\n1\n2\nBOARD B{number}\n0\n2\n")?;

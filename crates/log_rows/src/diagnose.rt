@@ -1,4 +1,4 @@
-// The diagnosis of a log.
+// Rows for the command `diagnose`, which diagnoses a log.
 use crate::groups::{LINKED, LINKED_NETS, PULLED, PULLED_NETS};
 use run_bench::Text::{Plain, Repeated};
 use run_bench::{Ending, Line, Named, Row, RowFault, Rows, Table, tables_hold};
@@ -20,7 +20,7 @@ const LOGS: [Line; 19] = [
     ("3\n0\n", Ending::Puts("FAIL 1\nshort DOM N1 N2\n")),
     ("0\n3\n", Ending::Puts("FAIL 1\nshort DOM N2 N1\n")),
     ("1\n1\n", Ending::Puts("FAIL 0\n")),
-    // Logs of another test.
+    // Texts that are not a log of this test.
     ("", Ending::Refused("g: 0 rows of 2\n")),
     ("1\n", Ending::Refused("g: 1 rows of 2\n")),
     ("1\n22\n", Ending::Refused("g line 2: wrong length\n")),
@@ -28,7 +28,7 @@ const LOGS: [Line; 19] = [
     ("1\n\nG\n", Ending::Refused("g line 3: digit not allowed\n")),
     ("1\n2\n2\n", Ending::Refused("g line 3: row too many\n")),
     ("1\n2\nz z\n", Ending::Refused("g line 3: row too many\n")),
-    // A wrong row comes before a row too many after it.
+    // The fault of a wrong row is reported before a later row too many.
     (
         "G\n2\n2\n",
         Ending::Refused("g line 1: digit not allowed\n"),
@@ -81,7 +81,7 @@ const WORKERS: [Row; 10] = [
         line: "diagnose 1 g c",
         ending: Ending::Usage,
     },
-    // A fault of the other texts comes before one of the log. A missing text comes before both.
+    // A fault of the other texts is reported before a fault of the log. A text that is not read is reported before both faults.
     Row {
         texts: &[("g", Plain("zz\n")), ("c", Plain("DEVICE U1 DRV\n"))],
         line: "diagnose 1 g c n drv rcv",
@@ -139,7 +139,7 @@ const BUS: &str = "DEVICE U1 TS -\nDEVICE U2 TS -\nDEVICE U3 RCV1 -\n";
 
 const BUS_LOGS: [Line; 5] = [
     ("01\n00\n01\n00\n", Ending::Puts("PASS\n")),
-    // Only one driver is open, and its pass shows it.
+    // Only one driver is open, and the pass of this driver shows it.
     ("00\n00\n01\n00\n", Ending::Puts("FAIL 1\nopen U1.1 0\n")),
     ("01\n00\n01\n01\n", Ending::Puts("FAIL 1\nopen U2.1 1\n")),
     (
@@ -149,7 +149,7 @@ const BUS_LOGS: [Line; 5] = [
     ("00\n00\n01\n01\n", Ending::Puts("FAIL 0\n")),
 ];
 
-// Two controls that exclude each other. The first pass shows A and X, the second X and B.
+// Two controls that exclude each other. The first pass observes A and X, and the second pass observes X and B.
 const APART: &str = "DEVICE U1 TWO -\nDEVICE U2 RCV -\nDEVICE U3 RCV -\n";
 
 const APART_NETS: &str = "NET A U1.1 U2.1\nNET X U1.2 U1.3 U2.2\nNET B U1.4 U3.1\n";
@@ -164,7 +164,7 @@ const APART_LOGS: [Line; 4] = [
         "000\n000\n000\n001\n009\n000\n",
         Ending::Puts("FAIL 1\nshort AND A X\n"),
     ),
-    // A and B, which are not paired, are wrong.
+    // A and B are wrong, but no fault affects both, since they are not paired.
     ("000\n008\n000\n000\n008\n000\n", Ending::Puts("FAIL 0\n")),
 ];
 

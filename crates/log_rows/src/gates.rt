@@ -6,13 +6,13 @@ use std::sync::atomic::Ordering::SeqCst;
 use std::sync::atomic::{AtomicBool, AtomicU64};
 use std::thread::Threads;
 
-// The number of times that an entry looks for the other pieces before it gives up.
+// The number of times that an entry checks the other pieces before it gives up.
 const TURNS: u32 = 100_000_000;
 
-// The largest number of pieces that a gate watches, which is the largest number of workers of a command.
+// The largest number of pieces that a gate watches. A command has at most as many workers.
 const PIECES: u64 = 64;
 
-// Returns a number of counters, all 0.
+// Returns `count` counters, all 0.
 fn counters(alloc: Global, count: u64) -> Result<Vec<AtomicU64>, AllocError> {
     let mut counters = Vec::new(alloc);
     for _ in 0..count {
@@ -21,17 +21,17 @@ fn counters(alloc: Global, count: u64) -> Result<Vec<AtomicU64>, AllocError> {
     Ok(counters)
 }
 
-// Holds each of the first entries of each piece until all other pieces have made as many.
+// A gate that holds the first entries of each piece. Entry `i` of a piece waits until every other piece has made entry `i`.
 #[derive(Drop)]
 struct InStep {
     entries: Vec<AtomicU64>,
     held: u64,
-    // Some entry was held in vain. After that no entry is held.
+    // True once an entry waited in vain. From then on no entry waits.
     late: AtomicBool,
 }
 
 impl InStep {
-    // Returns a gate for `pieces` pieces that holds the first `held` entries of each.
+    // Returns a gate for `pieces` pieces that holds the first `held` entries of each piece.
     fn new(alloc: Global, pieces: u64, held: u64) -> Result<InStep, AllocError> {
         Ok(InStep {
             entries: counters(alloc, pieces)?,
@@ -45,7 +45,7 @@ impl InStep {
         self.entries.iter().all(|own| entries <= own.load(SeqCst))
     }
 
-    // Returns whether each piece made the entries that are held, and none was held in vain.
+    // Returns whether each piece made all entries that are held, and no entry waited in vain.
     fn has_met(&self) -> bool {
         !self.late.load(SeqCst) && self.have_made(self.held)
     }
@@ -70,13 +70,13 @@ impl Gate for InStep {
     }
 }
 
-// The largest number of entries of a piece that are recorded.
+// The largest number of recorded entries of a piece.
 const ENTRIES: u64 = 16;
 
 // A piece, and the item with which it entered.
 type Entry = (u64, u64);
 
-// Records the items with which each piece enters, in turn.
+// A gate that records the items with which each piece enters, in order.
 #[derive(Drop)]
 struct Entries {
     counts: Vec<AtomicU64>,
@@ -94,7 +94,7 @@ impl Entries {
         })
     }
 
-    // Returns the number of entries of a piece.
+    // Returns the number of entries that a piece made.
     fn count(&self, piece: u64) -> &AtomicU64 {
         self.counts.get(piece as usize).unwrap_or(&self.others)
     }
@@ -109,7 +109,7 @@ impl Entries {
         }
     }
 
-    // Returns all entries: piece by piece, and those of a piece in turn.
+    // Returns all entries, piece by piece. The entries of a piece are in the order in which it made them.
     fn all(&self, alloc: Global) -> Result<Vec<Entry>, AllocError> {
         let mut all = Vec::new(alloc);
         for piece in 0..PIECES {
@@ -120,7 +120,7 @@ impl Entries {
         Ok(all)
     }
 
-    // Returns whether these are all entries: the items in turn, each by the piece at its place in `pieces`.
+    // Returns whether the entries are these items in order, each made by the piece at the same place of `pieces`.
     fn are_of(&self, alloc: Global, pieces: &[u64], items: &[u64]) -> Result<bool, AllocError> {
         let all = self.all(alloc)?;
         let are_equal = all.len() == items.len()
@@ -139,14 +139,14 @@ impl Gate for Entries {
     }
 }
 
-// Returns a bench with the texts of a board of a driver and a receiver, and this log of it.
+// Returns a bench with the texts of a board of a driver and a receiver, and with this log of the board.
 fn bench_of(alloc: Global, log: &str) -> Result<Bench, AllocError> {
     let mut bench = Bench::with_board(alloc, CHAIN, NETS)?;
     bench.store.add("g", log.as_bytes())?;
     Ok(bench)
 }
 
-// A log in which one of the two nets stays at 0.
+// A log in which the first of the two nets stays at 0.
 const STUCK: &str = "0\n2\n";
 
 const STUCK_TEXT: &str = "FAIL 3\nstuck N1 0\nopen U1.1 0\nopen U2.1 0\n";
@@ -155,10 +155,10 @@ const TWO_BOARDS: &str = "BOARD A\n1\n2\nBOARD B\n0\n2\n";
 
 const TWO_VERDICTS: &str = "BOARD A\nPASS\nBOARD B\nFAIL 3\nstuck N1 0\nopen U1.1 0\nopen U2.1 0\n";
 
-// A line, the number of its workers, a log, the text that is written, and the number of entries of each piece that are held.
+// A command line, the number of its workers, a log, the text that is written, and the number of entries that are held for each piece.
 type Step = (&'static str, u64, &'static str, &'static str, u64);
 
-// The pieces try their candidates or take their boards in step: each holds until all others are at work too.
+// The pieces try their candidates or take their boards in step: no piece goes on before all pieces are at work.
 const STEPS: [Step; 4] = [
     ("diagnose 2 g c n drv rcv", 2, STUCK, STUCK_TEXT, 5),
     ("batch 2 g c n drv rcv", 2, TWO_BOARDS, TWO_VERDICTS, 1),
@@ -193,15 +193,15 @@ const TEN_BOARDS: &str =
 const TEN_VERDICTS: &str =
     "BOARD A\nPASS\nBOARD B\nPASS\nBOARD C\nPASS\nBOARD D\nPASS\nBOARD E\nPASS\nBOARD F\nPASS\nBOARD G\nPASS\nBOARD H\nPASS\nBOARD I\nPASS\nBOARD J\nPASS\n";
 
-// The candidates of the stuck net: the net itself, its two pins, and the shorts of its one pair.
+// The places of the candidates for the stuck net: the net itself, its two pins, and the shorts of its only pair.
 const CANDIDATES: [u64; 10] = [0, 1, 4, 5, 6, 7, 12, 13, 14, 15];
 
 const NUMBERS: [u64; 10] = [0, 1, 2, 3, 4, 5, 6, 7, 8, 9];
 
-// The number of workers as a word, and the piece that each of ten items belongs to.
+// The number of workers as a word, and for each of ten items the piece that has the item.
 type Share = (&'static str, [u64; 10]);
 
-// Piece `p` of `w` has the items from the whole part of `10 p / w` to that of `10 (p + 1) / w`, without the latter.
+// Piece `p` of `w` has the items from `10 p / w` to before `10 (p + 1) / w`, with both quotients rounded down.
 const SHARES: [Share; 5] = [
     ("1", [0, 0, 0, 0, 0, 0, 0, 0, 0, 0]),
     ("2", [0, 0, 0, 0, 0, 1, 1, 1, 1, 1]),
@@ -210,7 +210,7 @@ const SHARES: [Share; 5] = [
     ("64", [6, 12, 19, 25, 31, 38, 44, 51, 57, 63]),
 ];
 
-// A command with a number of workers, its log, the text that is written, and the items with which the pieces enter.
+// A command with a number of workers, its log, the text that is written, the items of all entries, and the piece that made each entry.
 #[derive(Drop)]
 struct Shared {
     command: &'static str,
@@ -221,7 +221,7 @@ struct Shared {
     items: &'static [u64],
 }
 
-// Runs the command, and compares which piece entered with which item.
+// Runs the command, and compares the items with which each piece enters with those that are wanted.
 fn is_shared(
     rt: &(impl Threads + Sync),
     alloc: Global,
@@ -273,10 +273,10 @@ fn boards_are_shared(rt: HostRuntime) -> Result<(), RowFault> {
     Ok(())
 }
 
-// A log, the text that is written, the items with which the pieces of two workers enter, and the pieces.
+// A log, the text that is written, the items with which the pieces of two workers enter, and the piece of each entry.
 type Try = (&'static str, &'static str, &'static [u64], &'static [u64]);
 
-// For a log that passes the pieces try nothing. If two nets differ, they try the shorts of these nets.
+// For a log that passes, the pieces try nothing. If two nets differ, the pieces try the shorts of these nets.
 const TRIES: [Try; 2] = [
     ("1\n2\n", "PASS\n", &[], &[]),
     (

@@ -4,15 +4,15 @@ use std::alloc::{AllocError, Global};
 
 const DEVICES: u32 = 60;
 
-// The number of rows of a pass: 1,928 codes need 11 bits.
+// The number of rows of a pass. The 1,928 codes need 11 bits.
 const WIDTH: u32 = 11;
 
 const DIGITS: [char; 16] = [
     '0', '1', '2', '3', '4', '5', '6', '7', '8', '9', 'A', 'B', 'C', 'D', 'E', 'F',
 ];
 
-// Returns the code of the net that a cell of a device reads, or 0 if the cell reads none. Cells 37 to 68 read the outputs of the previous
-// device, which for the first device is the last. Cells 69 to 76 read the bus. The nets of the bus come after all others.
+// Returns the code of the net that a cell of a device reads, or 0 for a cell that reads no net. Cells 37 to 68 read the outputs of the
+// previous device. The device before the first is the last. Cells 69 to 76 read the bus. The nets of the bus come after all other nets.
 fn code_at(device: u32, cell: u32) -> u32 {
     let before = if device == 1 {
         DEVICES
@@ -29,7 +29,7 @@ fn code_at(device: u32, cell: u32) -> u32 {
     }
 }
 
-// Returns the bit of a cell in a row of a pass. The nets with a code of at most `silent` read 0.
+// Returns the bit that a cell reads in a row of a pass. The nets with a code of at most `silent` read 0.
 fn bit_at(device: u32, cell: u32, row: u32, silent: u32) -> u32 {
     let code = code_at(device, cell);
     if code <= silent {
@@ -39,7 +39,7 @@ fn bit_at(device: u32, cell: u32, row: u32, silent: u32) -> u32 {
     }
 }
 
-// Returns a row of a pass. The first device is the leftmost, and the last cell of each device. The 4,620 cells fill 1,155 digits.
+// Returns a row of a pass. The first device is leftmost, and within a device the last cell is leftmost. The 4,620 cells fill 1,155 digits.
 fn row(alloc: Global, row: u32, silent: u32) -> Result<String, AllocError> {
     let mut text = String::new(alloc);
     let mut value = 0u32;
@@ -61,8 +61,9 @@ fn row(alloc: Global, row: u32, silent: u32) -> Result<String, AllocError> {
     Ok(text)
 }
 
-// Returns the log. Each pass enables all outputs and the bus pins of one device, whose own cells on the bus are not compared. So the
-// rows of all passes are the same.
+// Returns the log. In every pass all nets carry their codes: a pass enables all outputs, and the bus pins of one device. The bus cells of
+// this device are not compared, so the log may give them the bits of the bus, and the rows of all passes are the same.
+// cells whose comparison depends on the pass, but the log gives them the bits of the bus in every pass. So all passes have the same rows.
 fn log(alloc: Global, silent: u32) -> Result<String, AllocError> {
     let mut rows = String::new(alloc);
     for number in 0..WIDTH {
@@ -71,11 +72,11 @@ fn log(alloc: Global, silent: u32) -> Result<String, AllocError> {
     rows.repeat(alloc, DEVICES as usize)
 }
 
-// How many of the first nets read 0, and the diagnosis.
+// The number of nets that read 0, from the first net on, and the diagnosis.
 const SILENT: [(u32, &str); 5] = [
     (0, "PASS\n"),
     (1, "FAIL 3\nstuck R1_0 0\nopen U1.1 0\nopen U2.33 0\n"),
-    // Their codes, 1 and 2, have no common 1.
+    // The codes of the two nets, 1 and 2, have no 1 in common.
     (2, "FAIL 1\nshort AND R1_0 R1_1\n"),
     // No single fault changes three nets.
     (3, "FAIL 0\n"),

@@ -1,4 +1,4 @@
-// The groups of nets that the log of a walking test shows.
+// Rows for the command `groups`, which finds the groups of shorted nets in a log of the walking test.
 use run_bench::Text::Plain;
 use run_bench::{Ending, Line, Named, Row, RowFault, Rows, Table, tables_hold};
 
@@ -8,23 +8,23 @@ pub const WALK: &str = "DEVICE U1 DRV -\nDEVICE U2 DRV -\nDEVICE U3 RCV -\nDEVIC
 /// Three nets of these parts.
 pub const WALK_NETS: &str = "NET N1 U1.1 U3.1\nNET N2 U1.2 U3.2\nNET N3 U2.1 U4.1\n";
 
-/// A driver that its own cell turns off, on a net with a pull, beside two nets that are driven.
+/// A driver that its own cell turns off, on a net with a pull. Two more nets have drivers and receivers.
 pub const MIXED: &str =
     "DEVICE U1 OD -\nDEVICE U2 RCV1 -\nDEVICE U3 DRV -\nDEVICE U4 RCV -\nPULL N 1\n";
 
-/// The net with the pull, and the other two.
+/// The net with the pull, and the other two nets.
 pub const MIXED_NETS: &str = "NET N U1.1 U2.1\nNET N1 U3.1 U4.1\nNET N2 U3.2 U4.2\n";
 
-/// This driver and its net alone.
+/// Only the driver that its own cell turns off, and its net.
 pub const PULLED: &str = "DEVICE U1 OD -\nDEVICE U2 RCV1 -\nPULL N 1\n";
 
-/// The net.
+/// The net with the pull.
 pub const PULLED_NETS: &str = "NET N U1.1 U2.1\n";
 
-/// A driver and a receiver, and a part that joins two nets.
+/// A driver and a receiver, and a resistor that joins two nets.
 pub const LINKED: &str = "DEVICE U1 DRV -\nDEVICE U2 RCV -\nLINK R1 1 2\n";
 
-/// The two nets, and another.
+/// The two joined nets, and another net.
 pub const LINKED_NETS: &str = "NET N1A U1.1 R1.1\nNET N1B R1.2 U2.1\nNET N2 U1.2 U2.2\n";
 
 const LINE: &str = "groups g c n drv rcv od rcv1";
@@ -44,11 +44,11 @@ const THREE_NETS: [Line; 16] = [
         "# bits that are not compared\n\nf5\nf8\nf5\n",
         Ending::Puts("GROUPS 1\nGROUP 2\nNET N1\nNET N3\n"),
     ),
-    // Nets that carry nothing, or that each carry the other's bit, are no group.
+    // Nets that never read 1 are no group. Two nets are no group if each reads only the other's 1.
     ("00\n00\n00\n", Ending::Puts("GROUPS none\n")),
     ("01\n08\n04\n", Ending::Puts("GROUPS none\n")),
     ("05\n0D\n0D\n", Ending::Puts("GROUPS none\n")),
-    // Logs of another test.
+    // Texts that are not a log of this test.
     ("", Ending::Refused("g: 0 rows of 3\n")),
     ("04\n08\n", Ending::Refused("g: 2 rows of 3\n")),
     ("04\n8\n01\n", Ending::Refused("g line 2: wrong length\n")),
@@ -60,7 +60,7 @@ const THREE_NETS: [Line; 16] = [
         "04\n08\n01\n01\n",
         Ending::Refused("g line 4: row too many\n"),
     ),
-    // A wrong length of a line comes before its digits, and a wrong line before a row too many.
+    // Within a line, a wrong length is reported before a wrong digit. A wrong line is reported before a row too many.
     ("G\n08\n01\n", Ending::Refused("g line 1: wrong length\n")),
     (
         "04\n0G\n01\n01\n",
@@ -72,7 +72,7 @@ const THREE_NETS: [Line; 16] = [
     ),
 ];
 
-// The net with the pull does not walk, and its bit is not compared.
+// The net with the pull is no walk net, and the bit that reads it is not compared.
 const MIXED_LOGS: [Line; 4] = [
     (
         "03\n03\n",
@@ -83,7 +83,7 @@ const MIXED_LOGS: [Line; 4] = [
     ("01\n03\n", Ending::Puts("GROUPS none\n")),
 ];
 
-// Two cells read the first net.
+// A board on which two cells read the first net.
 const READ_TWICE: &str = "DEVICE U1 DRV -\nDEVICE U2 RCV -\nDEVICE U3 RCV1 -\n";
 
 const TWICE_NETS: &str = "NET N1 U1.1 U2.1 U3.1\nNET N2 U1.2 U2.2\n";
@@ -107,7 +107,7 @@ const ROWS: [Row; 8] = [
         line: LINE,
         ending: Ending::Puts("GROUPS 1\nGROUP 2\nNET N1\nNET N2\n"),
     },
-    // They do not agree.
+    // The two cells that read the first net disagree.
     Row {
         texts: &[
             ("c", Plain(READ_TWICE)),
@@ -117,7 +117,7 @@ const ROWS: [Row; 8] = [
         line: LINE,
         ending: Ending::Puts("GROUPS none\n"),
     },
-    // Joined nets are in a group under the first of their names.
+    // A group names joined nets by the first of their names.
     Row {
         texts: &[
             ("c", Plain(LINKED)),
@@ -136,7 +136,7 @@ const ROWS: [Row; 8] = [
         line: LINE,
         ending: Ending::Puts("GROUPS 0\n"),
     },
-    // Without a net that walks, and without a pass, a log has no row.
+    // A log has no row if the board has no walk net or no pass.
     Row {
         texts: &[
             ("c", Plain(PULLED)),

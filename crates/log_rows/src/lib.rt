@@ -1,4 +1,4 @@
-//! Tests of whole runs on the logs of a tester: the walking test, diagnoses, batches and groups.
+//! Tests of whole runs of the commands `walk`, `diagnose`, `batch` and `groups`.
 #![tactic(auto)]
 
 #[cfg(test)]

@@ -1,4 +1,4 @@
-// The walking test of a board.
+// Rows for the command `walk`, the walking test of a board.
 use crate::groups::{LINKED, LINKED_NETS, MIXED, MIXED_NETS, PULLED, PULLED_NETS, WALK, WALK_NETS};
 use run_bench::Text::Plain;
 use run_bench::{Ending, Row, RowFault, Rows, SCANS, Table, tables_hold};
@@ -15,7 +15,7 @@ const ROWS: [Row; 7] = [
              SDR 8 TDI (00) TDO (01) MASK (0D);\n",
         ),
     },
-    // A net with a switching driver takes no part.
+    // A net with a switching driver is no walk net.
     Row {
         texts: &[("c", Plain(MIXED)), ("n", Plain(MIXED_NETS))],
         line: LINE,
@@ -24,13 +24,13 @@ const ROWS: [Row; 7] = [
              SDR 6 TDI (24);\nSDR 6 TDI (28) TDO (01) MASK (03);\nSDR 6 TDI (20) TDO (02) MASK (03);\n",
         ),
     },
-    // Joined nets walk as one. Each code of two nets has one 1, so these scans are also those of the walking test.
+    // Joined nets walk as one net. With two nets each code has a single 1, so these are also the scans of `svf`.
     Row {
         texts: &[("c", Plain(LINKED)), ("n", Plain(LINKED_NETS))],
         line: LINE,
         ending: Ending::Scans(SCANS),
     },
-    // If no net walks, there is one quiet row. Without a pass there is none.
+    // If there is a pass but no walk net, there is one quiet row. Without a pass there is no row.
     Row {
         texts: &[("c", Plain(PULLED)), ("n", Plain(PULLED_NETS))],
         line: LINE,

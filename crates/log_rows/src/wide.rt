@@ -2,16 +2,16 @@
 use run_bench::{Bench, Ending, RowFault, Text};
 use std::alloc::{AllocError, Global};
 
-// This many parts drive, and as many receive. Each of them has as many pins.
+// The number of driving parts, of receiving parts, and of the pins of each part.
 const PARTS: u32 = 64;
 
-// The digits of a row for the cells of the drivers, which are left of those of the receivers.
+// The number of digits in a row for the cells of the drivers. These digits are left of the digits for the cells of the receivers.
 const DRIVER_DIGITS: usize = 1024;
 
 const RECEIVER_DIGITS: usize = 1024;
 
-// The BSDL text of a part with a cell for each pin, up to the numbers of the pins. `%` stands for the mode of the pins,
-// `@` for the function of the cells, and `^` for the name.
+// The BSDL text of a part with a cell for each pin, up to the first pin number. `%` stands for the mode of the pins,
+// `@` for the function of the cells, and `^` for the name of the part.
 const FRONT: &str = r#"entity ^ is
 generic (PHYSICAL_PIN_MAP : string := "P");
 port (TDI, TMS, TCK : in bit; TDO : out bit; B : % bit_vector(1 to 64));
@@ -19,7 +19,7 @@ use STD_1149_1_1994.all;
 attribute PIN_MAP of ^ : entity is PHYSICAL_PIN_MAP;
 constant P : PIN_MAP_STRING := "TDI:T1, TDO:T2, TMS:T3, TCK:T4, B:(1"#;
 
-// The text between the numbers of the pins and the second cell.
+// The text from the end of the pin numbers to the first cell.
 const MIDDLE: &str = r#")";
 attribute TAP_SCAN_IN of TDI : signal is true;
 attribute TAP_SCAN_OUT of TDO : signal is true;
@@ -32,7 +32,7 @@ attribute BOUNDARY_LENGTH of ^ : entity is 64;
 attribute BOUNDARY_REGISTER of ^ : entity is
 "0 (BC_1, B(1), @, X)"#;
 
-// Returns the text of a device, with this name, mode and function in place of the signs.
+// Returns the text of a device with this name, mode and function.
 fn device(alloc: Global, name: &str, mode: &str, function: &str) -> Result<String, AllocError> {
     let mut text = String::from_str(alloc, FRONT)?;
     for pin in 2..=PARTS {
@@ -49,7 +49,7 @@ fn device(alloc: Global, name: &str, mode: &str, function: &str) -> Result<Strin
     moded.as_str().replace(alloc, '@', function)
 }
 
-// Returns the number of the net of pin `pin` of driver and receiver `part`, both counted from 0.
+// Returns the number of the net that joins pin `pin` of driver `part` and of receiver `part`. Pins and parts are counted from 0.
 fn net_number(part: u32, pin: u32) -> u32 {
     part.saturating_mul(PARTS).saturating_add(pin)
 }
@@ -67,7 +67,7 @@ fn net_lines(alloc: Global) -> Result<String, AllocError> {
     Ok(nets)
 }
 
-// Returns the lines of the parts, one `piece` for each number of a part.
+// Returns the lines of the parts: `piece` for each part, with the part's number in it.
 fn part_lines(piece: &'static str) -> Text {
     Text::Numbered {
         head: "",
@@ -83,7 +83,7 @@ fn chain_lines(alloc: Global) -> Result<Vec<u8>, AllocError> {
     Ok(chain)
 }
 
-// Returns a bench with the texts of this board, and this log.
+// Returns a bench with the texts of this board and with this log.
 fn bench_of(alloc: Global, log: &str) -> Result<Bench, AllocError> {
     let mut bench = Bench::empty(alloc)?;
     bench.store.add("c", &chain_lines(alloc)?)?;
@@ -125,8 +125,8 @@ fn all_nets_may_be_one_group(rt: HostRuntime) -> Result<(), RowFault> {
     bench.ends(&rt, "4,096 nets", 0, LINE, Ending::PutsAll(ONE_GROUP))
 }
 
-// Returns the row in which two nets of a receiver read 1, an even one and the next, and all others read 0. The last receiver is the
-// rightmost, and the first pin of each receiver.
+// Returns the row in which two consecutive nets of a receiver read 1, and all other nets read 0. `pin` is the first of the two pins, and is
+// even. The last receiver is rightmost in the row, and within a receiver the first pin is rightmost.
 fn pair_row(alloc: Global, part: u32, pin: u32) -> Result<String, AllocError> {
     let behind = PARTS.saturating_sub(part.saturating_add(1)) as usize * 16 + (pin / 4) as usize;
     let mut row = "0".repeat(
@@ -139,7 +139,7 @@ fn pair_row(alloc: Global, part: u32, pin: u32) -> Result<String, AllocError> {
     Ok(row)
 }
 
-// Appends the rows in which an even net and the next one carry 1, and their group.
+// Appends the rows in which an even net and the next net carry 1, and the lines of the group of these two nets.
 fn push_pair(
     alloc: Global,
     part: u32,

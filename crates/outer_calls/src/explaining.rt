@@ -1,4 +1,4 @@
-//! Whether a log passes, what explains it, and the places of single faults, as `fault_sim` answers.
+//! Calls of `fault_sim`: whether a log passes, the faults that explain it, and the places of single faults.
 ghost use Rattle.std.specs.Prelude.{◌≡◌, ◌↔◌, ◌*◌, ◌<◌, length, All, IfOk, IsTrue, slice_get, Some};
 ghost use Rattle.board_defs.specs.declared.board.RawBoard.{RawBoard};
 ghost use Rattle.board_defs.specs.BoardRules.{IsBoard};
@@ -17,7 +17,7 @@ use response_log::Log;
 use scan_planner::Plan;
 use std::alloc::{AllocError, Global};
 
-/// Returns whether every compared bit of the log is the expected one.
+/// Returns whether every compared bit of the log is the expected bit.
 pub fn is_pass(board: &Board, plan: &Plan, log: &Log) -> bool
     requires plan { IsPlanOf board.now plan.now }
     requires passes { plan.now.passes ≡ passes_of board.now }
@@ -47,7 +47,7 @@ pub fn place_count(universe: &Universe) -> u64
     universe.places()
 }
 
-/// Returns the single fault at place `i`, or None if the place is one of two covered nets that are not paired.
+/// Returns the single fault at place `i`, or None if the place belongs to two covered nets that are not paired.
 pub fn fault_at(universe: &Universe, plan: &Plan, i: u64) -> Option<Single>
     requires { i < place_count universe.now }
     ensures { (board : RawBoard) → IsBoard board → IsPlanOf board plan.now → plan.now.passes ≡ passes_of board → IsUniverse board universe.now → slice_get (places_of board) i ≡ Some result }

@@ -1,5 +1,5 @@
-//! Callers of what the program doesn't call. Each function here makes one such call and promises the same, so it is not proved if a clause
-//! of the call gets weaker. The clauses of the other calls are needed by the proofs of the program.
+//! Callers of the calls that the program doesn't make. Each function here makes one such call and has the same contract. If a clause of the
+//! call gets weaker, the function is no longer proved. The proofs of the program need the clauses of all other calls.
 #![tactic(auto)]
 
 pub mod explaining;

@@ -1,4 +1,4 @@
-//! The six questions of `net_classes` to the classes of a board.
+//! The six questions about nets, pins and controls that `net_classes` answers.
 ghost use Rattle.std.specs.Prelude.{◌≡◌, ◌≢◌, ◌↔◌, ◌<◌, length, IsTrue, MatchOption};
 ghost use Rattle.board_defs.specs.Pins.{IsCell, IsOnBoard};
 ghost use Rattle.board_defs.specs.Coverage.{AreTogether, ArePaired, IsCovered, IsReason, IsTestedDriver, IsTestedReceiver, IsUseful};
@@ -9,7 +9,7 @@ ghost use Rattle.net_classes.specs.inner.Kept.{OfNet};
 use board_defs::{Board, Ctl, PinRef, Reason};
 use net_classes::Classes;
 
-/// Returns why the net is not covered, by the first reason that holds, or None if it is covered.
+/// Returns the first reason why the net is not covered, or None if the net is covered.
 pub fn reason(classes: &Classes, board: &Board, net: u32) -> Option<Reason>
     requires classes { AreClasses board.now classes.now }
     requires net { net < length board.now.nets }
@@ -60,7 +60,7 @@ pub fn receiver_tested(classes: &Classes, board: &Board, pin: PinRef) -> bool
     classes.receiver_tested(board, pin)
 }
 
-/// Returns whether the two nets differ and one safe setting observes both.
+/// Returns whether the two nets differ and some safe setting observes both nets.
 pub fn paired(classes: &Classes, board: &Board, a: u32, b: u32) -> bool
     requires classes { AreClasses board.now classes.now }
     requires first { a < length board.now.nets }

@@ -1,4 +1,4 @@
-//! The plan of a board's test, made without the pins of its nets.
+//! The plan of a board's test, made from the passes alone.
 ghost use Rattle.std.specs.Prelude.{◌≡◌, ◌<◌, ◌^◌, length, IfOk};
 ghost use Rattle.scan_planner.specs.Plans.{ArePlannable, IsPlanOf};
 

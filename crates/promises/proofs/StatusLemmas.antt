@@ -118,7 +118,7 @@ tells_memory run is e = (
   λ command asks. here run is command asks (λ c. AsksSome c run.old.asked run.new.asked) (is.memory_asks e),
 )
 
--- the facts about the files that Refused, ReadFault and WriteFault imply
+-- Done, WriteFault and Refused come only if the files give what these statuses need
 module _ (run : Run) (is : IsRun run) (tells : Tells run.old.held) where
   held_texts : (command : Command) (texts : List Text) → IsRead run.old.held (wanted_of command) (Read texts) → HoldsEach run.old.held (files_of command) texts
   held_texts command texts read = subst (λ (files : List Wanted). HoldsEach run.old.held files texts) (sym (files_are command)) (read_holds run.old.held tells (wanted_of command) texts read)

@@ -1,4 +1,4 @@
-// One run with texts and sinks in memory, and what it left.
+// One run with texts and sinks in memory, and the bytes that it leaves.
 use crate::board::{HEAD, TAIL};
 use crate::devices::DEVICES;
 use crate::row::{Ending, Named, RowFault};
@@ -12,7 +12,7 @@ use std::thread::Threads;
 const USAGE: &str =
     "usage: btest chain, device, cover, svf, diagnose, make, ident, walk, groups or batch\n";
 
-/// What a run is given, and what it left.
+/// The texts that a run reads, and the sinks that it writes to.
 #[derive(Drop)]
 pub struct Bench {
     alloc: Global,
@@ -20,7 +20,7 @@ pub struct Bench {
     pub store: MemStore,
     /// The text that the run wrote.
     pub out: MemSink,
-    /// Its lines of refusal.
+    /// The lines of refusal that the run wrote.
     pub notes: MemSink,
 }
 
@@ -46,7 +46,7 @@ impl Bench {
         Ok(bench)
     }
 
-    /// Returns a bench with the texts of a generated board of 60 devices, `c`, `n` and `gen`, and a sink with room for its tests.
+    /// Returns a bench with the texts of a generated board of 60 devices, `c`, `n` and `gen`. Its sink has room for the board's tests.
     pub fn with_sixty_devices(alloc: Global) -> Result<Bench, AllocError> {
         let made = make(alloc, 60)?;
         let mut bench = Bench::empty(alloc)?;
@@ -57,7 +57,7 @@ impl Bench {
         Ok(bench)
     }
 
-    /// Adds texts to the store. A text replaces one of the same name.
+    /// Adds texts to the store. A text replaces another text of the same name.
     pub fn add(&mut self, texts: &[Named]) -> Result<(), AllocError> {
         for (name, text) in texts {
             text.add_to(self.alloc, &mut self.store, name)?;
@@ -70,7 +70,7 @@ impl Bench {
         self.run_watched(rt, line, &OpenGate)
     }
 
-    /// Runs a command line whose pieces of work enter this gate.
+    /// Runs a command line. The pieces of its work enter this gate.
     pub fn run_watched(
         &mut self,
         rt: &(impl Threads + Sync),
@@ -104,12 +104,12 @@ impl Bench {
         )
     }
 
-    // Returns whether the sinks took exactly this.
+    // Returns whether the sinks took exactly these bytes.
     fn took(&self, out: &[u8], notes: &str) -> bool {
         self.out.bytes() == out && self.notes.bytes() == notes.as_bytes()
     }
 
-    /// Runs a command line, and checks what it left against the row's ending.
+    /// Runs a command line, and compares its status and the bytes that it leaves with the row's ending.
     pub fn ends(
         &mut self,
         rt: &(impl Threads + Sync),
@@ -122,7 +122,7 @@ impl Bench {
         self.expect(table, row, status, ending)
     }
 
-    /// Checks what the run of a row left against the row's ending.
+    /// Compares the status of a row's run, and the bytes that the run left, with the row's ending.
     pub fn expect(
         &self,
         table: &'static str,
@@ -137,7 +137,7 @@ impl Bench {
         }
     }
 
-    // Returns whether a run with this status left what it should.
+    // Returns whether a run with this status left the bytes that the ending wants.
     fn has_ended(&self, status: Status, ending: Ending) -> Result<bool, AllocError> {
         match ending {
             Ending::Puts(text) => Ok(status == Status::Done && self.took(text.as_bytes(), "")),

@@ -188,7 +188,7 @@ attribute BOUNDARY_REGISTER of FOUR : entity is
 end FOUR;
 "#;
 
-/// A driver with one open-drain output, which its own cell turns off.
+/// A driver with one open-drain output, which the driver's own cell turns off.
 pub const OD: &str = r#"entity OD is
 generic (PHYSICAL_PIN_MAP : string := "P");
 port (TDI, TMS, TCK : in bit; TDO : out bit; Q : out bit);
@@ -208,7 +208,7 @@ attribute BOUNDARY_REGISTER of OD : entity is
 end OD;
 "#;
 
-/// A device of 2001 with the outputs of `DRV`.
+/// A device of the 2001 edition with the outputs of `DRV`.
 pub const DRV1: &str = r#"entity DRV1 is
 generic (PHYSICAL_PIN_MAP : string := "P");
 port (TDI, TMS, TCK : in bit; TDO : out bit; Q : out bit_vector(1 to 2));

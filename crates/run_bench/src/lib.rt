@@ -1,5 +1,5 @@
 //! Runs with texts and sinks in memory, for the crates that test whole runs. A run is proved here once, and no contract says how it ends.
-//! So the tests that compare its ending have little to prove.
+//! So a test that compares the ending of a run has little to prove.
 #![tactic(auto)]
 
 mod bench;

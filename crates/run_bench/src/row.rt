@@ -1,4 +1,4 @@
-// Runs and how they end, in tables.
+// Tables of runs, and of how the runs end.
 use crate::bench::Bench;
 use crate::board::{CHAIN, NETS};
 use crate::text::Text;
@@ -8,7 +8,7 @@ use std::alloc::{AllocError, Global};
 use std::thread::Threads;
 use thiserror::Error;
 
-/// How a run ends: its status, the text that it writes, and its line of refusal. What is not named is empty.
+/// How a run ends: its status, the text that it writes, and its line of refusal. A text or line that is not named is empty.
 #[derive(Clone, Copy)]
 pub enum Ending<'a> {
     /// This text was written.
@@ -19,13 +19,13 @@ pub enum Ending<'a> {
     Scans(&'a str),
     /// A text of this many bytes was written.
     Long(usize),
-    /// The run is done. What it wrote is not compared.
+    /// The run is done. The text that it wrote is not compared.
     Done,
     /// The texts are refused with this line.
     Refused(&'a str),
-    /// A text was not read, and this is the line.
+    /// A text was not read. The line of refusal is this line.
     NotRead(&'a str),
-    /// The text was cut short. The sinks took these bytes of it and of the line.
+    /// The text was cut short. The sinks took these bytes of the text and of the line of refusal.
     NotPut(&'a str, &'a str),
     /// The words are no command.
     Usage,
@@ -37,92 +37,93 @@ pub type Named = (&'static str, Text);
 /// A run and how it ends.
 #[derive(Clone, Copy)]
 pub struct Row {
-    /// Texts for the store. They are added, or replace others of the same name.
+    /// Texts that are added to the store. A text replaces another text of the same name.
     pub texts: &'static [Named],
     /// The words, separated by spaces.
     pub line: &'static str,
-    /// What the run leaves.
+    /// How the run ends.
     pub ending: Ending<'static>,
 }
 
-/// What fails in a run.
+/// A failure in a run.
 #[derive(Clone, Copy)]
 pub enum Trouble {
-    /// This read, counted from 1.
+    /// The read with this number fails, counted from 1.
     Read(u32),
-    /// This put, counted from 1, after this many bytes.
+    /// The put with this number fails, counted from 1. It takes this many bytes.
     Put(u32, u32),
-    /// Standard output, after this many bytes.
+    /// Writes to standard output fail once this many bytes were taken.
     Out(u32),
-    /// Standard error, after this many bytes.
+    /// Writes to standard error fail once this many bytes were taken.
     Notes(u32),
 }
 
 /// A text, and how a run with it ends.
 pub type Run = (Text, Ending<'static>);
 
-/// A line or a log, and how its run ends.
+/// A command line or a log, and how the run with it ends.
 pub type Line = (&'static str, Ending<'static>);
 
-/// A piece of a text, what replaces it, and the line of refusal after the text's name.
+/// A piece of a text, the text that replaces the piece, and the line of refusal without the text's name before it.
 pub type Change = (&'static str, &'static str, &'static str);
 
-/// A chain file, a net file, the words after their names, and the line of refusal.
+/// A chain file, a net file, the words after the names of these files, and the line of refusal.
 pub type Case = (&'static str, &'static str, &'static str, &'static str);
 
 /// The rows of a table.
 #[derive(Clone, Copy)]
 pub enum Rows {
-    /// Runs, each with texts of its own.
+    /// Runs with their own texts.
     Runs(&'static [Row]),
     /// Runs in which something fails.
     Failing(&'static [(Trouble, Row)]),
-    /// Lines, each run by itself.
+    /// Command lines that are run one by one.
     Lines(&'static [Line]),
-    /// A line that is run with each of these logs, as the text `g`.
+    /// A command line, and logs. The line is run with each log as the text `g`.
     Logs(&'static str, &'static [Line]),
-    /// A line that is run with each of these texts, under this name.
+    /// A command line, the name of a text, and texts. The line is run with each text under this name.
     Texts(&'static str, &'static str, &'static [Run]),
-    /// The listing of a device. In each row one piece of the device's text is changed.
+    /// The text of a device, and changes of this text. Each row lists the device with one change.
     Devices(&'static str, &'static [Change]),
-    /// Boards. Each command on a board refuses them with the same line.
+    /// Boards. Each command on a board refuses the board with the same line.
     Boards(&'static [Case]),
-    /// Lines that are no command, so nothing is read. The first read would fail.
+    /// Command lines that are no command. The first read would fail, so the rows show that nothing is read.
     NoCommands(&'static [&'static str]),
-    /// A line with a word after it this many times, each time after a space.
+    /// A command line, a word, and numbers. The line is run with the word after it, repeated this many times.
     Words(&'static str, &'static str, &'static [(usize, Ending<'static>)]),
 }
 
 /// Rows of one kind.
 #[derive(Clone, Copy)]
 pub struct Table {
-    /// What the rows show.
+    /// The name of the table, which says what the rows show.
     pub name: &'static str,
-    /// Texts for the store, besides a board of a driver and a receiver and the worked devices, or in their place.
+    /// Texts for the store. The store also has the files of a board of a driver and a receiver and the worked devices, which a text may
+    /// replace.
     pub texts: &'static [Named],
     /// The rows.
     pub rows: Rows,
 }
 
-/// Why a table does not hold.
+/// The reason why a table does not hold.
 #[derive(Debug, Drop, Error)]
 pub enum RowFault {
-    /// The first row that does not end as it says, counted from 0, with its table and the status of its run.
+    /// The first row that does not end as wanted.
     #[error("{table}: row {row} ended otherwise, with {status:?}")]
     Ended {
         /// The name of the table.
         table: &'static str,
-        /// The number of the row.
+        /// The number of the row, counted from 0.
         row: usize,
-        /// How its run ended.
+        /// The status of the row's run.
         status: Status,
     },
-    /// Something else that the row compares is not as it says.
+    /// A row in which something else than the ending is not as wanted.
     #[error("{table}: row {row} gives something else")]
     Other {
         /// The name of the table.
         table: &'static str,
-        /// The number of the row.
+        /// The number of the row, counted from 0.
         row: usize,
     },
     #[error("out of memory")]
@@ -259,7 +260,7 @@ fn texts_hold(
     Ok(())
 }
 
-// Changes are made to the text `drv`.
+// Lists the device of the text `drv`, with each of these changes.
 fn devices_hold(
     rt: &(impl Threads + Sync),
     alloc: Global,
@@ -277,8 +278,8 @@ fn devices_hold(
     Ok(())
 }
 
-// The commands on a board, with the names of its files. A fault of a log comes after the faults of the board, so it makes no difference
-// that the log `g` is wrong.
+// The commands on a board, with the names of its files. The log `g` is wrong, but a fault of the log would come after the faults of the
+// board.
 const COMMANDS: [&str; 6] = [
     "cover c n",
     "svf c n",
@@ -347,7 +348,7 @@ fn words_hold(
     Ok(())
 }
 
-/// Runs each line with the texts of a generated board of 60 devices: `c`, `n`, `gen` and, as `g`, this log.
+/// Runs each line with the texts of a generated board of 60 devices, `c`, `n` and `gen`, and with this log as the text `g`.
 pub fn sixty_devices_hold(
     rt: &(impl Threads + Sync),
     alloc: Global,

@@ -1,4 +1,4 @@
-// The texts of rows. A large text is given by how it is made.
+// The texts of rows. A large text is described by the way to build it.
 use bt_base::MemStore;
 use std::alloc::{AllocError, Global};
 
@@ -7,38 +7,38 @@ use std::alloc::{AllocError, Global};
 pub enum Text {
     /// These characters.
     Plain(&'static str),
-    /// These bytes, which need not be characters.
+    /// These bytes, which may be bytes of no characters.
     Bytes(&'static [u8]),
-    /// A text with replaced pieces: each old piece, and its replacement.
+    /// A text with replaced pieces. An edit is the old piece and its replacement.
     Edited(&'static str, &'static [(&'static str, &'static str)]),
-    /// A piece, repeated this many times.
+    /// A piece that is repeated this many times.
     Repeated(&'static str, usize),
-    /// This many first lines of a text, and what follows them.
+    /// The first lines of a text, as many as the number says, and then another text.
     Front(&'static str, usize, &'static str),
     /// The first lines of a text, then a head, a piece that is repeated, and a tail.
     Filled {
         /// The text.
         of: &'static str,
-        /// The number of its lines.
+        /// The number of lines to take from the text.
         lines: usize,
-        /// What comes before the pieces.
+        /// The text before the pieces.
         head: &'static str,
         /// The piece.
         piece: &'static str,
         /// The number of pieces.
         count: usize,
-        /// What comes after the pieces.
+        /// The text after the pieces.
         tail: &'static str,
     },
-    /// A head, and a piece for each number of `first..end`. The number replaces each `#` of the piece.
+    /// A head, and then a piece for each number of `first..end`. The number replaces each `#` of the piece.
     Numbered {
-        /// What comes before the pieces.
+        /// The text before the pieces.
         head: &'static str,
         /// The piece.
         piece: &'static str,
         /// The first number.
         first: u32,
-        /// The number after the last one.
+        /// The number after the last number.
         end: u32,
     },
     /// The BSDL text of a device with this name and this many internal cells.

@@ -1,4 +1,4 @@
-//! That values may go to another thread and be shared between threads.
+//! Tests that values may go to another thread and be shared between threads.
 use batch_diag::{BatchFault, Block, Verdict};
 use board_build::BoardFault;
 use board_defs::{

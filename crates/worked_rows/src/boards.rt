@@ -1,4 +1,4 @@
-// Texts that denote no board, and the first fault of each.
+// Rows for texts that denote no board, with the first fault of each.
 use run_bench::Text::{Numbered, Plain};
 use run_bench::{CHAIN, Case, Ending, NETS, RowFault, Rows, Run, Table, tables_hold};
 

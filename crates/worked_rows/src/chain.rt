@@ -1,4 +1,4 @@
-// The chain test of parts that are known by their length.
+// Rows for the command `chain`: its text, the refusals of chain files and command lines, and failed reads and writes.
 use run_bench::Text::{Bytes, Numbered, Plain, Repeated};
 use run_bench::{DRV, Ending, Line, Named, Row, RowFault, Rows, Run, Table, Trouble, tables_hold};
 
@@ -72,7 +72,7 @@ const DESCRIBED: [Line; 4] = [
     ),
 ];
 
-// Chain files, and how `chain c` ends.
+// Chain files, and how the run of `chain c` ends.
 const FILES: [Run; 21] = [
     (Plain(""), Ending::Refused("c: no part in the chain\n")),
     (
@@ -193,7 +193,7 @@ const NO_COMMANDS: [&str; 24] = [
 ];
 
 const FAILING: [(Trouble, Row); 3] = [
-    // The text is not tried again, although its name is twice among the words.
+    // A failed read is not repeated, although the text's name is twice among the words.
     (
         Trouble::Read(1),
         Row {
@@ -210,7 +210,7 @@ const FAILING: [(Trouble, Row); 3] = [
             ending: Ending::NotPut("TRST OFF;\nENDIR IDLE", "cannot write\n"),
         },
     ),
-    // The status stays Refused if the line is cut.
+    // The status stays Refused if only a part of the line is written.
     (
         Trouble::Notes(5),
         Row {

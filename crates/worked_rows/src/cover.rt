@@ -1,8 +1,8 @@
-// What safe settings can reach, as the coverage list has it.
+// Rows for the command `cover`: the nets, drivers and pairs that no safe setting tests.
 use run_bench::Text::{Edited, Numbered, Plain};
 use run_bench::{CHAIN, Ending, NETS, Named, RCV1, Row, RowFault, Rows, Run, Table, tables_hold};
 
-// A net that is not covered has the first reason that holds.
+// The reason for a net that is not covered is the first reason that holds.
 const REASONS: [Row; 4] = [
     Row {
         texts: &[
@@ -50,7 +50,7 @@ const REASONS: [Row; 4] = [
     },
 ];
 
-// A name of up to 24 bytes is kept in its value, a longer one in memory of its own.
+// A name of up to 24 bytes is stored in its value. A longer name has memory of its own.
 const LONG_NAMES: [Row; 1] = [Row {
     texts: &[
         (
@@ -77,7 +77,7 @@ const LONG_NAMES: [Row; 1] = [Row {
 
 const WITH_RAM: Named = ("n", Plain("NET N1 U1.1 U2.1 RAM.7\nNET N2 U1.2 U2.2"));
 
-// A part without a description darkens its nets.
+// A net with a pin of a part without a description is dark.
 const DARKENED: [Row; 3] = [
     Row {
         texts: &[("c", Plain(CHAIN)), WITH_RAM],
@@ -115,7 +115,7 @@ const DARKENED: [Row; 3] = [
     },
 ];
 
-// Drivers and pairs that no safe setting tests are listed.
+// The list has the drivers and the pairs that no safe setting tests.
 const UNTESTED: [Row; 3] = [
     Row {
         texts: &[
@@ -162,7 +162,7 @@ const LINKED_NETS: Named = (
     Plain("NET N1A U1.1 R1.1\nNET N1B R1.2 U2.1\nNET N2 U1.2 U2.2"),
 );
 
-// A link joins two nets.
+// A LINK line joins two nets.
 const LINKS: [Row; 2] = [
     Row {
         texts: &[
@@ -179,14 +179,14 @@ const LINKS: [Row; 2] = [
     },
 ];
 
-// A driver and a receiver are covered.
+// The nets of a driver and a receiver are covered.
 const COVERED: [Row; 2] = [
     Row {
         texts: &[("c", Plain(CHAIN)), ("n", Plain(NETS))],
         line: "cover c n drv rcv",
         ending: Ending::Puts("NETS 2 COVERED 2\n"),
     },
-    // The letters of entities, packages and pins have no case.
+    // The case of letters in the names of entities, packages and pins does not matter.
     Row {
         texts: &[
             ("c", Plain("DEVICE U1 buf2 fk\nDEVICE U2 RCV1 -")),
@@ -197,7 +197,7 @@ const COVERED: [Row; 2] = [
     },
 ];
 
-// A three-state driver, and a receiver whose text is changed.
+// A three-state driver and a receiver. The rows change the text of the receiver.
 const BESIDE: [Named; 2] = [
     ("c", Plain("DEVICE U1 TS -\nDEVICE U2 RCV1 -\n")),
     ("n", Plain("NET N U1.1 U2.1")),

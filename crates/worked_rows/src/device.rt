@@ -1,4 +1,4 @@
-// The listing of a device, or why a text describes none.
+// Rows for the command `device`: the listing of a device, or the reason why a text describes none.
 use run_bench::Text::{Edited, Filled, Front, Plain, Repeated};
 use run_bench::{
     BUF2, BUF2_LISTING, Change, DRV, DRV1, Ending, RCV, RCV1, RowFault, Rows, Run, Table,
@@ -9,7 +9,7 @@ const DRV_LISTING: &str =
     "ENTITY DRV\nPACKAGE P\nIR 2 SAMPLE 10 IDCODE -\nPORT TDI IN T1\nPORT TMS IN T3\nPORT TCK IN T4\n\
                            PORT TDO OUT T2\nPORT Q OUT 1 2\nCELL 0 OUTPUT2 Q(1) X\nCELL 1 OUTPUT2 Q(2) X\n";
 
-// The differences in the listing of the driver of 2001.
+// The changes from the listing of the driver to that of the driver of 2001.
 const EDITION: [(&str, &str); 2] = [
     ("ENTITY DRV", "ENTITY DRV1"),
     ("SAMPLE 10 IDCODE", "PRELOAD 00 EXTEST 01 IDCODE"),
@@ -17,7 +17,7 @@ const EDITION: [(&str, &str); 2] = [
 
 const DRV1_LISTING: Ending<'static> = Ending::PutsAll(Edited(DRV_LISTING, &EDITION));
 
-// Generics may follow ports, in any case.
+// The generic may follow the ports, in any case of letters.
 const EXCHANGED: [(&str, &str); 1] = [(
     "generic (PHYSICAL_PIN_MAP : string := \"P\");\nport (TDI, TMS, TCK : in bit; TDO : out bit; Q : out bit_vector(1 to 2));\n",
     "port (tdi, tms, tck : in bit; tdo : out bit; q : out bit_vector(1 to 2));\ngeneric (physical_pin_map : string := \"p\");\n",
@@ -40,7 +40,7 @@ const LISTED: [Run; 7] = [
         },
         Ending::Puts(DRV_LISTING),
     ),
-    // Its use or its conformance alone makes a text one of 2001.
+    // Only the `use` statement or only COMPONENT_CONFORMANCE says 2001, which is enough for the edition of 2001.
     (
         Edited(
             DRV1,
@@ -76,7 +76,7 @@ const OUTSIDE: [Change; 5] = [
     (LAST, "end DRV;\npackage X is\n", " line 19: package text"),
 ];
 
-// Texts with much or all of them missing, or which are no entity.
+// Texts of which a part is missing, and texts that are no entity.
 const PARTS: [Run; 6] = [
     (
         Front(DRV, 10, ""),
@@ -98,7 +98,7 @@ const PARTS: [Run; 6] = [
         Repeated(",", 1_048_577),
         Ending::Refused("drv line 1: too many tokens\n"),
     ),
-    // Neither its use nor its conformance makes this text one of 2001.
+    // Neither the `use` statement nor COMPONENT_CONFORMANCE says 2001 here, so the text is of the 1994 edition.
     (
         Edited(
             DRV1,
@@ -217,7 +217,7 @@ const ATTRIBUTES: [Change; 24] = [
         "constant P : PIN_MAP_STRING := \"\";\nend DRV;\n",
         ": rule V1 item 15",
     ),
-    // The lowest item number counts, and this rule comes before the strings.
+    // The lowest item number is reported. Rule V1 comes before the strings.
     (
         "attribute INSTRUCTION_CAPTURE of DRV : entity is \"01\";\nattribute BOUNDARY_LENGTH of DRV : entity is 2;\n",
         "",
@@ -264,7 +264,7 @@ const STRINGS: [Change; 11] = [
         "Q(2), outputx",
         ": BOUNDARY_REGISTER entry 2",
     ),
-    // The pin map comes first among the strings, and the boundary register last. All strings come before the other rules.
+    // The pin map is the first string, and the boundary register is the last. All strings come before the other rules.
     ("(1,2)\"", "(1,2\"", ": PIN_MAP_STRING entry 5"),
     ("(1 to 2)", "(2 to 1)", ": rule V2 item 5"),
 ];
@@ -407,7 +407,7 @@ const CELLS: [Change; 16] = [
 
 const CELLS_OF_A_RECEIVER: [Change; 3] = [
     ("D(1), input, X", "D(1), output2, X", ": rule V14 item 1"),
-    // Both entries break rule V14, and the second one breaks rule V13.
+    // Both entries break rule V14, and the second entry also breaks rule V13.
     (
         "D(1), input, X),\" &\n\"1 (BC_1, D(2), input, X",
         "D(1), output2, X),\" &\n\"1 (BC_1, D(1), output2, X",

@@ -1,4 +1,4 @@
-// The generated boards.
+// A test that every generated board is a board.
 ghost use Rattle.std.specs.Prelude.{◌≤◌};
 
 use board_gen::make;

@@ -1,9 +1,9 @@
-// The test of the identification codes.
+// Rows for the command `ident`, the test of the identification codes.
 use run_bench::Text::{Edited, Numbered, Plain};
 use run_bench::{Bench, DRV, Ending, Named, Row, RowFault, Rows, Table, Text, tables_hold};
 use std::alloc::{AllocError, Global};
 
-// The driver with an identification code. Its four highest bits, the version, are free.
+// The driver with an identification code. The four highest bits of the code, the version, are free.
 const CODED: Text = Edited(
     DRV,
     &[
@@ -15,7 +15,7 @@ const CODED: Text = Edited(
     ],
 );
 
-// The driver with a code of which all bits are free, and with a code that is too short.
+// The driver with a code in which all bits are free. The driver below this one has a code that is too short.
 const FREE: Text = Edited(
     DRV,
     &[
@@ -127,7 +127,7 @@ fn compares_the_codes_of_the_parts(rt: HostRuntime) -> Result<(), RowFault> {
     tables_hold(&rt, rt.alloc(), &TABLES)
 }
 
-// Appends a field of 2,040 digits: `digits`, eight of them, again and again. The field is cut into pieces of 64.
+// Appends a field of 2,040 digits: the eight digits `digits`, 255 times. The lines of the field have 64 digits.
 fn push_field(text: &mut String, label: &str, digits: &str, end: &str) -> Result<(), AllocError> {
     text.push_str(label)?;
     for k in 0..255u32 {

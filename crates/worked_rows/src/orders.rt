@@ -1,10 +1,10 @@
-// Texts with two faults, each of which comes right after the other in the order of refusals: the first one is reported.
+// Rows for texts with two faults. The second fault comes right after the first in the order of refusals, and the first is reported.
 use run_bench::Text::{Cells, Numbered, Plain};
 use run_bench::{
     CHAIN, Case, Ending, Line, NETS, Row, RowFault, Rows, Run, SCANS, Table, Text, tables_hold,
 };
 
-// Files, BSDL texts and the parts of the chain.
+// Faults of the files, of the BSDL texts and of the chain's parts.
 const FILES: [Case; 7] = [
     // The chain file comes first, then the net file, and then the BSDL texts in the order of the words.
     ("NONE", "NETS N1", "bad", "c line 1: no statement\n"),
@@ -26,7 +26,7 @@ const FILES: [Case; 7] = [
     ),
 ];
 
-// Devices, links, and the rules of nets.
+// Faults of the devices, of the links, and of the nets.
 const BOARDS: [Case; 10] = [
     (
         "DEVICE U1 DRV Q\nLINK R1 1 9",
@@ -82,7 +82,7 @@ const BOARDS: [Case; 10] = [
         "drv",
         "n line 2 word 3: driver on a guarded net\n",
     ),
-    // A rule is tried on all lines before the next rule.
+    // Each rule is tried on all lines before the next rule.
     (
         "SUPPLY N2\nDEVICE U1 DRV -\nDEVICE U2 DRV -",
         "NET N1 U1.1 U2.1\nNET N2 U1.2 U2.9",
@@ -91,7 +91,7 @@ const BOARDS: [Case; 10] = [
     ),
 ];
 
-// The order of the BSDL texts does not matter, nor does a text that no part names.
+// The order of the BSDL texts does not matter. A text that no part names does not matter either.
 const ANY_ORDER: [Line; 3] = [
     ("svf c n drv rcv", Ending::Scans(SCANS)),
     ("svf c n rcv drv", Ending::Scans(SCANS)),
@@ -130,7 +130,7 @@ const FAULTY_PART: [Run; 1] = [(
     Ending::Refused("limit: chain parts\n"),
 )];
 
-// More nets than a board may have.
+// More nets than a board may have, with more pins than a board may have.
 const MANY_NETS: Text = Numbered {
     head: "",
     piece: "NET N# X.# Y.# Z.# W.#\n",
@@ -138,7 +138,7 @@ const MANY_NETS: Text = Numbered {
     end: 16_384,
 };
 
-// More pins than a board may have, one of which its device does not have.
+// More pins than a board may have. One of them is not a pin of its device.
 const MANY_PINS: Text = Numbered {
     head: "NET N U1.9",
     piece: " X.#",
@@ -179,7 +179,7 @@ const LIMITS: [Row; 4] = [
     },
 ];
 
-// A board that keeps no rule, or whose log is none.
+// A board that breaks a rule, or a log that is not a log of the board.
 const LOGS: [Row; 2] = [
     Row {
         texts: &[

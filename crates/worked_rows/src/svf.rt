@@ -1,4 +1,4 @@
-// The test of a board.
+// Rows for the command `svf`, the test of a board.
 use run_bench::Text::{Cells, Edited, Plain, Repeated};
 use run_bench::{
     BI, CHAIN, Ending, NETS, RCV1, Row, RowFault, Rows, SCANS, TS, Table, Trouble, tables_hold,
@@ -26,7 +26,7 @@ const CODES: [Row; 5] = [
              SDR 5 TDI (08);\nSDR 5 TDI (10) TDO (01) MASK (03);\nSDR 5 TDI (00) TDO (02) MASK (03);\n",
         ),
     },
-    // The texts are in another order than the parts.
+    // The order of the BSDL texts differs from the order of the parts.
     Row {
         texts: &[("c", Plain("DEVICE U2 RCV -\nBYPASS U9 3\nDEVICE U1 DRV -"))],
         line: "svf c n drv rcv",
@@ -35,7 +35,7 @@ const CODES: [Row; 5] = [
              SDR 5 TDI (01);\nSDR 5 TDI (02) TDO (08) MASK (18);\nSDR 5 TDI (00) TDO (10) MASK (18);\n",
         ),
     },
-    // The pass of the driver that is always on starts without a control, and takes the other driver's control.
+    // The pass of the driver that is always on starts without a control, and then takes the control of the other driver.
     Row {
         texts: &[
             (
@@ -54,7 +54,7 @@ const CODES: [Row; 5] = [
 
 const BUS: &str = "DEVICE U1 TS -\nDEVICE U2 TS -\nDEVICE U3 RCV1 -";
 
-// The drivers of a net have their passes in the order of its pins, which need not be the order of the parts.
+// The drivers of a net have their passes in the order of the net's pins. This order may differ from the order of the parts.
 const BUSES: [Row; 2] = [
     Row {
         texts: &[("c", Plain(BUS)), ("n", Plain("NET BUS U1.1 U2.1 U3.1"))],
@@ -137,7 +137,7 @@ const LINKED: [Row; 2] = [
         line: "svf c n drv rcv",
         ending: Ending::Scans(SCANS),
     },
-    // The letters of pin names have no case.
+    // The case of letters in the names of pins does not matter.
     Row {
         texts: &[
             ("c", Plain("DEVICE U1 DRV -\nDEVICE U2 RCV -\nLINK R1 a B")),
@@ -151,8 +151,8 @@ const LINKED: [Row; 2] = [
     },
 ];
 
-// Passes for two nets. On the first board there is one for A with D and one for B with C, in this order. On the second board, in the pass
-// for A with C, the driver of A fits the first driver of C, which is taken, although it also fits the second.
+// Passes that test two nets. The first board has a pass for A with D, and then a pass for B with C. On the second board, A and C have a pass.
+// The driver of A fits both drivers of C, and the pass takes the first.
 const TOGETHER: [Row; 2] = [
     Row {
         texts: &[
@@ -206,7 +206,7 @@ const TOGETHER: [Row; 2] = [
     },
 ];
 
-// The first board enables the controls of cells 8 and 9, then 10 and 11, then 9 and 10. The second enables that of cell 4, then that of 5.
+// The first board enables the controls of cells 8 and 9, then of 10 and 11, then of 9 and 10. The second enables that of cell 4, then of 5.
 const APART: [Row; 2] = [
     Row {
         texts: &[
@@ -255,7 +255,7 @@ const APART: [Row; 2] = [
 ];
 
 const FAILING: [(Trouble, Row); 2] = [
-    // The chain file is too long, and reading the net file would fail.
+    // The chain file is too long, and the read of the net file would fail.
     (
         Trouble::Read(2),
         Row {
@@ -264,7 +264,7 @@ const FAILING: [(Trouble, Row); 2] = [
             ending: Ending::Refused("c: longer than 4194304 bytes\n"),
         },
     ),
-    // Reading the chain file fails, and the net file would be too long.
+    // The read of the chain file fails, and the net file would be too long.
     (
         Trouble::Read(1),
         Row {
@@ -305,7 +305,7 @@ const SAFE: [Row; 1] = [Row {
     ),
 }];
 
-// The cell of a bidirectional pin reads while another part drives, and does not while its own does.
+// The cell of a bidirectional pin reads the net while another part drives, but not while its own part drives.
 const BOTH_WAYS: [Row; 2] = [
     Row {
         texts: &[
@@ -338,7 +338,7 @@ const SELF_READING: [(&str, &str); 2] = [
     ("control, 1)\"", "control, 1), 2 (BC_1, Q, input, X)\""),
 ];
 
-// A cell of function CLOCK reads the net. One of function OBSERVE_ONLY does not, and neither does an INPUT cell of an output.
+// A cell of function CLOCK reads the net. A cell of function OBSERVE_ONLY does not, and an INPUT cell of an output pin does not.
 const READERS: [Row; 3] = [
     Row {
         texts: &[
@@ -377,7 +377,7 @@ const READERS: [Row; 3] = [
     },
 ];
 
-// Two devices with only internal cells: a scan has at most 65,535 bits.
+// Two devices with only internal cells. A scan has at most 65,535 bits.
 const WIDE: [Row; 2] = [
     Row {
         texts: &[
