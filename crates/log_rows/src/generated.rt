@@ -63,7 +63,6 @@ fn row(alloc: Global, row: u32, silent: u32) -> Result<String, AllocError> {
 
 // Returns the log. In every pass all nets carry their codes: a pass enables all outputs, and the bus pins of one device. The bus cells of
 // this device are not compared, so the log may give them the bits of the bus, and the rows of all passes are the same.
-// cells whose comparison depends on the pass, but the log gives them the bits of the bus in every pass. So all passes have the same rows.
 fn log(alloc: Global, silent: u32) -> Result<String, AllocError> {
     let mut rows = String::new(alloc);
     for number in 0..WIDTH {

@@ -1,4 +1,4 @@
-// Rows that don't hold. The bench of whole runs must name each of them, whatever differs.
+// Rows that don't hold. The bench of whole runs must report each such row, whatever differs.
 use btest_cli::Status;
 use run_bench::Text::Plain;
 use run_bench::{
@@ -24,16 +24,16 @@ const NO_DRV: Ending<'static> = Ending::Refused("c line 1: entity not given\n");
 
 const NOT_READ: Ending<'static> = Ending::NotRead("cannot read none\n");
 
-// The scans without the last one.
+// The scans of the board's test, without the last scan.
 const FEW_SCANS: &str =
     "SIR 4 TDI (A) TDO (5) MASK (F);\nSDR 4 TDI (0);\nSIR 4 TDI (0) TDO (5) MASK (F);\n\
      SDR 4 TDI (4);\nSDR 4 TDI (8) TDO (1) MASK (3);\n";
 
-// A line, how its run ends, its status, and another ending.
+// A command line, how its run ends, the status of the run, and another ending.
 type Wrong = (&'static str, Ending<'static>, Status, Ending<'static>);
 
 static WRONG: [Wrong; 21] = [
-    // another byte, a line too many, and a line too few
+    // Another byte, a line too many, and a line too few.
     (COVER, COVERED, Status::Done, UNCOVERED),
     (
         COVER,
@@ -56,7 +56,7 @@ static WRONG: [Wrong; 21] = [
     ),
     (SVF, Ending::Scans(SCANS), Status::Done, Ending::Puts(SCANS)),
     (COVER, Ending::Long(17), Status::Done, Ending::Long(18)),
-    // the text, but another status
+    // The right text, but another status.
     (COVER, Ending::Done, Status::Done, Ending::Refused("")),
     (
         COVER,
@@ -65,7 +65,7 @@ static WRONG: [Wrong; 21] = [
         Ending::NotPut("NETS 2 COVERED 2\n", ""),
     ),
     (COVER, Ending::Done, Status::Done, Ending::Usage),
-    // another line of refusal, and none
+    // Another line of refusal, and no line of refusal.
     (
         WITHOUT_DRV,
         NO_DRV,
@@ -73,7 +73,7 @@ static WRONG: [Wrong; 21] = [
         Ending::Refused("c line 2: entity not given\n"),
     ),
     (WITHOUT_DRV, NO_DRV, Status::Refused, Ending::Refused("")),
-    // the line, but another status
+    // The right line of refusal, but another status.
     (
         WITHOUT_DRV,
         NO_DRV,
@@ -100,7 +100,7 @@ static WRONG: [Wrong; 21] = [
     ("cover c", Ending::Usage, Status::Usage, Ending::Done),
 ];
 
-// Compares the run of a line with an ending, as a row with this number.
+// Runs a line, and compares its end with an ending, as the row with this number.
 fn ends(
     rt: &(impl Threads + Sync),
     alloc: Global,
@@ -112,7 +112,7 @@ fn ends(
     bench.ends(rt, "endings", row, line, ending)
 }
 
-// Returns whether the answer names this row of this table, with this status.
+// Returns whether the answer reports this row of this table, with this status.
 fn names(found: &Result<(), RowFault>, table: &str, row: usize, status: Status) -> bool {
     match found {
         Err(
@@ -150,7 +150,7 @@ fn each_wrong_ending_is_noticed(rt: HostRuntime) -> Result<(), RowFault> {
     Ok(())
 }
 
-// A table, its row that doesn't hold, and the status of that row's run.
+// A table, the number of its row that doesn't hold, and the status of that row's run.
 type Failing = (Table, usize, Status);
 
 fn is_named(rt: &(impl Threads + Sync), alloc: Global, failing: &Failing) -> bool {
@@ -538,7 +538,7 @@ fn each_line_of_sixty_devices_is_tried(rt: HostRuntime) -> Result<(), RowFault> 
     )
 }
 
-// Returns whether the answer names this row as one that gives something else.
+// Returns whether the answer reports this row as a row in which something else than the ending is wrong.
 fn is_other(found: &Result<(), RowFault>, table: &str, row: usize) -> bool {
     match found {
         Err(

@@ -1,4 +1,4 @@
-// Boards of the worked devices, with what is made of them.
+// Boards of the worked devices, with their plans and logs.
 ghost use Rattle.std.specs.Prelude.{◌≡◌, ◌*◌, ◌<◌, ◌^◌, length, All, IfOk, IsTrue};
 ghost use Rattle.board_defs.specs.Passes.{passes_of};
 ghost use Rattle.board_defs.specs.Pins.{data_bits, IsCell, IsOnBoard};
@@ -27,7 +27,7 @@ pub const PAIR: Files = Files {
     nets: run_bench::NETS,
 };
 
-/// A device of two groups of drivers. Each group drives net X, so no pass enables both, and nets A and B are not paired.
+/// A device with two groups of drivers. Both groups drive net X, so no pass enables both groups, and nets A and B are not paired.
 pub const GROUPS: Files = Files {
     chain: "DEVICE U1 TWO -\nDEVICE U2 RCV -\nDEVICE U3 RCV -\n",
     nets: "NET A U1.1 U2.1\nNET X U1.2 U1.3 U2.2\nNET B U1.4 U3.1\n",
@@ -94,7 +94,7 @@ pub fn plan_of(alloc: Global, board: &Board) -> Result<Plan, AllocError>
     plan(alloc, board, &classes)
 }
 
-/// Returns the log of a board's test that a text has.
+/// Returns the log of a board's test that the text contains.
 pub fn log_of(alloc: Global, board: &Board, plan: &Plan, text: &str) -> Result<Log, RowFault>
     ensures rows { IfOk result (λ log. length log ≡ length plan.now.passes * plan.now.width) }
     ensures bits { IfOk result (λ log. All (λ row. length row ≡ data_bits board.now) log) }

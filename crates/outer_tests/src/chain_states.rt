@@ -6,7 +6,7 @@ use tap_defs::TapState::{
     SelectDR, SelectIR, ShiftDR, ShiftIR, TestLogicReset, UpdateDR, UpdateIR,
 };
 
-// A state, and the states after one TCK cycle with TMS 0 and with TMS 1.
+// A state, and the next states for TMS 0 and for TMS 1.
 static MOVES: [(TapState, TapState, TapState); 16] = [
     (TestLogicReset, RunTestIdle, TestLogicReset),
     (RunTestIdle, RunTestIdle, SelectDR),
@@ -26,7 +26,7 @@ static MOVES: [(TapState, TapState, TapState); 16] = [
     (UpdateIR, RunTestIdle, SelectDR),
 ];
 
-// Returns a number that no other state has.
+// Returns the number of a state. Each state has a number of its own.
 fn number(state: TapState) -> u32 {
     match state {
         TestLogicReset => 0,

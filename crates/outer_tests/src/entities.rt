@@ -1,4 +1,4 @@
-// The entity of a BSDL text, which has a number among several texts, or the text's first fault.
+// The entity of a BSDL text, or the first fault of the text, which gives the text's number among several texts.
 ghost use Rattle.std.specs.Prelude.{◌<◌, ◌^◌, length};
 
 use bsdl_lexer::LexFault;
@@ -10,19 +10,19 @@ use std::alloc::Global;
 // How the reading of a text ends.
 #[derive(Clone, Copy)]
 enum Reading {
-    // It describes an entity with this name, this number of ports and this number of pin maps.
+    // The text describes an entity with this name, this number of ports and this number of pin maps.
     Entity(&'static str, usize, usize),
-    // On this line is a byte that is not allowed.
+    // A byte that is not allowed is on this line.
     Byte(u32),
     // A string begins on this line and is not closed.
     OpenString(u32),
-    // The first word that is not in the grammar is on this line.
+    // The first token that is not in the grammar is on this line.
     Expected(u32),
-    // This line says that it is a package text.
+    // The text says on this line that it is a package text.
     Package(u32),
 }
 
-// A text, its number, and how its reading ends.
+// A text, its number, and how the reading of the text ends.
 type Read = (&'static str, u32, Reading);
 
 static READS: [Read; 8] = [
@@ -43,7 +43,7 @@ fn is_entity(entity: &Entity, name: &str, ports: usize, maps: usize) -> bool {
         && entity.constants.len() == maps
 }
 
-// Returns whether a fault of this text is that of a row.
+// Returns whether the fault, with the number of its text, is the fault that the row wants.
 fn is_fault(found: &InputFault, number: u32, reading: Reading) -> bool {
     match (found, reading) {
         (InputFault::Lex { text, fault }, Reading::Byte(line)) => {
@@ -62,7 +62,7 @@ fn is_fault(found: &InputFault, number: u32, reading: Reading) -> bool {
     }
 }
 
-// Returns whether the reading of a text ends as its row says.
+// Returns whether the reading of a text ends as the row wants.
 fn ends(alloc: Global, text: &[u8], number: u32, reading: Reading) -> bool
     requires { length text.now < 2 ^ 32 }
 {

@@ -1,4 +1,5 @@
-// The places of single faults, suspects and diagnoses of small boards. The answers are worked by hand from the model.
+// The places of single faults, and the suspects and diagnoses of logs, of small boards. The answers are worked out by hand from the
+// model.
 ghost use Rattle.std.specs.Prelude.{◌≡◌, ◌*◌, ◌≤◌, length, All, IfSome};
 ghost use Rattle.board_defs.specs.Faults.{IsSingle};
 ghost use Rattle.board_defs.specs.Passes.{passes_of};
@@ -20,17 +21,17 @@ use std::thread::Threads;
 
 // A log of a board's test.
 struct Logged {
-    // Its text.
+    // The text of the log.
     log: &'static str,
-    // Whether it is the expected one.
+    // True if the log has the expected bits.
     passes: bool,
-    // The places of the faults that may explain it.
+    // The places of the suspects, the faults that may explain the log.
     suspects: &'static [u64],
-    // The places of the faults that explain it.
+    // The places of the faults that explain the log.
     explaining: &'static [u64],
 }
 
-// A board, the fault of each of its places, and logs of its test.
+// A board, the fault at each of its places, and logs of its test.
 struct Rows {
     name: &'static str,
     files: Files,
@@ -57,15 +58,15 @@ const PAIR_PLACES: [&str; 16] = [
     "second 0 1",
 ];
 
-// The shorts of the two nets.
+// The places of the shorts of the two nets.
 const PAIR_SHORTS: &[u64] = &[12, 13, 14, 15];
 
-// The faults of each of the two nets.
+// The places of the faults of each of the two nets.
 const OF_FIRST: &[u64] = &[0, 1, 4, 5, 6, 7, 12, 13, 14, 15];
 
 const OF_SECOND: &[u64] = &[2, 3, 8, 9, 10, 11, 12, 13, 14, 15];
 
-// The first net has 1 and 0 in the two rows, and the second one has 0 and 1.
+// The first net carries 1 and 0 in the two rows, and the second net carries 0 and 1.
 const PAIR_LOGS: [Logged; 10] = [
     Logged {
         log: "1\n2\n",
@@ -165,15 +166,15 @@ const GROUPS_PLACES: [&str; 32] = [
     "second 1 2",
 ];
 
-// The shorts of nets 0 and 1, and the faults of each of them.
+// The places of the shorts of nets 0 and 1, and of the faults of each of these nets.
 const GROUPS_SHORTS: &[u64] = &[20, 21, 22, 23];
 
 const OF_NET_0: &[u64] = &[0, 1, 6, 7, 8, 9, 20, 21, 22, 23, 24, 25, 26, 27];
 
 const OF_NET_1: &[u64] = &[2, 3, 10, 11, 12, 13, 14, 15, 20, 21, 22, 23, 28, 29, 30, 31];
 
-// The codes are 1, 2 and 3. The pass of the first three rows observes nets 0 and 1, at bits 2 and 3. The pass of the other rows observes
-// nets 1 and 2, at bits 3 and 0.
+// The codes are 1, 2 and 3. The pass of the first three rows observes nets 0 and 1, at bits 2 and 3. The pass of the other three rows
+// observes nets 1 and 2, at bits 3 and 0.
 const GROUPS_LOGS: [Logged; 7] = [
     Logged {
         log: "004\n008\n000\n001\n009\n000\n",
@@ -211,7 +212,7 @@ const GROUPS_LOGS: [Logged; 7] = [
         suspects: OF_NET_0,
         explaining: &[23],
     },
-    // Only net 2 differs: it has the bits of net 1. AND gives the same bits, since net 2 has a 1 wherever net 1 has one.
+    // Only net 2 is wrong: it reads the bits of net 1. An AND short gives the same bits, since net 2 carries a 1 wherever net 1 does.
     Logged {
         log: "004\n008\n000\n000\n009\n000\n",
         passes: false,
@@ -231,7 +232,7 @@ const ONE_NET_PLACES: [&str; 6] = [
 
 const ALL_OF_ONE: &[u64] = &[0, 1, 2, 3, 4, 5];
 
-// If the driver is off or its pin is open, the net has its pull, 1.
+// If the driver is off or its pin is open, the net has the value of its pull, 1.
 const PULLED_LOGS: [Logged; 3] = [
     Logged {
         log: "1\n0\n",
@@ -297,7 +298,7 @@ fn word(kind: Kind) -> &'static str {
     }
 }
 
-// Returns a fault as the tables spell it. The text is empty if there is no fault.
+// Returns a fault as the tables write it. The text is empty if there is no fault.
 fn shown(alloc: Global, fault: Option<Single>) -> Result<String, AllocError> {
     match fault {
         None => Ok(String::new(alloc)),
@@ -312,7 +313,7 @@ fn shown(alloc: Global, fault: Option<Single>) -> Result<String, AllocError> {
     }
 }
 
-// Returns the fault of a place.
+// Returns the fault at a place, if there is one.
 #[tactic(auto, using(fault_sim::proofs::OrderLemmas::place_single))]
 fn fault_at(tested: Tested<'_>, place: u64) -> Option<Single>
     requires plan { IsPlanOf tested.board.now tested.plan.now }
@@ -327,7 +328,7 @@ fn fault_at(tested: Tested<'_>, place: u64) -> Option<Single>
     tested.universe.at(tested.plan, place)
 }
 
-// Returns whether the board has these places.
+// Returns whether the board's places have these faults.
 fn has_places(alloc: Global, tested: Tested<'_>, places: &[&str]) -> Result<bool, AllocError>
     requires plan { IsPlanOf tested.board.now tested.plan.now }
     requires passes { tested.plan.now.passes ≡ passes_of tested.board.now }
@@ -350,7 +351,7 @@ fn has(list: &[u64], number: u64) -> bool {
     list.iter().any(|one| *one == number)
 }
 
-// Returns whether the fault of a place explains a log, and `None` if `matches` and `matches_by` disagree. The nets are those that differ
+// Returns whether the fault at a place explains a log, and `None` if `matches` and `matches_by` disagree. `nets` has the nets that differ
 // in the log.
 fn explains(tested: Tested<'_>, log: &Log, nets: &[u32], place: u64) -> Option<bool>
     requires plan { IsPlanOf tested.board.now tested.plan.now }
@@ -371,7 +372,7 @@ fn explains(tested: Tested<'_>, log: &Log, nets: &[u32], place: u64) -> Option<b
     }
 }
 
-// Returns whether the faults of these places, and no others, explain a log.
+// Returns whether the faults at these places explain a log, and no other fault does.
 fn only_these_explain(tested: Tested<'_>, log: &Log, nets: &[u32], places: &[u64]) -> bool
     requires plan { IsPlanOf tested.board.now tested.plan.now }
     requires passes { tested.plan.now.passes ≡ passes_of tested.board.now }
@@ -420,7 +421,7 @@ fn suspects_are(
     Ok(are_places(&suspects, places))
 }
 
-// Returns whether the faults are those of these places.
+// Returns whether the faults are those at these places.
 fn are_faults(
     alloc: Global,
     faults: &[Single],
@@ -439,7 +440,7 @@ fn are_faults(
     Ok(true)
 }
 
-// Returns whether this number of workers finds the faults of these places.
+// Returns whether a diagnosis with this number of workers finds the faults at these places.
 fn diagnosis_is(
     rt: &(impl Threads + Sync),
     alloc: Global,
@@ -461,7 +462,7 @@ fn diagnosis_is(
     are_faults(alloc, &faults, places, words)
 }
 
-// Returns whether three workers find the faults of these places. The nets are those that differ in the log.
+// Returns whether a diagnosis with three workers finds the faults at these places. `nets` has the nets that differ in the log.
 fn own_diagnosis_is(
     rt: &(impl Threads + Sync),
     alloc: Global,
@@ -487,7 +488,7 @@ fn own_diagnosis_is(
     are_faults(alloc, &faults, places, words)
 }
 
-// Compares a row with what the calls answer about its log.
+// Compares a row with the answers of the calls that take its log.
 fn log_holds(
     rt: &(impl Threads + Sync),
     alloc: Global,
@@ -521,7 +522,7 @@ fn log_holds(
     Ok(())
 }
 
-// Compares a row with what the calls answer that take the nets that differ in its log.
+// Compares a row with the answers of the calls that also take the nets that differ in its log.
 fn nets_hold(
     rt: &(impl Threads + Sync),
     alloc: Global,

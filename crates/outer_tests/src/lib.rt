@@ -1,4 +1,4 @@
-//! Tests of public calls that the program doesn't make, and of the benches: a bench has to notice each kind of wrong answer.
+//! Tests of public calls that the program doesn't make, and of the benches: a bench must report each kind of wrong answer.
 #![tactic(auto)]
 
 #[cfg(test)]

@@ -1,4 +1,4 @@
-// The questions that a board and its classes answer. The answers are worked by hand from the terms of the model.
+// The questions that a board and its classes answer. The answers are worked out by hand from the terms of the model.
 ghost use Rattle.net_classes.specs.Kept.{AreClasses};
 
 use crate::boards::{BIDIR, Files, GROUPS, PAIR, PULLED, board_of, is_cell, is_net, is_pin};
@@ -7,7 +7,7 @@ use net_classes::{Classes, classify};
 use run_bench::{RowFault, expect};
 use std::alloc::Global;
 
-// A pin by the number of its net and its place there, or a control by the number of its part and its cell.
+// A pin, as the number of its net and its place in the net. Or a control, as the number of its part and its cell.
 type Place = (u32, u32);
 
 // How a pin drives its net.
@@ -16,34 +16,34 @@ enum Driven {
     Not,
     AlwaysOn,
     OneSided,
-    // By this control.
+    // The control with this place enables the driver.
     By(Place),
 }
 
-// A question with its answer.
+// A question with the right answer.
 #[derive(Clone, Copy)]
 enum Question {
-    // Why this net is not covered.
+    // The reason why this net is not covered.
     Reason(u32, Option<Reason>),
-    // Whether this control is useful.
+    // True if this control is useful.
     Usable(Place, bool),
-    // Whether the setting of these two controls is safe.
+    // True if the setting of these two controls is safe.
     Together(Place, Place, bool),
-    // Whether some safe setting enables this driver and observes its net.
+    // True if some safe setting enables this driver and observes its net.
     DriverTested(Place, bool),
-    // Whether some safe setting observes the net of this receiver by a driver on another pin.
+    // True if some safe setting observes the net of this receiver by a driver on another pin.
     ReceiverTested(Place, bool),
-    // Whether one safe setting observes these two nets.
+    // True if some safe setting observes both of these nets.
     Paired(u32, u32, bool),
-    // How this pin drives its net.
+    // The way in which this pin drives its net.
     Drive(Place, Driven),
-    // Whether this pin is a switching driver.
+    // True if this pin is a switching driver.
     Switches(Place, bool),
-    // Whether this pin is a receiver.
+    // True if this pin is a receiver.
     Receives(Place, bool),
-    // Whether something that no boundary cell controls may drive this pin.
+    // True if something that no boundary cell controls may drive this pin.
     Dark(Place, bool),
-    // Whether this net is guarded.
+    // True if this net is guarded.
     Guarded(u32, bool),
 }
 
@@ -68,7 +68,7 @@ const PAIR_ANSWERS: [Question; 16] = [
     Question::Together((0, 0), (0, 1), true),
 ];
 
-// Cell 4 enables a driver of nets 0 and 1, cell 5 one of nets 1 and 2.
+// Cell 4 enables one driver each of nets 0 and 1, and cell 5 enables one driver each of nets 1 and 2.
 const GROUPS_ANSWERS: [Question; 22] = [
     Question::Reason(0, None),
     Question::Reason(1, None),
@@ -120,7 +120,7 @@ const PULLED_ANSWERS: [Question; 7] = [
     Question::ReceiverTested((0, 1), true),
 ];
 
-// The net is pulled to the value at which the driver drives, so nobody can tell whether it does.
+// The net is pulled to the value that the driver drives, so no test can tell whether the driver works.
 const PULLED_DOWN: Files = Files {
     chain: "DEVICE U1 OD -\nDEVICE U2 RCV1 -\nPULL N 0\n",
     nets: "NET N U1.1 U2.1\n",
@@ -135,7 +135,7 @@ const PULLED_DOWN_ANSWERS: [Question; 6] = [
     Question::ReceiverTested((0, 1), false),
 ];
 
-// Two buffers of which the first drives the second, with a supply net and a net of the test access port.
+// Two buffers. The first buffer drives the second. There is a supply net and a net of the test access port.
 const BUFFERS: Files = Files {
     chain: "DEVICE U1 BUF2 -\nDEVICE U2 BUF2 -\nSUPPLY VCC\n",
     nets: "NET N0 U1.5 U2.3\nNET N1 U1.4 U2.2\nNET OE U1.1 U2.1\nNET VCC U1.7 U2.7 C1.1\n\
@@ -152,7 +152,7 @@ const BUFFERS_ANSWERS: [Question; 17] = [
     Question::Guarded(2, false),
     Question::Guarded(3, true),
     Question::Guarded(4, true),
-    // a linkage pin, a pin of a part without a description, a pin of the test access port, and an input
+    // A linkage pin, a pin of a part without a description, a pin of the test access port, and an input.
     Question::Dark((3, 0), true),
     Question::Dark((3, 2), true),
     Question::Dark((4, 0), false),
@@ -163,7 +163,7 @@ const BUFFERS_ANSWERS: [Question; 17] = [
     Question::Paired(0, 2, false),
 ];
 
-// A pin of a part without a description is on the first net, and the second one has no receiver.
+// The first net has a pin of a part without a description, and the second net has no receiver.
 const UNSEEN: Files = Files {
     chain: "DEVICE U1 DRV -\nDEVICE U2 RCV -\n",
     nets: "NET N1 U1.1 U2.1 RAM.7\nNET N2 U1.2\n",
@@ -183,7 +183,7 @@ const UNSEEN_ANSWERS: [Question; 11] = [
     Question::Paired(0, 1, false),
 ];
 
-// The part without a description neither drives nor connects.
+// An INERT line says that the part without a description neither drives its pins nor connects them.
 const INERT: Files = Files {
     chain: "DEVICE U1 DRV -\nDEVICE U2 RCV -\nINERT RAM\n",
     nets: "NET N1 U1.1 U2.1 RAM.7\nNET N2 U1.2 U2.2\n",
@@ -223,7 +223,7 @@ fn pin((net, place): Place) -> PinRef {
     PinRef { net, place }
 }
 
-// Returns a number that no other reason has, and 0 for none.
+// Returns the number of a reason, and 0 for no reason. Each reason has a number of its own.
 fn number(reason: Option<Reason>) -> u32 {
     match reason {
         None => 0,
@@ -236,7 +236,7 @@ fn number(reason: Option<Reason>) -> u32 {
     }
 }
 
-// Returns whether a question about a net has its answer. Any other question passes.
+// Returns whether a question about a net has the right answer. Returns true for any other question.
 fn net_answers(board: &Board, classes: &Classes, question: Question) -> bool
     requires { AreClasses board.now classes.now }
 {
@@ -252,7 +252,7 @@ fn net_answers(board: &Board, classes: &Classes, question: Question) -> bool
     }
 }
 
-// Returns whether a question about controls has its answer. Any other question passes.
+// Returns whether a question about controls has the right answer. Returns true for any other question.
 fn control_answers(board: &Board, classes: &Classes, question: Question) -> bool
     requires { AreClasses board.now classes.now }
 {
@@ -269,7 +269,7 @@ fn control_answers(board: &Board, classes: &Classes, question: Question) -> bool
     }
 }
 
-// Returns whether a question about the tests of a pin has its answer. Any other question passes.
+// Returns whether a question about the tests of a pin has the right answer. Returns true for any other question.
 fn tested_answers(board: &Board, classes: &Classes, question: Question) -> bool
     requires { AreClasses board.now classes.now }
 {
@@ -286,7 +286,7 @@ fn tested_answers(board: &Board, classes: &Classes, question: Question) -> bool
     }
 }
 
-// Returns whether the board has this pin and says of it whether it is dark.
+// Returns whether the board has this pin, and the pin is dark exactly if `wanted` is true.
 fn is_dark(board: &Board, at: PinRef, wanted: bool) -> bool {
     let raw = board.raw();
     match raw.nets.as_slice().get(at.net as usize) {
@@ -308,7 +308,7 @@ fn is_driven(found: Option<Drive>, wanted: Driven) -> bool {
     }
 }
 
-// Returns whether a question about a pin of the board has its answer. Any other question passes.
+// Returns whether a question about a pin of the board has the right answer. Returns true for any other question.
 fn pin_answers(board: &Board, question: Question) -> bool {
     match question {
         Question::Drive(at, wanted) => {
@@ -363,7 +363,7 @@ fn boards_and_their_classes_answer(rt: HostRuntime) -> Result<(), RowFault> {
     Ok(())
 }
 
-// The port bit of an entry, another port bit, and whether the entry is on that one.
+// The port bit of an entry, a port bit to ask for, and whether the entry is on this port bit.
 static ENTRIES: [(Option<u32>, u32, bool); 3] = [
     (Some(3), 3, true),
     (Some(3), 2, false),

@@ -1,4 +1,4 @@
-// Plans and walks of small boards, with the rows of each scan. The scans are worked by hand from the model.
+// Plans and walks of small boards, with the rows of each scan. The scans are worked out by hand from the model.
 ghost use Rattle.std.specs.Prelude.{◌≡◌, ◌<◌, IfOk};
 ghost use Rattle.board_defs.specs.Passes.{passes_of};
 ghost use Rattle.scan_planner.specs.Plans.{IsPlanOf, IsRoom, scan_count};
@@ -22,15 +22,15 @@ use walk_test::Walk;
 // A scan. Bit 0 of each row is nearest TDO.
 #[derive(Clone, Copy)]
 enum Scan {
-    // A scan of instructions with these bits for TDI, TDO and MASK.
+    // An instruction scan with these bits for TDI, TDO and MASK.
     Codes(u64, u64, u64),
-    // A scan of data with these bits for TDI, which compares nothing.
+    // A data scan with these bits for TDI, which compares nothing.
     Shifts(u64),
-    // A scan of data with these bits for TDI, TDO and MASK.
+    // A data scan with these bits for TDI, TDO and MASK.
     Compares(u64, u64, u64),
 }
 
-// Returns whether a shape and the bits of the rows are those of a scan.
+// Returns whether this shape and these bits of the rows are those of the scan.
 fn is_scan(shape: Shape, [tdi, tdo, mask]: [u64; 3], scan: Scan) -> bool {
     let (ir, compare, bits) = match scan {
         Scan::Codes(tdi, tdo, mask) => (true, true, (tdi, tdo, mask)),
@@ -40,7 +40,7 @@ fn is_scan(shape: Shape, [tdi, tdo, mask]: [u64; 3], scan: Scan) -> bool {
     shape.ir == ir && shape.compare == compare && bits == (tdi, tdo, mask)
 }
 
-// How a plan is made.
+// The way in which a plan is made.
 #[derive(Clone, Copy)]
 enum Making {
     // From the passes of the board.
@@ -51,7 +51,7 @@ enum Making {
     Nothing,
 }
 
-// A plan of a board.
+// A plan of a board, and the answers that the plan must give.
 struct Planned {
     name: &'static str,
     files: Files,
@@ -157,7 +157,7 @@ fn number(row: &Row) -> u64 {
     number
 }
 
-// Returns how many bits the longer scan of a board has.
+// Returns the number of bits of the board's longer register.
 fn longest_scan(board: &Board) -> u32
     ensures { IsRoom board.now result }
 {
@@ -184,12 +184,12 @@ fn scan_is(
     Ok(is_scan(shape, bits, wanted))
 }
 
-// Returns whether a plan gives these codes to the nets.
+// Returns whether the plan gives these codes to these nets.
 fn has_codes(plan: &Plan, codes: &[(u32, u32)]) -> bool {
     codes.iter().all(|(net, code)| plan.code(*net) == *code)
 }
 
-// Compares a plan with what it should be.
+// Compares a plan with the answers that are wanted.
 fn plan_holds(alloc: Global, board: &Board, plan: &Plan, wanted: &Planned) -> Result<(), RowFault>
     requires { IsPlanOf board.now plan.now }
 {
@@ -231,7 +231,7 @@ fn new_plan(alloc: Global, board: &Board) -> Result<Plan, AllocError>
     Ok(plan)
 }
 
-// Returns the plan of the board's passes, by the pins of its nets.
+// Returns the plan of the board's passes, made with the pins of its nets.
 fn plan_by_pins(alloc: Global, board: &Board) -> Result<Plan, AllocError>
     ensures { IfOk result (λ plan. IsPlanOf board.now plan) }
 {
@@ -242,7 +242,7 @@ fn plan_by_pins(alloc: Global, board: &Board) -> Result<Plan, AllocError>
     Ok(plan)
 }
 
-// Returns a plan of no pass.
+// Returns a plan without passes.
 fn empty_plan(alloc: Global, board: &Board) -> Result<Plan, AllocError>
     ensures { IfOk result (λ plan. IsPlanOf board.now plan) }
 {
@@ -272,7 +272,7 @@ fn plans_make_the_scans_of_a_board(rt: HostRuntime) -> Result<(), RowFault> {
     Ok(())
 }
 
-// The walk of a board.
+// The walk of a board, and the answers that the walk must give.
 struct Walked {
     name: &'static str,
     files: Files,
@@ -295,7 +295,7 @@ const DRIVERS_SCANS: [Scan; 7] = [
     Scan::Compares(0x00, 0x01, 0x0D),
 ];
 
-// A board of no driver has no pass.
+// A board without a driver has no pass.
 const RECEIVER: Files = Files {
     chain: "DEVICE U2 RCV -\n",
     nets: "NET N1 U2.1\n",
@@ -342,7 +342,7 @@ fn walk_scan_is(
     Ok(is_scan(shape, bits, wanted))
 }
 
-// Compares a walk with what it should be.
+// Compares a walk with the answers that are wanted.
 fn walk_holds(alloc: Global, board: &Board, walk: &Walk, wanted: &Walked) -> Result<(), RowFault>
     requires { IsWalkOf board.now walk.now }
 {

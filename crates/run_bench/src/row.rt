@@ -83,13 +83,13 @@ pub enum Rows {
     Logs(&'static str, &'static [Line]),
     /// A command line, the name of a text, and texts. The line is run with each text under this name.
     Texts(&'static str, &'static str, &'static [Run]),
-    /// The text of a device, and changes of this text. Each row lists the device with one change.
+    /// The text of a device, and changes of this text. `device` refuses the text with each of the changes.
     Devices(&'static str, &'static [Change]),
     /// Boards. Each command on a board refuses the board with the same line.
     Boards(&'static [Case]),
     /// Command lines that are no command. The first read would fail, so the rows show that nothing is read.
     NoCommands(&'static [&'static str]),
-    /// A command line, a word, and numbers. The line is run with the word after it, repeated this many times.
+    /// A command line, a word with a space before it, and numbers. The line is run with the word appended as often as each number says.
     Words(&'static str, &'static str, &'static [(usize, Ending<'static>)]),
 }
 
@@ -260,7 +260,7 @@ fn texts_hold(
     Ok(())
 }
 
-// Lists the device of the text `drv`, with each of these changes.
+// Checks that `device` refuses the text with each of these changes. The store has the changed text as `drv`.
 fn devices_hold(
     rt: &(impl Threads + Sync),
     alloc: Global,
