@@ -47,7 +47,7 @@ any_weaker {X} p q h (x ∷ xs) e = by_test (any_weaker p q h xs) (p x) (q x) re
     by_test rest true false ea eb k = let wrong : true ≡ false = sym (h x ea) ∙ eb in cc wrong
     by_test rest false false ea eb k = rest k
 
--- if no two items are equal in the weaker sense, none are equal in the stronger sense
+-- if no two items are equal in the weaker sense, no two items are equal in the stronger sense
 repeated_weaker : {X : Type 0} (p q : X → X → Bool) → ((x y : X) → p x y ≡ true → q x y ≡ true) → (seen xs : List X) → repeated_from q seen xs ≡ None → repeated_from p seen xs ≡ None
 repeated_weaker p q h seen [] e = refl
 repeated_weaker {X} p q h seen (x ∷ xs) e = by_test (repeated_weaker p q h (seen ++ x ∷ []) xs) (list_any (λ s. q s x) seen) refl e
@@ -71,7 +71,7 @@ differ_seen words i whole same =
     let none : first_repeated (λ a b. are_one (seen a) (seen b)) words ≡ None = same ∙ ap (repeated_from (λ a b. are_one (seen a) (seen b)) (take i words)) (drop_all i words whole) in
     map_none (λ (m : Marked). m) (first_repeated are_one (map seen words)) (repeated-map seen are_one (λ (m : Marked). m) words ∙ ap (option_map seen) none)
 
--- if no two words have the same pin, each word counts, and none has the pin of another
+-- if no two words have the same pin, each word counts, and no word has the pin of another word
 pub all_stand_apart : (chain : List ChainLine) (parts : List Part) (nets : List NetLine) (marked : List Marked) → marked ≡ map (mark parts (pin_places parts) (names_of (named Inert chain))) (net_words nets) → first_repeated are_one marked ≡ None →
     (marked ≡ map (mark parts (pin_places parts) (names_of (named Inert chain))) (standing_words nets)) × (marked_twice marked ≡ None)
 all_stand_apart chain parts nets marked is e =

@@ -1,4 +1,4 @@
--- Small files, and what the definitions give for them.
+-- Small files, and the boards or faults that the definitions give for them.
 use Rattle.std.proofs.Common.{◌≡◌, ℕ, Bool, true, false, List, [], ◌∷◌, Option, Some, None, Ok, Err, refl}
 use Rattle.std.specs.Prelude.{codes, map}
 use Rattle.board_files.specs.declared.chain_file.ChainLine.{ChainLine}
@@ -53,7 +53,7 @@ device mode role = record {
   cells = entry 0 role 4 ∷ entry 1 role 5 ∷ [];
 }
 
--- a device with two drivers that are always on, and one with two receivers
+-- a device with two drivers that are always on, and a device with two receivers
 abbrev drv : RawDevice
 drv = device Outward Output2
 
@@ -134,7 +134,7 @@ a_pin_of_a_bypass_part_in_two_nets = refl
 abbrev place : ℕ → ℕ → PinAt
 place part bit = record { part = part; bit = bit }
 
--- pins with one place are the same whatever their names are; two bits of one part, and two parts, are different places
+-- pins with one place are the same pin, whatever their names are; two bits of one part are different places, and so are bits of two parts
 by_places : at_one_place (Some (place 0 4)) (Some (place 0 4)) false ∷ at_one_place (Some (place 0 4)) (Some (place 0 5)) true ∷ at_one_place (Some (place 0 4)) (Some (place 1 4)) true ∷ [] ≡ true ∷ false ∷ false ∷ []
 by_places = refl
 

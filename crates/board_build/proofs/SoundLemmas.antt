@@ -1,4 +1,4 @@
--- What the marked words of the files imply about their board.
+-- Facts about the board of the files, from the marked words of the files.
 use Rattle.std.proofs.Common.{◌≡◌, ℕ, List, [], map, None, sym, subst, ◌∙◌, ap}
 use Rattle.std.specs.Prelude.{option_map}
 use Rattle.first_places.specs.Places.{first_repeated}

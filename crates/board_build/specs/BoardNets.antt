@@ -28,7 +28,7 @@ marks_of lines parts = record {
   pulls = pulls_of lines;
 }
 
--- a pin of a net: its place if its part is described, and whether an INERT line names its part
+-- a pin of a net: the pin's place if its part is described, and whether an INERT line names its part
 abbrev pub net_pin : Marks → Pin → NetPin
 net_pin marks pin = record {
   part = pin.0;

@@ -1,4 +1,4 @@
-// The port bits that have an always-on driver. Each part has one table of them, so no pin needs a search of the cells.
+// The port bits that have an always-on driver. Each part has a table of its port bits, so no pin needs a search of the cells.
 ghost use Rattle.std.specs.Prelude.{◌≡◌, ◌∷◌, ℕ, List, length, slice_index_or, false, IfOk};
 ghost use Rattle.board_defs.specs.declared.device.Cell.{Cell};
 ghost use Rattle.board_defs.specs.DeviceRules.{driving_entry};

@@ -24,13 +24,13 @@ pub struct MarkedWord<'a> {
     pub part: &'a [u8],
     pub pin: &'a [u8],
     pub spot: Spot,
-    /// Whether the pin's part is described, that is, has a DEVICE line.
+    /// True if the pin's part is described, that is, has a DEVICE line.
     pub described: bool,
     /// The place of the pin in the chain, if the pin has one.
     pub at: Option<PinAt>,
-    /// Whether an INERT line names the pin's part.
+    /// True if an INERT line names the pin's part.
     pub inert: bool,
-    /// Whether the pin is an always-on driver.
+    /// True if the pin is an always-on driver.
     pub always_on: bool,
 }
 

@@ -96,7 +96,7 @@ fn pin_counts(
     Ok(counts)
 }
 
-/// Returns an empty group for each net, with room for its count of pins.
+/// Returns an empty group for each net, with room for the net's count of pins.
 fn empty_groups(alloc: Global, counts: &[usize]) -> Result<Vec<Vec<NetPin>>, AllocError>
     ensures count { IfOk result (λ groups. vec_len groups ≡ length counts.now) }
     ensures empty { IfOk result (λ groups. (n : ℕ) → slice_index_or (map (λ g. g.items) groups.items) n [] ≡ []) }

@@ -47,7 +47,7 @@ impl<'a> SelectedChain<'a> {
         self.lines
     }
 
-    /// Returns the parts. There are at most 255, and their names differ.
+    /// Returns the parts. There are at most 255 parts, and their names differ.
     pub fn parts(&self) -> &[Part]
         ensures parts { result.now ≡ self.now.parts }
         ensures few { length result.now ≤ most_parts }

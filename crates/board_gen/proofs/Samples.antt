@@ -78,7 +78,7 @@ last_cell : cell_line 76 ≡ codes "\"76 (BC_7, B(7), bidir, X, 4, 1, Z)\";\n"
 unfolding digits
 last_cell = refl
 
--- all cells, in order: five controls, the outputs with one control for each eight outputs, the inputs, and the bus pins with one
+-- all cells, in order: five controls, the outputs with one control for each eight outputs, the inputs, and the bus pins with one control
 -- cells 0 to 4
 control_cells : map cell_line (range_with_len 0 5) ≡
     codes "\"0 (BC_1, *, control, 1),\" &\n"

@@ -19,7 +19,7 @@ chain_text k = each part_line 1 k
 abbrev pub pin_word : ℕ → ℕ → List ℕ
 pin_word part pin = codes " U" ++ decimal part ++ codes "." ++ decimal pin
 
--- the part after this one; the first part comes after the last
+-- the next part; the first part comes after the last
 abbrev pub next_part : ℕ → ℕ → ℕ
 next_part k part = if part == k then 1 else part + 1
 

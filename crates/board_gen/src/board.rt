@@ -78,7 +78,7 @@ fn push_ring_line(text: &mut Vec<u8>, number: u32, part: u32, bit: u32) -> Resul
     text.extend_from_slice(b"\n")
 }
 
-// Returns the part after this one. The first part comes after the last.
+// Returns the next part. The first part comes after the last.
 fn next_part(number: u32, part: u32) -> u32
     requires { part ≤ 255 }
     ensures { result ≡ next_part number part }

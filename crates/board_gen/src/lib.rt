@@ -19,7 +19,7 @@ pub struct Made {
     pub chain: Vec<u8>,
     /// The net file.
     pub nets: Vec<u8>,
-    /// The BSDL text of the one device of the board.
+    /// The BSDL text of the board's only device.
     pub bsdl: Vec<u8>,
 }
 

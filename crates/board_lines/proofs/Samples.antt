@@ -34,7 +34,7 @@ device = record {
 abbrev row : List (Option (List ℕ))
 row = Some (codes "T1") ∷ Some (codes "A2") ∷ None ∷ Some (codes "7") ∷ []
 
--- a described part has the pins of its port bits, and a part in BYPASS has none
+-- a described part has the pins of its port bits, and a part in BYPASS has no pins
 pins : map pins_of (Described device ∷ Bypass 4 ∷ []) ≡ row ∷ [] ∷ []
 pins = refl
 

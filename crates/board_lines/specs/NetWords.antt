@@ -54,7 +54,7 @@ abbrev pub line_words : ℕ → ℕ → ℕ → List PinWord → List NetWord
 line_words net line n [] = []
 line_words net line n (p ∷ pins) = ((net, (p.part, p.pin)), record { line = line; word = n }) ∷ line_words net line (n + 1) pins
 
--- the words of all lines that name pins; the first pin of a line is its word 3
+-- the words that name pins, in all lines; the first pin of a line is its word 3
 abbrev pub words_of : List (List ℕ) → List NetLine → List NetWord
 words_of names [] = []
 words_of names (line ∷ lines) = line_words (net_number names line.name) line.line 3 line.pins ++ words_of names lines
@@ -62,7 +62,7 @@ words_of names (line ∷ lines) = line_words (net_number names line.name) line.l
 abbrev pub net_words : List NetLine → List NetWord
 net_words lines = words_of (net_names lines) lines
 
--- the words that name pins, without those that repeat a pin of the same net
+-- the words that name pins, without the words that repeat a pin of the same net
 abbrev pub standing_words : List NetLine → List NetWord
 standing_words lines = once same_place (net_words lines)
 

@@ -20,7 +20,7 @@ is_pin name (Some pin) = same_word pin name
 abbrev pub bit_of_pin : List (Option (List ℕ)) → List ℕ → Option ℕ
 bit_of_pin pins name = position_from (is_pin name) 0 pins
 
--- the pin of each port bit, if the pin map has one
+-- the pin of each port bit, if the port bit has a pin
 abbrev pub pins_of_bits : List PortBit → List (Option (List ℕ))
 pins_of_bits bits = map (λ bit. bit.pin) bits
 

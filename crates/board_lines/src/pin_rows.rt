@@ -15,7 +15,7 @@ use std::marker::Model;
 /// few rows can be shared, and comparing every two rows would take too long.
 const ROWS_COMPARED: usize = 16;
 
-/// Returns the port bits of a part, and none for a part in BYPASS.
+/// Returns the port bits of a part. A part in BYPASS has no port bits.
 pub fn bits_of(kind: &PartKind) -> &[PortBit]
     ensures pins { pins_of_bits result.now ≡ pins_of kind.now }
     ensures few { length result.now ≤ most_bits }
@@ -128,7 +128,7 @@ impl<'a> PinRow<'a> {
     }
 }
 
-/// Returns the number of a row with these pins, if one of the first `ROWS_COMPARED` rows has them.
+/// Returns the number of a row with these pins, if there is such a row among the first `ROWS_COMPARED` rows.
 fn row_among(rows: &[PinRow<'_>], bits: &[PortBit]) -> Option<usize>
     ensures { IfSome result (λ number. slice_get rows.now number ≡ Some (pins_of_bits bits.now)) }
 {
@@ -143,7 +143,7 @@ fn row_among(rows: &[PinRow<'_>], bits: &[PortBit]) -> Option<usize>
     None
 }
 
-/// Returns the number of a row with these pins. Adds a row if none of the first `ROWS_COMPARED` rows has these pins.
+/// Returns the number of a row with these pins. Adds a row if there is no such row among the first `ROWS_COMPARED` rows.
 pub fn row_of<'a>(
     alloc: Global,
     rows: &mut Vec<PinRow<'a>>,

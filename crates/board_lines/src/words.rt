@@ -71,7 +71,7 @@ fn push_line<'a>(
     Ok(())
 }
 
-/// Returns the words of all lines that name pins. `numbers` has the number of each line's net.
+/// Returns the words that name pins in all lines. `numbers` has the number of each line's net.
 pub fn net_words<'a>(
     alloc: Global,
     numbers: &[u32],
@@ -90,7 +90,7 @@ pub fn net_words<'a>(
     Ok(words)
 }
 
-/// Returns the words without those that repeat a pin of the same net.
+/// Returns the words, without the words that repeat a pin of the same net.
 pub fn once_words<'a>(alloc: Global, words: &[NetWord<'a>]) -> Result<Vec<NetWord<'a>>, AllocError>
     ensures { IfOk result (λ kept. map lent_word kept.items ≡ once same_place (map lent_word words.now)) }
 {

@@ -79,7 +79,7 @@ continued held wanted front continues =
     let whole = subst (λ texts. IsRead held (wanted ++ []) (Read texts)) (append-nil front) (continues [] (Read []) (reads_none held)) in
     subst (λ texts. IsRead held texts (Read front)) (append-nil wanted) whole
 
--- the names of two joined lists of texts are the names of the first list and then those of the second
+-- the names of two joined lists of texts are the names of the first list and then the names of the second
 names_both : (first rest : List Wanted) → names_in (first ++ rest) ≡ names_in first ++ names_in rest
 names_both first rest = map-append (λ (text : Wanted). text.name) first rest
 
@@ -107,7 +107,7 @@ module _ (held held' : Held) (before now : Text → ℕ) (asked asked' : List Te
   pub no_memory : Reads IsOne (wanted_view last ∷ []) held held' before now asked asked' (Err unread.Memory)
   no_memory = record { same = same; later = later; told = record { first = last.name.now ∷ []; others = []; are = refl; asks = asks } }
 
--- if the texts of `first` were not all read, the same is true of `first` and `rest` together
+-- if not all texts of `first` were read, not all texts of `first` and `rest` were read
 module _ (first rest : List Wanted) (held : Held) (asked asked' : List Text) where
   up_to_here_too : (last : Wanted) → IsReadUpTo held first last asked asked' → IsReadUpTo held (first ++ rest) last asked asked'
   up_to_here_too last there = record {
@@ -144,7 +144,7 @@ lost_between {first = first} rest As reads = record {
   told = record { first = names_in first; others = names_in rest; are = names_both first rest; asks = reads.told.asks };
 }
 
--- if the texts of `first` were read and those of `rest` were not all read, the texts were not all read
+-- if the texts of `first` were read but not all texts of `rest`, not all texts of the two lists were read
 module _ (first rest : List Wanted) (held : Held) (front asked asked_mid asked' : List Text) (continues : Continues held first front) (asks : Asks asked asked_mid (names_in first)) where
   up_to_there : (last : Wanted) → IsReadUpTo held rest last asked_mid asked' → IsReadUpTo held (first ++ rest) last asked asked'
   up_to_there last there = record {

@@ -141,7 +141,7 @@ pub none_asked_for : (command : Option Command) (asked : List Text) → IfSome c
 none_asked_for None asked = tt
 none_asked_for (Some command) asked = none_asked command asked
 
--- the first names of a joined list are those of the first list
+-- the first names of a joined list are the names of the first list
 first_of : (first others : List Text) → take (length first) (first ++ others) ≡ first
 first_of [] others = refl
 first_of (name ∷ first) others = ap (λ (l : List Text). name ∷ l) (first_of first others)

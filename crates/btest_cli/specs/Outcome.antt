@@ -80,7 +80,7 @@ pub record IsCutShort (held : Held) (command : Command) (asked asked' : List Tex
 abbrev pub TookOrCut : Shown → Shown → Text → Type 0
 TookOrCut old new line = Takes old new line ⊎ (Rose old.faults new.faults × ((bytes : ℕ) × Takes old new (take bytes line)))
 
--- what was read has a first fault, no text was asked for after a text that is too long, and the notes took the line for the fault
+-- the reading has a first fault, no text was asked for after a text that is too long, and the notes took the line for the fault
 pub record IsRefused (held : Held) (command : Command) (asked asked' : List Text) (old new : Shown) : Type 0 where
   pub reading : Reading
   pub read : IsRead held (wanted_of command) reading

@@ -31,7 +31,7 @@ wanted_of (Batch workers log names) = log_called log ∷ map text_called (board_
 abbrev pub names_in : List Wanted → List Text
 names_in texts = map (λ text. text.name) texts
 
--- the text that a store holds under each name, if the store tells what it holds
+-- the text that a store holds under each name, if the store's texts are known, as those of a store in memory are
 abbrev pub Held : Type 0
 Held = Option (Text → Option Text)
 
@@ -60,23 +60,23 @@ reading_in [] found = Some (Read [])
 reading_in (wanted ∷ others) [] = None
 reading_in (wanted ∷ others) (text ∷ found) = read_first wanted (Some text) (reading_in others found)
 
--- the result of reading the texts: from what the store holds if the store tells it, and otherwise from some texts
+-- the result of reading the texts: from the store's texts if these are known, and otherwise from some texts
 abbrev pub IsRead : Held → List Wanted → Reading → Type 0
 IsRead None texts reading = (found : List Text) × (reading_in texts found ≡ Some reading)
 IsRead (Some held) texts reading = reading_of held texts ≡ Some reading
 
--- the result of reading these texts, if it is known: the store tells what it holds, or there is no text to read
+-- the result of reading these texts, if it is known: the store's texts are known, or there is no text to read
 abbrev pub known_reading : Held → List Wanted → Option Reading
 known_reading held [] = Some (Read [])
 known_reading None (wanted ∷ others) = None
 known_reading (Some held) (wanted ∷ others) = reading_of held (wanted ∷ others)
 
--- the store holds this text under the name, if it tells what it holds
+-- if the store's texts are known, the store holds this text under the name
 abbrev pub IsText : Held → Text → Text → Type 0
 IsText None name text = Unit {0}
 IsText (Some held) name text = held name ≡ Some text
 
--- the text has more bytes than the limit; a store that tells what it holds has such a text under the name
+-- some text has more bytes than the limit; if the store's texts are known, the store holds this text under the name
 abbrev pub IsLong : Held → Wanted → Type 0
 IsLong None wanted = (text : Text) × (wanted.limit < length text)
 IsLong (Some held) wanted = (text : Text) × (held wanted.name ≡ Some text) × (wanted.limit < length text)

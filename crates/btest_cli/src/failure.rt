@@ -57,7 +57,7 @@ pub fn put_unread<N: Sink>(failure: &Unread, notes: &mut N) -> Result<(), PutFau
     }
 }
 
-/// Writes the line for a text that was not written whole. `names` are the names of the texts from which it was made.
+/// Writes the line for a text that was not written whole. `names` has the names of the texts that the command read.
 pub fn put_unput<N: Sink>(names: Names, failure: &Unput, notes: &mut N) -> Result<(), PutFault>
     ensures { Puts (N.shown notes.old) (N.shown notes.new) (unput_line (names_view names.entry) failure.now) result }
 {

@@ -43,7 +43,7 @@ pub fn run<R: Threads + Sync, S: Store, K: Sink, N: Sink, G: Gate>(
     ensures not_fetched { command_of (map string_bytes words.now) ≡ None → store.new ≡ store.old }
     ensures usage_noted { result ≡ Status.Usage → TookOrCut (N.shown notes.old) (N.shown notes.new) usage_line }
 
-    // Done: each text was asked for once and read, `out` took exactly the text that they give, and `IsWorthFor` holds of this text.
+    // Done: each text was asked for once and read, `out` took exactly the text that these texts give, and `IsWorthFor` holds of this text.
     ensures done { result ≡ Status.Done → ForCommand words.now (λ c. IsDone (S.held store.old) c (S.asked store.old) (S.asked store.new) (K.shown out.old) (K.shown out.new)) }
     ensures silent { result ≡ Status.Done → N.shown notes.new ≡ N.shown notes.old }
 

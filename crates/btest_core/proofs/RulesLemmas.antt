@@ -1,4 +1,4 @@
--- What texts denote keeps the rules.
+-- The devices, the codes and the board that texts denote keep the rules.
 use Rattle.std.proofs.Common.{◌≡◌, ◌<◌, ◌≤◌, ℕ, List, [], ◌∷◌, length, Option, Some, None, Result, Ok, Err, ap, sym, ◌∙◌, subst, refl, inl, inr, arith}
 use Rattle.std.specs.Prelude.{All}
 use Rattle.std.specs.List.{AllByRecursion}
@@ -54,7 +54,7 @@ BoardsKeep = (chain : List ChainLine) (nets : List NetLine) (devices : List RawD
     → IsChain chain → AllByRecursion (λ line. HasLength line.statement) chain → AllByRecursion IsDevice devices → length devices ≡ length (named EntityName chain)
     → board_of chain nets devices ≡ Ok board → IsBoard board
 
--- if the answer is a value, the first step gave one too
+-- if the answer is a value, the first step also gives a value
 follows_ok : {A B : Type 0} (first : Result A InputFault → Type 0) (next : A → Result B InputFault → Type 0) (value : B) → Follows first next (Ok value) → (found : A) × first (Ok found) × next found (Ok value)
 follows_ok first next value (inl (found, is, answers)) = (found, is, answers)
 follows_ok first next value (inr (fault, is, answers)) = absurd cc
@@ -130,7 +130,7 @@ board_keeps sound chains counts lengths boards chain nets texts board is =
     (lengths chain of_chain.0 (in_file_ok Chain (chain_lines chain) of_chain.0 of_chain.1))
     (devices_keep sound chains counts of_chain.0 texts of_texts.0 of_texts.1) of_texts.2
 
--- the patterns are those of the devices, and there is no BYPASS line
+-- the patterns are the patterns of the devices, and there is no BYPASS line
 record ArePatternsOf (bypass : Option ℕ) (devices : List RawDevice) (idents : List Ident) : Type 0 where
   none : bypass ≡ None
   are : idents ≡ idents_of devices

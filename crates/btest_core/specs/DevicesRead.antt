@@ -48,7 +48,7 @@ IsDeviceIn entity choice (Err (Memory error)) = ⊥
 abbrev pub IsDeviceOf : List Entity → Chosen → Result RawDevice InputFault → Type 0
 IsDeviceOf entities choice answer = (entity : Entity) × (slice_get entities choice.0 ≡ Some entity) × IsDeviceIn entity choice answer
 
--- the devices of the DEVICE lines, in order, or the first fault of the selection among the entities or, after the selection, of a device
+-- the devices of the DEVICE lines, in order, or the first fault. A fault of the selection among the entities comes before the faults of the devices
 abbrev pub AreSelected : List ChainLine → List Entity → Result (List RawDevice) InputFault → Type 0
 AreSelected lines entities = Follows (Is (in_board (selection lines entities))) (λ numbers. EachOf (IsDeviceOf entities) (chosen lines numbers))
 

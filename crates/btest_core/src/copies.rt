@@ -1,4 +1,4 @@
-// Copies of devices. Parts with the same entity and package share one check of it.
+// Copies of devices. For parts with the same entity and package, the entity is checked once, and then the device is copied.
 ghost use Rattle.std.specs.Prelude.{◌≡◌, IfOk};
 
 use board_defs::{Code, Device, Items, Name, PortBit, RawDevice};

@@ -95,7 +95,7 @@ const LOWEST: &Digits = b"00000000000000000000000000000001";
 
 const BOTH_ENDS: &Digits = b"1XXXXXXXXXXXXXXXXXXXXXXXXXXXXXX1";
 
-// The patterns of a chain, and the statement for them. A part without a pattern has one bit.
+// The patterns of a chain, and the statement for these patterns. A part without a pattern has one bit.
 type Chain = (&'static [Option<&'static Digits>], &'static [u8]);
 
 static CHAINS: [Chain; 4] = [

@@ -80,7 +80,7 @@ static IN_ORDER: [Ctl; 3] = [
     Ctl { part: 1, cell: 5 },
 ];
 
-// Adds the controls one by one, and checks that the setting then has each of them.
+// Adds the controls one by one, and checks after each that the setting has the control.
 fn add_all(setting: &mut Setting) -> Result<(), Missed> {
     for (row, control) in ADDED.iter().enumerate() {
         setting.add(*control)?;

@@ -94,8 +94,8 @@ fn expect_rule(
 }
 
 /// Makes these changes together, and compares the device with the text. The text has each port bit with its index, its pin, whether the
-/// port bit belongs to the TAP, and whether the compliance patterns name it. Each cell with its port bit and the number of ones in
-/// the preload code follow.
+/// port bit belongs to the TAP, and whether the compliance patterns name it. Then come each cell with its port bit, and the number of
+/// ones in the preload code.
 pub fn draft_holds(alloc: Global, changes: &[Change], wanted: &str) -> Result<(), CaseFault> {
     let shown = shown_device(alloc, &changed(changes))?;
     compare(0, shown, wanted)

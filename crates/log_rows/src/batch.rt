@@ -44,7 +44,7 @@ const LOGS: [Line; 15] = [
         "BOARD A\n1\nG\n2\n",
         Ending::Refused("g line 3: digit not allowed\n"),
     ),
-    // The word BOARD may be no second word of a row.
+    // A row may not have BOARD as a second word.
     (
         "BOARD A\n1\n1 BOARD\n",
         Ending::Refused("g line 3: wrong length\n"),

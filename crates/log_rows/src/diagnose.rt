@@ -81,7 +81,7 @@ const WORKERS: [Row; 10] = [
         line: "diagnose 1 g c",
         ending: Ending::Usage,
     },
-    // A fault of the other texts is reported before a fault of the log. A text that is not read is reported before both faults.
+    // A fault of the other texts is reported before a fault of the log. A text that is not read is reported before any fault.
     Row {
         texts: &[("g", Plain("zz\n")), ("c", Plain("DEVICE U1 DRV\n"))],
         line: "diagnose 1 g c n drv rcv",
@@ -164,7 +164,7 @@ const APART_LOGS: [Line; 4] = [
         "000\n000\n000\n001\n009\n000\n",
         Ending::Puts("FAIL 1\nshort AND A X\n"),
     ),
-    // A and B are wrong, but no fault affects both, since they are not paired.
+    // A and B are wrong, but no single fault affects A and B, since they are not paired.
     ("000\n008\n000\n000\n008\n000\n", Ending::Puts("FAIL 0\n")),
 ];
 

@@ -109,7 +109,7 @@ impl Entries {
         }
     }
 
-    // Returns all entries, piece by piece. The entries of a piece are in the order in which it made them.
+    // Returns all entries, piece by piece. The entries of one piece are in the order in which the piece made them.
     fn all(&self, alloc: Global) -> Result<Vec<Entry>, AllocError> {
         let mut all = Vec::new(alloc);
         for piece in 0..PIECES {
@@ -221,7 +221,7 @@ struct Shared {
     items: &'static [u64],
 }
 
-// Runs the command, and compares the items with which each piece enters with those that are wanted.
+// Runs the command, and compares the entries of its pieces with the wanted entries.
 fn is_shared(
     rt: &(impl Threads + Sync),
     alloc: Global,

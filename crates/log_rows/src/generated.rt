@@ -71,7 +71,7 @@ fn log(alloc: Global, silent: u32) -> Result<String, AllocError> {
     rows.repeat(alloc, DEVICES as usize)
 }
 
-// The number of nets that read 0, from the first net on, and the diagnosis.
+// The number of nets that read 0, counted from the first net on, and the diagnosis.
 const SILENT: [(u32, &str); 5] = [
     (0, "PASS\n"),
     (1, "FAIL 3\nstuck R1_0 0\nopen U1.1 0\nopen U2.33 0\n"),

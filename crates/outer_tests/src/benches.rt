@@ -100,7 +100,7 @@ static WRONG: [Wrong; 21] = [
     ("cover c", Ending::Usage, Status::Usage, Ending::Done),
 ];
 
-// Runs a line, and compares its end with an ending, as the row with this number.
+// Runs a line as the row with this number, and compares how the run ends with an ending.
 fn ends(
     rt: &(impl Threads + Sync),
     alloc: Global,
@@ -538,7 +538,7 @@ fn each_line_of_sixty_devices_is_tried(rt: HostRuntime) -> Result<(), RowFault> 
     )
 }
 
-// Returns whether the answer reports this row as a row in which something else than the ending is wrong.
+// Returns whether the answer reports this row as a row in which something other than the ending is wrong.
 fn is_other(found: &Result<(), RowFault>, table: &str, row: usize) -> bool {
     match found {
         Err(

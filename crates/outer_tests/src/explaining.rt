@@ -421,7 +421,7 @@ fn suspects_are(
     Ok(are_places(&suspects, places))
 }
 
-// Returns whether the faults are those at these places.
+// Returns whether the faults are the faults at these places.
 fn are_faults(
     alloc: Global,
     faults: &[Single],

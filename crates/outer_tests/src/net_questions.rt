@@ -33,7 +33,7 @@ enum Question {
     DriverTested(Place, bool),
     // True if some safe setting observes the net of this receiver by a driver on another pin.
     ReceiverTested(Place, bool),
-    // True if some safe setting observes both of these nets.
+    // True if some safe setting observes the two nets together.
     Paired(u32, u32, bool),
     // The way in which this pin drives its net.
     Drive(Place, Driven),

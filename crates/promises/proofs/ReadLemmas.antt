@@ -78,7 +78,7 @@ holds_read held (file ∷ files) texts e = by_text (held file.name) refl (readin
     by_text None is rest later texts e = absurd cc
     by_text (Some text) is rest later texts e = by_length text is (nat_lt file.limit (length text)) refl rest later texts e
 
--- the store tells what it holds
+-- the texts of the store are known
 abbrev pub Tells : Held → Type 0
 Tells held = (of_name : Text → Option Text) × (held ≡ Some of_name)
 

@@ -24,7 +24,7 @@ use Rattle.promises.proofs.GiveLemmas.{is_gives, not_both}
 pub same_some : {x y : Text} → ◌≡◌ {A = Option Text} (Some x) (Some y) → x ≡ y
 same_some e = cc
 
--- if the sink in memory takes the bytes, the output takes them
+-- if the sink in memory takes the bytes, the output of the run takes the same bytes
 pub out_taken : (run : Run) (bytes : Text) → Takes (out_of run.old) (out_of run.new) bytes → Puts run bytes
 out_taken run bytes takes = same_some takes.taken
 

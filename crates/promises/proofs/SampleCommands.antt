@@ -1,6 +1,6 @@
--- The promise of each command, seen from the text that a run wrote. Runs that break a promise are refused: runs that wrote another text, or a
--- text that is worth less, and runs that wrote a text, in whole or in part, for files that denote no board or hold no log of the board. The
--- files may have any texts with the properties stated here.
+-- The promise of each command, seen from the text that a run wrote. A run breaks the promise if it wrote another text, or a text without the
+-- promised properties. It also breaks the promise if it wrote a text, in whole or in part, for files that denote no board or hold no log of the
+-- board. The files may have any texts with the properties stated here.
 use Rattle.std.proofs.Common.{◌≡◌, ◌≢◌, ◌↔◌, ◌⊎◌, ◌∙◌, ℕ, ◌+◌, ◌≤◌, Bool, true, false, List, [], ◌∷◌, ◌++◌, length, sum, Option, Some, None, Ok, refl, sym, ap, subst, length-append, arith}
 use Rattle.std.specs.Prelude.{codes}
 use Rattle.board_defs.specs.declared.board.RawBoard.{RawBoard}

@@ -1,4 +1,4 @@
--- Texts that hold a log of the test of a small board, or a batch of logs, and texts that hold none, worked out by hand. The board has four
+-- Texts that hold a log of the test of a small board or a batch of logs, and texts that hold neither, worked out by hand. The board has four
 -- data bits, and its test has two SDR statements that compare.
 use Rattle.std.proofs.Common.{◌≡◌, ◌∙◌, ℕ, Bool, true, false, List, [], ◌∷◌, length, Some, refl, sym, ap, arith}
 use Rattle.std.specs.Prelude.{All, codes}

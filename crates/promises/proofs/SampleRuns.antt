@@ -55,7 +55,7 @@ svf = Svf (record { chain = codes "c"; nets = codes "n"; bsdl = codes "b" ∷ []
 abbrev b_asked : List Text
 b_asked = codes "b" ∷ []
 
--- a store that holds no file, and tells so
+-- a store that is known to hold no file
 abbrev empty : Held
 empty = Some (λ name. None)
 
@@ -63,7 +63,7 @@ calm : Rose 0 0 → ⊥
 calm (inl less) = omega (arith, less)
 calm (inr last) = omega (arith, last)
 
--- two texts that differ
+-- two different texts are not equal
 apart : (one other : Text) → bytes_eq one one ≡ true → bytes_eq one other ≡ false → one ≡ other → ⊥
 apart one other same differ is =
     let z : true ≡ false = sym same ∙ ap (bytes_eq one) is ∙ differ in
@@ -74,7 +74,7 @@ no_front : (one line : Text) → bytes_eq one one ≡ true → bytes_eq one [] �
 no_front one line same some differ zero is = apart one [] same some is
 no_front one line same some differ (suc count) is = apart one (take (suc count) line) same (differ count) is
 
--- the notes took nothing, so they did not take this line
+-- the notes took nothing, so the notes did not take this line
 none_noted : (words : List Text) (held : Held) (status : Status) (asked : List Text) (out line : Text) → bytes_eq [] line ≡ false → Notes (run_of words held status asked out []) line → ⊥
 none_noted words held status asked out line some (inl is) = apart [] line refl some is
 none_noted words held status asked out line some (inr (rose, cut)) = calm rose
@@ -195,7 +195,7 @@ usage_that_read tells =
     let count : 1 ≡ 0 = ap (λ (unread : Text → ℕ). unread (codes "b")) (tells.1 nothing).2 in
     absurd (omega (arith, count))
 
--- before the run the store holds no file, and after the run it no longer tells what it holds
+-- before the run the store is known to hold no file, and after the run its texts are not known
 abbrev forgotten : Run
 forgotten = let run = run_of [] empty Usage [] [] usage_line in record run { new = record run.new { held = None } }
 
@@ -538,7 +538,7 @@ first_named tells = let told = tells refl in by_note told.5.name (last_named (co
     by_note name same (inl is) = apart (read_line (codes "c")) (read_line (codes "n")) refl refl (is ∙ ap read_line same)
     by_note name same (inr (rose, cut)) = calm rose
 
--- the notes name a file that is none of the command's files
+-- the notes name a file that the command does not ask for
 other_file : TellsUnread (unread device_words (codes "x" ∷ []) [] (read_line (codes "x"))) → ⊥
 other_file tells =
     let told = tells refl in

@@ -33,7 +33,7 @@ parsed_is (Batch workers log names) words (number, is, (are, few)) =
 pub command_is : (run : Run) (command : Command) → Asks run command → command_of run.words ≡ Some command
 command_is run command (are, plain) = ap (λ (b : Bool). if b then parsed run.words else None) plain ∙ parsed_is command run.words are
 
--- The converse: if the grammar makes a command of words, they ask for this command.
+-- The converse: if the grammar makes a command of words, the words ask for this command.
 
 few : (n : ℕ) → nat_le n 255 ≡ true → n ≤ 255
 few n test = grind (arith, common_steps)
@@ -59,7 +59,7 @@ then_board front (chain ∷ nets ∷ names) = by_count (nat_le (length names) 25
 abbrev AreOf : List Text → Option Command → Type 0
 AreOf words command = IfSome command (λ c. AreWords c words)
 
--- if the names are in the grammar, the words are those of the command with these names
+-- if the names are in the grammar, the words are the words of the command with these names
 of_names : {A : Type 0} (command : A → Command) (P : A → Type 0) (words : List Text) → ((names : A) → P names → AreWords (command names) words) → (names : Option A) → IfSome names P → AreOf words (option_map command names)
 of_names command P words are None is = tt
 of_names command P words are (Some names) is = are names is
@@ -150,7 +150,7 @@ asks_for run command is = by_plain (list_all is_plain run.words) refl is
     by_plain true plain is = (subst (AreOf run.words) is (parsed_words run.words), plain)
     by_plain false plain is = absurd cc
 
--- so the words ask for no command exactly if the grammar makes no command of them
+-- so words ask for no command exactly if the grammar makes no command of the words
 pub none_asked : (run : Run) → command_of run.words ≡ None → AsksNothing run
 none_asked run none command asks =
     let bad : ◌≡◌ {A = Option Command} None (Some command) = sym none ∙ command_is run command asks in

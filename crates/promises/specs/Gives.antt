@@ -46,7 +46,7 @@ abbrev pub Finds : {A : Type 0} → (Result A InputFault → Type 0) → (A → 
 Finds {A} IsFound text_of names (Ok text) = (value : A) × IsFound (Ok value) × (text ≡ text_of value)
 Finds {A} IsFound text_of names (Err line) = (fault : InputFault) × IsFound (Err fault) × (line ≡ input_fault_line names fault)
 
--- the outcome for a file of logs: if the other files denote a board, the logs are read for this board, and what they show is printed
+-- the outcome for a file of logs: if the other files denote a board, the logs are read for this board, and the text says what the logs show
 abbrev pub FindsLogs : {L E A : Type 0} → (Text → RawBoard → Result L E) → (RawBoard → L → A → Type 0) → (RawBoard → L → A → Text) → (RawBoard → E → Text) → Names → Text → Text → Text → List Text → Result Text Text → Type 0
 FindsLogs {L} {E} {A} read IsFound text_of line_of names logs chain nets bsdl (Ok text) =
     (board : RawBoard) × Denotes chain nets bsdl board × (log : L) × (read logs board ≡ Ok log) × (found : A) × IsFound board log found × (text ≡ text_of board log found)

@@ -95,8 +95,8 @@ abbrev pub SumsUp : Run → Type 0
 SumsUp run =
     (parts : ℕ) (board : RawBoard) → RunsOn run (Make parts) [] → Denotes (made.chain_text parts) (made.net_text parts) (bsdl_text ∷ []) board → Prints run (Make parts) (λ text. text ≡ summary board)
 
--- the meaning of the test's text is the clocks of its scans, by which faults explain logs. Each single fault explains a log, and all logs
--- that one fault explains have the same compared bits
+-- the text of the board's test means the clocks of the test's scans. Each single fault explains a log, and all logs that one fault
+-- explains have the same compared bits
 pub record HasResponses (board : RawBoard) : Type 0 where
   pub means : meaning (board_text board) ≡ Some (test_clocks (svf_scans board))
   pub some : (single : Single) → IsSingle board single → (log : List (List Bool)) × Explains board single log
@@ -141,7 +141,7 @@ RestsOnBlocks run =
     RunsOn run (Batch workers name names) (logs ∷ chain ∷ nets ∷ bsdl) → (run.status ≡ Done) ⊎ (run.status ≡ WriteFault) →
     (board : RawBoard) × Denotes chain nets bsdl board × (blocks : List Block) × HoldsBlocks board logs blocks
 
--- `groups`: if the file holds a log of the walking test, the printed text names the one set of groups of walk nets that explains the log, or
+-- `groups`: if the file holds a log of the walking test, the printed text names the only set of groups of walk nets that explains the log, or
 -- says that no set does. A set explains a log if every run with the set's shorts, in which a 1 wins, and no other fault gives the log's
 -- compared bits. Each set explains some log, and all logs that one set explains have the same compared bits
 abbrev pub FindsGroups : Run → Type 0
@@ -203,7 +203,7 @@ FindsOutcome run =
     × ((command : Command) (texts : List Text) → RunsOn run command texts → (outcome : Result Text Text) × Gives command texts outcome)
 
 -- ReadFault comes only if the words ask for a command and a read of one of its files failed. The notes name this file. The earlier files were
--- asked for, and no later file was. A store that tells its files holds the earlier files
+-- asked for, and no later file was. If the texts of the store are known, the store holds the earlier files
 abbrev pub TellsUnread : Run → Type 0
 TellsUnread run =
     run.status ≡ ReadFault → PutsNothing run

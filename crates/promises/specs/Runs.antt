@@ -12,8 +12,8 @@ use Rattle.btest_cli.specs.declared.status.Status.{Status}
 use Rattle.btest_cli.specs.declared.status.Status.TheVariants.{Done, NoMemory}
 use Rattle.promises.specs.declared.desk.Desk.{Desk}
 
--- the text that a store holds under each name, if the store tells it; the names that were asked for, and how often a read of each name
--- failed; and for the output and for the notes, the bytes that were taken, and how often a write failed
+-- the text that a store holds under each name, if the store's texts are known; the names that were asked for, and how often a read of each
+-- name failed; and for the output and for the notes, the bytes that were taken, and how often a write failed
 pub record Ends : Type 0 where
   pub held : Held
   pub asked : List Text
@@ -33,7 +33,7 @@ pub record Run : Type 0 where
 abbrev pub run_of : List (String Global) → Ends → Ends → Status → Run
 run_of words old new status = record { words = map string_bytes words; old = old; new = new; status = status }
 
--- the ends with a store that tells this, and with an output and notes in memory
+-- the ends with a store of these texts and counts, and with an output and notes in memory
 abbrev pub ends_of : Held → List Text → (Text → ℕ) → MemSink → MemSink → Ends
 ends_of held asked unread out notes = record { held = held; asked = asked; unread = unread; out = taken_of out; unwritten = faults_of out; notes = taken_of notes; unnoted = faults_of notes }
 
@@ -43,7 +43,7 @@ desk_ends desk = ends_of (Some (text_of desk.store)) (asked_of desk.store) (λ n
 abbrev pub desk_run : List (String Global) → Desk → Desk → Status → Run
 desk_run words old new status = run_of words (desk_ends old) (desk_ends new) status
 
--- The limits on BSDL files and on workers are numbers here, although the reader of the words has names for them. They are promises of
+-- The limits on BSDL files and on workers are numbers here, although the reader of the words has names for them. The limits are promises of
 -- the program, so a limit that is changed only in the reader breaks a proof here. The limit on the parts of a generated board has its name,
 -- and samples fix it at 255.
 
@@ -87,7 +87,7 @@ files_of (Groups log names) = record { name = log; limit = 67108864 } ∷ texts_
 files_of (Batch workers log names) = record { name = log; limit = 67108864 } ∷ texts_called (board_names names)
 files_of command = texts_called (names_of command)
 
--- the store tells what it holds, and holds this text under the name
+-- the texts of the store are known, and the store holds this text under the name
 abbrev pub Holds : Held → Text → Text → Type 0
 Holds None name text = ⊥
 Holds (Some held) name text = held name ≡ Some text
@@ -133,7 +133,7 @@ Puts run bytes = run.new.out ≡ run.old.out ++ bytes
 abbrev pub PutsNothing : Run → Type 0
 PutsNothing run = run.new.out ≡ run.old.out
 
--- the notes took this line, or some first bytes of it if a write to them failed
+-- the notes took this line, or some first bytes of the line if a write to the notes failed
 abbrev pub Notes : Run → Text → Type 0
 Notes run line = (run.new.notes ≡ run.old.notes ++ line) ⊎ (Rose run.old.unnoted run.new.unnoted × ((count : ℕ) × (run.new.notes ≡ run.old.notes ++ take count line)))
 

@@ -72,7 +72,7 @@ after_row rows len log line lines bits wanted none is =
     ∙ ap (λ all. first_or (counted rows (length (log ++ bits ∷ []) + length lines) all) (offenses (rows - (length log + 1)) len lines)) row
     ∙ sym (ap (λ n. first_or (counted rows (length (log ++ bits ∷ []) + length lines) ((log ++ bits ∷ []) ++ filter_map (bits_of_line len) lines)) (offenses (rows - n) len lines)) (length_push log bits))
 
--- no lines have no offenses
+-- an empty list of lines has no offenses
 no_offenses : (n len : ℕ) (answer : Answer) → first_or answer (offenses n len []) ≡ answer
 no_offenses zero len answer = refl
 no_offenses (suc n) len answer = refl

@@ -15,7 +15,7 @@ pub(crate) fn digit_count(len: u32) -> usize
     (len as usize + 3) / 4
 }
 
-// Returns `count` digits from a place on.
+// Returns `count` digits, from digit `first` on.
 #[inline]
 fn digits_from(digits: &[u8], first: usize, count: usize) -> &[u8]
     requires { first + count ≤ length digits.now }

@@ -9,8 +9,8 @@ pub fn rows_are_the_lines()
     ensures { (text : List ℕ) (rows len : ℕ) (log : List (List Bool)) → (log_rows text rows len ≡ Ok log) ↔ IsLogOf text rows len log }
 {}
 
-/// The fault that is reported for a text is its first offense. A text has exactly one first offense if it is not a log, and only
-/// then.
+/// The fault that is reported for a text is the text's first offense. A text has exactly one first offense if it is not a log,
+/// and only then.
 pub fn fault_is_the_first_offense()
     ensures told { FirstOffenseIsTold }
     ensures one { OneOffenseOrLog }

@@ -1,4 +1,4 @@
-// From a text to the rows of a log.
+// Reads the rows of a log from a text.
 ghost use Rattle.std.specs.Prelude.{◌≡◌, ◌+◌, ◌*◌, ◌<◌, ◌≤◌, ◌^◌, ◌∷◌, ◌++◌, length, take, drop, min, IfOk, IfSome, MatchResult, Some, None};
 ghost use Rattle.std.specs.List.{slice_split};
 ghost use Rattle.bt_bits.specs.Digits.{row_bits};

@@ -118,7 +118,7 @@ pub enum RowFault {
         /// The status of the row's run.
         status: Status,
     },
-    /// A row in which something else than the ending is not as wanted.
+    /// A row in which something other than the ending is wrong.
     #[error("{table}: row {row} gives something else")]
     Other {
         /// The name of the table.

@@ -7,7 +7,7 @@ use std::alloc::{AllocError, Global};
 pub enum Text {
     /// These characters.
     Plain(&'static str),
-    /// These bytes, which may be bytes of no characters.
+    /// These bytes, which may be no valid characters.
     Bytes(&'static [u8]),
     /// A text with replaced pieces. An edit is the old piece and its replacement.
     Edited(&'static str, &'static [(&'static str, &'static str)]),

@@ -253,7 +253,7 @@ early_same board ts us (suc zero) less = refl
 early_same board ts us (suc (suc zero)) less = refl
 early_same board ts us (suc (suc (suc k))) less = absurd (omega (arith, less))
 
--- the first three scans are those of any plan
+-- the first three scans are the first three scans of any plan
 pub early_filled : (board : RawBoard) (passes : List (List Ctl)) (width k : ℕ) (shape : Shape) (tdi tdo mask : List Bool) → k < 3 → FillsScan board passes width k shape tdi tdo mask → FillsWalk board k shape tdi tdo mask
 early_filled board passes width k shape tdi tdo mask less f = record {
   scan = early_same board (walk_row_list board) (row_scans (code_row board passes) width passes) k less ∙ f.scan;
@@ -295,7 +295,7 @@ module _ (board : RawBoard) (rules : IsBoard board) (t : WalkTables) (w : IsWalk
           ∙ ap (λ (i : ℕ). set (tdi_of board (still_row walk)) i true) a.driver_is
           ∙ marked_row board rules walk cells (marks j) a.driver a.is_driver driver_marked (λ m x on. only_marked m x on ∙ sym a.of_net)
 
-      -- each compared cell should read 1, and is within a data scan
+      -- each compared cell of the net that carries 1 should read 1, and is within a data scan
       reader_in : (position : ℕ) → Has c.compared position → (get_or (tdo_of board (walk_row board walk j)) position false ≡ true) × (position < data_bits board)
       reader_in position has =
           let r = (a.compared position).0 (has_contains c.compared position has) in

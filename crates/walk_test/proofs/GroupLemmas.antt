@@ -58,7 +58,7 @@ Apart one other = (n : ℕ) → Has one n → Has other n → ⊥
 abbrev pub Before : List ℕ → List ℕ → Type 0
 Before one other = least_of one < least_of other
 
--- the groups are in order: each rises, no two share a net, and their least nets rise
+-- the groups are in order: each has two or more nets, which rise; no two groups share a net; and the least nets of the groups rise
 pub record AreOrdered (groups : List (List ℕ)) : Type 0 where
   pub several : (group : List ℕ) → Has groups group → 2 ≤ length group
   pub rise : (group : List ℕ) → Has groups group → Rises group
@@ -166,7 +166,7 @@ group_is k (first ∷ groups) (suc index) group n apart e has = by_test (group_i
         let z : suc k + index ≡ k + suc index = omega arith in
         later ∙ ap (λ (m : ℕ). Some m) z
 
--- if two nets have the same group number, some group has both
+-- if two nets have the same group number, some group has both nets
 pub together_of : (groups : List (List ℕ)) (a b : ℕ) → is_one_group (group_of groups a) (group_of groups b) ≡ true → Together groups a b
 together_of groups a b e = by_first (group_of groups a) refl e
   where

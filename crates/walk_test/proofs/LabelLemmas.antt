@@ -92,7 +92,7 @@ module _ (log : List (List Bool)) (cells : List NetCells) (long : length cells �
       all_from (λ at. is_same (bit_in log j at) (get_or log_labels i 0 == get_or log_labels j 0)) c.compared
       (λ k p f. is_same_of_same (bit_in log j p) (get_or log_labels i 0 == get_or log_labels j 0) (each j i p c less e (has_at c.compared k p f)))
 
-  -- a label is the place of the first net with this label
+  -- a label k is the place of a net with label k, at or before each net with this label
   pub own_label : ShowsAll log log_labels cells → (i k : ℕ) → slice_get log_labels i ≡ Some k → (k ≤ i) × (slice_get log_labels k ≡ Some k)
   own_label shows i k e =
       let below : i < length cells = omega (arith, slice_get_within log_labels i k e, length-map cells (label_of log)) in
@@ -200,7 +200,7 @@ members_rise (x ∷ nets) (l ∷ labels) k rise = by_test (l == k) (members_rise
     by_test true r = (λ y h. let m = members_has nets labels k y h in rise.0 y (has_at nets m.0 y m.1), r)
     by_test false r = r
 
--- the nets with label k in the first i + 1 nets are those in the first i nets, and net i if its label is k
+-- the nets with label k among the first i + 1 nets are the nets with label k among the first i nets, and net i if its label is k
 pub members_more : (nets labels : List ℕ) (k i n l : ℕ) → slice_get nets i ≡ Some n → slice_get labels i ≡ Some l →
     members (take (i + 1) nets) (take (i + 1) labels) k ≡ members (take i nets) (take i labels) k ++ cond (l == k) (n ∷ []) []
 members_more [] labels k i n l e f = cc e

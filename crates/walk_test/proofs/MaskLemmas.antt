@@ -102,7 +102,7 @@ module _ (log : List (List Bool)) (mask : List Bool) (marks : List ℕ) (are : m
   pub not_started : (own none : ℕ) (old : List ℕ) (t : Bool) → t ≡ is_one row marks own → t ≡ false → Decides t (StartsGroup log mask j own none old)
   not_started own none old t is off = (λ e. let bad : true ≡ false = sym e ∙ off in cc bad, λ s. is ∙ one_read own ∙ s.is_read)
 
-  -- if position `own` reads 1, whether a group starts depends on whether all positions that read 1 are fresh
+  -- position `own` reads 1: a group starts exactly if no position that reads 1 has an earlier row
   module _ (none : ℕ) (old : List ℕ) (count : length old ≡ length mask) where
     pub starts : (own : ℕ) → is_one row marks own ≡ true → (t : Bool) → Decides t (IsFresh row marks none old (length old)) → Decides t (StartsGroup log mask j own none old)
     starts own one t d = (

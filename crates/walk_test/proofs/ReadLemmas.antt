@@ -48,7 +48,7 @@ first_most (row ∷ log) at = by_test (get_or row at false) (first_most log at)
 first_reads : (log : List (List Bool)) (at j : ℕ) → j < length log → first_one log at ≡ j → bit_in log j at ≡ true
 first_reads log at j less is = ap (λ (k : ℕ). bit_in log k at) (sym is) ∙ first_holds log at (omega (arith, less, is))
 
--- the compared bits of the first i + 1 nets are those of the first i nets with those of net i
+-- to add the compared bits of net i to those of the first i nets gives the compared bits of the first i + 1 nets
 pub compared_more : (len : ℕ) (nets : List NetCells) (i : ℕ) (net : NetCells) → i < length nets → net ≡ get_or nets i net → with_compared (compared_bits len (take i nets)) net ≡ compared_bits len (take (i + 1) nets)
 compared_more len nets i net less is =
     ap (λ (n : NetCells). with_compared (compared_bits len (take i nets)) n) is

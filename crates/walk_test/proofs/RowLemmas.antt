@@ -91,7 +91,7 @@ apart_at {X} place f g (x ∷ xs) s t i long h = by_rest (apart_at place f g xs 
         by_end (inl k) = inl k
         by_end (inr d) = inr (lift d)
 
--- an item set a bit that is 1, or the bit was 1 before
+-- a bit that is 1 was 1 before, or an item set it
 one_from : {X : Type 0} (place : X → ℕ) (f : X → Bool) (xs : List X) (s : List Bool) (i : ℕ) → get_or (assigned place f s xs) i false ≡ true →
     (get_or s i false ≡ true) ⊎ ((x : X) × Has xs x × (place x ≡ i) × (f x ≡ true))
 one_from place f [] s i e = inl e
@@ -381,7 +381,7 @@ net_cells board walk n w position readers only every at =
       some = some_items (positions_beside w.driver readers) first.0.position (positions_has w.driver readers first.0 (every first.0 first.1) first.2);
     }
   where
-    -- some cell reads the net at another pin than the driver's
+    -- some cell reads the net at a pin other than the driver's
     first : (r : ReaderCell) × IsReaderCell board w.net r × ((r.place == w.driver) ≡ false)
     first =
         let beside : reads_beside board w.driver 0 w.net.pins ≡ true = beside_observing board (holds walk) w.net w.driver w.observing in

@@ -199,16 +199,16 @@ module _ (board : RawBoard) (rules : IsBoard board) (cells : List NetCells) (w :
         within = all_from_has (λ (p : ℕ). p < len) c.compared (λ p k. omega (arith, is, position_within board rules w.walk a.0 c a.1 p k));
       })
 
--- a property of a log with its nets holds of the log and the nets one by one
+-- a property of the log and the nets in `it` holds of an equal log and equal nets
 pub by_parts : (it : LoggedNets) (log : List (List Bool)) (cells : List NetCells) → it.log ≡ log → it.nets ≡ cells → (P : List (List Bool) → List NetCells → Type 0) → P it.log it.nets → P log cells
 by_parts it log cells log_is nets_are P p = subst (λ (n : List NetCells). P log n) nets_are (subst (λ (l : List (List Bool)). P l it.nets) log_is p)
 
--- if a value has P whenever there is one, and Q follows from P, the value has Q
+-- if a result that is `Ok` has P, and Q follows from P, such a result has Q
 pub ok_then : {T E : Type 0} (r : Result T E) {P Q : T → Type 0} → IfOk r P → ((x : T) → P x → Q x) → IfOk r Q
 ok_then (Ok x) h f = f x h
 ok_then (Err e) h f = tt
 
--- without a walk setting there are no scans, which are in turn
+-- an empty list of scans is in turn
 no_scans : (board : RawBoard) → AreInTurn board []
 no_scans board = record { follow = tt; safe = λ x scan at. cc at }
 
@@ -397,7 +397,7 @@ module _ (safe : WalkSafe) (by_rows : (board : RawBoard) (faults : FaultSet) (sc
           ∙ sym (ap (λ (k : ℕ). k == label_of log d) (label_read i c ci))
           ∙ sym (ap (λ (k : ℕ). get_or labels i 0 == k) (label_read j d dj)))
 
-    -- the answer is the groups of the labels if the log shows the labels, and otherwise none
+    -- the answer is the groups of the labels if the log shows the labels, and otherwise no set of groups
     pub found_by : All (λ row. length row ≡ data_bits board) log → (shown : Bool) → Decides shown (ShowsAll log labels cells) → AreFound board log (cond shown (Some (groups_by nets labels)) None)
     found_by shape true d = explain shape (d.0 refl)
     found_by shape false d = λ groups explains. let bad : false ≡ true = d.1 (all_show groups explains) in cc bad

@@ -35,7 +35,7 @@ use Rattle.scan_planner.specs.Plans.{ArePlannable}
 use Rattle.walk_test.specs.WalkTest.{is_switched_by, switches_some, without_switching, walk_setting}
 use Rattle.walk_test.specs.inner.Setting.{own_switch, entry_switch, pin_switch, with_some, with_pins, with_net, all_switching}
 
--- this is the control, if there is one
+-- there is a control, and it is `c`
 abbrev is_ctl : Option Ctl → Ctl → Bool
 is_ctl None c = false
 is_ctl (Some d) c = same_ctl d c

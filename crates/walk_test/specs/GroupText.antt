@@ -5,7 +5,7 @@ use Rattle.line_printer.specs.Prints.{line_of}
 use Rattle.board_defs.specs.declared.board.Net.{Net}
 use Rattle.board_defs.specs.declared.board.RawBoard.{RawBoard}
 
--- the name of a net, or nothing if there is no net
+-- the name of a net, or an empty name if there is no net
 abbrev pub name_of : Option Net → List ℕ
 name_of None = []
 name_of (Some net) = net.name

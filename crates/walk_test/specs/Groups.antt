@@ -1,4 +1,4 @@
--- Groups of walk nets, and the set of them that explains a log of the walking test.
+-- Groups of walk nets, and the set of groups that explains a log of the walking test.
 use Rattle.std.specs.Prelude.{ℕ, suc, ◌<◌, ◌≤◌, ◌==◌, Bool, if◌then◌else◌, List, [], ◌∷◌, length, Option, Some, None, slice_index_or, All, AllPairs, Contains, MatchOption}
 use Rattle.std.specs.List.{list_any}
 use Rattle.board_defs.specs.declared.board.RawBoard.{RawBoard}
@@ -23,7 +23,7 @@ pub record AreGroups (board : RawBoard) (groups : List (List ℕ)) : Type 0 wher
   pub disjoint : AllPairs (λ one other. (n : ℕ) → Contains one n → Contains other n → ⊥) groups
   pub order : AllPairs (λ one other. least_of one < least_of other) groups
 
--- the number of the group that has the net, if there is one; the first of these groups has the number k
+-- the number of the group that has the net, if there is such a group; the first of these groups has the number k
 abbrev pub group_from : ℕ → List (List ℕ) → ℕ → Option ℕ
 group_from k [] n = None
 group_from k (group ∷ groups) n = if list_any (λ m. m == n) group then Some k else group_from (suc k) groups n

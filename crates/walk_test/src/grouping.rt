@@ -29,7 +29,7 @@ fn all_members(alloc: Global, nets: &[u32], labels: &[u32]) -> Result<Vec<Items<
     Ok(lists)
 }
 
-// Adds these nets as a group if they are two or more.
+// Adds these nets as a group if there are two or more.
 fn push_group(groups: &mut Vec<Group>, nets: Vec<u32>) -> Result<(), AllocError>
     requires { Rise nets.items }
     ensures { OnOk result (groups.new.items ≡ groups.old.items ++ where_several nets.items) }

@@ -36,8 +36,8 @@ pub fn scans_counted()
     ensures { ScansCounted }
 {}
 
-/// Each set of groups is a set of faults of the board. It explains a log, and any two logs that it explains agree at every compared
-/// bit.
+/// Each set of groups is a set of faults of the board. A set of groups explains a log, and any two logs that it explains agree at every
+/// compared bit.
 pub fn groups_respond()
     ensures faults { ShortsAreFaults }
     ensures some { GroupsRespond }
@@ -58,7 +58,7 @@ pub fn one_set()
     scans_in_turn();
 }
 
-/// Each log of a board's walking test has exactly one answer: the set of groups that explains the log, or that no set does.
+/// Each log of a board's walking test has exactly one answer: the set of groups that explains the log, or the answer that no set does.
 pub fn logs_have_one_set()
     ensures some { (board : RawBoard) (log : List (List Bool)) → IsBoard board → (found : Option (List (List ℕ))) × AreFound board log found }
     ensures one { OneSet }

@@ -11,7 +11,7 @@ use board_defs::Board;
 use bt_base::{PutFault, Sink};
 use bt_bits::Line;
 
-// Returns the name of net `n`, or nothing if the board has no net `n`.
+// Returns the name of net `n`, or an empty name if the board has no net `n`.
 fn net_name(board: &Board, n: u32) -> &[u8]
     ensures { result.now ≡ net_name board.now n }
 {

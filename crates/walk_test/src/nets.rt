@@ -103,7 +103,7 @@ fn push_beside(positions: &mut Vec<u32>, reader: ReaderCell, place: u32) -> Resu
     Ok(())
 }
 
-// Returns the positions of the cells that read a pin other than the one at this place.
+// Returns the positions of the cells that read another pin than the pin at this place.
 fn positions_beside(
     alloc: Global,
     place: u32,

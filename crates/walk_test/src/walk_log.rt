@@ -1,4 +1,4 @@
-// A log of the walking test, with the walk nets whose rows it has.
+// A log of the walking test, and the walk nets whose rows the log has.
 ghost use Rattle.std.specs.Prelude.{◌≡◌, ◌<◌, ◌^◌, [], length, slice_index_or, All, IfOk};
 ghost use Rattle.bt_bits.specs.Digits.{digits_of};
 ghost use Rattle.response_log.specs.Kept.{AreRowDigits};

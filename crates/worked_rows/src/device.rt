@@ -9,7 +9,7 @@ const DRV_LISTING: &str =
     "ENTITY DRV\nPACKAGE P\nIR 2 SAMPLE 10 IDCODE -\nPORT TDI IN T1\nPORT TMS IN T3\nPORT TCK IN T4\n\
                            PORT TDO OUT T2\nPORT Q OUT 1 2\nCELL 0 OUTPUT2 Q(1) X\nCELL 1 OUTPUT2 Q(2) X\n";
 
-// The changes from the listing of the driver to that of the driver of 2001.
+// The changes from the listing of `DRV` to the listing of `DRV1`, the driver of 2001.
 const EDITION: [(&str, &str); 2] = [
     ("ENTITY DRV", "ENTITY DRV1"),
     ("SAMPLE 10 IDCODE", "PRELOAD 00 EXTEST 01 IDCODE"),
@@ -40,7 +40,7 @@ const LISTED: [Run; 7] = [
         },
         Ending::Puts(DRV_LISTING),
     ),
-    // Only the `use` statement or only COMPONENT_CONFORMANCE says 2001, which is enough for the edition of 2001.
+    // The `use` statement alone or COMPONENT_CONFORMANCE alone says 2001, which is enough.
     (
         Edited(
             DRV1,

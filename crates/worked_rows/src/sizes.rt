@@ -93,8 +93,8 @@ CELL 76 BIDIR B(7) X 4 1
 "#;
 
 // A scan of 4,620 bits has 1,155 digits in 19 lines, so an SDR statement has 1,190 bytes, or 3,551 if it compares. An SIR statement has
-// 121. The head has 59 bytes and the tail 13. There are two SIRs and an SDR before the passes. Each of the 60 passes has one SDR that does
-// not compare and eleven that do, since 1,928 codes need 11 bits. In the walking test each net has a row, and one SDR does not compare.
+// 121 bytes. The head has 59 bytes and the tail 13. There are two SIRs and an SDR before the passes. Each of the 60 passes has one SDR that
+// does not compare and eleven that do, since 1,928 codes need 11 bits. In the walking test each net has a row, and one SDR does not compare.
 const LINES: [Line; 4] = [
     ("device gen", Ending::Puts(LISTING)),
     ("svf c n gen", Ending::Long(2_416_564)),

@@ -152,7 +152,7 @@ const LINKED: [Row; 2] = [
 ];
 
 // Passes that test two nets. The first board has a pass for A with D, and then a pass for B with C. On the second board, A and C have a pass.
-// The driver of A fits both drivers of C, and the pass takes the first.
+// The driver of A fits the two drivers of C, and the pass takes the first of these.
 const TOGETHER: [Row; 2] = [
     Row {
         texts: &[
@@ -206,7 +206,8 @@ const TOGETHER: [Row; 2] = [
     },
 ];
 
-// The first board enables the controls of cells 8 and 9, then of 10 and 11, then of 9 and 10. The second enables that of cell 4, then of 5.
+// The first board enables the controls of cells 8 and 9, then 10 and 11, then 9 and 10. The second board enables the control of cell 4, and
+// then the control of cell 5.
 const APART: [Row; 2] = [
     Row {
         texts: &[

@@ -25,7 +25,7 @@ abbrev pub first_one : List (List Bool) → ℕ → ℕ
 first_one [] at = 0
 first_one (row ∷ log) at = if slice_index_or row at false then 0 else suc (first_one log at)
 
--- the label of a walk net: the first row in which its first compared cell reads 1, which is the place of the net that carries this 1
+-- the label of a walk net: the first row in which the net's first compared cell reads 1. Its number is the place of the net that carries this 1
 abbrev pub label_of : List (List Bool) → NetCells → ℕ
 label_of log cells = first_one log (slice_index_or cells.compared 0 0)
 

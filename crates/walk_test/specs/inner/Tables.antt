@@ -36,7 +36,7 @@ abbrev pub observer_in : NetPins → List Ctl → ℕ → Option NetDriver
 observer_in pins walk n =
     option_and_then (λ d. if is_read_beside (slice_index_or pins.readers n []) d then Some d else None) (enabled_in (holds walk) (slice_index_or pins.drivers n []))
 
--- the positions of the cells that read a pin other than the one at this place
+-- the positions of the cells that read another pin than the pin at this place
 abbrev pub positions_beside : ℕ → List ReaderCell → List ℕ
 positions_beside place readers = map (λ r. r.position) (filter (λ r. not (r.place == place)) readers)
 

@@ -1,4 +1,4 @@
--- The names are those of the definition.
+-- The code and the definition use the same names.
 use Rattle.std.proofs.Common.{◌≡◌, map, ap, subst, ◌∙◌}
 use Rattle.answers.specs.Gives.{Gives}
 use Rattle.board_lines.specs.declared.names.Naming.TheVariants.{Part, Entity}

@@ -1,4 +1,4 @@
--- The names and the places are those of the definition.
+-- The code and the definition use the same names and places.
 use Rattle.std.proofs.Common.{◌≡◌, map, subst, rules}
 use Rattle.answers.specs.Gives.{Gives}
 use Rattle.board_lines.specs.declared.names.Naming.TheVariants.{Part, Entity}
