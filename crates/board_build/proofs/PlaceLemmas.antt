@@ -28,7 +28,7 @@ one_at : (o : Option PinAt) → at_one_place o o true ≡ true
 one_at None = refl
 one_at (Some at) = ap (λ b. b && (at.bit == at.bit)) (eqb_refl at.part) ∙ eqb_refl at.bit
 
--- words with the same pin have the same place
+-- if two words have the same pin by name, they have the same pin by place
 same_is_one : (parts : List Part) (inerts : List (List ℕ)) (a b : NetWord) → have_same_pin a b ≡ true → are_one (mark parts (pin_places parts) inerts a) (mark parts (pin_places parts) inerts b) ≡ true
 same_is_one parts inerts a b same =
     let each = and_parts (same_word (pin_of a).0 (pin_of b).0) (same_word (pin_of a).1 (pin_of b).1) same in

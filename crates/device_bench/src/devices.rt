@@ -21,7 +21,7 @@ pub enum TextFault {
     Device(DeviceFault),
 }
 
-/// Compares each text, in its default package, with the device that it should describe, or with the line of its fault.
+/// Checks that each text, in its default package, describes this device or has this fault.
 pub fn devices_hold(alloc: Global, cases: &[(Source, &'static str)]) -> Result<(), CaseFault> {
     for (case, (source, wanted)) in cases.iter().enumerate() {
         let text = source.bytes(alloc)?;
@@ -30,7 +30,7 @@ pub fn devices_hold(alloc: Global, cases: &[(Source, &'static str)]) -> Result<(
     Ok(())
 }
 
-/// Compares the text, in each of these packages, with the device that it should describe, or with the line of its fault.
+/// Checks that the text, in each of these packages, describes this device or has this fault.
 pub fn packages_hold(
     alloc: Global,
     source: Source,

@@ -58,7 +58,7 @@ pub enum Change {
     Entries(u32, &'static str),
 }
 
-/// Compares the rule that each change breaks, and the item of the rule, with the case. Zeros stand for no broken rule.
+/// Checks that each change breaks this rule at this item. Zeros stand for no broken rule.
 pub fn rules_hold(alloc: Global, cases: &[(Change, (u32, u32))]) -> Result<(), CaseFault> {
     for (case, (change, (rule, item))) in cases.iter().enumerate() {
         expect_rule(alloc, case, &changed(&[*change]), *rule, *item)?;
@@ -66,7 +66,7 @@ pub fn rules_hold(alloc: Global, cases: &[(Change, (u32, u32))]) -> Result<(), C
     Ok(())
 }
 
-/// Makes the changes of each case together. Compares the first rule that they break, and the item, with the case.
+/// Makes the changes of each case together. Checks that this rule is the first rule that they break, and at this item.
 pub fn orders_hold(
     alloc: Global,
     cases: &[(&'static [Change], (u32, u32))],
@@ -77,7 +77,7 @@ pub fn orders_hold(
     Ok(())
 }
 
-// Compares the rule that the texts break, and its item, with the case.
+// Checks that the texts break this rule at this item.
 fn expect_rule(
     alloc: Global,
     case: usize,
@@ -93,7 +93,7 @@ fn expect_rule(
     Ok(())
 }
 
-/// Makes these changes together, and compares the device with the text. The text has each port bit with its index, its pin, whether the
+/// Makes these changes together, and checks the device, written as a text. The text has each port bit with its index, its pin, whether the
 /// port bit belongs to the TAP, and whether the compliance patterns name it. Then come each cell with its port bit, and the number of
 /// ones in the preload code.
 pub fn draft_holds(alloc: Global, changes: &[Change], wanted: &str) -> Result<(), CaseFault> {

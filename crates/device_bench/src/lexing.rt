@@ -5,7 +5,7 @@ use crate::source::Source;
 use bsdl_lexer::{LexFault, Token, lex};
 use std::alloc::{AllocError, Global};
 
-/// Compares how the lexer ends for each text, and the number of tokens that it finds, with the case.
+/// Checks that the lexer has this result for each text, and finds this many tokens.
 pub fn lexings_hold(
     alloc: Global,
     cases: &[(Source, Result<(), LexFault>, usize)],
@@ -22,7 +22,7 @@ pub fn lexings_hold(
     Ok(())
 }
 
-/// Compares the tokens of each text with the case. A line has the kind, the bytes and the line number of one token.
+/// Checks that each text has these tokens. A line has the kind, the bytes and the line number of one token.
 pub fn tokens_hold(alloc: Global, cases: &[(Source, &'static str)]) -> Result<(), CaseFault> {
     for (case, (source, wanted)) in cases.iter().enumerate() {
         let text = source.bytes(alloc)?;

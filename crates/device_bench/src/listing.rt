@@ -32,7 +32,7 @@ impl Wanted<'_> {
     }
 }
 
-/// Compares the listing of each text's device with the case.
+/// Checks that the device of each text has this listing.
 pub fn listings_hold(alloc: Global, cases: &[(Source, &'static str)]) -> Result<(), CaseFault> {
     let mut line = Line::new(alloc)?;
     for (case, (source, wanted)) in cases.iter().enumerate() {
@@ -41,13 +41,13 @@ pub fn listings_hold(alloc: Global, cases: &[(Source, &'static str)]) -> Result<
     Ok(())
 }
 
-/// Compares the end of the listing of a text's device with `end`.
+/// Checks that the listing of a text's device ends with `end`.
 pub fn listing_ends(alloc: Global, source: Source, end: &str) -> Result<(), CaseFault> {
     let mut line = Line::new(alloc)?;
     try_source(alloc, 0, &source, Wanted::End(end), &mut line)
 }
 
-/// Lets each of these puts fail while the listing is written. Compares the number of bytes that the sink takes, and their end, with the case.
+/// Lets each of these puts fail while the listing is written. Checks that the sink takes this many bytes, and that they end with this text.
 pub fn cuts_hold(
     alloc: Global,
     source: Source,
@@ -85,7 +85,7 @@ fn try_source(
     }
 }
 
-/// Compares the listing of a device with what is wanted. The line may still hold a part of an earlier listing.
+/// Checks that the listing of a device is as wanted. The line may still hold a part of an earlier listing.
 fn try_device(
     alloc: Global,
     case: usize,

@@ -19,7 +19,7 @@ pub enum Reading {
     Parse(ParseFault),
 }
 
-/// Compares how the reading of each text ends with the case.
+/// Checks that the reading of each text ends in this way.
 pub fn readings_hold(alloc: Global, cases: &[(Source, Reading)]) -> Result<(), CaseFault> {
     for (case, (source, wanted)) in cases.iter().enumerate() {
         let text = source.bytes(alloc)?;
@@ -35,7 +35,7 @@ pub fn readings_hold(alloc: Global, cases: &[(Source, Reading)]) -> Result<(), C
     Ok(())
 }
 
-/// Compares the entity of each text with the case. There is one item of the entity on each line.
+/// Checks that each text has this entity. There is one item of the entity on each line.
 pub fn entities_hold(alloc: Global, cases: &[(Source, &'static str)]) -> Result<(), CaseFault> {
     for (case, (source, wanted)) in cases.iter().enumerate() {
         let text = source.bytes(alloc)?;

@@ -23,7 +23,7 @@ pub enum Grammar {
     Boundary,
 }
 
-/// Compares each string with the case: its value, or the entry at which the string leaves its grammar.
+/// Checks that each string has this value, or leaves its grammar at this entry.
 pub fn strings_hold(
     alloc: Global,
     grammar: Grammar,
@@ -43,7 +43,7 @@ pub fn strings_hold(
     Ok(())
 }
 
-/// Compares the symbols of a pattern with the case. The symbol nearest TDO comes first.
+/// Checks that a pattern has these symbols. The symbol nearest TDO comes first.
 pub fn symbols_hold(alloc: Global, text: &str, wanted: &[Symbol]) -> Result<(), CaseFault> {
     let found = match pattern(alloc, bytes_of(text)?) {
         Ok(code) => {

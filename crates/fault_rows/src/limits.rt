@@ -1,4 +1,4 @@
-// Texts that are too long.
+// Texts that are too long, and texts that are as long as the limit.
 use crate::calls::{COMMANDS, Command, LOGS, bench_of};
 use bt_base::Store;
 use run_bench::Text::Repeated;

@@ -100,7 +100,7 @@ static WRONG: [Wrong; 21] = [
     ("cover c", Ending::Usage, Status::Usage, Ending::Done),
 ];
 
-// Runs a line as the row with this number, and compares how the run ends with an ending.
+// Runs a line as the row with this number, and compares the end of the run with an ending.
 fn ends(
     rt: &(impl Threads + Sync),
     alloc: Global,

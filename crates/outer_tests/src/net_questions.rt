@@ -16,7 +16,7 @@ enum Driven {
     Not,
     AlwaysOn,
     OneSided,
-    // The control with this place enables the driver.
+    // This control enables the driver.
     By(Place),
 }
 

@@ -47,7 +47,7 @@ enum Making {
     Passes,
     // From the passes of the board and the pins of its nets.
     Pins,
-    // From no pass.
+    // From an empty list of passes.
     Nothing,
 }
 

@@ -209,7 +209,7 @@ is_device run command one other =
     let same : ◌≡◌ {A = Option Command} (Some command) (Some device) = sym (command_is run command other) ∙ command_is run device one in
     cc
 
--- a listing has bytes and does not begin with this line
+-- a listing has bytes; the lemma below says that it does not begin with an x
 some_listing : (described : RawDevice) → ◌≡◌ {A = Text} [] (device_text described) → ⊥
 unfolding device_text
 some_listing described is = apart [] (device_text described) refl refl is

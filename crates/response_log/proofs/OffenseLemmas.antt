@@ -96,7 +96,7 @@ module _ (len : ℕ) (line : NumberedLine) where
   told_digit (Some (Extra n)) says long no_row = absurd says
   told_digit (Some (Memory e)) says long no_row = absurd says
 
--- from the reported fault to the first offense, for lines behind rows that were read
+-- the reported fault is the first offense, also for lines behind rows that were read
 module _ (rows len : ℕ) where
   abbrev IsFirst : List NumberedLine → LogFault → Type 0
   IsFirst lines fault = IsFirstOffense rows len lines fault
@@ -151,7 +151,7 @@ module _ (rows len : ℕ) where
   to : (lines : List NumberedLine) (fault : LogFault) → rows_of_lines rows len lines ≡ Err fault → IsFirst lines fault
   to lines fault is = first [] lines [] fault (All-nil (IsRow len)) refl (omega arith) (sym (rows_after-nil rows len lines) ∙ is)
 
-  -- from the first offense to the reported fault: the answer stays the same when the rows `before` are read
+  -- the converse: the first offense is the reported fault. The answer stays the same when the rows `before` are read
   record Passed (before later : List NumberedLine) (log : List (List Bool)) : Type 0 where
     passed : List (List Bool)
     count : length passed ≡ length log + length before

@@ -7,7 +7,7 @@ use std::alloc::{AllocError, Global};
 pub enum Text {
     /// These characters.
     Plain(&'static str),
-    /// These bytes, which may be no valid characters.
+    /// These bytes, which may be invalid UTF-8.
     Bytes(&'static [u8]),
     /// A text with replaced pieces. An edit is the old piece and its replacement.
     Edited(&'static str, &'static [(&'static str, &'static str)]),
