@@ -98,8 +98,8 @@ pub enum Rows {
 pub struct Table {
     /// The name of the table, which says what the rows show.
     pub name: &'static str,
-    /// Texts for the store. Before these texts, the store gets the files of a board of a driver and a receiver, and the worked devices. A text
-    /// replaces another text of the same name.
+    /// Texts for the store. Before these texts, the store gets the files of a board of a driver and a receiver, and the worked devices. A
+    /// text replaces another text of the same name.
     pub texts: &'static [Named],
     /// The rows.
     pub rows: Rows,
