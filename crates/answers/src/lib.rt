@@ -1,5 +1,5 @@
-//! The meaning of a function's answer beside a definition: its value, or its fault. A refusal of
-//! memory means nothing there, since no definition speaks of memory.
+//! Relates a function's answer to a definition of its value or fault. If memory was refused, nothing is claimed, since
+//! no definition speaks of memory.
 //!
 //! The crate has only definitions (`specs/`).
 #![tactic(auto)]

@@ -9,7 +9,7 @@ within_more : (failing : List FailingPut) (call most taken : ℕ) (same : Bool)
 within_more failing call most taken true rest = let less : allowed failing call (min most taken) ≤ min most taken = rest (min most taken) in omega arith
 within_more failing call most taken false rest = rest most
 
--- no more is allowed than is asked for
+-- a put is never allowed more bytes than `most`
 pub allowed_within : (failing : List FailingPut) (call most : ℕ) → allowed failing call most ≤ most
 allowed_within [] call most = omega arith
 allowed_within (f ∷ failing) call most = within_more failing call most f.taken (nat_eq f.call call) (λ m. allowed_within failing call m)
@@ -19,7 +19,7 @@ whole_more : (failing : List FailingPut) (call most taken : ℕ) (same : Bool)
 whole_more failing call most taken true none rest = let clash : true ≡ false = none in absurd cc
 whole_more failing call most taken false none rest = rest none
 
--- a put that is not chosen to fail may take everything
+-- a put that is not chosen to fail may take all `most` bytes
 pub allowed_whole : (failing : List FailingPut) (call most : ℕ) → is_chosen call failing ≡ false → allowed failing call most ≡ most
 allowed_whole [] call most none = refl
 allowed_whole (f ∷ failing) call most none = whole_more failing call most f.taken (nat_eq f.call call) none (λ n. allowed_whole failing call most n)

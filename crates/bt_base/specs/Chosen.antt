@@ -3,11 +3,11 @@ use Rattle.std.specs.Prelude.{ℕ, ◌==◌, Bool, List, [], ◌∷◌, min, if�
 use Rattle.std.specs.List.{list_any}
 use Rattle.bt_base.specs.declared.memory.FailingPut.{FailingPut}
 
--- put number `call` is chosen to fail
+-- put number `call` is one of the puts that are chosen to fail
 abbrev pub is_chosen : ℕ → List FailingPut → Bool
 is_chosen call failing = list_any (λ f. f.call == call) failing
 
--- how many of `most` bytes put number `call` may take
+-- the number of bytes that put number `call` may take, out of `most`
 abbrev pub allowed : List FailingPut → ℕ → ℕ → ℕ
 allowed [] call most = most
 allowed (f ∷ failing) call most = allowed failing call (if f.call == call then min most f.taken else most)

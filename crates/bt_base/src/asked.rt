@@ -1,4 +1,4 @@
-//! The names that a store was asked for. Only proofs see them: the list takes no memory, and its methods do
+//! The names that a store was asked for. Only proofs see these names. The list takes no memory, and its methods do
 //! nothing at run time.
 ghost use Rattle.std.specs.Prelude.{◌≡◌, ℕ, List, [], ◌∷◌, ◌++◌};
 ghost use Rattle.std.specs.Borrow.{ftrue};

@@ -44,8 +44,8 @@ impl<R: Read> Read for Watched<R> {
     }
 }
 
-/// Reads everything that the reader has left into an empty vector, or `cap + 1` bytes if it has more than `cap`.
-/// Returns `Failed` if and only if a read fails.
+/// Reads all bytes that the reader has left into an empty vector. If there are more than `cap`, reads `cap + 1` bytes
+/// and returns `TooLong`. Returns `Failed` if and only if a read fails.
 pub(crate) fn read_all<R: Read>(
     from: &mut Watched<R>,
     into: &mut Vec<u8>,
@@ -69,7 +69,7 @@ pub(crate) fn read_all<R: Read>(
     Err(FetchFault::TooLong)
 }
 
-// Reads once, at most `most` bytes, and appends them. Returns their number, which is 0 only at the end.
+// Makes one read of at most `most` bytes and appends the bytes. Returns how many were read, which is 0 only at the end.
 fn read_some<R: Read>(
     from: &mut Watched<R>,
     into: &mut Vec<u8>,

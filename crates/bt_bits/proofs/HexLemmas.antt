@@ -11,7 +11,7 @@ length-hex_text (a ∷ b ∷ c ∷ []) = refl
 length-hex_text (a ∷ b ∷ c ∷ d ∷ bits) =
     length-append (hex_text bits) (hex_digit a b c d ∷ []) ∙ omega (arith, length-hex_text bits)
 
--- four bits more
+-- taking four more bits appends these four
 pub take_four : (bits : List Bool) (i : ℕ) → i + 3 < length bits → take (i + 4) bits ≡ take i bits ++ get_or bits i false ∷ get_or bits (i + 1) false ∷ get_or bits (i + 2) false ∷ get_or bits (i + 3) false ∷ []
 take_four bits i within = grind (arith, take_more {X = Bool}, append_assoc {A = Bool})
 
@@ -19,13 +19,13 @@ joined_bits-none : (bits : Option (List Bool)) → joined_bits bits None ≡ Non
 joined_bits-none None = refl
 joined_bits-none (Some bits) = refl
 
--- a byte that is no digit
+-- a text with a byte that is no digit has no bits
 pub text_bits-none : (text : List ℕ) (i : ℕ) → i < length text → digit_bits (get_or text i 0) ≡ None → text_bits text ≡ None
 text_bits-none [] i within bad = absurd (omega arith)
 text_bits-none (c ∷ cs) zero within bad = ap (joined_bits (text_bits cs)) bad ∙ joined_bits-none (text_bits cs)
 text_bits-none (c ∷ cs) (suc i) within bad = ap (λ o. joined_bits o (digit_bits c)) (text_bits-none cs i (omega arith) bad)
 
--- a field of the right length is read digit by digit
+-- a field of the right length has the bits of its text, cut to its length
 pub field_bits-sized : (len : ℕ) (text : List ℕ) → length text ≡ digit_count len → field_bits len text ≡ option_and_then (cut_to len) (text_bits text)
 field_bits-sized len text sized =
     ap (λ b. cond b (option_and_then (cut_to len) (text_bits text)) None) (eq-eqb (length text) (digit_count len) sized)

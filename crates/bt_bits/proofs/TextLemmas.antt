@@ -31,7 +31,7 @@ digit_char-value true false true true = refl
 digit_char-value false true true true = refl
 digit_char-value true true true true = refl
 
--- the text of bits is that of their digits
+-- the hexadecimal text of bits is the text of their digits
 pub hex_text-digits : (bits : List Bool) → hex_text bits ≡ digits_text (digits_of bits)
 hex_text-digits [] = refl
 hex_text-digits (a ∷ []) = ap (λ x. x ∷ []) (sym (digit_char-value a false false false))
@@ -52,7 +52,7 @@ digits_text-take_more : (digits : List ℕ) (k : ℕ) → k < length digits → 
 digits_text-take_more digits k within =
     ap digits_text (take_more digits k 0 within) ∙ digits_text-append (take k digits) (get_or digits k 0 ∷ [])
 
--- a text that is filled from the right takes one digit more
+-- the text is filled from the right so far, and one more character is filled
 pub filled_more : (digits text : List ℕ) (n k d : ℕ) → n ≡ length text → k < n → k < length digits → drop (n - k) text ≡ digits_text (take k digits) → d ≡ digit_char (get_or digits k 0) → drop (n - (k + 1)) (set text (n - 1 - k) d) ≡ digits_text (take (k + 1) digits)
 filled_more digits text n k d is_n below within so_far is_d =
     let place : n - (k + 1) ≡ n - 1 - k = omega arith in
@@ -60,7 +60,7 @@ filled_more digits text n k d is_n below within so_far is_d =
     ap (λ i. drop i (set text (n - 1 - k) d)) place ∙ drop-set text (n - 1 - k) d (omega arith)
     ∙ ap (λ i. d ∷ drop i text) after ∙ ap (λ t. d ∷ t) so_far ∙ ap (λ x. x ∷ digits_text (take k digits)) is_d ∙ sym (digits_text-take_more digits k within)
 
--- a piece of the text is that of a part of the digits
+-- a piece of the text of digits is the text of some of these digits
 pub text_piece : (digits : List ℕ) (from count : ℕ) → from + count ≤ length digits → digits_text (take count (drop (length digits - from - count) digits)) ≡ take count (drop from (digits_text digits))
 text_piece digits from count within =
     let low : ℕ = length digits - from - count in
@@ -80,7 +80,7 @@ text_piece digits from count within =
 max_below : (a b : ℕ) → nat_lt (max a b) 16 ≡ (nat_lt b 16 && nat_lt a 16)
 max_below a b = grind arith
 
--- one digit more is read
+-- one more digit is read to the left of those that were read
 read_more : (text : List ℕ) (at : ℕ) (digits : List ℕ) (x : ℕ) → at < length text → text_bits (drop (suc at) text) ≡ Some (bits_of digits) → digit_bits (get_or text at 0) ≡ Some (bits_of (x ∷ [])) → text_bits (drop at text) ≡ Some (bits_of (digits ++ x ∷ []))
 read_more text at digits x within so_far is =
     ap text_bits (drop-cons text at 0 within) ∙ ap (λ o. joined_bits o (digit_bits (get_or text at 0))) so_far
@@ -94,7 +94,7 @@ both false second b other e f g = f b
 is_below : (x : ℕ) → nat_lt x 16 ≡ true → x < 16
 is_below x small = grind arith
 
--- a text that is read from the right takes one byte more
+-- the text was read from the right so far, and one more byte is read
 pub read_digit : (text digits : List ℕ) (n k most x next : ℕ) → n ≡ length text → length digits ≡ n → k < n → next ≡ max x most → IsValueOf (get_or text (n - 1 - k) 0) x → AreRead text (n - k) (take k digits) (nat_lt most 16) → AreRead text (n - (k + 1)) (take (k + 1) (set digits k x)) (nat_lt next 16)
 read_digit text digits n k most x next is_n sized within is_next value so_far =
     let at : n - (k + 1) ≡ n - 1 - k = omega arith in
@@ -109,13 +109,13 @@ read_digit text digits n k most x next is_n sized within is_next value so_far =
     (λ none. none)
     (λ none. text_bits-none text (n - 1 - k) (omega arith) none))
 
--- and is read whole at its first byte
+-- if every byte was read, the whole text is read
 pub read_whole : (text digits : List ℕ) (n k : ℕ) (all : Bool) → length digits ≡ n → n ≤ k → AreRead text (n - k) (take k digits) all → AreRead text 0 digits all
 read_whole text digits n k all sized whole read =
     let at : n - k ≡ 0 = omega arith in
     subst (λ i. AreRead text i digits all) at (subst (λ ds. AreRead text (n - k) ds all) (take_all k digits (omega arith)) read)
 
--- a field whose digits were read
+-- the bits of a field whose digits were all read
 pub field_bits-read : (len : ℕ) (text digits : List ℕ) (cut : Bool) → length text ≡ digit_count len → text_bits text ≡ Some (bits_of digits) → cut ≡ list_all not (drop len (bits_of digits)) → MatchBool cut (field_bits len text ≡ Some (row_bits len digits)) (field_bits len text ≡ None)
 unfolding row_bits
 field_bits-read len text digits cut sized read is =
@@ -130,7 +130,7 @@ unfolding row_bits
 length-row_bits len digits sized =
     length-take-le len (bits_of digits) (omega (arith, length-bits_of digits))
 
--- and what is kept of it
+-- the digits of a field that was read are those of its bits
 pub field_kept : (len : ℕ) (digits : List ℕ) (cut : Bool) → length digits ≡ digit_count len → All (λ x. x < 16) digits → cut ≡ list_all not (drop len (bits_of digits)) → OnTrue cut (AreDigitsOf (row_bits len digits) len digits)
 field_kept len digits false sized below is = tt
 field_kept len digits true sized below is = record {

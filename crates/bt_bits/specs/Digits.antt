@@ -1,12 +1,12 @@
--- Bits in groups of four, each the value of a digit, as a row keeps them.
+-- Digits of four bits each, as a row keeps its bits.
 use Rattle.std.specs.Prelude.{ℕ, ◌+◌, ◌*◌, ◌/◌, ◌%◌, ◌^◌, ◌==◌, Bool, true, false, List, [], ◌∷◌, take}
 
--- the number of a bit, 0 or 1
+-- the value of a bit, 0 or 1
 abbrev pub bit_value : Bool → ℕ
 bit_value false = 0
 bit_value true = 1
 
--- the value of a digit from its four bits, the lowest first
+-- the value of the digit that has these four bits, the lowest first
 abbrev pub digit_value : Bool → Bool → Bool → Bool → ℕ
 digit_value a b c d = bit_value a + 2 * bit_value b + 4 * bit_value c + 8 * bit_value d
 

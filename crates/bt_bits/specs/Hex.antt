@@ -2,7 +2,7 @@
 use Rattle.std.specs.Prelude.{ℕ, ◌+◌, ◌/◌, ◌==◌, Bool, true, false, not, ◌||◌, List, [], ◌∷◌, ◌++◌, length, take, drop, Option, Some, None, option_and_then, if◌then◌else◌}
 use Rattle.std.specs.List.{list_all}
 
--- the digit of four bits, the lowest bit first, in upper case
+-- the character of the digit that has these four bits, the lowest first, in upper case
 abbrev pub hex_digit : Bool → Bool → Bool → Bool → ℕ
 hex_digit false false false false = 48
 hex_digit true false false false = 49
@@ -21,7 +21,7 @@ hex_digit true false true true = 68
 hex_digit false true true true = 69
 hex_digit true true true true = 70
 
--- the digits of bits; the first four bits make the rightmost digit, and missing bits are 0
+-- the hexadecimal text of bits. The first four bits make the rightmost digit, and missing bits are 0.
 abbrev pub hex_text : List Bool → List ℕ
 hex_text [] = []
 hex_text (a ∷ []) = hex_digit a false false false ∷ []
@@ -33,7 +33,7 @@ hex_text (a ∷ b ∷ c ∷ d ∷ bits) = hex_text bits ++ hex_digit a b c d ∷
 abbrev pub digit_count : ℕ → ℕ
 digit_count n = (n + 3) / 4
 
--- the four bits of a digit of either case, the lowest first
+-- the four bits of a digit in either case, the lowest first, or None for a byte that is not a digit
 abbrev pub digit_bits : ℕ → Option (List Bool)
 digit_bits c =
     if c == 48 then Some (false ∷ false ∷ false ∷ false ∷ []) else (
@@ -63,10 +63,11 @@ abbrev pub text_bits : List ℕ → Option (List Bool)
 text_bits [] = Some []
 text_bits (c ∷ cs) = joined_bits (text_bits cs) (digit_bits c)
 
--- the first `n` bits, or None if a bit above them is 1
+-- the first `n` bits, or None if a later bit is 1
 abbrev pub cut_to : ℕ → List Bool → Option (List Bool)
 cut_to n bits = if list_all not (drop n bits) then Some (take n bits) else None
 
--- the `n` bits of a field, which has just as many digits as they need and no 1 above them
+-- the `n` bits of a field, or None. A field has exactly the number of digits that `n` bits need, and its bits from `n`
+-- on are 0.
 abbrev pub field_bits : ℕ → List ℕ → Option (List Bool)
 field_bits n digits = if length digits == digit_count n then option_and_then (cut_to n) (text_bits digits) else None

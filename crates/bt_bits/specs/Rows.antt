@@ -1,9 +1,9 @@
--- How contracts see a row of bits.
+-- The value of a row of bits in contracts.
 use Rattle.std.specs.Prelude.{◌≡◌, ℕ, List, Bool, length, refl}
 use Rattle.std.specs.Coded.{Coded, code_by, coded×, coded_ℕ, coded_list, coded_bool}
 use Rattle.bt_bits.specs.Digits.{digits_of}
 
--- the bits of a row, with the bit that is shifted first at place 0, and the number of bits that it has room for
+-- The bits of a row and the number of bits that the row has room for. The bit at place 0 is shifted first.
 pub record BitRow : Type 0 where
   pub bits : List Bool
   pub room : ℕ
@@ -11,7 +11,7 @@ pub record BitRow : Type 0 where
 abbrev pub row_code : Coded BitRow
 row_code = code_by (List Bool × ℕ) (coded× (coded_list coded_bool) coded_ℕ) (λ r. (r.bits, r.room)) (λ p. record { bits = p.0; room = p.1 }) (λ _. refl)
 
--- the number of bits, and the digits that keep them
+-- the list has `len` bits, and `digits` are its digits
 pub record AreDigitsOf (bits : List Bool) (len : ℕ) (digits : List ℕ) : Type 0 where
   pub count : length bits ≡ len
   pub values : digits ≡ digits_of bits

@@ -1,12 +1,12 @@
--- Rows of equal length, kept side by side.
+-- Rows of equal length that are kept side by side.
 use Rattle.std.specs.Prelude.{ℕ, ◌*◌, ◌/◌, ◌%◌, ◌^◌, ◌<◌, Bool, List, map, refl}
 use Rattle.std.specs.Coded.{Coded, code_by, coded×, coded_ℕ, coded_list}
 use Rattle.bt_bits.specs.Digits.{digit_bit, row_bits}
 use Rattle.bt_bits.specs.Rows.{AreDigitsOf}
 use Rattle.bt_bits.specs.declared.stack.Column.{Column}
 
--- words of 64 bits, each with the digits of 16 rows at one place, row 0 in the lowest digit; the number of bits of each row; and the number
--- that it has room for
+-- The words, the number of bits of each row, and the number of bits that each row has room for. A word has 64 bits: the digits of 16 rows
+-- at one place, that of row 0 lowest.
 pub record Stack : Type 0 where
   pub words : List ℕ
   pub len : ℕ
@@ -19,11 +19,11 @@ stack_code = code_by (List ℕ × (ℕ × ℕ)) (coded× (coded_list coded_ℕ) 
 abbrev pub digit_in : ℕ → ℕ → ℕ
 digit_in j word = word / 2 ^ (4 * j) % 16
 
--- row `j`
+-- the bits of row `j`
 abbrev pub stacked : Stack → ℕ → List Bool
 stacked stack j = row_bits stack.len (map (digit_in j) stack.words)
 
--- the words hold the digits of 16 rows of `len` bits each, and 0 above them
+-- the words hold the digits of 16 rows of `len` bits each, and the unused bits of the last digits are 0
 abbrev pub AreStacked : ℕ → List ℕ → Type 0
 AreStacked len words = (j : ℕ) → j < 16 → AreDigitsOf (row_bits len (map (digit_in j) words)) len (map (digit_in j) words)
 

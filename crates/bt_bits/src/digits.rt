@@ -1,4 +1,4 @@
-// Bits in groups of four, each the value of a digit, and the hexadecimal text of digits.
+// Digits of four bits each, and their hexadecimal text.
 ghost use Rattle.std.specs.Prelude.{◌≡◌, ◌+◌, ◌-◌, ◌*◌, ◌/◌, ◌<◌, ◌≤◌, ◌^◌, ◌%◌, ◌==◌, Bool, List, ℕ, [], ◌∷◌, ◌++◌, length, take, drop, replicate, false, not, Some, None, MatchOption, MatchBool, vec_capacity, All};
 ghost use Rattle.std.specs.Bool.{OnTrue, OnFalse};
 ghost use Rattle.std.specs.List.{list_all, list_any};
@@ -30,7 +30,7 @@ pub fn digit_bit(digit: u8, k: u32) -> bool
     (digit >> k) & 1 == 1
 }
 
-// Returns whether some bit of some digit is 1.
+// Returns whether some digit has a bit that is 1.
 pub fn has_one(digits: &[u8]) -> bool
     ensures { result ≡ list_any (λ x. not (x == 0)) digits.now }
 {
@@ -46,7 +46,7 @@ pub fn with_bit(digit: u8, k: u32, bit: bool) -> u8
     digit - (digit & (1 << k)) + (u8::from(bit) << k)
 }
 
-// Returns the value of a digit from its four bits, the lowest first.
+// Returns the digit that has these four bits, the lowest first.
 #[inline]
 fn value(a: bool, b: bool, c: bool, d: bool) -> u8
     ensures { result ≡ digit_value a b c d }
@@ -56,7 +56,7 @@ fn value(a: bool, b: bool, c: bool, d: bool) -> u8
     low + 4 * high
 }
 
-// Returns the digit of the bits after the last whole group of four.
+// Returns the digit of one to three bits, which are those after the last whole group of four.
 fn top_value(bits: &[bool]) -> u8
     requires some { 0 < length bits.now }
     requires few { length bits.now < 4 }
@@ -70,7 +70,7 @@ fn top_value(bits: &[bool]) -> u8
     }
 }
 
-// Fills `digits` with the digits of the bits.
+// Fills `digits` with the digits of the bits, four bits to a digit.
 #[inline]
 fn fill_values(bits: &[bool], digits: &mut [u8])
     requires { length digits.old ≡ digit_count (length bits.now) }
@@ -86,7 +86,7 @@ fn fill_values(bits: &[bool], digits: &mut [u8])
     }
 }
 
-// Replaces the digits by those of `len` zeros. There must be room for them.
+// Replaces the digits by those of `len` zero bits. The vector must have room for them.
 pub fn make_zeros(len: usize, digits: &mut Vec<u8>)
     requires few { len < 2 ^ 63 }
     requires room { digit_count len ≤ vec_capacity digits.old }
@@ -97,7 +97,7 @@ pub fn make_zeros(len: usize, digits: &mut Vec<u8>)
     digits.resize(digit_count(len), 0).unwrap();
 }
 
-// Replaces the digits by those of the bits. There must be room for them.
+// Replaces the digits by those of the bits. The vector must have room for them.
 pub fn copy_bits(bits: &[bool], digits: &mut Vec<u8>)
     requires few { length bits.now < 2 ^ 63 }
     requires room { digit_count (length bits.now) ≤ vec_capacity digits.old }
@@ -108,7 +108,7 @@ pub fn copy_bits(bits: &[bool], digits: &mut Vec<u8>)
     fill_values(bits, digits);
 }
 
-// Returns the hexadecimal digit with a value, in upper case.
+// Returns the hexadecimal character of a value, in upper case.
 #[inline]
 fn digit_char(value: u8) -> u8
     requires { value < 16 }
@@ -121,7 +121,7 @@ fn digit_char(value: u8) -> u8
     }
 }
 
-// Writes the text of each digit to its place.
+// Fills `text` with the characters of the digits. The first digit is the rightmost character.
 #[inline]
 pub fn fill_text(digits: &[u8], text: &mut [u8])
     requires below { All (λ x. x < 16) digits.now }
@@ -134,7 +134,7 @@ pub fn fill_text(digits: &[u8], text: &mut [u8])
     }
 }
 
-// Appends `count` characters of the text of the digits to the line, from character `from` on.
+// Appends `count` characters of the digits' text to the line. The first of them is character `from` of the text.
 pub fn push_text(digits: &[u8], from: usize, count: usize, line: &mut Line)
     requires below { All (λ x. x < 16) digits.now }
     requires digits { from + count ≤ length digits.now }
@@ -145,8 +145,8 @@ pub fn push_text(digits: &[u8], from: usize, count: usize, line: &mut Line)
     line.push_digits(&digits[low..low + count]);
 }
 
-// Returns the value of a hexadecimal digit of either case, or 16 for any other byte. The compiler vectorizes ranges, and would
-// not vectorize a table.
+// Returns the value of a hexadecimal digit in either case, or 16 for any other byte. A match on ranges is used because the
+// compiler vectorizes it, and would not vectorize a table.
 #[inline]
 fn value_of(c: u8) -> u8
     ensures { IsValueOf c result }
@@ -159,8 +159,8 @@ fn value_of(c: u8) -> u8
     }
 }
 
-// Fills `digits` with the values of the bytes, from the right, and returns whether all bytes are digits. It does not stop at a
-// byte that is not a digit, so that the loop has one exit.
+// Fills `digits` with the values of the bytes, the rightmost byte first. Returns whether all bytes are digits. The loop also
+// goes on after a byte that is not a digit, so that it has only one exit.
 fn fill_digits(text: &[u8], digits: &mut [u8]) -> bool
     requires { length digits.old ≡ length text.now }
     ensures { AreRead text.now 0 digits.new result }
@@ -175,7 +175,7 @@ fn fill_digits(text: &[u8], digits: &mut [u8]) -> bool
     most < NO_VALUE
 }
 
-// Returns whether all bits of a digit from bit `count` on are 0.
+// Returns whether the bits of a digit from bit `count` on are all 0.
 fn is_digit_cut(digit: u8, count: usize) -> bool
     requires some { 0 < count }
     requires few { count < 4 }
@@ -189,7 +189,7 @@ fn is_digit_cut(digit: u8, count: usize) -> bool
     }
 }
 
-// Returns whether all bits from `len` on are 0.
+// Returns whether the bits from `len` on are all 0.
 fn is_cut(digits: &[u8], len: usize) -> bool
     requires { length digits.now ≡ digit_count len }
     ensures { result ≡ list_all not (drop len (bits_of digits.now)) }
@@ -198,7 +198,7 @@ fn is_cut(digits: &[u8], len: usize) -> bool
     count == 0 || is_digit_cut(digits[len / 4], count)
 }
 
-// Reads the field of `len` bits into `digits`, and returns whether the text is such a field.
+// Reads the text as a field of `len` bits into `digits`. Returns whether the text is such a field.
 pub fn fill_field(text: &[u8], len: usize, digits: &mut [u8]) -> bool
     requires text { length text.now ≡ digit_count len }
     requires places { length digits.old ≡ digit_count len }
@@ -208,8 +208,8 @@ pub fn fill_field(text: &[u8], len: usize, digits: &mut [u8]) -> bool
     fill_digits(text, digits) && is_cut(digits, len)
 }
 
-// Reads the field of `len` bits into a vector with room for its digits, and returns whether the text is such a field. If it
-// isn't, the digits become those of `len` zeros.
+// Like `fill_field`, but replaces the content of a vector, which must have room for the digits. If the text is no such field,
+// the digits become those of `len` zero bits.
 pub fn read_field(text: &[u8], len: usize, digits: &mut Vec<u8>) -> bool
     requires few { len < 2 ^ 63 }
     requires digits { length text.now ≡ digit_count len }

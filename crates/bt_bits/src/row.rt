@@ -21,13 +21,13 @@ pub enum HexFault {
     /// The text has more or fewer digits than the bits need.
     #[error("wrong number of digits")]
     Length,
-    /// A byte is not a hexadecimal digit, or a bit above the bits of the row is 1.
+    /// A byte is not a hexadecimal digit, or a bit beyond the length of the row is 1.
     #[error("wrong digit")]
     Digit,
 }
 
-/// The bits of a register, with the bit that is shifted first at place 0, and a room that the row never exceeds. The row takes
-/// its memory, one byte for each four bits of the room, when it is made.
+/// The bits of a register. The bit at place 0 is shifted first. A row never has more bits than its room. It allocates one byte for
+/// every four bits of the room when it is created.
 #[derive(Drop)]
 pub struct Row {
     // The digits of the bits. The first bit is the lowest bit of the first digit.
@@ -74,7 +74,7 @@ impl Row {
         self.len = len;
     }
 
-    /// Replaces the row by these bits. There must be room for them.
+    /// Replaces the row's bits by these. There must be room for them.
     pub fn copy_from(&mut self, bits: &[bool])
         requires { length bits.now ≤ self.old.room }
         ensures bits { self.new.bits ≡ bits.now }
@@ -84,7 +84,7 @@ impl Row {
         self.len = bits.len() as u32;
     }
 
-    /// Replaces the row by the bits of another one. There must be room for them.
+    /// Replaces the row's bits by those of another row. There must be room for them.
     pub fn copy_row(&mut self, row: &Row)
         requires { length row.now.bits ≤ self.old.room }
         ensures bits { self.new.bits ≡ row.now.bits }
@@ -95,7 +95,7 @@ impl Row {
         self.len = row.len;
     }
 
-    /// Replaces the row by row `number` of a stack. There must be room for it.
+    /// Replaces the row's bits by those of row `number` of a stack. There must be room for them.
     pub fn copy_stacked(&mut self, rows: &RowStack, number: u32)
         requires number { number < 16 }
         requires room { length (stacked rows.now number) ≤ self.old.room }
@@ -106,7 +106,7 @@ impl Row {
         self.len = rows.len();
     }
 
-    /// Returns the values of the hexadecimal digits of the row. The first one has the first four bits.
+    /// Returns the values of the row's hexadecimal digits. The first digit has the first four bits.
     #[inline]
     pub fn digits(&self) -> &[u8]
         ensures { result.now ≡ digits_of self.now.bits }
@@ -123,7 +123,7 @@ impl Row {
         self.len
     }
 
-    /// Returns one bit.
+    /// Returns bit `i`.
     #[inline]
     pub fn get(&self, i: u32) -> bool
         requires { i < length self.now.bits }
@@ -139,7 +139,7 @@ impl Row {
         has_one(&self.digits)
     }
 
-    /// Changes one bit.
+    /// Sets bit `i` to `bit`.
     #[inline]
     pub fn set(&mut self, i: u32, bit: bool)
         requires { i < length self.old.bits }
@@ -150,8 +150,8 @@ impl Row {
         self.digits[place] = with_bit(self.digits[place], i % 4, bit);
     }
 
-    /// Appends `count` digits of the field of the row to the line, in upper case, from digit `from` on from the left. The rightmost
-    /// digit holds the first four bits.
+    /// Appends part of the row's hexadecimal field to the line, in upper case: `count` digits, from digit `from` on. Digits count
+    /// from the left, from 0. The rightmost digit of the field has the first four bits.
     pub fn put_hex(&self, from: u32, count: u32, line: &mut Line)
         requires digits { from + count ≤ digit_count (length self.now.bits) }
         requires room { length line.old + count ≤ 1024 }
@@ -160,9 +160,9 @@ impl Row {
         push_text(&self.digits, from as usize, count as usize, line);
     }
 
-    /// Reads `len` bits from a field of hexadecimal digits of either case. Refuses the field with `Length` if it doesn't have one
-    /// digit for each four bits, rounded up; otherwise with `Digit` if a byte is not a digit or a bit from `len` on is 1. After a
-    /// refusal the row is `len` zeros.
+    /// Reads `len` bits from a field of hexadecimal digits in either case. Refuses the field with `Length` if it does not have one
+    /// digit for every four bits, rounded up. Refuses a field of that length with `Digit` if a byte is not a digit or a bit from
+    /// `len` on is 1. After a refusal the row has `len` zeros.
     pub fn read_hex(&mut self, text: &[u8], len: u32) -> Result<(), HexFault>
         requires { len ≤ self.old.room }
         ensures ok { OnOk result (field_bits len text.now ≡ Some self.new.bits) }
@@ -186,8 +186,8 @@ impl Row {
     }
 }
 
-/// Reads the field of a row of `len` bits into `digits`, by the rules of `Row::read_hex`. The first digit has the first four
-/// bits. After a refusal the digits may be any.
+/// Reads the field of a row of `len` bits into `digits`, by the rules of `Row::read_hex`. The first digit has the first four bits.
+/// After a refusal the digits are unspecified.
 pub fn read_digits(text: &[u8], len: u32, digits: &mut [u8]) -> Result<(), HexFault>
     requires { length digits.old ≡ digit_count len }
     ensures ok { OnOk result (field_bits len text.now ≡ Some (row_bits len digits.new)) }

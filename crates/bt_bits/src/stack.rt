@@ -1,4 +1,4 @@
-// Rows of equal length, kept side by side, so that one store sets a place in all of them.
+// Rows of equal length that are kept side by side, so that one store sets a place in all of them.
 ghost use Rattle.std.specs.Prelude.{◌≡◌, ◌<◌, ◌≤◌, ◌*◌, ℕ, [], All, length, map, vec_capacity, IfOk, slice_set};
 ghost use Rattle.bt_bits.specs.Digits.{digit_bit};
 ghost use Rattle.bt_bits.specs.Stacks.{AreStacked, column_bit, digit_in, stacked};
@@ -9,10 +9,10 @@ use crate::digits::digit_count;
 use std::alloc::{AllocError, Global};
 use std::marker::Model;
 
-// The lowest bit of each digit of a word.
+// A word in which each digit has only its lowest bit set.
 const LOWEST: u64 = 0x1111_1111_1111_1111;
 
-// The four bits of each digit, spread to the lowest bits of four digits.
+// The entry for a digit has each of its four bits in a digit of its own, as the lowest bit.
 const SPREAD: [u64; 16] = [
     0x0000, 0x0001, 0x0010, 0x0011, 0x0100, 0x0101, 0x0110, 0x0111, 0x1000, 0x1001, 0x1010, 0x1011,
     0x1100, 0x1101, 0x1110, 0x1111,
@@ -25,7 +25,7 @@ pub struct Column {
 }
 
 impl Column {
-    /// Returns the column that has bit `j` of a number for row `j`. Bit 0 is the lowest.
+    /// Returns the column in which row `j` has bit `j` of the number. Bit 0 is the lowest.
     #[inline]
     pub fn of(number: u32) -> Column
         ensures { (j : ℕ) → j < 16 → column_bit result j ≡ digit_bit number j }
@@ -41,7 +41,7 @@ impl Column {
         }
     }
 
-    /// Returns the column that has this bit for every row.
+    /// Returns the column in which every row has this bit.
     #[inline]
     pub fn of_bit(bit: bool) -> Column
         ensures { (j : ℕ) → j < 16 → column_bit result j ≡ bit }
@@ -52,7 +52,8 @@ impl Column {
     }
 }
 
-// Fills `digits` with the digits of row `number`. The compiler vectorizes the loop over slices, and not one over vectors.
+// Fills `digits` with the digits of row `number`. The function takes slices because the compiler vectorizes such a loop over slices,
+// but not over vectors.
 fn fill_digits(words: &[u64], number: u32, digits: &mut [u8])
     requires number { number < 16 }
     requires places { length digits.old ≡ length words.now }
@@ -64,7 +65,7 @@ fn fill_digits(words: &[u64], number: u32, digits: &mut [u8])
     }
 }
 
-// Replaces the digits by those of row `number`. There must be room for them.
+// Replaces the digits by those of row `number`. The vector must have room for them.
 pub fn copy_digits(words: &[u64], number: u32, digits: &mut Vec<u8>)
     requires number { number < 16 }
     requires room { length words.now ≤ vec_capacity digits.old }
@@ -75,7 +76,7 @@ pub fn copy_digits(words: &[u64], number: u32, digits: &mut Vec<u8>)
     fill_digits(words, number, digits);
 }
 
-// Replaces the words by those that have these digits in each row. There must be room for them.
+// Replaces the words by words in which every row has these digits. The vector must have room for them.
 fn spread_digits(digits: &[u8], words: &mut Vec<u64>)
     requires below { All (λ x. x < 16) digits.now }
     requires room { length digits.now ≤ vec_capacity words.old }
@@ -88,7 +89,7 @@ fn spread_digits(digits: &[u8], words: &mut Vec<u64>)
     }
 }
 
-// Returns a word with bit `k` of each digit taken from a column.
+// Returns the word with bit `k` of each digit replaced by the column's bit for that row.
 #[inline]
 fn with_column(word: u64, k: u32, column: Column) -> u64
     requires { k < 4 }
@@ -98,11 +99,11 @@ fn with_column(word: u64, k: u32, column: Column) -> u64
     (word & !mask) | ((column.word << k) & mask)
 }
 
-/// 16 rows of equal length, numbered from 0, and a room that they never exceed. The stack takes its memory, eight bytes for each four
-/// bits of the room, when it is made.
+/// A stack of 16 rows of equal length, numbered from 0. The rows never have more bits than the room of the stack. The stack allocates
+/// eight bytes for every four bits of the room when it is created.
 #[derive(Drop)]
 pub struct RowStack {
-    // For each place, the digits of all rows, row 0 in the lowest digit.
+    // The word at a place has the digits of all rows at that place. Row 0 has the lowest digit.
     words: Vec<u64>,
     len: u32,
     room: u32,
@@ -123,7 +124,7 @@ impl Model for RowStack {
 }
 
 impl RowStack {
-    /// Returns empty rows with room for `room` bits each.
+    /// Returns a stack of empty rows, each with room for `room` bits.
     pub fn with_room(alloc: Global, room: u32) -> Result<RowStack, AllocError>
         ensures rows { IfOk result (λ stack. (j : ℕ) → j < 16 → stacked stack j ≡ []) }
         ensures room { IfOk result (λ stack. stack.room ≡ room) }
@@ -144,7 +145,7 @@ impl RowStack {
         self.len
     }
 
-    // Returns, for each place, the digits of all rows.
+    // Returns the words. The word at a place has the digits of all rows at that place.
     pub(crate) fn words(&self) -> &[u64]
         ensures words { result.now ≡ self.now.words }
         ensures stacked { AreStacked self.now.len self.now.words }
@@ -152,7 +153,7 @@ impl RowStack {
         &self.words
     }
 
-    /// Replaces each of the rows by this one. There must be room for it.
+    /// Replaces every row by this one. There must be room for it.
     pub fn fill_with(&mut self, row: &Row)
         requires { length row.now.bits ≤ self.old.room }
         ensures rows { (j : ℕ) → j < 16 → stacked self.new j ≡ row.now.bits }
@@ -173,7 +174,7 @@ impl RowStack {
         self.len = rows.len;
     }
 
-    /// Sets one place in all rows. Past the end it does nothing.
+    /// Sets place `i` of every row to that row's bit in the column. Does nothing if `i` is past the end.
     #[inline]
     pub fn set(&mut self, i: u32, column: Column)
         ensures rows { (j : ℕ) → j < 16 → stacked self.new j ≡ slice_set (stacked self.old j) i (column_bit column j) }

@@ -5,7 +5,7 @@ use std::alloc::{AllocError, Global};
 use std::marker::Model;
 use std::slice;
 
-// Where the items are: in the value itself, or in a vector.
+// The items of a list: up to two are in the value itself, and more are in a vector.
 #[derive(Debug, Drop)]
 enum Kept<T> {
     Nothing,
@@ -14,7 +14,7 @@ enum Kept<T> {
     More(Vec<T>),
 }
 
-/// A list that needs no memory of its own for up to two items.
+/// A list that allocates no memory for up to two items.
 #[derive(Debug, Drop)]
 pub struct Few<T> {
     kept: Kept<T>,
@@ -73,7 +73,7 @@ impl<T: Copy> Few<T> {
         }
     }
 
-    /// Returns an empty list with room for `count` items.
+    /// Returns an empty list with room for `count` items. Allocates nothing if `count` is at most two.
     pub fn with_capacity(alloc: Global, count: usize) -> Result<Few<T>, AllocError>
         ensures { IfOk result (λ few. few ≡ []) }
     {
@@ -99,7 +99,7 @@ impl<T: Copy> Few<T> {
         self.kept.as_slice().len()
     }
 
-    /// Appends an item.
+    /// Appends an item. If memory is refused, the list is unspecified.
     pub fn push(&mut self, alloc: Global, item: T) -> Result<(), AllocError>
         ensures { OnOk result (self.new ≡ self.old ++ item ∷ []) }
     {

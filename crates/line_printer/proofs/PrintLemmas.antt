@@ -15,7 +15,7 @@ prints_from {T} {E} {old} {new} {p} {q} {l} {a} {r} same prints = subst (λ t. P
 pub prints_to : {T E : Type 0} {old new : Shown} {p l m a : List ℕ} {r : Result T E} → l ≡ m → Prints old new p l a r → Prints old new p m a r
 prints_to {T} {E} {old} {new} {p} {l} {m} {a} {r} same prints = subst (λ t. Prints old new p t a r) same prints
 
--- nothing was put, and the text stands in the line
+-- nothing was put, and the text is in the line
 pub prints_none : {T E : Type 0} {old : Shown} {p l a : List ℕ} (x : T) → l ≡ p ++ a → Prints {T = T} {E = E} old old p l a (Ok x)
 prints_none x holds = record { whole = inl (refl, holds); cut = tt; later = omega arith; cause = tt }
 
@@ -29,7 +29,7 @@ still_move m v l p a b first second = second ∙ ap (λ t. t ++ b) first ∙ app
 move_still : (u m l p a b : List ℕ) → u ++ m ≡ p ++ a → l ≡ m ++ b → u ++ l ≡ p ++ (a ++ b)
 move_still u m l p a b first second = ap (λ t. u ++ t) second ∙ sym (append_assoc u m b) ∙ ap (λ t. t ++ b) first ∙ append_assoc p a b
 
--- two texts, one after the other
+-- two texts in turn
 moves_twice : {old mid new : Shown} (p m l a b : List ℕ) → Moves old mid p m a → Moves mid new m l b → Moves old new p l (a ++ b)
 moves_twice {old} {mid} {new} p m l a b (inl (same, holds)) (inl (same', holds')) = inl (same' ∙ same, holds' ∙ ap (λ t. t ++ b) holds ∙ append_assoc p a b)
 moves_twice {old} {mid} {new} p m l a b (inl (same, holds)) (inr (v, takes, holds')) =
@@ -46,7 +46,7 @@ cut_second {old} {mid} {new} p m a b k (inl (same, holds)) takes =
 cut_second {old} {mid} {new} p m a b k (inr (u, first, holds)) takes =
     (length u + k, takes_same (take-append-past k u (m ++ b) ∙ ap (take (length u + k)) (sym (append_assoc u m b) ∙ ap (λ t. t ++ b) holds ∙ append_assoc p a b)) (takes_twice first takes))
 
--- a call answered Ok, and the text goes on
+-- the first call returned Ok, and a second call prints the rest of the text
 pub prints_ok : {T U E F : Type 0} {old mid new : Shown} {p m l a b : List ℕ} {r : Result T E} {x : T} {s : Result U F} → Prints old mid p m a r → r ≡ Ok x → Prints mid new m l b s → Prints old new p l (a ++ b) s
 prints_ok {T} {U} {E} {F} {old} {mid} {new} {p} {m} {l} {a} {b} {r} {x} {s} first ok second = after s second
   where
@@ -67,7 +67,7 @@ prints_ok {T} {U} {E} {F} {old} {mid} {new} {p} {m} {l} {a} {b} {r} {x} {s} firs
       cause = rose_after first.later second.cause;
     }
 
--- where a call answered Err, and this one does too
+-- the first call returned Err, and so does the call that prints the whole text
 pub prints_err : {T U E F : Type 0} {old new : Shown} {p m l a : List ℕ} {r : Result T E} {e : E} {s : Result U F} → (b : List ℕ) → Prints old new p m a r → r ≡ Err e → IsErr s → Prints old new p l (a ++ b) s
 prints_err {T} {U} {E} {F} {old} {new} {p} {m} {l} {a} {r} {e} {s} b first err is = by s is
   where
@@ -83,7 +83,7 @@ prints_err {T} {U} {E} {F} {old} {new} {p} {m} {l} {a} {r} {e} {s} b first err i
       cause = cut.cause;
     }
 
--- a call answered Ok
+-- the call returned Ok, whatever the value
 pub prints_done : {T U E F : Type 0} {old new : Shown} {p l a : List ℕ} {r : Result T E} {x : T} {y : U} → Prints old new p l a r → r ≡ Ok x → Prints {T = U} {E = F} old new p l a (Ok y)
 prints_done {T} {U} {E} {F} {old} {new} {p} {l} {a} {r} {x} {y} prints ok = record {
   whole = (subst (λ (q : Result T E). Prints old new p l a q) ok prints).whole;
@@ -92,7 +92,7 @@ prints_done {T} {U} {E} {F} {old} {new} {p} {l} {a} {r} {x} {y} prints ok = reco
   cause = tt;
 }
 
--- what the line held was put
+-- the whole content of the line was put
 pub prints_put : {T E : Type 0} {old new : Shown} {p l a b : List ℕ} {r : Result T E} → Puts old new b r → b ≡ p ++ a → l ≡ [] → Prints old new p l a r
 prints_put {T} {E} {old} {new} {p} {l} {a} {b} {r} put same empty = by r put
   where
@@ -130,7 +130,7 @@ lent-append : (a b : List (Bor (List ℕ))) → map (λ p. p.now) (a ++ b) ≡ m
 lent-append [] b = refl
 lent-append (x ∷ a) b = ap (λ t. x.now ∷ t) (lent-append a b)
 
--- the pieces up to a place, and the one there
+-- the pieces before a place, followed by the piece there
 pub whole-more : (pieces : List (Bor (List ℕ))) (i : ℕ) (d : Bor (List ℕ)) → i < length pieces
     → whole (map (λ p. p.now) (take i pieces)) ++ (get_or pieces i d).now ≡ whole (map (λ p. p.now) (take (i + 1) pieces))
 whole-more pieces i d within =
@@ -138,7 +138,7 @@ whole-more pieces i d within =
     ∙ sym (ap (λ l. whole (map (λ p. p.now) l)) (take_more pieces i d within) ∙ ap whole (lent-append (take i pieces) (get_or pieces i d ∷ []))
     ∙ whole-append (map (λ p. p.now) (take i pieces)) ((get_or pieces i d).now ∷ []))
 
--- all of the pieces, as those before a place, the one there and those after it
+-- all pieces: those before a place, the piece there and those after it
 pub whole-split : (pieces : List (Bor (List ℕ))) (i : ℕ) (d : Bor (List ℕ)) → i < length pieces
     → whole (map (λ p. p.now) (take i pieces)) ++ ((get_or pieces i d).now ++ whole (map (λ p. p.now) (drop (i + 1) pieces))) ≡ whole (map (λ p. p.now) pieces)
 whole-split pieces i d within =
@@ -146,6 +146,6 @@ whole-split pieces i d within =
     sym (ap (λ l. whole (map (λ p. p.now) l)) cut ∙ ap whole (lent-append (take i pieces) (get_or pieces i d ∷ drop (i + 1) pieces))
     ∙ whole-append (map (λ p. p.now) (take i pieces)) ((get_or pieces i d).now ∷ map (λ p. p.now) (drop (i + 1) pieces)))
 
--- a part of a text after what stands before it
+-- a part of a text follows what is before it in the text
 pub taken_more : (at count : ℕ) (text : List ℕ) → take at text ++ take (at + count - at) (drop at text) ≡ take (at + count) text
 taken_more at count text = let same : at + count - at ≡ count = omega arith in ap (λ n. take at text ++ take n (drop at text)) same ∙ sym (take-add at count text)

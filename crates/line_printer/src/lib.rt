@@ -1,4 +1,4 @@
-//! Writing text line by line. A line of any length goes through a `Line`.
+//! Writing text line by line. The text of a line goes through a `Line`, whatever its length.
 #![tactic(auto)]
 
 mod printing;

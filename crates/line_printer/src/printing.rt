@@ -1,4 +1,4 @@
-// Lines of any length.
+// Printing lines of any length.
 ghost use Rattle.std.specs.Prelude.{◌≡◌, ◌<◌, ℕ, List, [], ◌∷◌, ◌++◌, length, map, OnOk};
 ghost use Rattle.bt_base.specs.Puts.{Puts};
 ghost use Rattle.line_printer.specs.Prints.{Prints, line_of, whole};
@@ -6,7 +6,7 @@ ghost use Rattle.line_printer.specs.Prints.{Prints, line_of, whole};
 use bt_base::{PutFault, Sink};
 use bt_bits::{Line, MAX_LINE};
 
-// Puts and empties the line if it is full.
+// If the line is full, puts its bytes and empties the line.
 fn make_room<K: Sink>(line: &mut Line, out: &mut K) -> Result<(), PutFault>
     ensures text { Prints (K.shown out.old) (K.shown out.new) line.old line.new [] result }
     ensures room { OnOk result (length line.new < 1024) }
@@ -19,7 +19,7 @@ fn make_room<K: Sink>(line: &mut Line, out: &mut K) -> Result<(), PutFault>
     Ok(())
 }
 
-// Like `print`, for a text that may not fit into the line.
+// Like `print`, but for a text that may not fit into the line.
 fn print_parts<K: Sink>(text: &[u8], line: &mut Line, out: &mut K) -> Result<(), PutFault>
     ensures { Prints (K.shown out.old) (K.shown out.new) line.old line.new text.now result }
 {
@@ -33,8 +33,8 @@ fn print_parts<K: Sink>(text: &[u8], line: &mut Line, out: &mut K) -> Result<(),
     Ok(())
 }
 
-/// Appends a text to the line, which it puts each time the line is full and more bytes follow. It fails only if the sink
-/// does. Then a prefix of the line and the text was put.
+/// Appends a text to the line. When the line is full and more bytes follow, its bytes are put and the line is emptied.
+/// On an error of the sink, a prefix of the line and the text was put. There are no other errors.
 #[inline]
 pub fn print<K: Sink>(text: &[u8], line: &mut Line, out: &mut K) -> Result<(), PutFault>
     ensures { Prints (K.shown out.old) (K.shown out.new) line.old line.new text.now result }
@@ -57,7 +57,7 @@ pub fn print_all<K: Sink>(pieces: &[&[u8]], line: &mut Line, out: &mut K) -> Res
     Ok(())
 }
 
-/// Begins a new line with pieces. What the line held is lost.
+/// Begins a new line with these pieces. The former content of the line is dropped.
 pub fn begin_line<K: Sink>(pieces: &[&[u8]], line: &mut Line, out: &mut K) -> Result<(), PutFault>
     ensures { Prints (K.shown out.old) (K.shown out.new) [] line.new (whole (map (λ p. p.now) pieces.now)) result }
 {
@@ -65,7 +65,7 @@ pub fn begin_line<K: Sink>(pieces: &[&[u8]], line: &mut Line, out: &mut K) -> Re
     print_all(pieces, line, out)
 }
 
-/// Ends the line with a line feed and puts it.
+/// Appends a line feed to the line and puts the line. Afterwards the content of the line is unspecified.
 pub fn end_line<K: Sink>(line: &mut Line, out: &mut K) -> Result<(), PutFault>
     ensures { Prints (K.shown out.old) (K.shown out.new) line.old [] (10 ∷ []) result }
 {
@@ -74,7 +74,8 @@ pub fn end_line<K: Sink>(line: &mut Line, out: &mut K) -> Result<(), PutFault>
     out.put(line.bytes())
 }
 
-/// Puts the line of these pieces, in one put if it has at most `MAX_LINE` bytes. What the line held is lost.
+/// Puts the line of these pieces, in one put if it has at most `MAX_LINE` bytes with its line feed. The former content
+/// of `line` is dropped.
 pub fn put_line<K: Sink>(pieces: &[&[u8]], line: &mut Line, out: &mut K) -> Result<(), PutFault>
     ensures { Prints (K.shown out.old) (K.shown out.new) [] [] (line_of (map (λ p. p.now) pieces.now)) result }
 {

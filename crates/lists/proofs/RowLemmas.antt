@@ -1,10 +1,10 @@
--- What stands at a place once an item was noted.
+-- The lists of a table to which an item was added.
 use Rattle.std.proofs.Common.{◌≡◌, ℕ, ◌<◌, ◌==◌, Bool, false, cond, List, [], ◌∷◌, ◌++◌, length, get_or, set, Option, Some, None, refl, sym, ap, ◌∙◌, length-set, ◌⊎◌, inl, inr}
 use Rattle.std.proofs.lemmas.Bool.{cases_eq, eq-eqb, ne_eqb}
 use Rattle.std.proofs.lemmas.List.{append-nil, get_or-set_same, get_or-set_other}
 use Rattle.lists.specs.Rows.{noted}
 
--- whether the place is this one
+-- the place, if there is one, is place `k`
 abbrev pub is_at : ℕ → Option ℕ → Bool
 is_at k None = false
 is_at k (Some place) = place == k

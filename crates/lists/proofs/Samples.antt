@@ -1,8 +1,8 @@
--- A few lists by place, and what is noted in them.
+-- A small table of lists, and items that are added to it.
 use Rattle.std.proofs.Common.{◌≡◌, ℕ, List, [], ◌∷◌, Some, None, refl}
 use Rattle.lists.specs.Rows.{noted}
 
--- three lists, one of them with an item
+-- three lists, one of which has an item
 abbrev rows : List (List ℕ)
 rows = [] ∷ (7 ∷ []) ∷ [] ∷ []
 

@@ -1,4 +1,4 @@
-//! Vectors that contracts see as lists, flags by place, and tables of lists.
+//! Vectors whose values in contracts are lists, flags by place, and tables of lists.
 #![tactic(auto)]
 
 mod flags;

@@ -1,4 +1,4 @@
-// Tables of lists, which a walk fills.
+// Tables of lists: one list for each place, to which items are added.
 ghost use Rattle.std.specs.Prelude.{◌≡◌, [], Some, replicate, IfOk, OnOk};
 ghost use Rattle.lists.specs.Rows.{noted};
 
@@ -16,7 +16,7 @@ pub fn blank<T: Drop>(alloc: Global, count: usize) -> Result<Vec<Items<T>>, Allo
     Ok(rows)
 }
 
-/// Appends the item to the list at a place. Past the end it does nothing.
+/// Appends the item to the list at a place. Does nothing past the end.
 pub fn note<T: Drop>(rows: &mut [Items<T>], place: usize, item: T) -> Result<(), AllocError>
     ensures { OnOk result (rows.new ≡ noted rows.old (Some place) item) }
 {
@@ -26,7 +26,7 @@ pub fn note<T: Drop>(rows: &mut [Items<T>], place: usize, item: T) -> Result<(),
     Ok(())
 }
 
-/// Appends the item to the list at its place. Without a place it does nothing.
+/// Appends the item to the list at a place. Does nothing without a place or past the end.
 pub fn note_where<T: Drop>(
     rows: &mut [Items<T>],
     place: Option<u32>,

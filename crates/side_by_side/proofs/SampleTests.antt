@@ -1,8 +1,8 @@
--- Samples of pieces, worked by hand.
+-- Samples of pieces, with values computed by hand.
 use Rattle.std.proofs.Common.{◌≡◌, ℕ, List, [], ◌∷◌, Result, Ok, Err, refl}
 use Rattle.side_by_side.specs.Pieces.{items_between, piece_start, together}
 
--- ten items in four pieces: 2, 3, 2 and 3 of them
+-- ten items in four pieces, which have 2, 3, 2 and 3 items
 starts : piece_start 10 4 0 ∷ piece_start 10 4 1 ∷ piece_start 10 4 2 ∷ piece_start 10 4 3 ∷ piece_start 10 4 4 ∷ [] ≡ 0 ∷ 2 ∷ 5 ∷ 7 ∷ 10 ∷ []
 starts = refl
 
@@ -13,7 +13,7 @@ second = refl
 abbrev all_of : List (Result (List ℕ) ℕ) → Result (List ℕ) ℕ
 all_of answers = together (λ (l : List ℕ). l) answers
 
--- lists one behind the other
+-- three lists, joined
 lists : all_of (Ok (1 ∷ []) ∷ Ok [] ∷ Ok (2 ∷ 3 ∷ []) ∷ []) ≡ Ok (1 ∷ 2 ∷ 3 ∷ [])
 lists = refl
 
@@ -21,6 +21,6 @@ lists = refl
 faults : all_of (Ok (1 ∷ []) ∷ Err 7 ∷ Ok (2 ∷ []) ∷ Err 8 ∷ []) ≡ Err 7
 faults = refl
 
--- no answer
+-- no answers
 none : all_of [] ≡ Ok []
 none = refl

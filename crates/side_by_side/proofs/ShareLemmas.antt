@@ -1,16 +1,16 @@
--- How many items a piece has.
+-- The number of items of a piece.
 use Rattle.std.proofs.Common.{◌≡◌, ℕ, ◌+◌, ◌-◌, ◌*◌, ◌<◌, ◌≤◌, arith}
 use Rattle.std.proofs.Math.Nat.{div-mul-le_self, lt-div-mul-add, lt_of_mul-lt-mul_right}
 use Rattle.side_by_side.specs.Pieces.{piece_start}
 
--- the first item of a piece is the whole part of its number times `items / pieces`
+-- piece `number` begins at `number * items / pieces`, rounded down
 pub starts_low : (items pieces number : ℕ) → piece_start items pieces number * pieces ≤ number * items
 starts_low items pieces number = div-mul-le_self (number * items) pieces
 
 pub starts_high : (items pieces number : ℕ) → 0 < pieces → number * items < (piece_start items pieces number + 1) * pieces
 starts_high items pieces number some = omega (arith, lt-div-mul-add {a = number * items} {b = pieces} some)
 
--- the items of a piece, times the number of pieces, differ from all items by less than that number
+-- the number of a piece's items, times `pieces`, exceeds the number of all items by less than `pieces`
 size_most : (items pieces number : ℕ) → 0 < pieces → piece_start items pieces (number + 1) * pieces < items + (piece_start items pieces number + 1) * pieces
 size_most items pieces number some =
     let next : (number + 1) * items ≡ number * items + items = omega arith in
@@ -21,7 +21,7 @@ size_least items pieces number some =
     let next : (number + 1) * items ≡ number * items + items = omega arith in
     omega (arith, next, starts_high items pieces (number + 1) some, starts_low items pieces number)
 
--- so two pieces `first..end` and `start..stop` differ by at most one
+-- so the numbers of items of two pieces `first..end` and `start..stop` differ by at most one
 sizes : (items pieces first end start stop : ℕ) → end * pieces < items + (first + 1) * pieces → items + start * pieces < (stop + 1) * pieces → end + start < stop + first + 2
 sizes items pieces first end start stop most least = lt_of_mul-lt-mul_right pieces (omega (arith, most, least))
 

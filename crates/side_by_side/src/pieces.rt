@@ -1,11 +1,11 @@
-// The pieces of a list of items, and what they give together.
+// The pieces of a list of items, and joining their results.
 ghost use Rattle.std.specs.Prelude.{◌≡◌, ◌⊎◌, ◌<◌, ◌≤◌, Ok, Err, MatchResult, alloc_error};
 ghost use Rattle.side_by_side.specs.Pieces.{GivesTogether, piece_of, piece_start, together};
 
 use std::alloc::{AllocError, Global};
 use std::thread::{Threads, map_indices};
 
-/// A piece of a list of items: the number of the piece, and its items `first..end`. All count from 0.
+/// A piece of a list of items: the number of the piece, and its items `first..end`. The pieces and the items are numbered from 0.
 #[derive(Clone, Copy)]
 pub struct Piece {
     pub number: u32,
@@ -13,7 +13,7 @@ pub struct Piece {
     pub end: u64,
 }
 
-// Returns the first item of a piece, and the number of items for the number after the last piece.
+// Returns the number of the piece's first item. If `number` is the number of pieces, returns the number of items.
 fn piece_start(items: u64, pieces: u32, number: u32) -> u64
     requires some { 0 < pieces }
     requires number { number ≤ pieces }
@@ -38,7 +38,7 @@ fn piece_of(items: u64, pieces: u32, number: u32) -> Piece
     }
 }
 
-// Joins the lists of the answers in order, or returns the first fault.
+// Joins the answers' lists in order, or returns the first fault.
 fn together<T: Drop, E: From<AllocError> + Drop>(
     alloc: Global,
     answers: Vec<Result<Vec<T>, E>>,
@@ -55,11 +55,11 @@ fn together<T: Drop, E: From<AllocError> + Drop>(
     Ok(all)
 }
 
-/// Cuts the items into `pieces` pieces, does the work on each, and joins their lists in order. Returns the fault of the first piece that
-/// has one. A refusal of memory for the pieces themselves may take the place of any other fault.
+/// Cuts the items into `pieces` pieces, does the work on each piece, and joins the resulting lists in order. Returns the fault of the
+/// first piece that has one. If memory is refused for the pieces themselves, that refusal may be returned in place of any other fault.
 ///
-/// The numbers of items of two pieces differ by at most one. Halves of the pieces run side by side, down to one piece. The list of a
-/// single piece is returned as it is and needs no more memory.
+/// The numbers of items of any two pieces differ by at most one. The pieces run side by side. If there is only one piece, its list is
+/// returned unchanged and needs no more memory.
 pub fn in_pieces<
     R: Threads + Sync,
     T: Send + Drop,

@@ -1,4 +1,4 @@
--- A list of names owns nothing, so it may go to another thread.
+-- A list of names owns nothing at run time, so it may go to another thread.
 use denote.Param.Send.{IsSend, owning_send}
 use Rattle.bt_base.specs.contracts.asked.Asked.{the_row, the_type}
 
