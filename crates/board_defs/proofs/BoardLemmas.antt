@@ -1,4 +1,4 @@
--- Consequences of the rules of a board: pins by their places in the chain, and bounds.
+-- Consequences of the rules of boards: the places of pins in the chain, and bounds on lengths.
 use Rattle.std.proofs.Common.{◌≡◌, ℕ, suc, ◌*◌, ◌^◌, ◌<◌, ◌≤◌, ◌==◌, Bool, true, false, List, [], ◌∷◌, length, Option, Some, None, refl, sym, ◌∙◌, ap, subst, arith, cond}
 use Rattle.std.specs.Prelude.{slice_get, sum_by, All, IfSome, is_some, find, option_map, option_and_then, if◌then◌else◌}
 use Rattle.std.proofs.lemmas.Option.{same_Some}
@@ -22,14 +22,14 @@ use Rattle.board_defs.specs.Pins.{described, instruction_length, instruction_bit
 use Rattle.board_defs.specs.BoardRules.{IsPart, Stands, IsPlaced, IsPlacedAt, IsBoard}
 use Rattle.board_defs.proofs.Places.{all_stands}
 
--- the place of a pin that is in the nets
+-- a pin of a net that has a place in the chain is at that place
 pub placed_at : (board : RawBoard) (n : ℕ) (net : Net) (i : ℕ) (pin : NetPin) (at : PinAt) → IsBoard board → Stands board n net i pin → pin.at ≡ Some at → IsPlacedAt board pin at
 placed_at board n net i pin at rules st e =
     let there : IsPlaced board pin pin.at = all_stands (λ (p : NetPin). IsPlaced board p p.at) net.pins i pin st.in_net (all_stands (λ (v : Net). All (λ p. IsPlaced board p p.at) v.pins) board.nets n net st.on_board rules.placed) in
     let P : Option PinAt → Type 0 = λ w. IsPlaced board pin w in
     subst P e there
 
--- a place in the chain has one pin
+-- pins at the same place of the chain have the same part and the same pin name
 same_pin : (board : RawBoard) (p q : NetPin) (at : PinAt) → IsPlacedAt board p at → IsPlacedAt board q at → (p.part ≡ q.part) × (p.pin ≡ q.pin)
 same_pin board p q at a b =
     let part : a.part ≡ b.part = same_Some a.part b.part (sym a.in_chain ∙ b.in_chain) in
@@ -37,7 +37,7 @@ same_pin board p q at a b =
     let bit : a.bit ≡ b.bit = same_Some a.bit b.bit (sym a.in_device ∙ ap (λ (v : RawDevice). slice_get v.bits at.bit) device ∙ b.in_device) in
     (sym a.named ∙ ap (λ (v : Part). v.name) part ∙ b.named, same_Some p.pin q.pin (sym a.has_pin ∙ ap (λ (v : PortBit). v.pin) bit ∙ b.has_pin))
 
--- no pin of the chain is in the nets twice
+-- no pin of the chain occurs twice in the nets
 pub pins_once : (board : RawBoard) → IsBoard board → (n m : ℕ) (net other : Net) (i j : ℕ) (p q : NetPin) (at : PinAt) → slice_get board.nets n ≡ Some net → slice_get board.nets m ≡ Some other → slice_get net.pins i ≡ Some p → slice_get other.pins j ≡ Some q → p.at ≡ Some at → q.at ≡ Some at → (n ≡ m) × (i ≡ j)
 pins_once board rules n m net other i j p q at en em ei ej pa qa =
     let s : Stands board n net i p = record { on_board = en; in_net = ei } in
@@ -45,7 +45,7 @@ pins_once board rules n m net other i j p q at en em ei ej pa qa =
     let same : (p.part ≡ q.part) × (p.pin ≡ q.pin) = same_pin board p q at (placed_at board n net i p at rules s pa) (placed_at board m other j q at rules t qa) in
     rules.pins_differ n m i j net other p q s t same.0 same.1
 
--- a pin of the chain is a pin of the chosen pin map
+-- the chosen pin map has each pin of a net that has a place in the chain
 pub pins_stand : (board : RawBoard) → IsBoard board → (n : ℕ) (net : Net) (i : ℕ) (p : NetPin) (at : PinAt) → slice_get board.nets n ≡ Some net → slice_get net.pins i ≡ Some p → p.at ≡ Some at → is_pinned board at ≡ true
 pins_stand board rules n net i p at en ei pa =
     let w : IsPlacedAt board p at = placed_at board n net i p at rules (record { on_board = en; in_net = ei }) pa in
@@ -53,7 +53,7 @@ pins_stand board rules n net i p at en ei pa =
     let bit : bit_at board at ≡ Some w.bit = ap (option_and_then (λ (v : RawDevice). slice_get v.bits at.bit)) device ∙ w.in_device in
     ap is_some (ap (option_and_then (λ (v : PortBit). v.pin)) bit ∙ w.has_pin)
 
--- a part has at most 255 instruction bits
+-- a part's instruction register has at most 255 bits
 part_length : (kind : PartKind) → IsPart kind → instruction_length kind ≤ 255
 part_length (Described device) h = h.ir_most
 part_length (Bypass n) h = h.1
@@ -72,7 +72,7 @@ instruction_bits_fit board chain rules e =
     let few : length board.chain ≤ 255 = rules.chain_most in
     subst P (sym e) (omega (arith, most, few))
 
--- a described part keeps the rules of a device
+-- the device of a described part keeps the rules of devices
 pub device_rules : (board : RawBoard) (k : ℕ) (device : RawDevice) → IsBoard board → device_at board k ≡ Some device → IsDevice device
 device_rules board k device rules e = by_part (slice_get board.chain k) refl e
   where

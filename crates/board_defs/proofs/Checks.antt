@@ -1,4 +1,4 @@
--- Rules of lists as tests that compute, so that a written-out device or board is shown to keep them by computation.
+-- Tests that compute rules on lists. They show that a written-out device or board keeps the rules.
 use Rattle.std.proofs.Common.{◌≡◌, ◌≢◌, ℕ, zero, suc, ◌<◌, ◌==◌, Bool, true, false, not, ◌&&◌, ◌||◌, List, [], ◌∷◌, Some, refl, sym, ◌∙◌, ap, subst, arith, ◌⊎◌, inl, inr}
 use Rattle.std.specs.Prelude.{slice_get, All, AllPairs}
 use Rattle.std.specs.List.{list_all, range_with_len}
@@ -18,7 +18,7 @@ item_by test xs i x h e = all_has test xs x h (has_at xs i x e)
 pub below_by : (test : ℕ → Bool) (n k : ℕ) → list_all test (range_with_len 0 n) ≡ true → k < n → test k ≡ true
 below_by test n k h less = all_has test (range_with_len 0 n) k h (has_range 0 n k (omega arith) (omega arith))
 
--- each item and each later one pass
+-- each item passes with each later one
 abbrev pub later_pass : {X : Type 0} → (X → X → Bool) → List X → Bool
 later_pass test [] = true
 later_pass test (x ∷ xs) = list_all (test x) xs && later_pass test xs
@@ -38,7 +38,7 @@ pairs_by R test gives (x ∷ xs) h i zero d less within = absurd (omega arith)
 pairs_by R test gives (x ∷ xs) h zero (suc j) d less within = all_by (R x) (test x) (gives x) xs (and_parts (list_all (test x) xs) (later_pass test xs) h).0 j d (omega arith)
 pairs_by R test gives (x ∷ xs) h (suc i) (suc j) d less within = pairs_by R test gives xs (and_parts (list_all (test x) xs) (later_pass test xs) h).1 i j d (omega arith) (omega arith)
 
--- two items that clash are one: no item clashes with a later one
+-- if no item clashes with a later one, two items that clash are at the same place
 pub one_by : {X : Type 0} (clash : X → X → Bool) (xs : List X) → later_pass (λ x y. not (clash x y)) xs ≡ true → (i j : ℕ) (x y : X) → slice_get xs i ≡ Some x → slice_get xs j ≡ Some y → clash x y ≡ true → clash y x ≡ true → i ≡ j
 one_by {X} clash xs h i j x y ei ej c d = by_order (cases_order i j)
   where
@@ -51,14 +51,14 @@ one_by {X} clash xs h i j x y ei ej c d = by_order (cases_order i j)
     by_order (inr (inl less)) = absurd (wrong (clash x y) c (later_by (λ a b. not (clash a b)) xs h i j x y less ei ej))
     by_order (inr (inr less)) = absurd (wrong (clash y x) d (later_by (λ a b. not (clash a b)) xs h j i y x less ej ei))
 
--- every two items pass
+-- every item of the first list passes with every item of the second
 abbrev pub two_pass : {X Y : Type 0} → (X → Y → Bool) → List X → List Y → Bool
 two_pass test xs ys = list_all (λ x. list_all (test x) ys) xs
 
 pub two_by : {X Y : Type 0} (test : X → Y → Bool) (xs : List X) (ys : List Y) (i j : ℕ) (x : X) (y : Y) → two_pass test xs ys ≡ true → slice_get xs i ≡ Some x → slice_get ys j ≡ Some y → test x y ≡ true
 two_by test xs ys i j x y h ei ej = item_by (test x) ys j y (item_by (λ a. list_all (test a) ys) xs i x h ei) ej
 
--- texts
+-- a test of equality for texts
 abbrev pub same_text : List ℕ → List ℕ → Bool
 same_text [] [] = true
 same_text [] (y ∷ ys) = false
@@ -87,7 +87,7 @@ texts_differ xs ys h e = wrong (same_text xs ys) (same_text_of xs ys e) h
     wrong true e f = cc f
     wrong false e f = cc e
 
--- a test that implies another
+-- if the test for an implication and the test of its premise pass, the conclusion is true
 pub implied : (a b : Bool) → (not a || b) ≡ true → a ≡ true → b ≡ true
 implied true b h e = h
 implied false b h e = cc e

@@ -15,7 +15,7 @@ same_symbol One One gs gt e = refl
 same_symbol Zero One gs gt e = cc e
 same_symbol One Zero gs gt e = cc e
 
--- codes without X that have the same bits are one
+-- codes without X that have the same bits are equal
 pub same_code : (xs ys : List Symbol) → All (λ s. s ≢ Any) xs → All (λ s. s ≢ Any) ys → map bit_of xs ≡ map bit_of ys → xs ≡ ys
 same_code [] [] gx gy e = refl
 same_code [] (y ∷ ys) gx gy e = cc e

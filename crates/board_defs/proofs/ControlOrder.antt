@@ -21,7 +21,7 @@ same_equal a b h =
 pub same_refl : (c : Ctl) → same_ctl c c ≡ true
 same_refl c = and_from (c.part == c.part) (c.cell == c.cell) (eq-eqb c.part c.part refl) (eq-eqb c.cell c.cell refl)
 
--- control order is a strict order of all controls
+-- control order is a strict and total order of controls
 precedes_not_same : (a b : Ctl) → precedes a b ≡ true → same_ctl b a ≡ false
 precedes_not_same a b h = grind (arith, nat_tests)
 
@@ -42,7 +42,7 @@ order_cons d list before rest i zero e less within = absurd (omega arith)
 order_cons d list before rest zero (suc j) e less within = before j e (omega arith)
 order_cons d list before rest (suc i) (suc j) e less within = rest i j e (omega arith) (omega arith)
 
--- if `d` does not precede the control, no list in order after `d` holds it
+-- if `d` does not precede the control, a list in order whose controls all come after `d` does not have the control
 none_after : (c d : Ctl) (list : List Ctl) → precedes d c ≡ false → All (λ e. IsTrue (precedes d e)) list → holds list c ≡ false
 none_after c d [] not_before after = refl
 none_after c d (e ∷ list) not_before after = by_same (none_after c d list not_before (All-tail (λ (v : Ctl). IsTrue (precedes d v)) e list after)) (same_ctl c e) refl
@@ -67,7 +67,7 @@ is_there : Ctl → Option Ctl → Bool
 is_there c None = false
 is_there c (Some d) = same_ctl c d
 
--- a list in order holds a control if and only if the control is at its place
+-- a list in order has a control if and only if the control is at its place in the list
 holds_at_place : (c : Ctl) (list : List Ctl) → IsInControlOrder list → holds list c ≡ is_there c (slice_get list (place list c))
 unfolding is_there
 holds_at_place c [] h = refl
@@ -106,7 +106,7 @@ inserted_old c (d ∷ list) h there = by_before (inserted_old c list (order_tail
     by_before rest false b true e = refl
     by_before rest false b false e = absurd (both_ways (holds list c) (none_after c d list b (order_head d list h)) (sym (ap (λ t. t || holds list c) e) ∙ there))
 
--- what is true of the control and of the whole list is true of the list with the control inserted
+-- if `P` is true of the control and of the whole list, it is true of the list with the control inserted
 inserted_all : (P : Ctl → Type 0) (c : Ctl) (list : List Ctl) → P c → All P list → All P (inserted c list)
 inserted_all P c [] here all = All-cons P c [] here all
 inserted_all P c (d ∷ list) here all = by_before (inserted_all P c list here (All-tail P d list all)) (precedes d c) (same_ctl c d)
@@ -127,7 +127,7 @@ order_inserted c (d ∷ list) h = by_before (order_inserted c list (order_tail d
         let before : precedes c d ≡ true = precedes_or d c b e in
         order_cons c (d ∷ list) (All-cons (λ (v : Ctl). IsTrue (precedes c v)) d list before (λ k v less. precedes_trans c d (get_or list k v) before (order_head d list h k v less))) h
 
--- the controls that precede c come first
+-- the controls that precede `c` are the first of the list
 pub order_parts : (c : Ctl) (list : List Ctl) → IsInControlOrder list → IsPartitionedBy (λ d. precedes d c) list
 order_parts c list h i j e le within before = by_cases (cases_eq i j)
   where

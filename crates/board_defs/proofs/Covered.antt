@@ -1,4 +1,4 @@
--- The tests decide what some safe setting does.
+-- The tests decide the terms of coverage.
 use Rattle.std.proofs.Common.{◌≡◌, ◌≢◌, ℕ, ◌<◌, true, false, not, ◌&&◌, ◌||◌, length, Option, Some, None, refl, sym, ◌∙◌, ap, subst, ◌⊎◌, inl, inr}
 use Rattle.std.specs.Prelude.{slice_get}
 use Rattle.std.specs.List.{list_any}
@@ -22,7 +22,7 @@ use Rattle.board_defs.proofs.Driving.{View, no_driver, always_on, by_control, on
 use Rattle.board_defs.proofs.Pairwise.{safe_within}
 use Rattle.board_defs.proofs.SafeSettings.{safe_from_nets, one_sided_off, alone_safe, safe_alone, together_safe, safe_together}
 
--- no control at all, and the settings that a driver needs
+-- the empty setting, and the settings that drivers need
 abbrev pub nothing : Enabling
 nothing c = false
 
@@ -41,7 +41,8 @@ needed (Some (By c)) = just c
 abbrev pub either : Enabling → Enabling → Enabling
 either s t c = s c || t c
 
--- if a safe setting enables a driver, the driver can be enabled, also by itself
+-- if a safe setting enables a driver, the test `can_enable` passes for that driver, and the setting has the control
+-- that the driver needs
 pub can_enable_of : (board : RawBoard) (s : Enabling) (n : ℕ) (net : Net) (i : ℕ) (p : NetPin) → IsBoard board → IsSafe board s → slice_get board.nets n ≡ Some net → slice_get net.pins i ≡ Some p → enables board s p ≡ true →
     (can_enable board (drive board net p) ≡ true) × ((c : Ctl) → needed (drive board net p) c ≡ true → s c ≡ true)
 can_enable_of board s n net i p rules safe en ei e = from (view board net p)
@@ -74,7 +75,7 @@ needed_safe board (Some AlwaysOn) rules h = nothing_safe board rules
 needed_safe board (Some OneSided) rules h = cc h
 needed_safe board (Some (By c)) rules h = alone_safe board c rules h
 
--- a setting that has the control that a driver needs enables it
+-- a setting that has the control that a driver needs enables the driver
 pub needed_enables : (board : RawBoard) (net : Net) (p : NetPin) (s : Enabling) → can_enable board (drive board net p) ≡ true → ((c : Ctl) → needed (drive board net p) c ≡ true → s c ≡ true) → enables board s p ≡ true
 needed_enables board net p s h within = from (view board net p)
   where
@@ -84,7 +85,7 @@ needed_enables board net p s h within = from (view board net p)
     from (by_control b d f) = f s ∙ within b (ap (λ w. needed w b) d ∙ same_refl b)
     from (one_sided at cell control pa x k o w d f) = let wrong : false ≡ true = sym (ap (can_enable board) d) ∙ h in cc wrong
 
--- a tested driver
+-- the test of tested drivers
 pub tested_driver_of : (board : RawBoard) (s : Enabling) (n : ℕ) (net : Net) (place : ℕ) → IsBoard board → IsSafe board s → slice_get board.nets n ≡ Some net → ObservesBy board s net place →
     (is_tested_driver board net place ≡ true) × ((c : Ctl) → needed (place_drive board net place) c ≡ true → s c ≡ true)
 tested_driver_of board s n net place rules safe en o =
@@ -135,7 +136,7 @@ pub tested_driver_is : (board : RawBoard) (n : ℕ) (net : Net) (place : ℕ) �
 tested_driver_is board n net place rules en h =
     (needed (place_drive board net place), needed_safe board (place_drive board net place) rules (tested_can board net place h), (net, en, observes_of board (needed (place_drive board net place)) net place h (λ c k. k)))
 
--- a covered net
+-- the test of covered nets
 pub tested_below : (board : RawBoard) (net : Net) (place : ℕ) → is_tested_driver board net place ≡ true → place < length net.pins
 tested_below board net place h = let q : (p : NetPin) × (slice_get net.pins place ≡ Some p) = drives_pin board net (slice_get net.pins place) (tested_can board net place h) in slice_get_within net.pins place q.0 q.1
 
@@ -152,7 +153,7 @@ covered_is board n net rules en h =
     let d : Option Drive = place_drive board net r.number in
     (needed d, needed_safe board d rules (tested_can board net r.number r.passes), (net, en, (r.number, observes_of board (needed d) net r.number r.passes (λ c k. k))))
 
--- two drivers that one safe setting enables
+-- the test of two drivers that one safe setting enables
 pub compatible_safe : (board : RawBoard) (d e : Option Drive) → IsBoard board → are_compatible board d e ≡ true → IsSafe board (either (needed d) (needed e))
 compatible_safe board None e rules h = cc h
 compatible_safe board (Some OneSided) e rules h = cc h
@@ -175,7 +176,7 @@ safe_compatible board s (Some (By c)) (Some (By b)) safe cd ce wd we = safe_toge
     by_or a (inl k) = wd a k
     by_or a (inr k) = we a k
 
--- paired nets
+-- the test of paired nets
 pub paired_true : (board : RawBoard) (m n : ℕ) (a b : Net) → IsBoard board → slice_get board.nets m ≡ Some a → slice_get board.nets n ≡ Some b → ArePaired board m n → are_paired board a b ≡ true
 paired_true board m n a b rules ea eb (ne, (s, safe, ((one, eo, (i, oi)), (two, et, (j, oj))))) =
     let same : one ≡ a = net_same board m a one ea eo in
@@ -213,7 +214,7 @@ paired_is board m n a b rules ea eb ne h =
       ),
     )
 
--- a tested receiver
+-- the test of tested receivers
 pub tested_receiver_true : (board : RawBoard) (n : ℕ) (net : Net) (place : ℕ) → IsBoard board → slice_get board.nets n ≡ Some net → IsTestedReceiver board n place → is_tested_receiver board net place ≡ true
 tested_receiver_true board n net place rules en (s, safe, (other, pin, driver, eo, ep, reads, ne, o)) =
     let same : other ≡ net = net_same board n net other en eo in
@@ -258,7 +259,7 @@ tested_receiver_is board n net place rules en h =
       ),
     )
 
--- a useful control
+-- the test of useful controls
 pub useful_true : (board : RawBoard) (c : Ctl) → IsBoard board → IsUseful board c → is_useful board c ≡ true
 useful_true board c rules (safe, n, net, place, pin, en, ep, d, t) =
     and_from (is_safe_alone board c) (list_any (tests_by board c) board.nets) (safe_alone board c safe)

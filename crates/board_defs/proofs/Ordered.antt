@@ -1,4 +1,4 @@
--- Lists in some order: each item comes before each later one.
+-- Lists in some order: each item precedes each later one.
 use Rattle.std.proofs.Common.{◌≡◌, ℕ, zero, suc, ◌+◌, ◌<◌, ◌≤◌, Bool, true, false, List, [], ◌∷◌, ◌++◌, length, get_or, map, Some, refl, ap, subst, arith, cond, ◌⊎◌, inl, inr}
 use Rattle.std.specs.Prelude.{slice_get, filter, AllPairs}
 use Rattle.std.specs.List.{flat_map, enumerate_from, range_with_len}
@@ -6,19 +6,19 @@ use Rattle.std.proofs.lemmas.Option.{get_or_from_slice_get, slice_get-get_or, sl
 use Rattle.board_defs.specs.Passes.{pairs_within}
 use Rattle.board_defs.proofs.Members.{Has, has_at, has_place, has_append, map_has, flat_map_has, filter_has, range_has, enumerate_has}
 
--- each item comes before each later one
+-- each item precedes each later one
 abbrev pub InOrder : {X : Type 0} → (X → X → Type 0) → List X → Type 0
 InOrder R [] = Unit {0}
 InOrder {X} R (x ∷ xs) = ((y : X) → Has xs y → R x y) × InOrder R xs
 
--- then the relation is true at any two places, the earlier first
+-- if a list is in order, any item precedes any item at a later place
 pub order_pairs : {X : Type 0} (R : X → X → Type 0) (xs : List X) → InOrder R xs → AllPairs R xs
 order_pairs R [] h i j d less within = absurd (omega arith)
 order_pairs R (x ∷ xs) h i zero d less within = absurd (omega arith)
 order_pairs {X} R (x ∷ xs) h zero (suc j) d less within = let inside : j < length xs = omega arith in h.0 (get_or xs j d) (has_at xs j (get_or xs j d) (slice_get-get_or xs j d inside))
 order_pairs R (x ∷ xs) h (suc i) (suc j) d less within = order_pairs R xs h.1 i j d (omega arith) (omega arith)
 
--- conversely
+-- conversely, if any item precedes any item at a later place, the list is in order
 pub pairs_order : {X : Type 0} (R : X → X → Type 0) (xs : List X) → AllPairs R xs → InOrder R xs
 pairs_order R [] pairs = tt
 pairs_order {X} R (x ∷ xs) pairs =
@@ -35,7 +35,8 @@ order_append {X} R (x ∷ xs) ys h k across = (λ y m. by_part y (has_append xs 
     by_part y (inl m) = h.0 y m
     by_part y (inr m) = across x y (inl refl) m
 
--- each item gives a list in order, and the list of an earlier item comes before that of a later one
+-- if each item's list is in order, and the items of an earlier item's list precede those of a later item's list, the
+-- joined lists are in order
 pub order_flat_map : {X Y : Type 0} (S : X → X → Type 0) (R : Y → Y → Type 0) (f : X → List Y) (xs : List X) → InOrder S xs → ((x : X) → Has xs x → InOrder R (f x)) →
     ((x z : X) → S x z → (a b : Y) → Has (f x) a → Has (f z) b → R a b) → InOrder R (flat_map f xs)
 order_flat_map S R f [] h each across = tt
@@ -64,7 +65,7 @@ pub order_enumerate : {X : Type 0} (n : ℕ) (xs : List X) → InOrder (λ p q. 
 order_enumerate n [] = tt
 order_enumerate {X} n (x ∷ xs) = (λ q m. let r = enumerate_has (n + 1) xs q.0 q.1 m in omega (arith, r.1), order_enumerate (n + 1) xs)
 
--- pairs: by the first, then by the second
+-- the order of pairs: by the first component, then by the second
 abbrev pub PairPrecedes : {X : Type 0} → (X → X → Type 0) → X × X → X × X → Type 0
 PairPrecedes S p q = S p.0 q.0 ⊎ ((p.0 ≡ q.0) × S p.1 q.1)
 

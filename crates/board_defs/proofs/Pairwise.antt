@@ -1,4 +1,4 @@
--- A setting is safe if and only if each of its controls alone and every two of them are safe.
+-- A setting is safe if and only if each of its controls alone and every two of its controls are safe.
 use Rattle.std.proofs.Common.{◌≡◌, ◌≢◌, ℕ, true, Option, Some, None, refl, ◌∙◌, ap, ◌⊎◌, inl, inr}
 use Rattle.std.specs.Prelude.{slice_get, option_map}
 use Rattle.std.proofs.lemmas.Bool.{both_ways, false_from_ne_true, or_left, or_right, or_cases}
@@ -24,7 +24,7 @@ both_first c d = or_left (same_ctl c c) (same_ctl c d) (same_refl c)
 both_second : (c d : Ctl) → both c d d ≡ true
 both_second c d = or_right (same_ctl d c) (same_ctl d d) (same_refl d)
 
--- how a pin is enabled: by nothing, or by a control
+-- a pin that a setting enables is a driver that is always on, or a control of the setting enables it
 pub data Enabled (board : RawBoard) (setting : Enabling) (net : Net) (pin : NetPin) : Type 0 where
   always : drive board net pin ≡ Some AlwaysOn → ((other : Enabling) → enables board other pin ≡ true) → Enabled board setting net pin
   by_control : (c : Ctl) → setting c ≡ true → ((other : Enabling) → other c ≡ true → enables board other pin ≡ true) → Enabled board setting net pin
@@ -64,7 +64,7 @@ safe_from_pairs board setting rule h = record {
       (h.each c s).own at cell control pinned e k same (just_has c);
 }
 
--- conversely, every part of a safe setting is safe
+-- conversely, every subset of a safe setting is safe
 pub safe_within : (board : RawBoard) (small big : Enabling) → ((c : Ctl) → small c ≡ true → big c ≡ true) → IsSafe board big → IsSafe board small
 safe_within board small big within h = record {
   one = λ n net i j p q en ei ej ne ep eq. h.one n net i j p q en ei ej ne (grow net p (enabled board small net p ep)) (grow net q (enabled board small net q eq));

@@ -1,4 +1,4 @@
--- The tests that choose the passes mean what their names say.
+-- The tests that choose the passes agree with the definitions of their terms.
 use Rattle.std.proofs.Common.{◌≡◌, ℕ, ◌+◌, ◌<◌, ◌==◌, true, false, ◌&&◌, List, [], Option, Some, None, refl, sym, ◌∙◌, ap, subst, arith}
 use Rattle.std.specs.Prelude.{slice_get, option_and_then, IsTrue, nat_lt, Contains, ◌↔◌}
 use Rattle.std.specs.Bool.{Decides}
@@ -59,7 +59,7 @@ all_order board =
 useful_order : (board : RawBoard) → IsInControlOrder (useful_controls board)
 useful_order board = order_pairs Before (useful_controls board) (order_filter Before (is_useful board) (all_cells board) (all_order board))
 
--- a cell of the board is one of the cells of the chain
+-- a boundary cell of a described part is in the list of cells
 cell_has : (board : RawBoard) (c : Ctl) → IsCell board c → Has (all_cells board) c
 cell_has board c h = by_part (slice_get board.chain c.part) refl h
   where
@@ -91,7 +91,7 @@ useful_held board rules c = (is, held)
         (has_filter (is_useful board) (all_cells board) c (cell_has board c (control_is_cell board net pin c rules d)) (useful_true board c rules (safe, n, net, place, pin, en, ep, d, t)))
         (same_refl c)
 
--- the tested drivers of a net
+-- the list of a net's tested drivers has exactly these
 drivers_are : (board : RawBoard) → IsBoard board → (n : ℕ) (net : Net) (d : Drive) → slice_get board.nets n ≡ Some net → Contains (tested_drivers board net) d ↔ HasTestedDriver board n net d
 drivers_are board rules n net d en = (λ h. is (tested_has board net d (contains_has (tested_drivers board net) d h)), listed)
   where
@@ -111,14 +111,14 @@ driver_enabled board rules n net place pin OneSided pass st t e =
     let wrong : false ≡ true = sym (ap (can_enable board) (ap (drive_in board net) st.in_net ∙ e)) ∙ can in
     cc wrong
 
--- a control that is together with every control of a setting
+-- a control fits a setting if and only if it is together with every control of the setting
 fits_setting : (board : RawBoard) → IsBoard board → (setting : List Ctl) (c : Ctl) → Decides (fits board setting c) ((d : Ctl) → holds setting d ≡ true → AreTogether board c d)
 fits_setting board rules setting c = (
   λ h d k. let r = any_has (same_ctl d) setting k in let P : Ctl → Type 0 = λ v. AreTogether board c v in subst P (sym (same_equal d r.0 r.2)) (together_safe board c r.0 rules (all_has (are_together board c) setting r.0 h r.1)),
   λ all. has_all (are_together board c) setting (λ d m. safe_together board c d (all d (has_any (same_ctl d) setting d m (same_refl d)))),
 )
 
--- a control of a driver that no earlier pass enables
+-- a useful control is new if and only if it enables a tested driver that no earlier pass enables
 new_control : (board : RawBoard) (earlier : List (List Ctl)) (c : Ctl) → IsUseful board c → Decides (is_new earlier c) (ControlsNew board earlier c)
 new_control board earlier c (safe, n, net, place, pin, en, ep, d, t) = (is, new)
   where
@@ -143,7 +143,7 @@ new_control board earlier c (safe, n, net, place, pin, en, ep, d, t) = (is, new)
         let p = has_place earlier r.0 r.1 in
         k.new (p.0, r.0, p.1, by_enables board k.net k.pin c k.drives (holds r.0) ∙ r.2)))
 
--- two tested drivers that one safe setting enables
+-- two tested drivers are compatible if and only if one safe setting enables both
 pair_compatible : (board : RawBoard) → IsBoard board → (m n : ℕ) (a b : Net) (d e : Drive) → HasTestedDriver board m a d → HasTestedDriver board n b e → Decides (are_compatible board (Some d) (Some e)) (IsSafe board (holds (with_driver (with_driver [] d) e)))
 pair_compatible board rules m n a b d e s t = (λ h. safe_setting board (with_driver (with_driver [] d) e) rules (both_together board d e rules h), λ safe. compatible safe)
   where

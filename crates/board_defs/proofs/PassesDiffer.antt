@@ -1,11 +1,11 @@
--- No two passes are the same.
+-- No two passes of a board are equal.
 use Rattle.std.proofs.Common.{◌≡◌, ◌⊎◌, ℕ, zero, suc, ◌<◌, List, [], ◌∷◌, take, Some, inl, inr, arith}
 use Rattle.std.specs.Prelude.{slice_get}
 use Rattle.board_defs.specs.declared.board.Ctl.{Ctl}
 use Rattle.board_defs.specs.declared.board.RawBoard.{RawBoard}
 use Rattle.board_defs.specs.Passes.{ArePasses, EnablesNew, ObservesNew}
 
--- an earlier item is among the items before a place
+-- an item before place `y` is among the first `y` items
 earlier_at : {A : Type 0} (items : List A) (x y : ℕ) (item : A) → x < y → slice_get items x ≡ Some item → slice_get (take y items) x ≡ Some item
 earlier_at [] x y item less at = cc at
 earlier_at (first ∷ items) x zero item less at = absurd (omega (arith, less))

@@ -1,4 +1,4 @@
--- The passes of a board do what passes must do.
+-- The passes of a board meet the requirements on passes.
 use Rattle.std.proofs.Common.{◌≡◌, ◌≢◌, ℕ, zero, suc, ◌<◌, Bool, true, false, ◌&&◌, List, [], ◌∷◌, ◌++◌, length, take, Option, Some, None, refl, sym, ◌∙◌, ap, subst, arith, cond, append_assoc, ◌⊎◌, inl, inr}
 use Rattle.std.specs.Prelude.{slice_get, option_map, fold}
 use Rattle.std.specs.List.{list_any, flat_map, range_with_len}
@@ -22,7 +22,7 @@ use Rattle.board_defs.proofs.Driving.{by_enables}
 use Rattle.board_defs.proofs.Covered.{needed, net_same, tested_can, tested_below, tested_driver_of, tested_driver_is, observes_of, paired_is}
 use Rattle.board_defs.proofs.PassSettings.{AllTogether, AllSafe, safe_setting, driver_pass_together, pair_pass_together, driver_pass_enables, pair_pass_enables}
 
--- the tested drivers of a net, by their places
+-- a tested driver of a net, with its place
 pub record Tested (board : RawBoard) (net : Net) (d : Drive) : Type 0 where
   pub place : ℕ
   pub tested : is_tested_driver board net place ≡ true
@@ -43,7 +43,7 @@ has_tested board net place d t e =
     has_filter_map (tested_drive board net) (range_with_len 0 (length net.pins)) place d (has_range 0 (length net.pins) place (omega arith) (omega arith))
     (ap (λ b. cond b (place_drive board net place) None) t ∙ e)
 
--- a tested driver has a drive
+-- a tested driver has a way of being enabled
 pub tested_drives : (board : RawBoard) (net : Net) (place : ℕ) → is_tested_driver board net place ≡ true → (d : Drive) × (place_drive board net place ≡ Some d)
 tested_drives board net place t = by_drive (place_drive board net place) refl (tested_can board net place t)
   where
@@ -54,7 +54,7 @@ tested_drives board net place t = by_drive (place_drive board net place) refl (t
 pub tested_can_drive : (board : RawBoard) (net : Net) (d : Drive) → Tested board net d → can_enable board (Some d) ≡ true
 tested_can_drive board net d t = ap (can_enable board) (sym t.drives) ∙ tested_can board net t.place t.tested
 
--- a setting that enables a driver holds the control that the driver needs
+-- a setting that enables a driver has the control that the driver needs
 pub enabled_needs : (pass : List Ctl) (w : Option Drive) (d : Drive) → w ≡ Some d → is_enabled pass d ≡ true → (c : Ctl) → needed w c ≡ true → holds pass c ≡ true
 enabled_needs pass w d e h c k = by_drive d h (sym (ap (λ (v : Option Drive). needed v c) e) ∙ k)
   where
@@ -66,7 +66,7 @@ enabled_needs pass w d e h c k = by_drive d h (sym (ap (λ (v : Option Drive). n
 pub enabled_observes : (board : RawBoard) (net : Net) (place : ℕ) (d : Drive) (pass : List Ctl) → is_tested_driver board net place ≡ true → place_drive board net place ≡ Some d → is_enabled pass d ≡ true → ObservesBy board (holds pass) net place
 enabled_observes board net place d pass t e h = observes_of board (holds pass) net place t (enabled_needs pass (place_drive board net place) d e h)
 
--- a setting that observes a net by a driver enables the driver
+-- a setting that observes a net by a driver enables that driver
 observes_enabled : (board : RawBoard) (net : Net) (place : ℕ) (d : Drive) (pass : List Ctl) → can_enable board (Some d) ≡ true → place_drive board net place ≡ Some d → ObservesBy board (holds pass) net place → is_enabled pass d ≡ true
 observes_enabled board net place AlwaysOn pass can e o = refl
 observes_enabled board net place OneSided pass can e o = can
@@ -91,7 +91,7 @@ observes_shows board n net pass rules safe en (other, eo, (place, o)) =
     has_any (is_enabled pass) (tested_drivers board net) d.0 (has_tested board net place d.0 t d.1)
     (observes_enabled board net place d.0 pass (ap (can_enable board) (sym d.1) ∙ tested_can board net place t) d.1 here)
 
--- each pass has a reason
+-- each pass has a reason: it enables a driver or observes two nets for the first time
 abbrev Reason : RawBoard → List (List Ctl) → List Ctl → Type 0
 Reason board earlier pass = EnablesNew board earlier pass ⊎ ObservesNew board earlier pass
 
@@ -116,7 +116,7 @@ reason_at board earlier (q ∷ passes) zero pass h e =
     subst P (sym (append_none earlier)) (subst Q same h.0)
 reason_at board earlier (q ∷ passes) (suc x) pass h e = let P : List (List Ctl) → Type 0 = λ v. Reason board v pass in subst P (append_assoc earlier (q ∷ []) (take x passes)) (reason_at board (earlier ++ q ∷ []) passes x pass h.1 e)
 
--- what is true of the passes so far
+-- the property that the list of passes keeps while passes are added
 pub record Good (board : RawBoard) (passes : List (List Ctl)) : Type 0 where
   pub together : (pass : List Ctl) → Has passes pass → AllTogether board pass
   pub reasons : Reasons board [] passes
@@ -135,12 +135,12 @@ good_end board passes pass good all reason = record { together = λ q h. by_part
 good_safe : (board : RawBoard) (passes : List (List Ctl)) (pass : List Ctl) → IsBoard board → Good board passes → Has passes pass → IsSafe board (holds pass)
 good_safe board passes pass rules good h = safe_setting board pass rules (good.together pass h)
 
--- folds
+-- lemmas on folds
 pub fold_keeps : {X Y : Type 0} (P : Y → Type 0) (Q : X → Type 0) (f : Y → X → Y) → ((y : Y) (x : X) → P y → Q x → P (f y x)) → (xs : List X) (y : Y) → ((x : X) → Has xs x → Q x) → P y → P (fold f y xs)
 fold_keeps P Q f step [] y all h = h
 fold_keeps P Q f step (x ∷ xs) y all h = fold_keeps P Q f step xs (f y x) (λ z k. all z (inr k)) (step y x h (all x (inl refl)))
 
--- what is made true by the step at an item, and kept by the other steps, is true at the end
+-- if the step for an item makes a property true, and the other steps keep it, it is true at the end
 pub fold_makes : {X Y : Type 0} (P : Y → Type 0) (f : Y → X → Y) → ((y : Y) (x : X) → P y → P (f y x)) → (xs : List X) (y : Y) (x : X) → Has xs x → ((y : Y) → P (f y x)) → P (fold f y xs)
 fold_makes P f keeps [] y x h makes = absurd h
 fold_makes {X} {Y} P f keeps (z ∷ xs) y x (inl e) makes =
@@ -152,7 +152,7 @@ fold_makes P f keeps (z ∷ xs) y x (inr h) makes = fold_makes P f keeps xs (f y
 useful_safe : (board : RawBoard) → AllSafe board (useful_controls board)
 useful_safe board c h = (and_parts (is_safe_alone board c) (list_any (tests_by board c) board.nets) (filter_has (is_useful board) (all_cells board) c h).1).0
 
--- the lists of tested drivers, net by net
+-- a list is that of the tested drivers of net `n`
 pub record OfNet (board : RawBoard) (n : ℕ) (drivers : List Drive) : Type 0 where
   pub net : Net
   pub on_board : slice_get board.nets n ≡ Some net
@@ -168,7 +168,7 @@ of_net board n drivers e = by_net (slice_get board.nets n) refl (sym (slice_get-
 pub in_nets : (board : RawBoard) (n : ℕ) (net : Net) → slice_get board.nets n ≡ Some net → slice_get (drivers_by_net board) n ≡ Some (tested_drivers board net)
 in_nets board n net e = slice_get-map (tested_drivers board) board.nets n ∙ ap (option_map (tested_drivers board)) e
 
--- a tested driver of the board
+-- a driver is a tested driver of the board
 pub record OnBoard (board : RawBoard) (d : Drive) : Type 0 where
   pub n : ℕ
   pub net : Net
@@ -189,7 +189,7 @@ driver_on_board board d h =
 pub on_board_driver : (board : RawBoard) (n : ℕ) (net : Net) (d : Drive) → slice_get board.nets n ≡ Some net → Has (tested_drivers board net) d → Has (all_drivers board) d
 on_board_driver board n net d en h = has_flat_map (λ (drivers : List Drive). drivers) (drivers_by_net board) (tested_drivers board net) d (has_at (drivers_by_net board) n (tested_drivers board net) (in_nets board n net en)) h
 
--- the first step
+-- the reason of a pass that is made for a driver
 driver_reason : (board : RawBoard) (useful : List Ctl) (passes : List (List Ctl)) (d : Drive) → IsBoard board → OnBoard board d → list_any (λ pass. is_enabled pass d) passes ≡ false → EnablesNew board passes (driver_pass board useful passes d)
 driver_reason board useful passes d rules o none = record {
   net = o.n;
@@ -217,7 +217,7 @@ good_drivers : (board : RawBoard) → IsBoard board → Good board (driver_passe
 good_drivers board rules =
     fold_keeps (Good board) (OnBoard board) (add_for_driver board (useful_controls board)) (λ passes d good o. good_driver board (useful_controls board) passes d rules (useful_safe board) good o) (all_drivers board) [] (driver_on_board board) (good_none board)
 
--- the second step
+-- two lists are those of the tested drivers of two nets, the first of which has the lower number
 pub record OfNets (board : RawBoard) (nets : List Drive × List Drive) : Type 0 where
   pub low : ℕ
   pub high : ℕ
@@ -228,7 +228,7 @@ pub record OfNets (board : RawBoard) (nets : List Drive × List Drive) : Type 0 
 of_nets : (board : RawBoard) (nets : List Drive × List Drive) → Has (pairs_within (drivers_by_net board)) nets → OfNets board nets
 of_nets board nets h = let a : Apart (drivers_by_net board) nets = pairs_within_has (drivers_by_net board) nets h in record { low = a.low; high = a.high; below = a.below; first = of_net board a.low nets.0 a.at_low; second = of_net board a.high nets.1 a.at_high }
 
--- the two drivers of a pass for two nets
+-- two tested drivers, one of each net, for which a pass can be made
 pub record Compatible (board : RawBoard) (a b : Net) (pair : Drive × Drive) : Type 0 where
   pub first : Tested board a pair.0
   pub second : Tested board b pair.1
@@ -252,7 +252,7 @@ compatible_paired board a b pair c =
     below_at (length a.pins) (λ i. any_below (length b.pins) (pairs_at board a b i)) c.first.place (tested_below board a c.first.place c.first.tested)
     (below_at (length b.pins) (pairs_at board a b c.first.place) c.second.place (tested_below board b c.second.place c.second.tested) here)
 
--- the pass for the first two drivers shows both nets
+-- the pass that is made for the first compatible drivers enables a driver of each net
 pub pair_shows : (board : RawBoard) (useful : List Ctl) (a b : Net) (pair : Drive × Drive) → first_pair board (tested_drivers board a) (tested_drivers board b) ≡ Some pair → (shows (tested_drivers board a) (pair_pass board useful pair) && shows (tested_drivers board b) (pair_pass board useful pair)) ≡ true
 pair_shows board useful a b pair e =
     let r = find_has (λ (p : Drive × Drive). are_compatible board (Some p.0) (Some p.1)) (pairs_of (tested_drivers board a) (tested_drivers board b)) pair e in
@@ -262,7 +262,7 @@ pair_shows board useful a b pair e =
     (has_any (is_enabled (pair_pass board useful pair)) (tested_drivers board a) pair.0 s.0 on.0)
     (has_any (is_enabled (pair_pass board useful pair)) (tested_drivers board b) pair.1 s.1 on.1)
 
--- the pass for the two drivers observes both nets
+-- the pass that is made for compatible drivers observes both nets
 pair_observes : (board : RawBoard) (useful : List Ctl) (a b : Net) (pair : Drive × Drive) → Compatible board a b pair → Observes board (holds (pair_pass board useful pair)) a × Observes board (holds (pair_pass board useful pair)) b
 pair_observes board useful a b pair c =
     let on = pair_pass_enables board useful pair (tested_can_drive board a pair.0 c.first) (tested_can_drive board b pair.1 c.second) in (

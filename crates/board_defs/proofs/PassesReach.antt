@@ -1,4 +1,4 @@
--- What some safe setting does, some pass of the board does.
+-- If some safe setting observes or tests something, some pass of the board does so.
 use Rattle.std.proofs.Common.{◌≡◌, ℕ, ◌<◌, Bool, true, false, ◌&&◌, List, [], ◌∷◌, ◌++◌, length, Option, Some, None, refl, sym, ◌∙◌, ap, subst, cond, ◌⊎◌, inl, inr}
 use Rattle.std.specs.Prelude.{slice_get}
 use Rattle.std.specs.List.{list_any}
@@ -19,14 +19,14 @@ use Rattle.board_defs.proofs.Covered.{net_same, tested_can, tested_driver_of, pa
 use Rattle.board_defs.proofs.PassSettings.{driver_pass_enables, safe_setting}
 use Rattle.board_defs.proofs.PassesKept.{Good, good_passes, reason_at, fold_keeps, fold_makes, all_drivers, on_board_driver, has_tested, tested_drives, in_nets, enabled_observes, shows_observes, Compatible, pair_shows}
 
--- a pass that enables the driver stays among the passes, and so does one that shows two nets
+-- some pass enables the driver, or observes both nets; adding passes keeps this true
 abbrev pub Enabled : Drive → List (List Ctl) → Type 0
 Enabled d passes = list_any (λ pass. is_enabled pass d) passes ≡ true
 
 abbrev Shown : List Drive → List Drive → List (List Ctl) → Type 0
 Shown a b passes = are_shown passes a b ≡ true
 
--- what is true of a list of passes by one of them stays true in both steps
+-- a property of one of the passes stays true when a step adds a pass
 pub driver_keeps : (p : List Ctl → Bool) (board : RawBoard) (useful : List Ctl) (passes : List (List Ctl)) (d : Drive) → list_any p passes ≡ true → list_any p (add_for_driver board useful passes d) ≡ true
 driver_keeps p board useful passes d h = by_test (list_any (λ pass. is_enabled pass d) passes)
   where
@@ -45,7 +45,7 @@ nets_keep p board useful passes nets h = by_test (are_shown passes nets.0 nets.1
     by_test true = h
     by_test false = by_pair (first_pair board nets.0 nets.1)
 
--- each tested driver is enabled
+-- some pass enables each tested driver
 pub driver_enabled : (board : RawBoard) (useful : List Ctl) (passes : List (List Ctl)) (d : Drive) → can_enable board (Some d) ≡ true → Enabled d (add_for_driver board useful passes d)
 driver_enabled board useful passes d can = by_test (list_any (λ pass. is_enabled pass d) passes) refl
   where
@@ -68,7 +68,7 @@ drivers_tested board rules n place (s, safe, (net, en, o)) =
     let p = has_place (passes_of board) r.0 r.1 in
     (p.0, r.0, p.1, (net, en, enabled_observes board net place d.0 r.0 t d.1 r.2))
 
--- each two paired nets are shown by one pass
+-- some pass observes both nets of each paired pair
 paired_compatible : (board : RawBoard) (a b : Net) → are_paired board a b ≡ true → (pair : Drive × Drive) × Compatible board a b pair
 paired_compatible board a b h =
     let r : FoundBelow (length a.pins) (λ i. any_below (length b.pins) (pairs_at board a b i)) = below_place (length a.pins) (λ i. any_below (length b.pins) (pairs_at board a b i)) h in

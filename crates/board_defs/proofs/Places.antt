@@ -1,4 +1,4 @@
--- Tests of lists and numbers, and the places at which they are true.
+-- Tests of lists and numbers, and the places of the items that pass.
 use Rattle.std.proofs.Common.{◌≡◌, ◌≢◌, ℕ, zero, suc, ◌<◌, ◌==◌, Bool, true, false, not, List, [], ◌∷◌, Some, refl, sym, ◌∙◌, ap, subst, arith, ◌⊎◌, inl, inr, cond}
 use Rattle.std.specs.Prelude.{slice_get, All}
 use Rattle.std.specs.List.{list_any, list_all}
@@ -6,11 +6,11 @@ use Rattle.std.proofs.lemmas.Option.{slice_get_within, get_or_from_slice_get}
 use Rattle.std.proofs.lemmas.Bool.{both_ways, not-true, not_from_false, false_from_ne_true, and_parts, and_from, or_left, or_right, or_cases, eqb-true}
 use Rattle.board_defs.specs.Decided.{any_below, at_most_one, any_other}
 
--- what is true of each item is true of the item at a place
+-- a property of all items is a property of the item at a place
 pub all_stands : {X : Type 0} (P : X → Type 0) (xs : List X) (k : ℕ) (x : X) → slice_get xs k ≡ Some x → All P xs → P x
 all_stands P xs k x e all = subst P (get_or_from_slice_get xs k x x e) (all k x (slice_get_within xs k x e))
 
--- an item of the list passes
+-- an item of the list that passes, with its place
 pub record Found {X : Type 0} (test : X → Bool) (xs : List X) : Type 0 where
   pub place : ℕ
   pub item : X
@@ -92,7 +92,7 @@ below_at (suc n) test k h p = by_cases (λ less. below_at n test k less p) (n ==
     by_cases rest true e = let same : n ≡ k = eqb-true n k e in or_left (test n) (any_below n test) (ap test same ∙ p)
     by_cases rest false e = let less : k < n = grind arith in or_right (test n) (any_below n test) (rest less)
 
--- an item at another place passes
+-- an item that passes, at a place other than `i`
 pub record FoundElsewhere {X : Type 0} (test : X → Bool) (i : ℕ) (xs : List X) : Type 0 where
   pub place : ℕ
   pub item : X

@@ -21,7 +21,7 @@ none_is : (d : Option Drive) → is_some d ≡ false → d ≡ None
 none_is None h = refl
 none_is (Some d) h = cc h
 
--- the test on drivers, both ways
+-- the test for a net without drivers, in both directions
 no_driver : (board : RawBoard) (n : ℕ) (net : Net) → not (list_any (λ p. is_some (drive board net p)) net.pins) ≡ true → HasNoDriver board n net
 no_driver board n net h place pin st =
     none_is (drive board net pin) (false_from_ne_true (is_some (drive board net pin)) (λ some.
@@ -33,7 +33,7 @@ some_driver board n net en h none =
     let r : Found (λ (p : NetPin). is_some (drive board net p)) net.pins = any_place (λ (p : NetPin). is_some (drive board net p)) net.pins (not-false (list_any (λ (p : NetPin). is_some (drive board net p)) net.pins) h) in
     both_ways (is_some (drive board net r.item)) (ap is_some (none r.place r.item (record { on_board = en; in_net = r.stands }))) r.passes
 
--- the test on drivers that can be enabled, both ways
+-- the test for a net without drivers that can be enabled, in both directions
 blocked : (board : RawBoard) (n : ℕ) (net : Net) → IsBoard board → not (list_any (λ p. can_enable board (drive board net p)) net.pins) ≡ true → IsBlocked board n net
 blocked board n net rules h setting place pin safe st =
     false_from_ne_true (enables board setting pin) (λ on.
@@ -49,7 +49,7 @@ some_can board n net rules en h blocks =
     (blocks (needed d) r.place r.item (needed_safe board d rules r.passes) (record { on_board = en; in_net = r.stands }))
     (needed_enables board net r.item (needed d) r.passes (λ c k. k))
 
--- no reason with a rank below this limit applies
+-- no reason with a rank below `limit` applies
 none_below : (board : RawBoard) (n : ℕ) (net : Net) (limit : ℕ) → limit ≤ 5 →
     (0 < limit → net.supply ≡ false) → (1 < limit → list_any (is_test_pin board) net.pins ≡ false) → (2 < limit → list_any (is_dark board) net.pins ≡ false) →
     (3 < limit → HasNoDriver board n net → ⊥) → (4 < limit → IsBlocked board n net → ⊥) →

@@ -1,4 +1,4 @@
--- The tests of single controls and pairs decide when their settings are safe.
+-- The tests of single controls and of pairs of controls decide when their settings are safe.
 use Rattle.std.proofs.Common.{◌≡◌, ◌≢◌, ℕ, ◌<◌, ◌==◌, Bool, true, false, not, ◌&&◌, ◌||◌, length, Option, Some, None, refl, sym, ◌∙◌, ap, subst, ◌⊎◌, inl, inr, cond}
 use Rattle.std.specs.Prelude.{slice_get, option_and_then, is_some}
 use Rattle.std.specs.List.{list_any, list_all}
@@ -31,7 +31,7 @@ not_both true true h = absurd (h refl refl)
 not_both true false h = refl
 not_both false b h = refl
 
--- a setting enables no one-sided driver, whether or not the driver is on a net
+-- every driver that the setting enables by its own cell switches, whether or not it is on a net
 abbrev pub OwnSwitches : RawBoard → Enabling → Type 0
 OwnSwitches board s = (at : PinAt) (cell : Cell) (control : Control) → is_pinned board at ≡ true → entry_at board at ≡ Some cell → cell.ctl ≡ Some control → control.cell ≡ cell.num → s (record { part = at.part; cell = control.cell }) ≡ true → SwitchesAt board at control.disable
 
@@ -58,7 +58,7 @@ one_sided_off board s rules own n net i p st at cell control pa e k o w on =
         (not_from_false (guarded board net) (ap (guarded board) same ∙ g))
         (pulled_true control.disable net.pull (ap (λ (v : Net). v.pull) same ∙ pull)))
 
--- what the two hypotheses on a control say: it is admitted by each net and enables no one-sided driver
+-- the two parts of the test of a single control: each net admits the control, and it enables no one-sided driver
 own_where_is : (cell : Cell) (ctl : Option Control) (control : Control) → own_where cell ctl ≡ Some control → (ctl ≡ Some control) × (control.cell ≡ cell.num)
 own_where_is cell None control h = cc h
 own_where_is cell (Some k) control h = by_test (k.cell == cell.num) refl h
@@ -131,7 +131,7 @@ one_sided_by_is board cell at ctl control e c p w =
     (and_from (control.cell == cell) (is_pinned board at) (ap (λ n. control.cell == n) (sym c) ∙ (eq-eqb control.cell control.cell refl)) p)
     (not_from_false (is_switching board at control.disable) w)
 
--- without a one-sided driver, what the control enables switches
+-- if the control enables no one-sided driver, every driver that it enables by the driver's own cell switches
 pub own_from_test : (board : RawBoard) (c : Ctl) → enables_one_sided board c ≡ false → OwnSwitches board (just c)
 own_from_test board c h at cell control pinned e k o on =
     let same : record { part = at.part; cell = control.cell } ≡ c = same_equal (record { part = at.part; cell = control.cell }) c on in
@@ -170,7 +170,7 @@ test_from_own board c own = false_from_ne_true (enables_one_sided board c) (λ h
     from : FoundBelow (port_bits board c.part) F → ⊥
     from r = let at : PinAt = record { part = c.part; bit = r.number } in by_entry at refl (entry_at board at) refl r.passes
 
--- what safety requires of the nets, for any setting that enables no one-sided driver
+-- the conditions of safety on the nets, for a setting that enables no one-sided driver
 pub record NetsAdmit (board : RawBoard) (s : Enabling) : Type 0 where
   pub apart : (n : ℕ) (net : Net) (i j : ℕ) (p q : NetPin) (c d : Ctl) → slice_get board.nets n ≡ Some net → slice_get net.pins i ≡ Some p → slice_get net.pins j ≡ Some q → i ≢ j → drive board net p ≡ Some (By c) → drive board net q ≡ Some (By d) → s c ≡ true → s d ≡ true → ⊥
   pub opened : (n : ℕ) (net : Net) (i : ℕ) (p : NetPin) (c : Ctl) → slice_get board.nets n ≡ Some net → slice_get net.pins i ≡ Some p → drive board net p ≡ Some (By c) → s c ≡ true → is_closed board net ≡ false
@@ -216,7 +216,7 @@ nets_from_safe board s safe = record {
         let up : drive board net r.item ≡ Some AlwaysOn = always_true (drive board net r.item) r.passes in
         safe.one n net i r.place p r.item en ei r.stands (places_differ board net i r.place p r.item (Some (By c)) (Some AlwaysOn) ei r.stands d up (λ (w : Some (By c) ≡ Some AlwaysOn). cc w)) (by_enables board net p c d s ∙ on) (always_enables board net r.item up s)
 
--- one control
+-- the setting of one control
 pub alone_safe : (board : RawBoard) (c : Ctl) → IsBoard board → is_safe_alone board c ≡ true → IsSafe board (just c)
 alone_safe board c rules h = safe_from_nets board (just c) rules (record {
   apart = λ n net i j p q a b en ei ej ne dp dq sa sb.
@@ -247,7 +247,7 @@ safe_alone board c safe = and_from (list_all (admits board c) board.nets) (not (
         let r : Found (λ (v : NetPin). is_by c (drive board net v)) net.pins = any_place _ net.pins hd in
         both_ways (is_closed board net) (nets.opened n net r.place r.item c en r.stands (by_true c (drive board net r.item) r.passes) (same_refl c)) hk))
 
--- two controls
+-- the setting of two controls
 drives_at : (board : RawBoard) (c : Ctl) (net : Net) (i : ℕ) (p : NetPin) → slice_get net.pins i ≡ Some p → drive board net p ≡ Some (By c) → drives_net board c net ≡ true
 drives_at board c net i p e d = any_at (λ (v : NetPin). is_by c (drive board net v)) net.pins i p e (is_by_drive c (drive board net p) d)
 

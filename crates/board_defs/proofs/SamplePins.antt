@@ -1,4 +1,5 @@
--- The functions of entries, the pins of two devices and the nets that they guard, worked from the rules of the boundary register.
+-- Samples of the functions of entries, the pins of two devices and the nets that they guard. The expected values follow from the standard's
+-- rules for the boundary register.
 use Rattle.std.proofs.Common.{◌≡◌, ℕ, ◌+◌, ◌==◌, Bool, true, false, List, [], ◌∷◌, map, Option, Some, None, refl}
 use Rattle.std.specs.Prelude.{codes}
 use Rattle.board_defs.specs.declared.device.Symbol.{Symbol}
@@ -22,7 +23,7 @@ use Rattle.board_defs.specs.Pins.{drive, switches, receives, is_dark, is_test_pi
 use Rattle.board_defs.proofs.BoardChecks.{board_of}
 use Rattle.board_defs.proofs.Samples.{port_bit, entry, control, by, device, rcv, od, pin, clock, foreign, net, board, c}
 
--- the functions of entries
+-- the functions of entries, in a list
 abbrev roles : List Role
 roles = Input ∷ Clock ∷ ObserveOnly ∷ Bidir ∷ Output2 ∷ Output3 ∷ ControlRole ∷ ControlR ∷ Internal ∷ []
 
@@ -47,7 +48,7 @@ controlling_roles = refl
 inner_roles : map is_inner roles ≡ false ∷ false ∷ false ∷ false ∷ false ∷ false ∷ true ∷ true ∷ true ∷ []
 inner_roles = refl
 
--- the modes of ports
+-- the modes of ports, in a list
 abbrev modes : List Mode
 modes = Inward ∷ Outward ∷ Both ∷ Buffer ∷ Linkage ∷ []
 
@@ -60,7 +61,7 @@ driving_modes = refl
 linkage_modes : map is_linkage modes ≡ false ∷ false ∷ false ∷ false ∷ true ∷ []
 linkage_modes = refl
 
--- X is taken as 0
+-- X counts as 0
 symbol_bits : map bit_of (Zero ∷ One ∷ Any ∷ []) ≡ false ∷ true ∷ false ∷ []
 symbol_bits = refl
 
@@ -75,7 +76,7 @@ downward = refl
 abbrev letter : ℕ → List ℕ
 letter b = (65 + b) ∷ []
 
--- plain ports of these modes, from port b after those of the test access port
+-- plain ports of these modes, numbered from `b` after the ports of the test access port
 abbrev plain : ℕ → List Mode → List PortBit
 plain b [] = []
 plain b (mode ∷ more) = port_bit (4 + b) None mode (Some (letter b)) false ∷ plain (b + 1) more
@@ -84,11 +85,11 @@ abbrev letters : ℕ → List Mode → List (List ℕ)
 letters b [] = []
 letters b (mode ∷ more) = letter b ∷ letters (b + 1) more
 
--- port b of part k, whose pin it is
+-- the pin at port `b` of part `k`
 abbrev pub leg : ℕ → ℕ → NetPin
 leg k b = record { part = (pin k 0).part; pin = letter b; at = (pin k b).at; inert = false }
 
--- a pin of each kind; the last is named in the compliance patterns
+-- Ports of all kinds, with one pin each. The compliance patterns name the last one.
 abbrev kinds_of : List Mode
 kinds_of = Linkage ∷ Linkage ∷ Inward ∷ Inward ∷ Inward ∷ Inward ∷ Outward ∷ Buffer ∷ Both ∷ Outward ∷ Buffer ∷ Both ∷ Both ∷ Both ∷ Inward ∷ []
 
@@ -107,32 +108,32 @@ kinds = board (mixed ∷ []) []
 kinds_rules : IsBoard kinds
 kinds_rules = board_of kinds refl
 
--- what a pin of the first part is: dark, a receiver, and how it drives a net
+-- the properties of a pin of the first part: whether it is dark, whether it receives, and how its driver is enabled
 abbrev is : RawBoard → ℕ → Bool × Bool × Option Drive
 is b port = (is_dark b (leg 0 port), receives b (leg 0 port), drive b (net 0 None []) (leg 0 port))
 
--- a linkage pin is dark, and it is no receiver though an entry reads it
+-- a linkage pin is dark, and is no receiver although an entry reads it
 linkage : is kinds 0 ≡ (true, false, None)
 linkage = refl
 
 linkage_read : is kinds 1 ≡ (true, false, None)
 linkage_read = refl
 
--- an input without an entry is dark; with a reading entry it is not
+-- an input without an entry is dark, and an input with a reading entry is not
 input_alone : is kinds 2 ≡ (true, false, None)
 input_alone = refl
 
 input_read : is kinds 3 ≡ (false, true, None)
 input_read = refl
 
--- what only observes is no receiver, and a clock is one
+-- an input with an OBSERVE_ONLY entry is no receiver, and one with a CLOCK entry is
 input_observed : is kinds 4 ≡ (false, false, None)
 input_observed = refl
 
 input_clock : is kinds 5 ≡ (false, true, None)
 input_clock = refl
 
--- an output, a buffer and a bidirectional pin without a driving entry are dark; an INPUT entry makes a receiver of the last alone
+-- An output, a buffer and a bidirectional pin are dark without a driving entry. An INPUT entry makes only the bidirectional pin a receiver.
 output_read : is kinds 6 ≡ (true, false, None)
 output_read = refl
 
@@ -142,14 +143,14 @@ buffer_read = refl
 both_read : is kinds 8 ≡ (true, true, None)
 both_read = refl
 
--- drivers are not dark; an INPUT entry makes no receiver of an output or a buffer
+-- Drivers are not dark. An INPUT entry does not make an output or a buffer a receiver.
 output_driver : is kinds 9 ≡ (false, false, Some AlwaysOn)
 output_driver = refl
 
 buffer_driver : is kinds 10 ≡ (false, false, Some (By (c 0 15)))
 buffer_driver = refl
 
--- a bidirectional pin receives by its BIDIR entry or by an INPUT entry beside its driving one
+-- a bidirectional pin receives by its BIDIR entry, or by an INPUT entry beside its driving entry
 both_ways : is kinds 11 ≡ (false, true, Some (By (c 0 15)))
 both_ways = refl
 
@@ -159,22 +160,23 @@ both_entries = refl
 both_drives : is kinds 13 ≡ (false, false, Some (By (c 0 15)))
 both_drives = refl
 
--- a pin that the compliance patterns name is not dark, and may receive
+-- a pin that the compliance patterns name is not dark, and can be a receiver
 compliance_pin : is kinds 14 ≡ (false, true, None)
 compliance_pin = refl
 
--- a TAP pin has no entry and is not dark, also TDO, which is of mode out
+-- A pin of the test access port has no entry and is not dark. Also TDO, which has mode out, is not dark.
 abbrev tap_pins : List NetPin
 tap_pins = clock 0 ∷ record (clock 0) { pin = codes "T2"; at = Some (record { part = 0; bit = 3 }) } ∷ []
 
 tap_not_dark : map (is_dark kinds) tap_pins ≡ false ∷ false ∷ []
 tap_not_dark = refl
 
--- test pins are those of the test access port and those that the compliance patterns name
+-- the test pins are those of the test access port and those that the compliance patterns name
 test_pins : map (is_test_pin kinds) (leg 0 3 ∷ leg 0 14 ∷ tap_pins) ≡ false ∷ true ∷ true ∷ true ∷ []
 test_pins = refl
 
--- a vector's bits are apart: each of A(1 to 2), B(1 to 2) and C(1 to 2) has its entry at the first bit, and at the second none, one that only observes, and one that reads
+-- The bits of a vector differ. Of A(1 to 2), B(1 to 2) and C(1 to 2), each first bit has an entry. The second bit of A has none, that of B
+-- has an OBSERVE_ONLY entry, and that of C has an INPUT entry.
 abbrev half : ℕ → ℕ → Mode → ℕ → PortBit
 half port index mode b = port_bit (4 + port) (Some index) mode (Some (letter b)) false
 
@@ -193,7 +195,8 @@ halves_pins : map (is halves) (0 ∷ 1 ∷ 2 ∷ 3 ∷ 4 ∷ 5 ∷ []) ≡
     (false, true, Some (By (c 0 5))) ∷ (true, false, None) ∷ (false, true, None) ∷ (false, false, None) ∷ (false, false, Some AlwaysOn) ∷ (true, false, None) ∷ []
 halves_pins = refl
 
--- a pin of a part outside the chain is dark, as is one of a part without a description; one of an inert part is not, and none of these receives or drives
+-- A pin of a part outside the chain and a pin of a part without a description are dark. A pin of an inert part is not. None of these pins
+-- receives or drives.
 abbrev pub inert : NetPin
 inert = record { part = codes "J1"; pin = codes "1"; at = None; inert = true }
 
@@ -212,11 +215,12 @@ undescribed_receives = refl
 undescribed_drives : map (drive undescribed (net 0 None [])) (bypass_pin ∷ foreign (codes "RAM") ∷ inert ∷ []) ≡ None ∷ None ∷ None ∷ []
 undescribed_drives = refl
 
--- the part without a description has its instruction length and one data bit; the other has 2 instruction bits and 2 cells
+-- The part without a description has an instruction register of known length and one data bit. The other part has 2 instruction bits and 2
+-- cells.
 undescribed_lengths : instruction_bits undescribed ∷ data_bits undescribed ∷ [] ≡ 6 ∷ 3 ∷ []
 undescribed_lengths = refl
 
--- what guards a net, beside a pin that does not
+-- a net with pin `p` and a pin that does not guard the net
 abbrev guarded_by : NetPin → Bool
 guarded_by p = guarded kinds (net 0 None (leg 0 3 ∷ p ∷ []))
 
@@ -229,7 +233,7 @@ not_guarding = refl
 supply_guarded : guarded kinds (record (net 0 None (leg 0 3 ∷ [])) { supply = true }) ≡ true
 supply_guarded = refl
 
--- a driver that its own cell disables at 0 switches on a net pulled to 0 alone, and on no guarded net
+-- a driver that its own cell disables at 0 switches on an unguarded net that is pulled to 0, and on no other net
 abbrev od0 : RawDevice
 od0 = device (codes "Q" ∷ []) (port_bit 4 None Outward (Some (codes "1")) false ∷ []) (entry 0 Output2 4 (Some (record { cell = 0; disable = false })) ∷ []) 1
 
@@ -251,11 +255,12 @@ own_guarded = refl
 own_supply : drive own (record (held (Some true) []) { supply = true }) (pin 0 0) ≡ Some OneSided
 own_supply = refl
 
--- a driver with another cell for its control does not switch, whatever the pull
+-- a driver with another cell as its control does not switch, whatever the pull
 controlled_pulled : switches kinds (net 0 (Some true) (leg 0 10 ∷ [])) (leg 0 10) ≡ false
 controlled_pulled = refl
 
--- safe values: cell 0 is only read, cell 1 has a reading entry before its writing one and cell 2 after it, cell 3 is internal, cell 4 observes, cell 5 has X, and cell 7 none
+-- Safe values. Cell 0 has only a reading entry. Cell 1 has a reading entry before the entry for its latch, and cell 2 has one after it.
+-- Cell 3 is internal, cell 4 observes, cell 5 has X, and cell 7 has no entry.
 abbrev kept : ℕ → Role → Option ℕ → Symbol → Cell
 kept num role bit safe = record { num = num; role = role; bit = bit; safe = safe; ctl = None }
 
@@ -267,6 +272,7 @@ safes = device [] [] (
 safe_values : map (safe_value safes) (0 ∷ 1 ∷ 2 ∷ 3 ∷ 4 ∷ 5 ∷ 6 ∷ 7 ∷ []) ≡ Some One ∷ Some One ∷ Some Zero ∷ Some One ∷ Some Zero ∷ Some Any ∷ Some Any ∷ None ∷ []
 safe_values = refl
 
--- the value at which a cell disables what it controls: cell 15 its drivers, cell 8 nothing; and cells that disable at 0 and at 1 their own drivers
+-- Disable values. Cell 15 disables its drivers at 1, and cell 8 controls none. The other two cells disable their own drivers, at 0 and at
+-- 1.
 disables : disable_of mixed 15 ∷ disable_of mixed 8 ∷ disable_of od0 0 ∷ disable_of od 0 ∷ [] ≡ Some true ∷ None ∷ Some false ∷ Some true ∷ []
 disables = refl

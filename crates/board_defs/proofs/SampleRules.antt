@@ -1,4 +1,4 @@
--- Devices and boards that each break one rule.
+-- Devices and boards, each of which breaks one rule.
 use Rattle.std.proofs.Common.{◌≡◌, ◌≢◌, ◌⊎◌, ℕ, Bool, true, false, List, [], ◌∷◌, replicate, Option, Some, None, refl, inl, inr, arith}
 use Rattle.std.specs.Prelude.{codes}
 use Rattle.board_defs.specs.declared.device.Symbol.{Symbol}
@@ -17,7 +17,8 @@ use Rattle.board_defs.specs.DeviceRules.{HasTap, PortPinsDiffer, HasPlace, MayHa
 use Rattle.board_defs.specs.BoardRules.{IsPart, PinsDiffer, IsPlaced, AreInertAlike, IsBoard}
 use Rattle.board_defs.proofs.Samples.{port_bit, entry, control, by, device, rcv, ts, pin, net, board}
 
--- the instruction codes of a device that is else in order: their lengths, X, ones, and zeros for EXTEST in the old edition
+-- A device whose only faults can be its instruction codes. The samples break the rules on their lengths, on X, on codes of
+-- only ones, and on the zeros of EXTEST in the old edition.
 abbrev with_codes : List Symbol → List Symbol → RawDevice
 with_codes sample extest = record ts { sample = sample; extest = extest }
 
@@ -48,7 +49,7 @@ one_code rules = rules.codes_differ refl
 short_idcode : HasCodes (record ts { idcode = Some (replicate 31 One) }) → ⊥
 short_idcode rules = let short = rules.idcode_length in omega (arith, short)
 
--- the ports of the test access port: one output, and three or four inputs, all plain
+-- the ports of the test access port are one output and three or four inputs, all plain
 abbrev tap : ℕ → Mode → PortBit
 tap port mode = port_bit port None mode (Some (codes "P")) true
 
@@ -74,7 +75,7 @@ five_inputs rules = neither 5 (λ e. omega (arith, e)) (λ e. omega (arith, e)) 
 vector_tap : HasTap (record tap_in { index = Some 1 } ∷ []) → ⊥
 vector_tap rules = let index : Some 1 ≡ None = (rules.plain 0 tap_in (omega arith) refl).0 in cc index
 
--- a port has one mode, and pins for all bits or for none; no pin is at two port bits
+-- a port has one mode, and pins for all of its bits or for none; no two port bits have the same pin
 abbrev of_port : ℕ → Mode → Option (List ℕ) → PortBit
 of_port index mode pin = port_bit 4 (Some index) mode pin false
 
@@ -87,7 +88,7 @@ half_mapped rules = let whole : true ≡ false = rules.mapped_whole 0 1 (of_port
 pin_twice : PortPinsDiffer (device (codes "Q" ∷ []) (of_port 1 Inward (Some (codes "1")) ∷ of_port 2 Inward (Some (codes "1")) ∷ []) [] 1) → ⊥
 pin_twice rules = let same = rules 4 5 _ _ _ refl refl refl refl in omega (arith, same)
 
--- an entry is on a port bit if and only if its function is on a port, and that bit exists
+-- an entry has a port bit if and only if its function has a port, and the port bit must exist
 input_without_place : HasPlace 6 Input None → ⊥
 input_without_place inner = let z : false ≡ true = inner in cc z
 
@@ -100,7 +101,7 @@ internal_with_place place = let z : true ≡ false = place.0 in cc z
 place_outside : HasPlace 6 Input (Some 6) → ⊥
 place_outside place = let below = place.1 in omega (arith, below)
 
--- OUTPUT3 and BIDIR have a control, OUTPUT2 may have one, and no other entry has one
+-- an OUTPUT3 or BIDIR entry has a control, an OUTPUT2 entry may have one, and no other entry has one
 output_without : MayHaveControl Output3 None → ⊥
 output_without given = let z : false ≡ true = given in cc z
 
@@ -122,14 +123,14 @@ control_with given = let z : true ≡ false = given in cc z
 output_may : MayHaveControl Output2 None × MayHaveControl Output2 (by 1)
 output_may = (tt, tt)
 
--- devices of one port with two bits of this mode, with these entries
+-- a device with one port of two bits of this mode, and with these entries
 abbrev of_cells : Mode → List Cell → RawDevice
 of_cells mode cells = device (codes "Q" ∷ []) (of_port 1 mode (Some (codes "1")) ∷ of_port 2 mode (Some (codes "2")) ∷ []) cells 2
 
 abbrev disabled : ℕ → Bool → Option Control
 disabled cell value = Some (record { cell = cell; disable = value })
 
--- a control is the entry's own cell, or one that a CONTROL or CONTROLR entry makes a control cell
+-- a control is the entry's own cell, or a cell with a CONTROL or CONTROLR entry
 no_control_cell : ControlsStand (of_cells Both (entry 0 Output3 4 (by 1) ∷ entry 1 Input 5 None ∷ [])) → ⊥
 no_control_cell rules = let z : false ≡ true = rules 0 _ _ refl refl in cc z
 
@@ -145,7 +146,7 @@ two_writings rules = let same = rules 0 1 _ _ refl refl refl refl refl in omega 
 two_drivers : OneDriver (of_cells Outward (entry 0 Output2 4 None ∷ entry 1 Output2 4 None ∷ [])) → ⊥
 two_drivers rules = let same = rules 0 1 4 _ _ refl refl refl refl in omega (arith, same)
 
--- no entry is on a TAP port, and no driving entry on an input or a linkage port
+-- no entry is on a TAP port, and no driving entry is on an input or a linkage port
 entry_on_tap : EntriesFitPorts (of_cells Inward (entry 0 Input 0 None ∷ [])) → ⊥
 entry_on_tap rules = let z : true ≡ false = (rules 0 0 _ _ refl refl refl).0 in cc z
 
@@ -155,7 +156,7 @@ driver_on_input rules = let z : false ≡ true = (rules 0 4 _ _ refl refl refl).
 driver_on_linkage : EntriesFitPorts (of_cells Linkage (entry 0 Output2 4 None ∷ [])) → ⊥
 driver_on_linkage rules = let z : false ≡ true = (rules 0 4 _ _ refl refl refl).1 refl in cc z
 
--- the lengths of the registers, and the cell numbers
+-- the limits on the lengths of registers and on cell numbers
 short_instructions : IsDevice (record ts { ir = 1 }) → ⊥
 short_instructions rules = let least = rules.ir_least in omega (arith, least)
 
@@ -168,14 +169,14 @@ no_boundary rules = let least = rules.boundary_least in omega (arith, least)
 cell_outside : IsDevice (record ts { boundary = 1 }) → ⊥
 cell_outside rules = let below = rules.cells_below 1 (control 1) (omega arith) in omega (arith, below)
 
--- an instruction length of a part without a description is from 2 to 255
+-- the instruction register of a part without a description has 2 to 255 bits
 short_part : IsPart (Bypass 1) → ⊥
 short_part rules = let least = rules.0 in omega (arith, least)
 
 long_part : IsPart (Bypass 256) → ⊥
 long_part rules = let most = rules.1 in omega (arith, most)
 
--- a board has a part, and no two parts with the same name; no pin is in the nets twice, in two nets or in one
+-- A board has at least one part, and no two parts have the same name. No pin occurs twice, in two nets or in one net.
 no_chain : IsBoard (board [] []) → ⊥
 no_chain rules = let some = rules.chain_some in omega (arith, some)
 
@@ -193,7 +194,7 @@ twice_in_net : PinsDiffer (pair (net 0 None (pin 1 0 ∷ pin 1 0 ∷ []) ∷ [])
 twice_in_net rules =
     let same = (rules 0 0 0 1 _ _ _ _ (record { on_board = refl; in_net = refl }) (record { on_board = refl; in_net = refl }) refl refl).1 in omega (arith, same)
 
--- a pin of a described part has a place, and the pins of a part in the chain are not inert
+-- a pin of a described part has a place in the chain, and no pin of a part in the chain is inert
 without_place : IsPlaced (pair []) (record (pin 1 0) { at = None }) None → ⊥
 without_place rules = let none = rules 1 (record { name = codes "U2"; kind = Bypass 2 }) (omega arith) refl in cc none
 

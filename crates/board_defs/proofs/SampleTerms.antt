@@ -1,4 +1,5 @@
--- Settings, reasons, tested pins, passes and faults of small boards, worked from the terms of settings.
+-- Samples of settings, reasons, tested pins, passes and faults, on small boards. The expected values follow from the definitions of
+-- the terms.
 use Rattle.std.proofs.Common.{◌≡◌, Bool, true, false, List, [], ◌∷◌, ◌++◌, map, Option, Some, None, refl, arith}
 use Rattle.std.specs.Prelude.{codes}
 use Rattle.board_defs.specs.declared.device.Mode.TheVariants.{Outward}
@@ -20,25 +21,25 @@ use Rattle.board_defs.proofs.BoardChecks.{board_of}
 use Rattle.board_defs.proofs.Samples.{port_bit, entry, device, rcv, ts, bi, two, od, four, pin, clock, foreign, net, board, bus, fours, c, at, reasons, pairs}
 use Rattle.board_defs.proofs.SamplePins.{mixed, leg, inert}
 
--- a three-state driver, a receiver and other pins on one net, which may be a supply; part 2 has a pin of each kind
+-- A board with one net of a three-state driver, a receiver and further pins. The net may be a supply. Part 2 has a pin of each kind.
 abbrev meeting : Bool → List NetPin → RawBoard
 meeting supply more = board (ts ∷ rcv ∷ mixed ∷ []) (record (net 0 None (pin 0 0 ∷ pin 1 0 ∷ more)) { supply = supply } ∷ [])
 
 abbrev reason : Bool → List NetPin → List (Option Reason)
 reason supply more = reasons (meeting supply more)
 
--- whether the control of the driver may be enabled, which is so if and only if the net is not guarded
+-- the control of the driver is safe alone, which means that the net is not guarded
 abbrev usable : Bool → List NetPin → Bool
 usable supply more = is_safe_alone (meeting supply more) (c 0 1)
 
--- beside an input, a pin that only observes and a pin of an inert part the net is covered
+-- with an input, an OBSERVE_ONLY pin and a pin of an inert part as further pins, the net is covered
 open_net : reason false (leg 2 3 ∷ leg 2 4 ∷ inert ∷ []) ≡ None ∷ []
 open_net = refl
 
 open_usable : usable false (leg 2 3 ∷ leg 2 4 ∷ inert ∷ []) ≡ true
 open_usable = refl
 
--- a supply net guards its driver, even if nothing else does
+-- a supply net is guarded, even if none of its pins guards it
 supply_net : reason true [] ≡ Some Supply ∷ []
 supply_net = refl
 
@@ -48,7 +49,8 @@ supply_usable = refl
 supply_rules : IsBoard (meeting true [])
 supply_rules = board_of (meeting true []) refl
 
--- a TAP pin, a pin that the compliance patterns name, a dark pin and a pin of a part outside the chain do too
+-- a pin of the test access port, a pin that the compliance patterns name, a dark pin and a pin of a part outside the chain guard the
+-- net
 tap_net : reason false (clock 2 ∷ []) ≡ Some TestPort ∷ []
 tap_net = refl
 
@@ -73,14 +75,15 @@ linkage_net = refl
 foreign_usable : usable false (foreign (codes "RAM") ∷ []) ≡ false
 foreign_usable = refl
 
--- SUPPLY comes before TESTPORT and DARK, and TESTPORT before DARK
+-- SUPPLY comes before TESTPORT and DARK, and TESTPORT comes before DARK
 supply_first : reason true (clock 2 ∷ foreign (codes "RAM") ∷ []) ≡ Some Supply ∷ []
 supply_first = refl
 
 test_before_dark : reason false (foreign (codes "RAM") ∷ clock 2 ∷ []) ≡ Some TestPort ∷ []
 test_before_dark = refl
 
--- nets of the three-state driver, of a bidirectional pin, of an always-on driver and of a driver of its own cell
+-- The reasons of a net with these pins. The parts have a three-state driver, a bidirectional pin, an always-on driver and a driver
+-- that its own cell enables.
 abbrev alone : List NetPin → List (Option Reason)
 alone pins = reasons (board (ts ∷ bi ∷ rcv ∷ mixed ∷ od ∷ []) (net 0 None pins ∷ []))
 
@@ -95,7 +98,8 @@ no_driver = refl
 one_sided : alone (pin 4 0 ∷ pin 2 0 ∷ []) ≡ Some Blocked ∷ []
 one_sided = refl
 
--- no receiver on another pin: none at all, one that only observes, an output that an entry reads, and the driver's own
+-- Nets without a receiver on another pin: with no other pin, with an OBSERVE_ONLY pin, with an output that an entry reads, and with a
+-- driver that receives itself.
 no_receiver : alone (pin 0 0 ∷ []) ≡ Some NoReceiver ∷ []
 no_receiver = refl
 
@@ -108,14 +112,14 @@ read_output = refl
 own_receiver : alone (pin 1 0 ∷ []) ≡ Some NoReceiver ∷ []
 own_receiver = refl
 
--- a clock entry receives, and so does an INPUT entry beside the driving one of a bidirectional pin
+-- a CLOCK entry makes a receiver, and so does an INPUT entry beside the driving entry of a bidirectional pin
 clock_receives : alone (pin 0 0 ∷ leg 3 5 ∷ []) ≡ None ∷ []
 clock_receives = refl
 
 both_receives : alone (pin 0 0 ∷ leg 3 12 ∷ []) ≡ None ∷ []
 both_receives = refl
 
--- two drivers of one control on a net: the control enables both, so the net is blocked
+-- one control enables two drivers of the net, so the net is blocked
 abbrev twins : RawBoard
 twins = board (two ∷ rcv ∷ []) (net 0 None (pin 0 0 ∷ pin 0 1 ∷ pin 1 0 ∷ []) ∷ net 1 None (pin 0 2 ∷ pin 1 1 ∷ []) ∷ [])
 
@@ -128,7 +132,7 @@ twins_safe = refl
 twins_rules : IsBoard twins
 twins_rules = board_of twins refl
 
--- an always-on driver beside a controlled one: it is tested and the other is not
+-- on a net with an always-on driver and a controlled one, the first is tested and the second is not
 abbrev steady : RawBoard
 steady = board (mixed ∷ ts ∷ rcv ∷ []) (net 0 None (leg 0 9 ∷ pin 1 0 ∷ pin 2 0 ∷ []) ∷ [])
 
@@ -144,11 +148,11 @@ steady_pins = refl
 steady_rules : IsBoard steady
 steady_rules = board_of steady refl
 
--- every setting enables the always-on driver, so the one pass has no control
+-- every setting enables the always-on driver, so the only pass has no controls
 steady_passes : passes_of steady ≡ [] ∷ []
 steady_passes = refl
 
--- a dark net may have an always-on driver, and is not covered
+-- a dark net can have an always-on driver, but is not covered
 abbrev dark_steady : RawBoard
 dark_steady = board (mixed ∷ rcv ∷ []) (net 0 None (leg 0 9 ∷ pin 1 0 ∷ foreign (codes "RAM") ∷ []) ∷ [])
 
@@ -158,7 +162,7 @@ dark_steady_rules = board_of dark_steady refl
 dark_steady_reasons : reasons dark_steady ≡ Some Dark ∷ []
 dark_steady_reasons = refl
 
--- a one-sided driver makes the settings with its cell unsafe, on a net or not; without a pin it is no driver
+-- The cell of a one-sided driver is in no safe setting, whether or not the driver is on a net. Without a pin there is no such driver.
 abbrev unpinned : RawDevice
 unpinned = device (codes "Q" ∷ []) (port_bit 4 None Outward None false ∷ []) (entry 0 Output2 4 (Some (record { cell = 0; disable = true })) ∷ []) 1
 
@@ -168,7 +172,7 @@ loose = board (od ∷ unpinned ∷ ts ∷ od ∷ rcv ∷ []) (net 0 None (pin 3 
 loose_safe : map (is_safe_alone loose) (c 0 0 ∷ c 1 0 ∷ c 2 1 ∷ c 3 0 ∷ []) ≡ false ∷ true ∷ true ∷ false ∷ []
 loose_safe = refl
 
--- the two drivers of a bus are not together, each is with itself, and each is with that of another net
+-- two drivers of a bus are not together; each is together with itself and with the driver of another net
 abbrev split : RawBoard
 split = board (ts ∷ ts ∷ ts ∷ rcv ∷ []) (net 0 None (pin 0 0 ∷ pin 3 0 ∷ []) ∷ net 1 None (pin 1 0 ∷ pin 2 0 ∷ pin 3 1 ∷ []) ∷ [])
 
@@ -184,19 +188,19 @@ split_pairs = refl
 split_rules : IsBoard split
 split_rules = board_of split refl
 
--- the first walk of the first pass adds the lower of the bus drivers; that of the second pass adds none, and its second walk adds the
--- driver that is tested already
+-- In the first pass, the first walk adds the lower of the bus drivers. In the second pass, the first walk adds none, and the second
+-- walk adds a driver that the first pass enables too.
 split_passes : passes_of split ≡ (c 0 1 ∷ c 1 1 ∷ []) ∷ (c 0 1 ∷ c 2 1 ∷ []) ∷ []
 split_passes = refl
 
--- the board of four pairs of drivers with one driver more on a net of its own, which the second walks add
+-- the board of four pairs of drivers, with a further driver on its own net, which the second walks add
 abbrev more_fours : RawBoard
 more_fours = board (four ∷ rcv ∷ rcv ∷ rcv ∷ ts ∷ []) (fours.nets ++ net 5 None (pin 4 0 ∷ pin 3 1 ∷ []) ∷ [])
 
 more_fours_passes : passes_of more_fours ≡ (c 0 8 ∷ c 0 9 ∷ c 4 1 ∷ []) ∷ (c 0 10 ∷ c 0 11 ∷ c 4 1 ∷ []) ∷ (c 0 9 ∷ c 0 10 ∷ c 4 1 ∷ []) ∷ []
 more_fours_passes = refl
 
--- a driver is tested if another pin receives, and a receiver if another pin drives
+-- a driver is tested only if another pin receives, and a receiver only if another pin drives
 abbrev duo : Net
 duo = net 0 None (pin 0 0 ∷ pin 1 0 ∷ [])
 
@@ -228,7 +232,7 @@ control_inserted = refl
 control_there : inserted (c 1 2) (c 0 9 ∷ c 1 2 ∷ c 1 3 ∷ []) ≡ c 0 9 ∷ c 1 2 ∷ c 1 3 ∷ []
 control_there = refl
 
--- the single faults of two nets that are paired, in order
+-- the single faults of two paired nets, in order
 abbrev couple : RawBoard
 couple = board (ts ∷ ts ∷ rcv ∷ []) (net 0 None (pin 0 0 ∷ pin 2 0 ∷ []) ∷ net 1 None (pin 1 0 ∷ pin 2 1 ∷ []) ∷ [])
 
@@ -237,12 +241,12 @@ couple_faults : singles couple ≡
     ∷ OpenPin (at 1 0) false ∷ OpenPin (at 1 0) true ∷ OpenPin (at 1 1) false ∷ OpenPin (at 1 1) true ∷ Short 0 1 And ∷ Short 0 1 Or ∷ Short 0 1 First ∷ Short 0 1 Second ∷ []
 couple_faults = refl
 
--- the single faults of one net
+-- the single faults of a board with one net
 bus_faults : singles bus ≡
     StuckNet 0 false ∷ StuckNet 0 true ∷ OpenPin (at 0 0) false ∷ OpenPin (at 0 0) true ∷ OpenPin (at 0 1) false ∷ OpenPin (at 0 1) true ∷ OpenPin (at 0 2) false ∷ OpenPin (at 0 2) true ∷ []
 bus_faults = refl
 
--- an always-on driver on a supply net, or with a TAP or compliance pin, and two of them on one net break the rules of a board
+-- a board may not have an always-on driver on a supply net or on a net with a TAP or compliance pin, or two such drivers on one net
 abbrev steady_net : Bool → List NetPin → Net
 steady_net supply more = record (net 0 None (leg 0 9 ∷ more)) { supply = supply }
 

@@ -1,4 +1,4 @@
--- Small boards, and what the definitions say about them.
+-- Small boards, and values of the definitions for them.
 use Rattle.std.proofs.Common.{◌≡◌, ℕ, ◌+◌, Bool, true, false, List, [], ◌∷◌, ◌++◌, map, Option, Some, None, refl}
 use Rattle.std.specs.Prelude.{codes}
 use Rattle.board_defs.specs.declared.device.Symbol.TheVariants.{Zero, One, Any}
@@ -29,7 +29,7 @@ use Rattle.board_defs.specs.Passes.{passes_of}
 use Rattle.board_defs.specs.Faults.{tested_pins, paired_nets, singles}
 use Rattle.board_defs.proofs.BoardChecks.{board_of}
 
--- port bits of a device: those of the test access port come first
+-- port bits of a device, of which those of the test access port come first
 abbrev pub port_bit : ℕ → Option ℕ → Mode → Option (List ℕ) → Bool → PortBit
 port_bit port index mode pin tap = record { port = port; index = index; mode = mode; pin = pin; tap = tap; compliance = false }
 
@@ -38,7 +38,7 @@ taps =
     port_bit 0 None Inward (Some (codes "T1")) true ∷ port_bit 1 None Inward (Some (codes "T3")) true ∷ port_bit 2 None Inward (Some (codes "T4")) true
     ∷ port_bit 3 None Outward (Some (codes "T2")) true ∷ []
 
--- a port of this mode with bits from index i on, one for each pin
+-- the bits of a vector port of this mode, one for each pin, with indexes from `i` on
 abbrev pub vector : ℕ → Mode → ℕ → List (List ℕ) → List PortBit
 vector port mode i [] = []
 vector port mode i (pin ∷ pins) = port_bit port (Some i) mode (Some pin) false ∷ vector port mode (i + 1) pins
@@ -46,7 +46,7 @@ vector port mode i (pin ∷ pins) = port_bit port (Some i) mode (Some pin) false
 abbrev pub entry : ℕ → Role → ℕ → Option Control → Cell
 entry num role bit ctl = record { num = num; role = role; bit = Some bit; safe = Any; ctl = ctl }
 
--- an entry of a cell that disables drivers by 1, and the control of such a driver
+-- the entry of a control cell that disables drivers at 1, and the control of such a driver
 abbrev pub control : ℕ → Cell
 control num = record { num = num; role = ControlRole; bit = None; safe = One; ctl = None }
 
@@ -68,7 +68,8 @@ device ports bits cells boundary = record {
   cells = cells;
 }
 
--- receivers on the pins 1 and 2; one three-state driver; one bidirectional pin; two pairs of drivers; a driver of its own cell
+-- devices: with receivers on pins 1 and 2; with one three-state driver; with one bidirectional pin; with two pairs of drivers;
+-- with a driver that its own cell enables
 abbrev pub rcv : RawDevice
 rcv = device (codes "Q" ∷ []) (vector 4 Inward 1 (codes "1" ∷ codes "2" ∷ [])) (entry 0 Input 4 None ∷ entry 1 Input 5 None ∷ []) 2
 
@@ -93,14 +94,14 @@ buf2 = device (codes "OE_N" ∷ codes "A" ∷ codes "Y" ∷ codes "GND" ∷ code
     ∷ port_bit 7 None Linkage (Some (codes "6")) false ∷ port_bit 8 None Linkage (Some (codes "7")) false ∷ [])
     (entry 4 Input 4 None ∷ control 4 ∷ entry 3 Input 5 None ∷ entry 2 Input 6 None ∷ entry 1 Output3 7 (by 4) ∷ entry 0 Output3 8 (by 4) ∷ []) 5
 
--- part `k` is named U and its number from 1, and its pins from 1 come after those of the test access port
+-- Part `k` is named U followed by `k + 1`. Its pins from 1 on come after those of the test access port.
 abbrev pub part_name : ℕ → List ℕ
 part_name k = 85 ∷ (49 + k) ∷ []
 
 abbrev pub pin : ℕ → ℕ → NetPin
 pin k b = record { part = part_name k; pin = (49 + b) ∷ []; at = Some (record { part = k; bit = b + 4 }); inert = false }
 
--- TCK of a part, and pins of parts outside the chain
+-- the TCK pin of a part, and pins of parts outside the chain
 abbrev pub clock : ℕ → NetPin
 clock k = record { part = part_name k; pin = codes "T4"; at = Some (record { part = k; bit = 2 }); inert = false }
 
@@ -129,7 +130,7 @@ reasons b = map (reason_of b) b.nets
 abbrev pub pairs : RawBoard → List (ℕ × ℕ)
 pairs b = map (λ pair. (pair.0.0, pair.1.0)) (paired_nets b)
 
--- two three-state drivers and a receiver on one net: a pass for each driver
+-- two three-state drivers and a receiver on one net, which need one pass for each driver
 abbrev pub bus : RawBoard
 bus = board (ts ∷ ts ∷ rcv ∷ []) (net 0 None (pin 0 0 ∷ pin 1 0 ∷ pin 2 0 ∷ []) ∷ [])
 
@@ -145,7 +146,8 @@ bus_rules = board_of bus refl
 bus_passes : passes_of bus ≡ (c 0 1 ∷ []) ∷ (c 1 1 ∷ []) ∷ []
 bus_passes = refl
 
--- a net whose drivers are of both controls: it is paired with either other net, and these are not paired
+-- a net with drivers of both controls: it is paired with each of the other two nets, and those two are not paired with each
+-- other
 abbrev pub crossing : RawBoard
 crossing = board (two ∷ rcv ∷ rcv ∷ []) (net 0 None (pin 0 0 ∷ pin 1 0 ∷ []) ∷ net 1 None (pin 0 1 ∷ pin 0 2 ∷ pin 1 1 ∷ []) ∷ net 2 None (pin 0 3 ∷ pin 2 0 ∷ []) ∷ [])
 
@@ -161,7 +163,8 @@ crossing_rules = board_of crossing refl
 crossing_passes : passes_of crossing ≡ (c 0 4 ∷ []) ∷ (c 0 5 ∷ []) ∷ []
 crossing_passes = refl
 
--- a bidirectional pin and a driver: the first is tested as a receiver alone, since no other pin of the net receives
+-- a net of a bidirectional pin and a driver: the bidirectional pin is tested only as a receiver, since no other pin of the net
+-- receives
 abbrev pub shared : RawBoard
 shared = board (bi ∷ ts ∷ []) (net 0 None (pin 0 0 ∷ pin 1 0 ∷ []) ∷ [])
 
@@ -196,7 +199,7 @@ buffers_passes = refl
 buffers_bits : data_bits buffers ≡ 10
 buffers_bits = refl
 
--- a net with a foreign pin is dark, and with the pin of an inert part it is not
+-- a net with a foreign pin is dark, and a net with a pin of an inert part is not
 abbrev beside : NetPin → RawBoard
 beside p = board (ts ∷ rcv ∷ []) (net 0 None (pin 0 0 ∷ pin 1 0 ∷ p ∷ []) ∷ [])
 
@@ -209,7 +212,8 @@ dark = refl
 not_dark : reasons (beside (record { part = codes "RAM"; pin = codes "7"; at = None; inert = true })) ≡ None ∷ []
 not_dark = refl
 
--- a driver that its own cell enables: pulled to its disable value it switches, else it is one-sided and its net is blocked
+-- a driver that its own cell enables: if the net is pulled to its disable value, it switches; otherwise it is one-sided and
+-- its net is blocked
 abbrev pulled : Option Bool → Net
 pulled pull = net 0 pull (pin 0 0 ∷ pin 1 0 ∷ [])
 
@@ -246,7 +250,7 @@ one_sided_passes = refl
 switching_faults : singles (pull (Some true)) ≡ StuckNet 0 false ∷ StuckNet 0 true ∷ OpenPin (at 0 0) false ∷ OpenPin (at 0 0) true ∷ OpenPin (at 0 1) false ∷ OpenPin (at 0 1) true ∷ []
 switching_faults = refl
 
--- drivers in pairs to a control: the third pass is for two nets that neither of the first two observes together
+-- each control enables two drivers; the third pass is for two nets that neither of the first two passes observes together
 abbrev pub four : RawDevice
 four = device (codes "Q" ∷ []) (vector 4 Outward 1 (codes "1" ∷ codes "2" ∷ codes "3" ∷ codes "4" ∷ codes "5" ∷ codes "6" ∷ codes "7" ∷ codes "8" ∷ []))
     (entry 0 Output3 4 (by 8) ∷ entry 1 Output3 5 (by 8) ∷ entry 2 Output3 6 (by 9) ∷ entry 3 Output3 7 (by 9) ∷ entry 4 Output3 8 (by 10) ∷ entry 5 Output3 9 (by 10)

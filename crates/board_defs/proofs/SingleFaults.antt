@@ -1,4 +1,4 @@
--- The list of single faults has exactly the single faults.
+-- The list of single faults has exactly the board's single faults.
 use Rattle.std.proofs.Common.{sym, ◌≡◌, ◌≢◌, ℕ, zero, suc, ◌+◌, ◌<◌, Bool, true, false, List, [], ◌∷◌, ◌++◌, length, Some, refl, ◌∙◌, ap, subst, arith, ◌⊎◌, inl, inr}
 use Rattle.std.specs.Prelude.{slice_get, filter, Contains, AllPairs}
 use Rattle.std.specs.List.{flat_map, enumerate_from, range_with_len}
@@ -20,7 +20,7 @@ use Rattle.board_defs.proofs.Members.{Has, has_contains, contains_has, has_left,
 use Rattle.board_defs.proofs.Ordered.{InOrder, PairPrecedes, order_pairs, order_append, order_flat_map, order_filter, order_map, order_range, order_enumerate, order_pairs_within}
 use Rattle.board_defs.proofs.Covered.{covered_is, covered_true, paired_is, paired_true, tested_driver_is, tested_driver_true, tested_receiver_is, tested_receiver_true, tested_below}
 
--- a numbered net is the net of that number
+-- a numbered net in the list is the net with that number
 numbered_at : (board : RawBoard) (m : Numbered) → Has (numbered_nets board) m → slice_get board.nets m.0 ≡ Some m.1
 numbered_at board m h =
     let r = enumerate_has 0 board.nets m.0 m.1 h in
@@ -33,7 +33,7 @@ numbered_has board n net e =
     let P : ℕ → Type 0 = λ k. Has (numbered_nets board) (k, net) in
     subst P at (has_enumerate 0 board.nets n net e)
 
--- and its place in the list of numbered nets is its number
+-- the place of a net in the list of numbered nets is its number
 numbered_place : (n : ℕ) (nets : List Net) (k : ℕ) (m : Numbered) → slice_get (enumerate_from n nets) k ≡ Some m → m.0 ≡ n + k
 numbered_place n [] k m e = cc e
 numbered_place n (net ∷ nets) zero m e = let same : (n, net) ≡ m = cc e in let at : n ≡ m.0 = ap (λ (q : Numbered). q.0) same in omega (arith, at)
@@ -44,7 +44,7 @@ at_place n [] k net e = cc e
 at_place n (v ∷ nets) zero net e = let same : v ≡ net = cc e in let at : n ≡ n + 0 = omega arith in ap (λ w. let q : Numbered = (n, w) in Some q) same ∙ ap (λ m. let q : Numbered = (m, net) in Some q) at
 at_place n (v ∷ nets) (suc k) net e = let at : n + 1 + k ≡ n + suc k = omega arith in at_place (n + 1) nets k net e ∙ ap (λ m. let q : Numbered = (m, net) in Some q) at
 
--- stuck nets
+-- the faults of stuck nets
 stuck_is : (board : RawBoard) → IsBoard board → (s : Single) → Has (flat_map (λ net. stuck_faults net.0) (covered_nets board)) s → IsSingle board s
 stuck_is board rules s h = by_value r.2
   where
@@ -71,7 +71,7 @@ stuck_has board rules n value (setting, safe, (net, en, o)) =
     by_value false = inl refl
     by_value true = inr (inl refl)
 
--- open pins
+-- the faults of open pins
 open_is : (board : RawBoard) → IsBoard board → (s : Single) → Has (flat_map open_faults (tested_pins board)) s → IsSingle board s
 open_is board rules s h = by_value r.2
   where
@@ -123,7 +123,7 @@ open_has board rules pin value h =
     by_value false = inl refl
     by_value true = inr (inl refl)
 
--- shorts
+-- the faults of shorts
 short_is : (board : RawBoard) → IsBoard board → (s : Single) → Has (flat_map (λ pair. short_faults pair.0.0 pair.1.0) (paired_nets board)) s → IsSingle board s
 short_is board rules s h = by_kind r.2
   where
@@ -168,7 +168,7 @@ short_has board rules a b kind less (ne, (s, safe, ((first, ea, oa), (second, eb
     by_kind First = inr (inr (inl refl))
     by_kind Second = inr (inr (inr (inl refl)))
 
--- both ways
+-- a fault is in the list if and only if it is a single fault
 pub single_is : (board : RawBoard) → IsBoard board → (s : Single) → Contains (singles board) s → IsSingle board s
 single_is board rules s h = by_part (has_append (stuck ++ opens) shorts s (contains_has (singles board) s h))
   where
@@ -230,11 +230,11 @@ precedes_as a b s t e f h =
     let Q : Single → Type 0 = λ v. SinglePrecedes s v in
     subst Q f (subst P e h)
 
--- nets by their numbers
+-- the order of nets by their numbers
 abbrev Lower : Numbered → Numbered → Type 0
 Lower p q = p.0 < q.0
 
--- each list is in order
+-- each of the three lists is in order
 stuck_order : (board : RawBoard) → InOrder SinglePrecedes (flat_map (λ net. stuck_faults net.0) (covered_nets board))
 stuck_order board =
     order_flat_map (λ (p q : Numbered). p.0 < q.0) SinglePrecedes (λ net. stuck_faults net.0) (covered_nets board)

@@ -1,4 +1,4 @@
--- What a board is: the rules that its chain and its nets keep.
+-- The rules of boards: those that the chain and the nets of every board keep.
 use Rattle.std.specs.Prelude.{◌≡◌, ◌≢◌, ℕ, ◌≤◌, true, false, length, Option, Some, None, slice_get, sum_by, All, AllPairs}
 use Rattle.std.specs.List.{list_any}
 use Rattle.board_defs.specs.declared.device.PortBit.{PortBit}
@@ -20,17 +20,18 @@ abbrev pub IsPart : PartKind → Type 0
 IsPart (Described device) = IsDevice device
 IsPart (Bypass n) = IsInstructionLength n
 
--- net number `n` is `net`, and its pin at `place` is `pin`
+-- net number `n` is `net`, and `pin` is at `place` of that net
 pub record Stands (board : RawBoard) (n : ℕ) (net : Net) (place : ℕ) (pin : NetPin) : Type 0 where
   pub on_board : slice_get board.nets n ≡ Some net
   pub in_net : slice_get net.pins place ≡ Some pin
 
--- no pin is in the nets twice
+-- no pin occurs twice in the nets
 abbrev pub PinsDiffer : RawBoard → Type 0
 PinsDiffer board =
     (m n i j : ℕ) (first second : Net) (p q : NetPin) → Stands board m first i p → Stands board n second j q → p.part ≡ q.part → p.pin ≡ q.pin → (m ≡ n) × (i ≡ j)
 
--- `at` is the place of the pin: the part with the name of the pin's part, and that part's port bit with this pin
+-- `at` is the place of the pin in the chain: `at.part` is the part with the name of the pin's part, and `at.bit` is the
+-- port bit of that part that has this pin
 pub record IsPlacedAt (board : RawBoard) (pin : NetPin) (at : PinAt) : Type 0 where
   pub part : Part
   pub in_chain : slice_get board.chain at.part ≡ Some part
@@ -41,17 +42,18 @@ pub record IsPlacedAt (board : RawBoard) (pin : NetPin) (at : PinAt) : Type 0 wh
   pub in_device : slice_get device.bits at.bit ≡ Some bit
   pub has_pin : bit.pin ≡ Some pin.pin
 
--- a pin has a place in the chain if and only if its part is described
+-- A pin with a place is at that place. If a pin has no place, no described part has the name of the pin's part.
 abbrev pub IsPlaced : RawBoard → NetPin → Option PinAt → Type 0
 IsPlaced board pin None = All (λ part. part.name ≡ pin.part → described part.kind ≡ None) board.chain
 IsPlaced board pin (Some at) = IsPlacedAt board pin at
 
--- no pin of a chain part is inert, and the pins of one part are all inert or all not inert
+-- No pin of a part in the chain is inert. Of the pins of one part, all are inert or none is.
 pub record AreInertAlike (board : RawBoard) : Type 0 where
   pub in_chain : All (λ net. All (λ pin. pin.inert ≡ true → All (λ part. part.name ≢ pin.part) board.chain) net.pins) board.nets
   pub agree : (m n i j : ℕ) (first second : Net) (p q : NetPin) → Stands board m first i p → Stands board n second j q → p.part ≡ q.part → p.inert ≡ q.inert
 
--- no driver that is always on is on a supply net or on a net with a TAP or compliance pin
+-- a net with a driver that is always on is no supply net, and has no pin of a test access port or of compliance
+-- patterns
 abbrev pub NoGuardedDriver : RawBoard → Type 0
 NoGuardedDriver board =
     (n place : ℕ) (net : Net) (pin : NetPin) → Stands board n net place pin → drive board net pin ≡ Some AlwaysOn → (net.supply ≡ false) × (list_any (is_test_pin board) net.pins ≡ false)
@@ -61,7 +63,7 @@ abbrev pub OneAlwaysOn : RawBoard → Type 0
 OneAlwaysOn board =
     (n : ℕ) (net : Net) (i j : ℕ) (p q : NetPin) → slice_get board.nets n ≡ Some net → slice_get net.pins i ≡ Some p → slice_get net.pins j ≡ Some q → i ≢ j → drive board net p ≡ Some AlwaysOn → drive board net q ≡ Some AlwaysOn → ⊥
 
--- the rules that every board keeps
+-- the rules of boards
 pub record IsBoard (board : RawBoard) : Type 0 where
   pub chain_some : 1 ≤ length board.chain
   pub chain_most : length board.chain ≤ most_parts

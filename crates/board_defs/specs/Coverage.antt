@@ -1,4 +1,4 @@
--- What a test can cover. Each term says that some safe setting does something.
+-- The terms of coverage. Most of them say that some safe setting does something.
 use Rattle.std.specs.Prelude.{◌≡◌, ◌≢◌, ◌<◌, ℕ, true, false, Some, None, slice_get}
 use Rattle.std.specs.List.{list_any}
 use Rattle.board_defs.specs.declared.board.NetPin.{NetPin}
@@ -12,7 +12,7 @@ use Rattle.board_defs.specs.Pins.{drive, receives, is_test_pin, is_dark}
 use Rattle.board_defs.specs.BoardRules.{Stands}
 use Rattle.board_defs.specs.Settings.{Enabling, just, both, enables, IsSafe, ObservesBy, ObservesNet}
 
--- the setting enables the pin at `place` of net `n`, and observes the net by it
+-- the setting observes net `n` by the driver at `place`
 abbrev pub TestsDriver : RawBoard → Enabling → ℕ → ℕ → Type 0
 TestsDriver board setting n place = (net : Net) × (slice_get board.nets n ≡ Some net) × ObservesBy board setting net place
 
@@ -25,27 +25,27 @@ TestsReceiver board setting n place =
 abbrev pub SomeSafe : RawBoard → (Enabling → Type 0) → Type 0
 SomeSafe board P = (setting : Enabling) × IsSafe board setting × P setting
 
--- some safe setting observes the net
+-- the net is covered: some safe setting observes it
 abbrev pub IsCovered : RawBoard → ℕ → Type 0
 IsCovered board n = SomeSafe board (λ setting. ObservesNet board setting n)
 
--- one safe setting observes both nets
+-- the nets are paired: they are two different nets, and one safe setting observes both
 abbrev pub ArePaired : RawBoard → ℕ → ℕ → Type 0
 ArePaired board a b = (a ≢ b) × SomeSafe board (λ setting. ObservesNet board setting a × ObservesNet board setting b)
 
--- some safe setting enables the driver and observes its net
+-- the driver at `place` of net `n` is tested: some safe setting enables it and observes its net by it
 abbrev pub IsTestedDriver : RawBoard → ℕ → ℕ → Type 0
 IsTestedDriver board n place = SomeSafe board (λ setting. TestsDriver board setting n place)
 
--- some safe setting observes the net of the receiver by a driver on another pin
+-- the receiver at `place` of net `n` is tested: some safe setting observes the net by a driver on another pin
 abbrev pub IsTestedReceiver : RawBoard → ℕ → ℕ → Type 0
 IsTestedReceiver board n place = SomeSafe board (λ setting. TestsReceiver board setting n place)
 
--- the setting of the control alone is safe, and it controls a tested driver
+-- the control is useful: the setting with this control alone is safe, and the control enables a tested driver
 abbrev pub IsUseful : RawBoard → Ctl → Type 0
 IsUseful board c = IsSafe board (just c) × (n : ℕ) × (net : Net) × (place : ℕ) × (pin : NetPin) × (slice_get board.nets n ≡ Some net) × (slice_get net.pins place ≡ Some pin) × (drive board net pin ≡ Some (By c)) × IsTestedDriver board n place
 
--- the setting of the two controls is safe
+-- the two controls are together: the setting with these two controls is safe
 abbrev pub AreTogether : RawBoard → Ctl → Ctl → Type 0
 AreTogether board a b = IsSafe board (both a b)
 
@@ -53,11 +53,11 @@ AreTogether board a b = IsSafe board (both a b)
 abbrev pub HasNoDriver : RawBoard → ℕ → Net → Type 0
 HasNoDriver board n net = (place : ℕ) (pin : NetPin) → Stands board n net place pin → drive board net pin ≡ None
 
--- no safe setting enables a driver on the net
+-- the net is blocked: no safe setting enables a driver on it
 abbrev pub IsBlocked : RawBoard → ℕ → Net → Type 0
 IsBlocked board n net = (setting : Enabling) (place : ℕ) (pin : NetPin) → IsSafe board setting → Stands board n net place pin → enables board setting pin ≡ false
 
--- what a reason says about a net that is not covered
+-- the reason applies to the net
 abbrev pub ReasonHolds : RawBoard → ℕ → Net → Reason → Type 0
 ReasonHolds board n net Supply = net.supply ≡ true
 ReasonHolds board n net TestPort = list_any (is_test_pin board) net.pins ≡ true
@@ -75,7 +75,7 @@ reason_rank NoDriver = 3
 reason_rank Blocked = 4
 reason_rank NoReceiver = 5
 
--- `reason` is why net `n` is not covered: the first reason that applies
+-- `reason` is the reason why net `n` is not covered: the first that applies
 pub record IsReason (board : RawBoard) (n : ℕ) (net : Net) (reason : Reason) : Type 0 where
   pub uncovered : IsCovered board n → ⊥
   pub holds : ReasonHolds board n net reason

@@ -1,5 +1,5 @@
--- Tests that compute the terms of settings and coverage. They go through no settings: they look only at single controls and at
--- pairs of controls. A law says that they decide the terms.
+-- Tests that compute the terms of settings and coverage. They do not list settings: they look only at single controls and at
+-- pairs of controls. A law says that these tests decide the terms.
 use Rattle.std.specs.Prelude.{ℕ, zero, suc, ◌==◌, Bool, true, false, not, ◌&&◌, ◌||◌, List, [], ◌∷◌, length, Option, Some, None, slice_get, is_some, option_and_then, cond}
 use Rattle.std.specs.List.{list_any, list_all}
 use Rattle.board_defs.specs.declared.device.Control.{Control}
@@ -40,14 +40,14 @@ is_always_on (Some AlwaysOn) = true
 is_always_on (Some OneSided) = false
 is_always_on (Some (By c)) = false
 
--- the driver is controlled by `c`
+-- control `c` enables the driver
 abbrev pub is_by : Ctl → Option Drive → Bool
 is_by c None = false
 is_by c (Some AlwaysOn) = false
 is_by c (Some OneSided) = false
 is_by c (Some (By d)) = same_ctl d c
 
--- the control controls a driver of the net
+-- the control enables a driver of the net
 abbrev pub drives_net : RawBoard → Ctl → Net → Bool
 drives_net board c net = list_any (λ p. is_by c (drive board net p)) net.pins
 
@@ -55,33 +55,33 @@ drives_net board c net = list_any (λ p. is_by c (drive board net p)) net.pins
 abbrev pub is_closed : RawBoard → Net → Bool
 is_closed board net = guarded board net || list_any (λ p. is_always_on (drive board net p)) net.pins
 
--- the net allows the control in a safe setting
+-- a safe setting may have the control, as far as this net is concerned
 abbrev pub admits : RawBoard → Ctl → Net → Bool
 admits board c net = at_most_one (λ p. is_by c (drive board net p)) net.pins && not (drives_net board c net && is_closed board net)
 
--- the pin is at place `at` of the chain
+-- the place in the chain, if there is one, is `at`
 abbrev pub is_at : PinAt → Option PinAt → Bool
 is_at at None = false
 is_at at (Some b) = (b.part == at.part) && (b.bit == at.bit)
 
--- the net lets a driver with disable value `value` switch, and has the pin at `at`
+-- the net is unguarded and pulled to `value`, and the pin at `at` is one of its pins
 abbrev pub is_switched : RawBoard → PinAt → Bool → Net → Bool
 is_switched board at value net = lets_switch board net value && list_any (λ p. is_at at p.at) net.pins
 
--- the pin at `at` is in an unguarded net that is pulled to `value`
+-- the pin at `at` is on some unguarded net that is pulled to `value`
 abbrev pub is_switching : RawBoard → PinAt → Bool → Bool
 is_switching board at value = list_any (is_switched board at value) board.nets
 
--- the entry's control, if it is the entry's own cell
+-- the entry's control, if the control is the entry's own cell
 abbrev pub own_where : Cell → Option Control → Option Control
 own_where cell None = None
 own_where cell (Some control) = cond (control.cell == cell.num) (Some control) None
 
--- the control of the driver at `at`, if it is the entry's own cell
+-- the control of the driving entry at `at`, if the control is the entry's own cell
 abbrev pub own_control : RawBoard → PinAt → Option Control
 own_control board at = option_and_then (λ cell. own_where cell cell.ctl) (entry_at board at)
 
--- the driver at `at` is one-sided, and its cell is number `cell`
+-- a driver at `at` with this control of its own is one-sided, and its cell is number `cell`
 abbrev pub is_one_sided_by : RawBoard → ℕ → PinAt → Option Control → Bool
 is_one_sided_by board cell at None = false
 is_one_sided_by board cell at (Some control) = (control.cell == cell) && is_pinned board at && not (is_switching board at control.disable)
@@ -95,19 +95,19 @@ bit_count (Some device) = length device.bits
 abbrev pub port_bits : RawBoard → ℕ → ℕ
 port_bits board part = bit_count (device_at board part)
 
--- the control enables a one-sided driver, whether or not that driver is on a net
+-- the control enables a one-sided driver, which may be on a net or not
 abbrev pub enables_one_sided : RawBoard → Ctl → Bool
 enables_one_sided board c = any_below (port_bits board c.part) (λ bit. let at : PinAt = record { part = c.part; bit = bit } in is_one_sided_by board c.cell at (own_control board at))
 
--- the setting of the control alone is safe
+-- the setting with this control alone is safe
 abbrev pub is_safe_alone : RawBoard → Ctl → Bool
 is_safe_alone board c = list_all (admits board c) board.nets && not (enables_one_sided board c)
 
--- the two controls control drivers of one net
+-- the two controls enable drivers of one net
 abbrev pub share_net : RawBoard → Ctl → Ctl → Bool
 share_net board a b = list_any (λ net. drives_net board a net && drives_net board b net) board.nets
 
--- the setting of the two controls is safe
+-- the two controls are together
 abbrev pub are_together : RawBoard → Ctl → Ctl → Bool
 are_together board a b = is_safe_alone board a && is_safe_alone board b && (same_ctl a b || not (share_net board a b))
 
@@ -118,27 +118,27 @@ can_enable board (Some AlwaysOn) = true
 can_enable board (Some OneSided) = false
 can_enable board (Some (By c)) = is_safe_alone board c
 
--- how the pin's driver on the net is enabled, if there is a pin and it is a driver
+-- the pin's way of enabling its driver on the net, if there is a pin and it is a driver
 abbrev pub drive_in : RawBoard → Net → Option NetPin → Option Drive
 drive_in board net pin = option_and_then (λ p. drive board net p) pin
 
--- how the driver at `place` of the net is enabled, if there is one
+-- the way in which the driver at `place` of the net is enabled, if there is one
 abbrev pub place_drive : RawBoard → Net → ℕ → Option Drive
 place_drive board net place = drive_in board net (slice_get net.pins place)
 
--- some safe setting enables the driver at this place and observes the net
+-- the driver at `place` of the net is tested
 abbrev pub is_tested_driver : RawBoard → Net → ℕ → Bool
 is_tested_driver board net place = not (guarded board net) && can_enable board (place_drive board net place) && any_other (receives board) place net.pins
 
--- some safe setting observes the net by a driver on a pin other than the receiver at `place`
+-- the receiver at `place` of the net is tested
 abbrev pub is_tested_receiver : RawBoard → Net → ℕ → Bool
 is_tested_receiver board net place = not (guarded board net) && receives_of board (slice_get net.pins place) && any_other (λ p. can_enable board (drive board net p)) place net.pins
 
--- some safe setting observes the net
+-- the net is covered
 abbrev pub is_covered : RawBoard → Net → Bool
 is_covered board net = any_below (length net.pins) (is_tested_driver board net)
 
--- one safe setting enables both drivers
+-- there are two drivers, and one safe setting enables both
 abbrev pub are_compatible : RawBoard → Option Drive → Option Drive → Bool
 are_compatible board None e = false
 are_compatible board (Some OneSided) e = false
@@ -148,7 +148,7 @@ are_compatible board (Some (By c)) (Some OneSided) = false
 are_compatible board (Some (By c)) (Some AlwaysOn) = is_safe_alone board c
 are_compatible board (Some (By c)) (Some (By d)) = are_together board c d
 
--- one safe setting enables the tested drivers at these places of the two nets
+-- the drivers at these places of the two nets are tested, and one safe setting enables both
 abbrev pub pairs_at : RawBoard → Net → Net → ℕ → ℕ → Bool
 pairs_at board a b i j = is_tested_driver board a i && is_tested_driver board b j && are_compatible board (place_drive board a i) (place_drive board b j)
 
@@ -156,7 +156,7 @@ pairs_at board a b i j = is_tested_driver board a i && is_tested_driver board b 
 abbrev pub are_paired : RawBoard → Net → Net → Bool
 are_paired board a b = any_below (length a.pins) (λ i. any_below (length b.pins) (pairs_at board a b i))
 
--- the control enables the driver at `place` of the net, and that driver is tested
+-- the control enables the driver at `place` of the net, and this driver is tested
 abbrev pub tests_by_at : RawBoard → Ctl → Net → ℕ → Bool
 tests_by_at board c net place = is_by c (place_drive board net place) && is_tested_driver board net place
 
@@ -164,11 +164,11 @@ tests_by_at board c net place = is_by c (place_drive board net place) && is_test
 abbrev pub tests_by : RawBoard → Ctl → Net → Bool
 tests_by board c net = any_below (length net.pins) (tests_by_at board c net)
 
--- the control is safe alone and controls a tested driver
+-- the control is useful
 abbrev pub is_useful : RawBoard → Ctl → Bool
 is_useful board c = is_safe_alone board c && list_any (tests_by board c) board.nets
 
--- the first reason that applies to a net that is not covered
+-- the first reason that applies, for a net that is not covered
 abbrev pub first_reason : RawBoard → Net → Reason
 first_reason board net =
     cond net.supply Supply
@@ -177,6 +177,6 @@ first_reason board net =
     (cond (not (list_any (λ p. is_some (drive board net p)) net.pins)) NoDriver
     (cond (not (list_any (λ p. can_enable board (drive board net p)) net.pins)) Blocked NoReceiver))))
 
--- why the net is not covered, or None if it is covered
+-- the reason why the net is not covered, or None if it is covered
 abbrev pub reason_of : RawBoard → Net → Option Reason
 reason_of board net = cond (is_covered board net) None (Some (first_reason board net))

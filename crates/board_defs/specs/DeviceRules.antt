@@ -1,4 +1,4 @@
--- What a device is: the functions of its boundary entries, and the rules that its fields keep.
+-- The functions of boundary entries, and the rules of devices: those that the fields of every device keep.
 use Rattle.std.specs.Prelude.{◌≡◌, ◌≢◌, ◌⊎◌, ℕ, ◌+◌, ◌-◌, ◌<◌, ◌≤◌, ◌==◌, Bool, true, false, ◌&&◌, ◌||◌, List, [], ◌∷◌, length, map, reverse, filter, find, count_by, Option, Some, None, option_map, is_some, All, AllPairs, Contains, IsSome, IsNone, IfSome, slice_get, nat_le, cond, IsTrue}
 use Rattle.std.specs.List.{list_any, list_all, range_with_len}
 use Rattle.std.specs.List.Sorted.{IsNonDecreasing}
@@ -15,7 +15,7 @@ use Rattle.board_defs.specs.declared.device.Cell.{Cell}
 use Rattle.board_defs.specs.declared.device.PortBit.{PortBit}
 use Rattle.board_defs.specs.declared.device.RawDevice.{RawDevice}
 
--- a driving entry: OUTPUT2, OUTPUT3 and BIDIR
+-- the function of a driving entry: OUTPUT2, OUTPUT3 or BIDIR
 abbrev pub is_driving : Role → Bool
 is_driving Output2 = true
 is_driving Output3 = true
@@ -27,7 +27,7 @@ is_driving Internal = false
 is_driving Clock = false
 is_driving ObserveOnly = false
 
--- a reading entry: INPUT, CLOCK, OBSERVE_ONLY and BIDIR
+-- the function of a reading entry: INPUT, CLOCK, OBSERVE_ONLY or BIDIR
 abbrev pub is_reading : Role → Bool
 is_reading Input = true
 is_reading Clock = true
@@ -39,7 +39,7 @@ is_reading ControlRole = false
 is_reading ControlR = false
 is_reading Internal = false
 
--- an entry of a receiver, which a test compares: INPUT, CLOCK and BIDIR
+-- the function of a receiver's entry, whose cell a test compares: INPUT, CLOCK or BIDIR
 abbrev pub is_receiving : Role → Bool
 is_receiving Input = true
 is_receiving Clock = true
@@ -51,7 +51,7 @@ is_receiving ControlRole = false
 is_receiving ControlR = false
 is_receiving Internal = false
 
--- an entry that takes its value from the update latch: OUTPUT2, OUTPUT3, BIDIR, CONTROL, CONTROLR and INTERNAL
+-- the function of an entry for an update latch: OUTPUT2, OUTPUT3, BIDIR, CONTROL, CONTROLR or INTERNAL
 abbrev pub is_writing : Role → Bool
 is_writing Output2 = true
 is_writing Output3 = true
@@ -63,23 +63,23 @@ is_writing Input = false
 is_writing Clock = false
 is_writing ObserveOnly = false
 
--- an entry that defines what its cell captures: a reading entry, or INTERNAL
+-- the function of an entry that defines what its cell captures: a reading function, or INTERNAL
 abbrev pub is_loading : Role → Bool
 is_loading Internal = true
 is_loading role = is_reading role
 
--- CONTROL and CONTROLR
+-- the function of an entry that makes its cell a control cell: CONTROL or CONTROLR
 abbrev pub is_controlling : Role → Bool
 is_controlling ControlRole = true
 is_controlling ControlR = true
 is_controlling role = false
 
--- an entry inside the device, on no port: CONTROL, CONTROLR and INTERNAL
+-- the function of an entry that has no port: CONTROL, CONTROLR or INTERNAL
 abbrev pub is_inner : Role → Bool
 is_inner Internal = true
 is_inner role = is_controlling role
 
--- in and inout: the part receives from such a pin
+-- the part can receive from a pin of this mode: in or inout
 abbrev pub may_receive : Mode → Bool
 may_receive Inward = true
 may_receive Both = true
@@ -87,7 +87,7 @@ may_receive Outward = false
 may_receive Buffer = false
 may_receive Linkage = false
 
--- out, inout and buffer: the part may drive such a pin
+-- the part can drive a pin of this mode: out, inout or buffer
 abbrev pub may_drive : Mode → Bool
 may_drive Outward = true
 may_drive Both = true
@@ -95,7 +95,7 @@ may_drive Buffer = true
 may_drive Inward = false
 may_drive Linkage = false
 
--- a port of power, ground or another connection that is not digital
+-- the mode is linkage: power, ground or another connection that is not digital
 abbrev pub is_linkage : Mode → Bool
 is_linkage Linkage = true
 is_linkage Inward = false
@@ -103,13 +103,13 @@ is_linkage Outward = false
 is_linkage Both = false
 is_linkage Buffer = false
 
--- the bit that stands for a symbol: 0 for X
+-- the bit of a symbol, in which X counts as 0
 abbrev pub bit_of : Symbol → Bool
 bit_of One = true
 bit_of Zero = false
 bit_of Any = false
 
--- the entry is on port bit `bit`
+-- the entry's port bit, if it has one, is `bit`
 abbrev pub is_on : ℕ → Option ℕ → Bool
 is_on bit None = false
 is_on bit (Some b) = b == bit
@@ -122,11 +122,11 @@ drives_bit bit cell = is_on bit cell.bit && is_driving cell.role
 abbrev pub reads_bit : ℕ → Cell → Bool
 reads_bit bit cell = is_on bit cell.bit && is_receiving cell.role
 
--- the driving entry of a port bit, which has at most one
+-- the driving entry of a port bit; a device has at most one for each
 abbrev pub driving_entry : RawDevice → ℕ → Option Cell
 driving_entry device bit = find (drives_bit bit) device.cells
 
--- the first entry of a cell with one of these roles
+-- the first entry of a cell whose function is one of `roles`
 abbrev pub entry_of : (Role → Bool) → RawDevice → ℕ → Option Cell
 entry_of roles device cell = find (λ entry. (entry.num == cell) && roles entry.role) device.cells
 
@@ -143,11 +143,11 @@ abbrev pub or_entry : Option Cell → Option Cell → Option Cell
 or_entry None second = second
 or_entry (Some first) second = Some first
 
--- the safe value of a cell: that of its writing entry if it has one, else that of its reading entry
+-- the safe value of a cell: that of the entry for its update latch if it has one, else that of its reading entry
 abbrev pub safe_value : RawDevice → ℕ → Option Symbol
 safe_value device cell = option_map (λ entry. entry.safe) (or_entry (writing_entry device cell) (reading_entry device cell))
 
--- the control is cell number `cell`
+-- there is a control, and it is cell number `cell`
 abbrev pub is_control_of : ℕ → Option Control → Bool
 is_control_of cell None = false
 is_control_of cell (Some control) = control.cell == cell
@@ -157,7 +157,7 @@ abbrev pub disable_in : ℕ → Option Cell → Option Bool
 disable_in cell None = None
 disable_in cell (Some entry) = option_map (λ control. control.disable) entry.ctl
 
--- the value at which a cell disables the drivers that it controls, if it controls any
+-- the value at which a cell disables the drivers that it controls, or None if it controls none
 abbrev pub disable_of : RawDevice → ℕ → Option Bool
 disable_of device cell = disable_in cell (find (λ entry. is_control_of cell entry.ctl) device.cells)
 
@@ -165,7 +165,7 @@ disable_of device cell = disable_in cell (find (λ entry. is_control_of cell ent
 abbrev pub is_control_entry : ℕ → Cell → Bool
 is_control_entry cell entry = (entry.num == cell) && is_controlling entry.role
 
--- the bits of a port, from left to right
+-- the bits of port number `port`, from left to right
 abbrev pub bits_of_port : RawDevice → ℕ → List PortBit
 bits_of_port device port = filter (λ bit. bit.port == port) device.bits
 
@@ -173,45 +173,45 @@ bits_of_port device port = filter (λ bit. bit.port == port) device.bits
 abbrev pub range_indexes : ℕ → ℕ → List ℕ
 range_indexes left right = cond (nat_le left right) (range_with_len left (right - left + 1)) (reverse (range_with_len right (left - right + 1)))
 
--- a plain port has one bit, without an index; the bits of a vector have the indexes of its range
+-- the one bit of a plain port has no index, and the bits of a vector have the indexes of its range
 abbrev pub AreIndexed : List PortBit → Type 0
 AreIndexed bits =
     (map (λ bit. bit.index) bits ≡ None ∷ []) ⊎ ((left : ℕ) × (right : ℕ) × (map (λ bit. bit.index) bits ≡ map Some (range_indexes left right)))
 
--- the bits of one port have one mode, and the pin map gives all of them a pin or none
+-- the bits of one port have one mode, and the pin map assigns pins to all of them or to none
 pub record ArePort (bits : List PortBit) : Type 0 where
   pub indexed : AreIndexed bits
   pub one_mode : AllPairs (λ a b. a.mode ≡ b.mode) bits
   pub mapped_whole : AllPairs (λ a b. is_some a.pin ≡ is_some b.pin) bits
 
--- the bits are in the order of the ports, ports have different names, and each port has bits
+-- the bits are in the order of the ports, no two ports have the same name, and each port has bits
 pub record AreOfPorts (device : RawDevice) : Type 0 where
   pub ports_differ : AllPairs (λ a b. a ≢ b) device.ports
   pub in_order : IsNonDecreasing (map (λ bit. bit.port) device.bits)
   pub of_ports : All (λ bit. bit.port < length device.ports) device.bits
   pub each_port : (port : ℕ) → port < length device.ports → ArePort (bits_of_port device port)
 
--- a TAP port is plain, and of mode in or out
+-- a bit of the test access port is a plain port of mode in or out
 abbrev pub IsTapBit : PortBit → Type 0
 IsTapBit bit = (bit.index ≡ None) × ((bit.mode ≡ Inward) ⊎ (bit.mode ≡ Outward))
 
--- one TAP port, TDO, has mode out; three or four have mode in: TDI, TMS, TCK and perhaps TRST*
+-- The ports of the test access port are plain. One has mode out: TDO. Three or four have mode in: TDI, TMS, TCK and perhaps TRST*.
 pub record HasTap (bits : List PortBit) : Type 0 where
   pub plain : All (λ bit. IsTrue bit.tap → IsTapBit bit) bits
   pub outward : count_by (λ bit. bit.tap && may_drive bit.mode) bits ≡ 1
   pub inward : (count_by (λ bit. bit.tap && may_receive bit.mode) bits ≡ 3) ⊎ (count_by (λ bit. bit.tap && may_receive bit.mode) bits ≡ 4)
 
--- no pin is at two port bits
+-- no two port bits have the same pin
 abbrev pub PortPinsDiffer : RawDevice → Type 0
 PortPinsDiffer device =
     (i j : ℕ) (a b : PortBit) (pin : List ℕ) → slice_get device.bits i ≡ Some a → slice_get device.bits j ≡ Some b → a.pin ≡ Some pin → b.pin ≡ Some pin → i ≡ j
 
--- an entry is on a port bit if and only if it is not CONTROL, CONTROLR or INTERNAL, and that bit exists
+-- an entry has a port bit, which must exist, if and only if its function is not CONTROL, CONTROLR or INTERNAL
 abbrev pub HasPlace : ℕ → Role → Option ℕ → Type 0
 HasPlace bits role None = is_inner role ≡ true
 HasPlace bits role (Some bit) = (is_inner role ≡ false) × (bit < bits)
 
--- OUTPUT3 and BIDIR have a control; OUTPUT2 may have one; the others have none
+-- an OUTPUT3 or BIDIR entry has a control, an OUTPUT2 entry may have one, and no other entry has one
 abbrev pub MayHaveControl : Role → Option Control → Type 0
 MayHaveControl Output2 control = Unit {0}
 MayHaveControl Output3 control = IsSome control
@@ -224,12 +224,12 @@ ControlsStand device =
     (i : ℕ) (e : Cell) (control : Control) → slice_get device.cells i ≡ Some e → e.ctl ≡ Some control →
     ((control.cell == e.num) || list_any (is_control_entry control.cell) device.cells) ≡ true
 
--- entries with the same control cell have the same disable value
+-- entries with the same control have the same disable value
 abbrev pub OneDisable : RawDevice → Type 0
 OneDisable device =
     (i j : ℕ) (e d : Cell) (a b : Control) → slice_get device.cells i ≡ Some e → slice_get device.cells j ≡ Some d → e.ctl ≡ Some a → d.ctl ≡ Some b → a.cell ≡ b.cell → a.disable ≡ b.disable
 
--- a cell number has at most one entry with one of these roles
+-- a cell has at most one entry whose function is one of `roles`
 abbrev pub OneOf : (Role → Bool) → RawDevice → Type 0
 OneOf roles device =
     (i j : ℕ) (e d : Cell) → slice_get device.cells i ≡ Some e → slice_get device.cells j ≡ Some d → roles e.role ≡ true → roles d.role ≡ true → e.num ≡ d.num → i ≡ j
@@ -239,14 +239,14 @@ abbrev pub OneDriver : RawDevice → Type 0
 OneDriver device =
     (i j b : ℕ) (e d : Cell) → slice_get device.cells i ≡ Some e → slice_get device.cells j ≡ Some d → drives_bit b e ≡ true → drives_bit b d ≡ true → i ≡ j
 
--- no entry is on a TAP port, and no driving entry on a port of mode in or linkage
+-- no entry is on a TAP port, and no driving entry is on a port of mode in or linkage
 abbrev pub EntriesFitPorts : RawDevice → Type 0
 EntriesFitPorts device =
     (i b : ℕ) (e : Cell) (bit : PortBit) → slice_get device.cells i ≡ Some e → e.bit ≡ Some b → slice_get device.bits b ≡ Some bit →
     (bit.tap ≡ false) × (is_driving e.role ≡ true → may_drive bit.mode ≡ true)
 
--- The preload and EXTEST codes have the length of the instruction register and no X. Neither is all ones, which is the BYPASS code, and
--- they differ. In a description older than 2001, EXTEST is all zeros. An identification pattern has 32 bits.
+-- The preload and EXTEST codes have the length of the instruction register and no X. They differ, and neither has only ones, since that
+-- code is BYPASS. In a description older than 2001, the EXTEST code has only zeros. An identification pattern has 32 symbols.
 pub record HasCodes (device : RawDevice) : Type 0 where
   pub sample_length : length device.sample ≡ device.ir
   pub extest_length : length device.extest ≡ device.ir
@@ -258,7 +258,7 @@ pub record HasCodes (device : RawDevice) : Type 0 where
   pub old_extest : device.edition ≡ Old → All (λ s. s ≡ Zero) device.extest
   pub idcode_length : IfSome device.idcode (λ code. length code ≡ 32)
 
--- the rules that every device keeps
+-- the rules of devices
 pub record IsDevice (device : RawDevice) : Type 0 where
   pub ir_least : 2 ≤ device.ir
   pub ir_most : device.ir ≤ most_instruction_bits

@@ -1,4 +1,4 @@
--- The single faults of a board, in order.
+-- The single faults of a board and their order.
 use Rattle.std.specs.Prelude.{◌≡◌, ◌<◌, ◌⊎◌, ℕ, Bool, true, false, ◌||◌, List, [], ◌∷◌, ◌++◌, map, filter, length}
 use Rattle.std.specs.List.{flat_map, enumerate_from, range_with_len}
 use Rattle.board_defs.specs.declared.board.Net.{Net}
@@ -24,7 +24,7 @@ numbered_nets board = enumerate_from 0 board.nets
 abbrev pub covered_nets : RawBoard → List Numbered
 covered_nets board = filter (λ net. is_covered board net.1) (numbered_nets board)
 
--- the pin at this place is tested as driver or as receiver
+-- the pin at `place` of the net is tested as a driver or as a receiver
 abbrev pub is_tested_pin : RawBoard → Net → ℕ → Bool
 is_tested_pin board net place = is_tested_driver board net place || is_tested_receiver board net place
 
@@ -36,30 +36,30 @@ tested_pins_in board net = map (λ place. record { net = net.0; place = place })
 abbrev pub tested_pins : RawBoard → List PinRef
 tested_pins board = flat_map (tested_pins_in board) (numbered_nets board)
 
--- the pairs of nets that one safe setting observes both, in pair order
+-- the pairs of paired nets, in pair order
 abbrev pub paired_nets : RawBoard → List (Numbered × Numbered)
 paired_nets board = filter (λ pair. are_paired board pair.0.1 pair.1.1) (pairs_within (numbered_nets board))
 
--- the net stuck at 0 or 1
+-- the two faults in which the net is stuck, at 0 and at 1
 abbrev pub stuck_faults : ℕ → List Single
 stuck_faults net = StuckNet net false ∷ StuckNet net true ∷ []
 
--- the pin open, reading 0 or 1
+-- the two faults in which the pin is open and reads 0 or 1
 abbrev pub open_faults : PinRef → List Single
 open_faults pin = OpenPin pin false ∷ OpenPin pin true ∷ []
 
--- the two nets shorted, in each way
+-- the four shorts of the two nets, one of each kind
 abbrev pub short_faults : ℕ → ℕ → List Single
 short_faults a b = Short a b And ∷ Short a b Or ∷ Short a b First ∷ Short a b Second ∷ []
 
--- the single faults of the board, in order
+-- the list of the board's single faults, in order
 abbrev pub singles : RawBoard → List Single
 singles board =
     flat_map (λ net. stuck_faults net.0) (covered_nets board)
     ++ flat_map open_faults (tested_pins board)
     ++ flat_map (λ pair. short_faults pair.0.0 pair.1.0) (paired_nets board)
 
--- a single fault of the board
+-- the fault is a single fault of the board: a covered net that is stuck, a tested pin that is open, or a short of paired nets
 abbrev pub IsSingle : RawBoard → Single → Type 0
 IsSingle board (StuckNet net value) = IsCovered board net
 IsSingle board (OpenPin pin value) = IsTestedDriver board pin.net pin.place ⊎ IsTestedReceiver board pin.net pin.place
@@ -69,14 +69,15 @@ IsSingle board (Short a b kind) = (a < b) × ArePaired board a b
 abbrev pub PinPrecedes : PinRef → PinRef → Type 0
 PinPrecedes p q = (p.net < q.net) ⊎ ((p.net ≡ q.net) × (p.place < q.place))
 
--- the order of the kinds of a short
+-- the place of a kind of short in the order of kinds
 abbrev pub kind_rank : Kind → ℕ
 kind_rank And = 0
 kind_rank Or = 1
 kind_rank First = 2
 kind_rank Second = 3
 
--- the order of single faults: stuck nets in net order, open pins in pin order, shorts in pair order and then by kind; 0 before 1
+-- The order of single faults: stuck nets in net order, then open pins in pin order, then shorts in pair order. For one net or
+-- pin, the value 0 comes before 1. For one pair, shorts are ordered by kind.
 abbrev pub SinglePrecedes : Single → Single → Type 0
 SinglePrecedes (StuckNet n v) (StuckNet m w) = (n < m) ⊎ ((n ≡ m) × (v ≡ false) × (w ≡ true))
 SinglePrecedes (StuckNet n v) (OpenPin q w) = Unit {0}

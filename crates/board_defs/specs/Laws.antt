@@ -1,4 +1,4 @@
--- The laws of boards. Each is the contract of a function of its own.
+-- The laws of boards. Each law is the contract of a function of its own.
 use Rattle.std.specs.Prelude.{◌≡◌, ◌≢◌, ◌↔◌, ℕ, true, List, [], Some, slice_get, MatchOption, Contains, AllPairs}
 use Rattle.std.specs.Bool.{Decides}
 use Rattle.board_defs.specs.declared.board.NetPin.{NetPin}
@@ -16,11 +16,11 @@ use Rattle.board_defs.specs.Decided.{is_safe_alone, are_together, are_compatible
 use Rattle.board_defs.specs.Passes.{useful_controls, tested_drivers, is_enabled, with_driver, fits, is_new, shows, passes_of, SomePass, ArePasses}
 use Rattle.board_defs.specs.Faults.{singles, SinglePrecedes, IsSingle}
 
--- a setting is safe if and only if each of its controls alone and every two of them are safe
+-- a setting is safe if and only if each of its controls alone and every two of its controls are safe
 abbrev pub SafeByPairs : Type 0
 SafeByPairs = (board : RawBoard) (setting : Enabling) → IsBoard board → IsSafe board setting ↔ IsPairwiseSafe board setting
 
--- the tests of single controls and pairs decide the terms, which speak of all safe settings
+-- the tests of single controls and of pairs of controls decide the terms, which are defined by all safe settings
 pub record DecidesTerms (board : RawBoard) : Type 0 where
   pub safe : (c : Ctl) → Decides (is_safe_alone board c) (IsSafe board (just c))
   pub together : (a b : Ctl) → Decides (are_together board a b) (AreTogether board a b)
@@ -35,7 +35,7 @@ pub record DecidesTerms (board : RawBoard) : Type 0 where
 abbrev pub TermsDecided : Type 0
 TermsDecided = (board : RawBoard) → IsBoard board → DecidesTerms board
 
--- the net has a tested driver that is enabled in the way `d`
+-- the net has a tested driver whose way of being enabled is `d`
 pub record HasTestedDriver (board : RawBoard) (n : ℕ) (net : Net) (d : Drive) : Type 0 where
   pub place : ℕ
   pub pin : NetPin
@@ -43,7 +43,7 @@ pub record HasTestedDriver (board : RawBoard) (n : ℕ) (net : Net) (d : Drive) 
   pub drives : drive board net pin ≡ Some d
   pub tested : IsTestedDriver board n place
 
--- the control controls a tested driver that no earlier pass enables
+-- the control enables a tested driver that no earlier pass enables
 pub record ControlsNew (board : RawBoard) (earlier : List (List Ctl)) (c : Ctl) : Type 0 where
   pub n : ℕ
   pub net : Net
@@ -54,7 +54,7 @@ pub record ControlsNew (board : RawBoard) (earlier : List (List Ctl)) (c : Ctl) 
   pub tested : IsTestedDriver board n place
   pub new : SomePass earlier (λ setting. enables board setting pin ≡ true) → ⊥
 
--- the tests that choose the passes mean what their names say, for all safe settings
+-- the tests that choose the passes agree with the definitions of their terms
 pub record SaysPasses (board : RawBoard) : Type 0 where
   pub useful_in_order : IsInControlOrder (useful_controls board)
   pub useful : (c : Ctl) → Decides (holds (useful_controls board) c) (IsUseful board c)
@@ -65,20 +65,20 @@ pub record SaysPasses (board : RawBoard) : Type 0 where
   pub shown : (n : ℕ) (net : Net) (pass : List Ctl) → slice_get board.nets n ≡ Some net → IsSafe board (holds pass) → Decides (shows (tested_drivers board net) pass) (ObservesNet board (holds pass) n)
   pub compatible : (m n : ℕ) (a b : Net) (d e : Drive) → HasTestedDriver board m a d → HasTestedDriver board n b e → Decides (are_compatible board (Some d) (Some e)) (IsSafe board (holds (with_driver (with_driver [] d) e)))
 
--- the tests that choose the passes mean what they say, and the passes do what passes must do
+-- the tests that choose the passes agree with the terms, and `passes_of` gives passes of the board
 pub record PassesAre (board : RawBoard) : Type 0 where
   pub said : SaysPasses board
   pub kept : ArePasses board (passes_of board)
 
--- this holds for every board
+-- `PassesAre` is true of every board
 abbrev pub PassesKept : Type 0
 PassesKept = (board : RawBoard) → IsBoard board → PassesAre board
 
--- the list has exactly the single faults, each once and in order
+-- the list has exactly the board's single faults, each once and in order
 pub record ListsSingles (board : RawBoard) : Type 0 where
   pub exactly : (single : Single) → Contains (singles board) single ↔ IsSingle board single
   pub in_order : AllPairs SinglePrecedes (singles board)
 
--- this holds for every board
+-- `ListsSingles` is true of every board
 abbrev pub SinglesListed : Type 0
 SinglesListed = (board : RawBoard) → IsBoard board → ListsSingles board

@@ -1,4 +1,4 @@
--- The bytes of a name, wherever they are kept.
+-- The bytes of a name, short or long.
 use Rattle.std.specs.Prelude.{List, ℕ, take, ◌≤◌, ⊤}
 use Rattle.board_defs.specs.declared.name.Kept.{Kept}
 use Rattle.board_defs.specs.declared.name.Kept.TheVariants.{Short, Long}
@@ -7,7 +7,7 @@ abbrev pub kept_bytes : Kept → List ℕ
 kept_bytes (Short bytes count) = take count bytes
 kept_bytes (Long bytes) = bytes.items
 
--- A short name uses no more bytes than it has room for.
+-- a short name has no more bytes than there is room for in the value
 abbrev pub HasLength : Kept → Type 0
 HasLength (Short bytes count) = count ≤ 24
 HasLength (Long bytes) = ⊤

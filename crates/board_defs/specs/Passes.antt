@@ -1,4 +1,5 @@
--- The passes of a board. The first ones enable each tested driver; the ones after them observe each two paired nets in one pass.
+-- The passes of a board. The first ones together enable every tested driver. Later ones are added until, for every two paired nets, some
+-- pass observes both.
 use Rattle.std.specs.Prelude.{◌≡◌, ◌⊎◌, ℕ, Bool, true, false, not, ◌&&◌, List, [], ◌∷◌, ◌++◌, map, filter, filter_map, find, fold, take, length, Option, Some, None, slice_get, cond}
 use Rattle.std.specs.List.{list_any, list_all, flat_map, enumerate_from, range_with_len}
 use Rattle.board_defs.specs.declared.board.PartKind.{PartKind}
@@ -25,11 +26,11 @@ all_cells board = flat_map (λ part. cells_of part.0 part.1.kind) (enumerate_fro
 abbrev pub useful_controls : RawBoard → List Ctl
 useful_controls board = filter (is_useful board) (all_cells board)
 
--- how the driver at `place` is enabled, if it is a tested driver
+-- the way in which the driver at `place` is enabled, if that driver is tested
 abbrev pub tested_drive : RawBoard → Net → ℕ → Option Drive
 tested_drive board net place = cond (is_tested_driver board net place) (place_drive board net place) None
 
--- how the tested drivers of a net are enabled, in pin order
+-- the ways in which the tested drivers of a net are enabled, in pin order
 abbrev pub tested_drivers : RawBoard → Net → List Drive
 tested_drivers board net = filter_map (tested_drive board net) (range_with_len 0 (length net.pins))
 
@@ -45,19 +46,19 @@ with_driver setting AlwaysOn = setting
 with_driver setting OneSided = setting
 with_driver setting (By c) = inserted c setting
 
--- the control is together with every control of the setting
+-- every control of the setting is together with control `c`
 abbrev pub fits : RawBoard → List Ctl → Ctl → Bool
 fits board setting c = list_all (are_together board c) setting
 
--- no earlier pass has the control, and so none enables the drivers that it controls
+-- no earlier pass has the control, so no earlier pass enables the drivers of that control
 abbrev pub is_new : List (List Ctl) → Ctl → Bool
 is_new earlier c = not (list_any (λ pass. holds pass c) earlier)
 
--- goes through the controls in order, and adds each control that `accepts` takes for the setting so far
+-- the setting after a walk over the controls in order, which adds each control that `accepts` accepts for the setting so far
 abbrev pub walk : (List Ctl → Ctl → Bool) → List Ctl → List Ctl → List Ctl
 walk accepts controls setting = fold (λ s c. cond (accepts s c) (inserted c s) s) setting controls
 
--- First walk: adds each useful control that fits and controls a tested driver that no earlier pass enables.
+-- First walk: adds each useful control that fits and that no earlier pass has.
 abbrev pub first_walk : RawBoard → List Ctl → List (List Ctl) → List Ctl → List Ctl
 first_walk board useful earlier setting = walk (λ s c. is_new earlier c && fits board s c) useful setting
 
@@ -65,23 +66,23 @@ first_walk board useful earlier setting = walk (λ s c. is_new earlier c && fits
 abbrev pub second_walk : RawBoard → List Ctl → List Ctl → List Ctl
 second_walk board useful setting = walk (fits board) useful setting
 
--- the pass for a tested driver that no earlier pass enables
+-- the pass that is made for a tested driver that no earlier pass enables
 abbrev pub driver_pass : RawBoard → List Ctl → List (List Ctl) → Drive → List Ctl
 driver_pass board useful earlier d = second_walk board useful (first_walk board useful earlier (with_driver [] d))
 
--- the passes, followed by one for the driver unless one of them enables it
+-- the passes, followed by one for the driver if none of them enables it
 abbrev pub add_for_driver : RawBoard → List Ctl → List (List Ctl) → Drive → List (List Ctl)
 add_for_driver board useful passes d = cond (list_any (λ pass. is_enabled pass d) passes) passes (passes ++ driver_pass board useful passes d ∷ [])
 
--- the passes that the drivers need in turn, until each is enabled
+-- the passes that are made for the drivers in turn, so that each driver is enabled in some pass
 abbrev pub driver_passes : RawBoard → List Ctl → List Drive → List (List Ctl)
 driver_passes board useful drivers = fold (add_for_driver board useful) [] drivers
 
--- the pass enables one of the net's tested drivers, and so observes the net
+-- the pass enables one of the net's tested drivers, so it observes the net
 abbrev pub shows : List Drive → List Ctl → Bool
 shows drivers pass = list_any (is_enabled pass) drivers
 
--- one of the passes shows both nets
+-- one of the passes observes both nets
 abbrev pub are_shown : List (List Ctl) → List Drive → List Drive → Bool
 are_shown passes a b = list_any (λ pass. shows a pass && shows b pass) passes
 
@@ -89,33 +90,33 @@ are_shown passes a b = list_any (λ pass. shows a pass && shows b pass) passes
 abbrev pub pairs_of : {X : Type 0} → List X → List X → List (X × X)
 pairs_of xs ys = flat_map (λ x. map (λ y. (x, y)) ys) xs
 
--- the pairs of an item and a later one, in order
+-- the pairs of an item and a later item of the list, in order
 abbrev pub pairs_within : {X : Type 0} → List X → List (X × X)
 pairs_within [] = []
 pairs_within (x ∷ xs) = map (λ y. (x, y)) xs ++ pairs_within xs
 
--- the first pair of tested drivers, one of each net, that one safe setting enables
+-- the first pair of a tested driver of each net for which one safe setting enables both
 abbrev pub first_pair : RawBoard → List Drive → List Drive → Option (Drive × Drive)
 first_pair board a b = find (λ pair. are_compatible board (Some pair.0) (Some pair.1)) (pairs_of a b)
 
--- the pass for two paired nets that no pass so far observes together
+-- the pass that is made for two paired nets that no earlier pass observes together, by this pair of drivers
 abbrev pub pair_pass : RawBoard → List Ctl → Drive × Drive → List Ctl
 pair_pass board useful pair = second_walk board useful (with_driver (with_driver [] pair.0) pair.1)
 
--- the passes, followed by one for the two drivers if there are two
+-- the passes, followed by one for the pair of drivers if there is a pair
 abbrev pub with_pair : RawBoard → List Ctl → List (List Ctl) → Option (Drive × Drive) → List (List Ctl)
 with_pair board useful passes None = passes
 with_pair board useful passes (Some pair) = passes ++ pair_pass board useful pair ∷ []
 
--- the passes, followed by one for the two nets if they are paired and no pass so far shows both
+-- the passes, followed by one for the two nets if these are paired and none of the passes observes both
 abbrev pub add_for_nets : RawBoard → List Ctl → List (List Ctl) → List Drive × List Drive → List (List Ctl)
 add_for_nets board useful passes nets = cond (are_shown passes nets.0 nets.1) passes (with_pair board useful passes (first_pair board nets.0 nets.1))
 
--- the passes, followed by those that paired nets need in turn, until one pass observes each two of them
+-- the passes, followed by those that are made for the pairs of nets in turn, so that some pass observes both nets of each paired pair
 abbrev pub pair_passes : RawBoard → List Ctl → List (List Ctl) → List (List Drive) → List (List Ctl)
 pair_passes board useful passes nets = fold (add_for_nets board useful) passes (pairs_within nets)
 
--- the tested drivers, net by net
+-- the ways in which the tested drivers are enabled, with one list for each net
 abbrev pub drivers_by_net : RawBoard → List (List Drive)
 drivers_by_net board = map (tested_drivers board) board.nets
 
@@ -130,7 +131,7 @@ passes_of board =
 abbrev pub SomePass : List (List Ctl) → (Enabling → Type 0) → Type 0
 SomePass passes P = (x : ℕ) × (pass : List Ctl) × (slice_get passes x ≡ Some pass) × P (holds pass)
 
--- the pass enables a tested driver and observes its net, and no earlier pass does that for this driver
+-- the pass enables a tested driver and observes its net by it, and no earlier pass does
 pub record EnablesNew (board : RawBoard) (earlier : List (List Ctl)) (pass : List Ctl) : Type 0 where
   pub net : ℕ
   pub place : ℕ
@@ -146,7 +147,8 @@ pub record ObservesNew (board : RawBoard) (earlier : List (List Ctl)) (pass : Li
   pub observes : ObservesNet board (holds pass) low × ObservesNet board (holds pass) high
   pub first : SomePass earlier (λ setting. ObservesNet board setting low × ObservesNet board setting high) → ⊥
 
--- What passes must do: each is safe; what some safe setting does, some pass does; and each pass does something that no earlier pass does.
+-- The requirements on passes. Each pass is safe. If some safe setting observes a net or two nets, or tests a driver or a receiver, then
+-- some pass does so. Each pass enables a tested driver, or observes two paired nets at once, for the first time.
 pub record ArePasses (board : RawBoard) (passes : List (List Ctl)) : Type 0 where
   pub safe : (x : ℕ) (pass : List Ctl) → slice_get passes x ≡ Some pass → IsSafe board (holds pass)
   pub nets : (n : ℕ) → IsCovered board n → SomePass passes (λ setting. ObservesNet board setting n)

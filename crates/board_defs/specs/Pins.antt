@@ -22,85 +22,85 @@ abbrev pub described : PartKind → Option RawDevice
 described (Described device) = Some device
 described (Bypass n) = None
 
--- the length of a part in an instruction scan: that of its instruction register
+-- the length of a part's instruction register, in bits
 abbrev pub instruction_length : PartKind → ℕ
 instruction_length (Described device) = device.ir
 instruction_length (Bypass n) = n
 
--- the length of a part in a data scan: that of its boundary register, or of its bypass register if it is not described
+-- the length of a part's register in a data scan: its boundary register, or the bypass register of a part without a description
 abbrev pub data_length : PartKind → ℕ
 data_length (Described device) = device.boundary
 data_length (Bypass n) = 1
 
--- the length of an instruction scan of the whole chain
+-- the length of an instruction scan of the whole chain, in bits
 abbrev pub instruction_bits : RawBoard → ℕ
 instruction_bits board = sum_by (λ part. instruction_length part.kind) board.chain
 
--- the length of a data scan of the whole chain
+-- the length of a data scan of the whole chain, in bits
 abbrev pub data_bits : RawBoard → ℕ
 data_bits board = sum_by (λ part. data_length part.kind) board.chain
 
--- the device of part `part`, if the chain has the part and it is described
+-- the device of part `part`, if the chain has this part and the part is described
 abbrev pub device_at : RawBoard → ℕ → Option RawDevice
 device_at board part = option_and_then (λ p. described p.kind) (slice_get board.chain part)
 
--- the number of boundary cells of a device, 0 if there is none
+-- the number of boundary cells of the device, or 0 without a device
 abbrev pub cell_count : Option RawDevice → ℕ
 cell_count None = 0
 cell_count (Some device) = device.boundary
 
--- the control is a cell of a described part
+-- the control is a boundary cell of a described part
 abbrev pub IsCell : RawBoard → Ctl → Type 0
 IsCell board c = c.cell < cell_count (device_at board c.part)
 
--- the driving entry of a port bit of a part
+-- the driving entry of the port bit at `at`, if there is one
 abbrev pub entry_at : RawBoard → PinAt → Option Cell
 entry_at board at = option_and_then (λ device. driving_entry device at.bit) (device_at board at.part)
 
--- a port bit of a part
+-- the port bit at `at`, if there is one
 abbrev pub bit_at : RawBoard → PinAt → Option PortBit
 bit_at board at = option_and_then (λ device. slice_get device.bits at.bit) (device_at board at.part)
 
--- the chosen pin map gives the port bit a pin; such a pin with a driving entry is a driver, on a net or not
+-- the chosen pin map assigns a pin to the port bit; with a driving entry, such a pin is a driver even if no net has it
 abbrev pub is_pinned : RawBoard → PinAt → Bool
 is_pinned board at = is_some (option_and_then (λ bit. bit.pin) (bit_at board at))
 
--- the port bit is a TAP port, or the compliance patterns name it
+-- there is a port bit, and it belongs to the test access port or is named by the compliance patterns
 abbrev pub is_test_bit : Option PortBit → Bool
 is_test_bit None = false
 is_test_bit (Some bit) = bit.tap || bit.compliance
 
--- the pin of a net is a TAP pin or a compliance pin
+-- the pin belongs to a test access port or is named by compliance patterns
 abbrev pub is_test_pin : RawBoard → NetPin → Bool
 is_test_pin board pin = is_test_bit (option_and_then (bit_at board) pin.at)
 
--- A port bit is dark if its port is linkage, if it has no entry, or if the part may drive it and it has no driving entry. A TAP pin is
--- never dark.
+-- A port bit of the test access port is never dark. Any other port bit is dark if its port is linkage, if it has no entry, or if the
+-- part can drive it and it has no driving entry.
 abbrev pub is_dark_bit : RawDevice → ℕ → Option PortBit → Bool
 is_dark_bit device n None = true
 is_dark_bit device n (Some bit) =
     not bit.tap && (is_linkage bit.mode || not (list_any (λ cell. is_on n cell.bit) device.cells)
     || (may_drive bit.mode && not (list_any (drives_bit n) device.cells)))
 
--- port bit `n` of a device is dark; so is every bit without a device
+-- bit `n` of the device is dark; without a device, every bit is dark
 abbrev pub is_dark_in : Option RawDevice → ℕ → Bool
 is_dark_in None n = true
 is_dark_in (Some device) n = is_dark_bit device n (slice_get device.bits n)
 
--- a pin of a described part is dark if its port bit is; any other pin is dark unless its part is inert
+-- the pin of a described part is dark if its port bit is, and any other pin is dark if its part is not inert
 abbrev pub is_dark_where : RawBoard → Option PinAt → Bool → Bool
 is_dark_where board None inert = not inert
 is_dark_where board (Some at) inert = is_dark_in (device_at board at.part) at.bit
 
--- the pin is dark: something that no setting controls may drive it
+-- the pin is dark: something that no setting controls may drive its net
 abbrev pub is_dark : RawBoard → NetPin → Bool
 is_dark board pin = is_dark_where board pin.at pin.inert
 
--- the pin guards its net
+-- the pin makes its net guarded
 abbrev pub guards : RawBoard → NetPin → Bool
 guards board pin = is_test_pin board pin || is_dark board pin
 
--- the net is guarded: no controlled and no one-sided driver of it may be enabled
+-- the net is guarded: no setting that is safe enables a controlled or a one-sided driver of it
 abbrev pub guarded : RawBoard → Net → Bool
 guarded board net = net.supply || list_any (guards board) net.pins
 
@@ -109,16 +109,16 @@ abbrev pub is_same : Bool → Bool → Bool
 is_same true b = b
 is_same false b = not b
 
--- there is a pull, and it is to `value`
+-- there is a pull, and its value is `value`
 abbrev pub is_pulled_to : Bool → Option Bool → Bool
 is_pulled_to value None = false
 is_pulled_to value (Some b) = is_same value b
 
--- the net is not guarded and is pulled to `value`, so a driver that its own cell disables at this value switches there
+-- the net is unguarded and pulled to `value`, so a driver that its own cell disables at this value switches on the net
 abbrev pub lets_switch : RawBoard → Net → Bool → Bool
 lets_switch board net value = not (guarded board net) && is_pulled_to value net.pull
 
--- how a driver with this control is enabled on the net
+-- the way in which a driver with this control is enabled on the net
 abbrev pub drive_by : RawBoard → Net → ℕ → Cell → Option Control → Drive
 drive_by board net part cell None = AlwaysOn
 drive_by board net part cell (Some control) =
@@ -126,21 +126,21 @@ drive_by board net part cell (Some control) =
     then (if lets_switch board net control.disable then By (record { part = part; cell = control.cell }) else OneSided)
     else By (record { part = part; cell = control.cell })
 
--- how the driver at this place of the chain is enabled on the net, if there is one
+-- the way in which the driver at a place of the chain is enabled on the net, if there is a driver
 abbrev pub drive_where : RawBoard → Net → Option PinAt → Option Drive
 drive_where board net None = None
 drive_where board net (Some at) = option_map (λ cell. drive_by board net at.part cell cell.ctl) (entry_at board at)
 
--- how the pin's driver is enabled, or None if the pin is not a driver
+-- the way in which the pin's driver is enabled, or None if the pin is not a driver
 abbrev pub drive : RawBoard → Net → NetPin → Option Drive
 drive board net pin = drive_where board net pin.at
 
--- the driver is switching: its control is its own cell, and its net lets it switch
+-- a driver with this control is switching: the control is its own cell, and the net lets it switch
 abbrev pub switches_by : RawBoard → Net → Cell → Option Control → Bool
 switches_by board net cell None = false
 switches_by board net cell (Some control) = (control.cell == cell.num) && lets_switch board net control.disable
 
--- like `switches_by`, for the driving entry of a pin, if it has one
+-- like `switches_by`, but for the driving entry of a pin, which may have none
 abbrev pub switches_entry : RawBoard → Net → Option Cell → Bool
 switches_entry board net None = false
 switches_entry board net (Some cell) = switches_by board net cell cell.ctl
@@ -149,17 +149,17 @@ switches_entry board net (Some cell) = switches_by board net cell cell.ctl
 abbrev pub switches : RawBoard → Net → NetPin → Bool
 switches board net pin = switches_entry board net (option_and_then (entry_at board) pin.at)
 
--- a receiver: a pin of mode in or inout with an INPUT, CLOCK or BIDIR entry
+-- a port bit is that of a receiver: it has mode in or inout, and an INPUT, CLOCK or BIDIR entry
 abbrev pub receives_bit : RawDevice → ℕ → Option PortBit → Bool
 receives_bit device n None = false
 receives_bit device n (Some bit) = may_receive bit.mode && list_any (reads_bit n) device.cells
 
--- like `receives_bit`, for bit `n` of a device, if there is one
+-- like `receives_bit`, but for bit `n` of a device, if there is a device
 abbrev pub receives_in : Option RawDevice → ℕ → Bool
 receives_in None n = false
 receives_in (Some device) n = receives_bit device n (slice_get device.bits n)
 
--- like `receives_bit`, for the pin at a place of the chain, if it has one
+-- like `receives_bit`, but for the port bit at a place of the chain, if there is a place
 abbrev pub receives_where : RawBoard → Option PinAt → Bool
 receives_where board None = false
 receives_where board (Some at) = receives_in (device_at board at.part) at.bit
@@ -168,15 +168,15 @@ receives_where board (Some at) = receives_in (device_at board at.part) at.bit
 abbrev pub receives : RawBoard → NetPin → Bool
 receives board pin = receives_where board pin.at
 
--- the net of a pin
+-- the net of the pin, if the board has that net
 abbrev pub net_at : RawBoard → PinRef → Option Net
 net_at board r = slice_get board.nets r.net
 
--- the pin at a place of a net
+-- the pin, if the board has it
 abbrev pub pin_at : RawBoard → PinRef → Option NetPin
 pin_at board r = option_and_then (λ net. slice_get net.pins r.place) (net_at board r)
 
--- how the driver at a place of a net is enabled, if there is one
+-- the way in which the pin's driver is enabled, if the board has the pin and it is a driver
 abbrev pub drive_at : RawBoard → PinRef → Option Drive
 drive_at board r = option_and_then (λ net. option_and_then (λ pin. drive board net pin) (slice_get net.pins r.place)) (net_at board r)
 
@@ -185,12 +185,12 @@ abbrev pub switches_on : RawBoard → Net → Option NetPin → Bool
 switches_on board net None = false
 switches_on board net (Some pin) = switches board net pin
 
--- there is a net, and the pin at `place` is a switching driver of it
+-- there is a net, and its pin at `place` is a switching driver
 abbrev pub switches_of : RawBoard → ℕ → Option Net → Bool
 switches_of board place None = false
 switches_of board place (Some net) = switches_on board net (slice_get net.pins place)
 
--- the pin at a place of a net is a switching driver of that net
+-- the pin is a switching driver
 abbrev pub switches_at : RawBoard → PinRef → Bool
 switches_at board r = switches_of board r.place (net_at board r)
 
@@ -199,7 +199,7 @@ abbrev pub receives_of : RawBoard → Option NetPin → Bool
 receives_of board None = false
 receives_of board (Some pin) = receives board pin
 
--- the pin at a place of a net is a receiver
+-- the board has the pin, and it is a receiver
 abbrev pub receives_at : RawBoard → PinRef → Bool
 receives_at board r = receives_of board (pin_at board r)
 
@@ -212,6 +212,6 @@ guarded_of board (Some net) = guarded board net
 abbrev pub guarded_at : RawBoard → ℕ → Bool
 guarded_at board n = guarded_of board (slice_get board.nets n)
 
--- the board has the net, and the net has the place
+-- the board has a net with this number, and the net has a pin at this place
 abbrev pub IsOnBoard : RawBoard → PinRef → Type 0
 IsOnBoard board r = (r.net < length board.nets) × ((net : Net) → net_at board r ≡ Some net → r.place < length net.pins)

@@ -1,4 +1,4 @@
--- Settings: which drivers a set of controls enables, when that is safe, and which nets the setting observes.
+-- Settings: the drivers that a set of controls enables, when the set is safe, and the nets that it observes.
 use Rattle.std.specs.Prelude.{◌≡◌, ◌≢◌, ℕ, nat_lt, cond, ◌==◌, Bool, true, false, ◌&&◌, ◌||◌, List, [], ◌∷◌, Option, Some, None, slice_get, AllPairs, IsTrue}
 use Rattle.std.specs.List.{list_any}
 use Rattle.board_defs.specs.declared.device.Control.{Control}
@@ -11,7 +11,7 @@ use Rattle.board_defs.specs.declared.board.Ctl.{Ctl}
 use Rattle.board_defs.specs.declared.board.Drive.TheVariants.{By}
 use Rattle.board_defs.specs.Pins.{drive, receives, guarded, entry_at, is_pinned}
 
--- a set of controls, as the test whether a control is in it
+-- a set of controls, given by the test whether a control is in the set
 abbrev pub Enabling : Type 0
 Enabling = Ctl → Bool
 
@@ -23,62 +23,62 @@ same_ctl a b = (a.part == b.part) && (a.cell == b.cell)
 abbrev pub holds : List Ctl → Enabling
 holds list c = list_any (same_ctl c) list
 
--- the set of one control
+-- the set that has one control
 abbrev pub just : Ctl → Enabling
 just a c = same_ctl c a
 
--- the set of two controls
+-- the set that has two controls
 abbrev pub both : Ctl → Ctl → Enabling
 both a b c = same_ctl c a || same_ctl c b
 
--- control order: by the place in the chain, then by the cell
+-- control order: by the number of the part in the chain, then by the number of the cell
 abbrev pub precedes : Ctl → Ctl → Bool
 precedes a b = nat_lt a.part b.part || ((a.part == b.part) && nat_lt a.cell b.cell)
 
--- controls in control order without repeats
+-- the controls are in control order and without repeats
 abbrev pub IsInControlOrder : List Ctl → Type 0
 IsInControlOrder list = AllPairs (λ a b. IsTrue (precedes a b)) list
 
--- the list with the control inserted at its place in control order, unless it is already there
+-- the list with the control inserted at its place in control order, or the list itself if it has the control
 abbrev pub inserted : Ctl → List Ctl → List Ctl
 inserted c [] = c ∷ []
 inserted c (d ∷ list) = cond (precedes d c) (d ∷ inserted c list) (cond (same_ctl c d) (d ∷ list) (c ∷ d ∷ list))
 
--- every setting enables a driver without a control; a setting enables any other driver if it holds the driver's control
+-- A driver without a control is enabled in every setting. Any other driver is enabled in a setting that has its control.
 abbrev pub enables_by : Enabling → ℕ → Option Control → Bool
 enables_by setting part None = true
 enables_by setting part (Some control) = setting (record { part = part; cell = control.cell })
 
--- the setting enables the driver with this driving entry, if there is one
+-- there is a driving entry, and the setting enables its driver
 abbrev pub enables_entry : Enabling → ℕ → Option Cell → Bool
 enables_entry setting part None = false
 enables_entry setting part (Some cell) = enables_by setting part cell.ctl
 
--- the setting enables the driver at place `at` of the chain, if there is one
+-- there is a driver at place `at` of the chain, and the setting enables it
 abbrev pub enables_at : RawBoard → Enabling → PinAt → Bool
 enables_at board setting at = enables_entry setting at.part (entry_at board at)
 
--- like `enables_at`, for the place of a pin, if it has one
+-- like `enables_at`, but for a place that a pin may not have
 abbrev pub enables_where : RawBoard → Enabling → Option PinAt → Bool
 enables_where board setting None = false
 enables_where board setting (Some at) = enables_at board setting at
 
--- the setting enables a driver on the pin
+-- the pin is a driver, and the setting enables it
 abbrev pub enables : RawBoard → Enabling → NetPin → Bool
 enables board setting pin = enables_where board setting pin.at
 
--- the pin at `at` is in an unguarded net that is pulled to `value`
+-- the pin at `at` is on an unguarded net that is pulled to `value`
 abbrev pub SwitchesAt : RawBoard → PinAt → Bool → Type 0
 SwitchesAt board at value = (n : ℕ) × (net : Net) × (i : ℕ) × (pin : NetPin) × (slice_get board.nets n ≡ Some net) × (slice_get net.pins i ≡ Some pin) × (pin.at ≡ Some at) × (guarded board net ≡ false) × (net.pull ≡ Some value)
 
--- Each net has at most one enabled driver. No controlled driver of a guarded net is enabled. A driver that its own cell enables is a
--- switching one, so no one-sided driver is enabled, on a net or not.
+-- Each net has at most one enabled driver. No controlled driver of a guarded net is enabled. A driver that is enabled by its own
+-- cell is a switching driver, so no one-sided driver is enabled, whether or not it is on a net.
 pub record IsSafe (board : RawBoard) (setting : Enabling) : Type 0 where
   pub one : (n : ℕ) (net : Net) (i j : ℕ) (p q : NetPin) → slice_get board.nets n ≡ Some net → slice_get net.pins i ≡ Some p → slice_get net.pins j ≡ Some q → i ≢ j → enables board setting p ≡ true → enables board setting q ≡ true → ⊥
   pub free : (n : ℕ) (net : Net) (i : ℕ) (p : NetPin) (c : Ctl) → slice_get board.nets n ≡ Some net → slice_get net.pins i ≡ Some p → guarded board net ≡ true → drive board net p ≡ Some (By c) → setting c ≡ false
   pub own : (at : PinAt) (cell : Cell) (control : Control) → is_pinned board at ≡ true → entry_at board at ≡ Some cell → cell.ctl ≡ Some control → control.cell ≡ cell.num → setting (record { part = at.part; cell = control.cell }) ≡ true → SwitchesAt board at control.disable
 
--- the setting enables the pin at `place` of the net, the net is not guarded, and another pin of it is a receiver
+-- the setting enables the pin at `place` of the net, the net is not guarded, and another pin of the net is a receiver
 pub record ObservesBy (board : RawBoard) (setting : Enabling) (net : Net) (place : ℕ) : Type 0 where
   pub pin : NetPin
   pub stands : slice_get net.pins place ≡ Some pin
@@ -90,15 +90,15 @@ pub record ObservesBy (board : RawBoard) (setting : Enabling) (net : Net) (place
   pub another : other ≢ place
   pub reads : receives board reader ≡ true
 
--- the setting observes the net by some pin
+-- the setting observes the net by one of its pins
 abbrev pub Observes : RawBoard → Enabling → Net → Type 0
 Observes board setting net = (place : ℕ) × ObservesBy board setting net place
 
--- like `Observes`, for a net given by its number
+-- like `Observes`, but for a net given by its number
 abbrev pub ObservesNet : RawBoard → Enabling → ℕ → Type 0
 ObservesNet board setting n = (net : Net) × (slice_get board.nets n ≡ Some net) × Observes board setting net
 
--- each control of the setting alone is safe, and so are every two of them
+-- each control of the setting alone and every two of its controls are safe
 pub record IsPairwiseSafe (board : RawBoard) (setting : Enabling) : Type 0 where
   pub each : (c : Ctl) → setting c ≡ true → IsSafe board (just c)
   pub each_two : (c d : Ctl) → setting c ≡ true → setting d ≡ true → IsSafe board (both c d)

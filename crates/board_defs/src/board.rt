@@ -1,4 +1,4 @@
-// A board: its chain and its nets, and the questions about its pins.
+// A board: its chain and its nets, and questions about its pins.
 ghost use Rattle.std.specs.Prelude.{◌≡◌, ◌<◌, length};
 ghost use Rattle.board_defs.specs.BoardRules.{IsBoard};
 ghost use Rattle.board_defs.specs.Pins.{instruction_bits, data_bits, drive_at, switches_at, receives_at, guarded_at, IsOnBoard};
@@ -10,22 +10,22 @@ use crate::name::Name;
 use lists::Items;
 use std::marker::Model;
 
-/// A part of the chain: a described device, or a part of which only the instruction register's length is known
-/// and which stays in BYPASS.
+/// The kind of a part of the chain. A part is a described device, or a part of which only the length of the instruction
+/// register is known, in bits. A part of the second kind stays in BYPASS.
 #[derive(Drop)]
 pub enum PartKind {
     Described(Device),
     Bypass(u32),
 }
 
-/// A part of the chain.
+/// A part of the chain, with its name.
 #[derive(Drop)]
 pub struct Part {
     pub name: Name,
     pub kind: PartKind,
 }
 
-/// The place of a pin in the chain: the number of the part and the number of the port bit.
+/// The place of a pin in the chain: the number of its part and the number of its port bit, both from 0.
 #[derive(Clone, Copy)]
 pub struct PinAt {
     pub part: u32,
@@ -37,9 +37,9 @@ pub struct PinAt {
 pub struct NetPin {
     pub part: Name,
     pub pin: Name,
-    /// The place of the pin in the chain, if its part is described.
+    /// The place of the pin in the chain. Only pins of described parts have one.
     pub at: Option<PinAt>,
-    /// Whether the pin's part is inert: it neither drives nor connects anything.
+    /// Whether the pin's part is inert. An inert part drives no net and connects no two nets.
     pub inert: bool,
 }
 
@@ -47,9 +47,9 @@ pub struct NetPin {
 #[derive(Drop)]
 pub struct Net {
     pub name: Name,
-    /// Whether the net carries a supply.
+    /// Whether the net carries a supply, such as power or ground.
     pub supply: bool,
-    /// The value to which a resistor pulls the net, if one does.
+    /// The value to which a resistor pulls the net, or None if no resistor pulls it.
     pub pull: Option<bool>,
     pub pins: Items<NetPin>,
 }
@@ -61,14 +61,14 @@ pub struct RawBoard {
     pub nets: Items<Net>,
 }
 
-/// A pin: the number of its net and its place in that net.
+/// A reference to a pin: the number of its net and its place in that net, both from 0.
 #[derive(Clone, Copy)]
 pub struct PinRef {
     pub net: u32,
     pub place: u32,
 }
 
-/// A control: the number of a part in the chain and the number of a cell in its boundary register.
+/// A control: the number of a part in the chain and the number of a cell in that part's boundary register.
 #[derive(Clone, Copy, PartialEq, Eq)]
 pub struct Ctl {
     pub part: u32,
@@ -76,7 +76,7 @@ pub struct Ctl {
 }
 
 impl Ctl {
-    /// Returns whether the two controls are the same.
+    /// Returns whether the two values are the same control.
     pub fn is_same(self, other: Ctl) -> bool
         ensures { result ≡ same_ctl self other }
     {
@@ -88,15 +88,15 @@ impl Ctl {
 #[derive(Clone, Copy, PartialEq, Eq)]
 pub enum Drive {
     AlwaysOn,
-    /// By its own cell, on a net that is guarded or is not pulled to the cell's disable value. The same bit then
-    /// carries the data and enables the driver, so no safe setting enables it.
+    /// The driver's own cell enables it, and the net is guarded or is not pulled to the cell's disable value. The same
+    /// bit then carries the data and enables the driver, so no safe setting enables the driver.
     OneSided,
-    /// By a control cell. Also by its own cell, if the net is not guarded and is pulled to the disable value: the
-    /// pull then gives the bit while the driver is off.
+    /// The control enables the driver: a control cell, or the driver's own cell. The second case needs an unguarded net
+    /// that is pulled to the cell's disable value: the pull then gives the bit while the driver is off.
     By(Ctl),
 }
 
-/// A board that keeps the rules of a board.
+/// A board that keeps the rules of boards, which `IsBoard` defines.
 #[derive(Drop)]
 pub struct Board {
     raw: RawBoard,
@@ -115,7 +115,7 @@ impl Model for Board {
 }
 
 impl Board {
-    /// Returns the board with this record, which must keep the rules of a board.
+    /// Returns the board with this record, which must keep the rules of boards.
     pub fn new(raw: RawBoard) -> Board
         requires { IsBoard raw }
         ensures { result ≡ raw }
@@ -123,7 +123,7 @@ impl Board {
         Board { raw }
     }
 
-    /// Returns the record, which keeps the rules of a board.
+    /// Returns the record, which keeps the rules of boards.
     pub fn raw(&self) -> &RawBoard
         ensures value { result.now ≡ self.now }
         ensures rules { IsBoard self.now }
@@ -139,14 +139,14 @@ impl Board {
     }
 
     /// Returns the length of a data scan of the whole chain, in bits. A described part counts with its boundary
-    /// register, any other part with its bypass register.
+    /// register, and any other part with its bypass register.
     pub fn dr_bits(&self) -> u32
         ensures { result ≡ data_bits self.now }
     {
         data_bits(self.raw().chain.as_slice())
     }
 
-    /// Returns whether the net is guarded: only drivers that are always on may be enabled on it.
+    /// Returns whether the net is guarded. On a guarded net, only drivers that are always on may be enabled.
     pub fn is_guarded(&self, net: u32) -> bool
         requires { net < length self.now.nets }
         ensures { result ≡ guarded_at self.now net }
@@ -163,8 +163,8 @@ impl Board {
         self.raw().drive_at(pin)
     }
 
-    /// Returns whether the pin is a switching driver: its own cell enables it, and its net is not guarded and is
-    /// pulled to the disable value.
+    /// Returns whether the pin is a switching driver: its own cell enables it, and its net is unguarded and is pulled
+    /// to the cell's disable value.
     pub fn switches(&self, pin: PinRef) -> bool
         requires { IsOnBoard self.now pin }
         ensures { result ≡ switches_at self.now pin }

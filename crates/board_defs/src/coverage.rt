@@ -1,11 +1,11 @@
-// Why a net is not covered.
+// The reasons why a net is not covered.
 
-/// Why a net is not covered: the first of these reasons that applies.
+/// The reason why a net is not covered. If several reasons apply, the first in this order counts.
 #[derive(Clone, Copy)]
 pub enum Reason {
     /// The net carries a supply.
     Supply,
-    /// The net has a TAP pin or a pin that the compliance patterns name.
+    /// The net has a pin of a test access port, or a pin that compliance patterns name.
     TestPort,
     /// The net has a dark pin.
     Dark,
@@ -13,6 +13,6 @@ pub enum Reason {
     NoDriver,
     /// No safe setting enables a driver on the net.
     Blocked,
-    /// No driver that a safe setting enables has a receiver on another pin of the net.
+    /// No safe setting enables a driver that has a receiver on another pin of the net.
     NoReceiver,
 }

@@ -1,4 +1,4 @@
-// A device, as its BSDL description defines it.
+// A device as its BSDL description defines it.
 ghost use Rattle.std.specs.Prelude.{◌≡◌, ◌==◌, ◌<◌, ◌^◌, length, slice_get, Some, IfOk};
 ghost use Rattle.board_defs.specs.DeviceRules.{IsDevice};
 
@@ -7,7 +7,7 @@ use lists::Items;
 use std::alloc::{AllocError, Global};
 use std::marker::Model;
 
-/// A bit of a pattern: 0, 1, or X, which matches both.
+/// A symbol of a pattern: 0, 1, or X, which matches both bits.
 #[derive(Clone, Copy, Debug, PartialEq, Eq)]
 pub enum Symbol {
     Zero,
@@ -15,7 +15,7 @@ pub enum Symbol {
     Any,
 }
 
-/// A register's pattern, starting with the bit nearest TDO. It has fewer than 2^32 symbols.
+/// The pattern of a register. The first symbol is nearest TDO. A pattern has fewer than 2^32 symbols.
 #[derive(Debug, Drop)]
 pub struct Code {
     symbols: Vec<Symbol>,
@@ -33,7 +33,7 @@ impl Model for Code {
 }
 
 impl Code {
-    /// Returns the code with these symbols, which it copies. There must be fewer than 2^32 of them.
+    /// Returns a code with a copy of these symbols. There must be fewer than 2^32 of them.
     pub fn of(alloc: Global, symbols: &[Symbol]) -> Result<Code, AllocError>
         requires { length symbols.now < 2 ^ 32 }
         ensures { IfOk result (λ code. code ≡ symbols.now) }
@@ -43,7 +43,7 @@ impl Code {
         })
     }
 
-    /// Returns the code with these symbols, which it takes over. There must be fewer than 2^32 of them.
+    /// Returns the code with these symbols. Takes ownership of the vector. There must be fewer than 2^32 symbols.
     pub fn from_vec(symbols: Vec<Symbol>) -> Code
         requires { length symbols.items < 2 ^ 32 }
         ensures { result ≡ symbols.items }
@@ -51,7 +51,7 @@ impl Code {
         Code { symbols }
     }
 
-    /// Returns the symbols, starting with the one nearest TDO.
+    /// Returns the symbols. The first one is nearest TDO.
     pub fn symbols(&self) -> &[Symbol]
         ensures value { result.now ≡ self.now }
         ensures short { length self.now < 2 ^ 32 }
@@ -73,7 +73,7 @@ impl Code {
         self.symbols.is_empty()
     }
 
-    /// Returns the symbol at place `i`, counted from 0 at the bit nearest TDO.
+    /// Returns symbol `i`. Symbol 0 is nearest TDO.
     pub fn at(&self, i: u32) -> Symbol
         requires { i < length self.now }
         ensures { slice_get self.now i ≡ Some result }
@@ -106,8 +106,8 @@ pub enum Role {
     ObserveOnly,
 }
 
-/// The edition of IEEE 1149.1 that a description follows. The 2001 edition splits SAMPLE/PRELOAD in two, and no
-/// longer requires an EXTEST code of all zeros.
+/// The edition of IEEE 1149.1 that a description follows. The 2001 edition splits the instruction SAMPLE/PRELOAD into
+/// two, and no longer requires that the EXTEST code has only zeros.
 #[derive(Clone, Copy, Debug)]
 pub enum Edition {
     Old,
@@ -121,16 +121,17 @@ pub struct Control {
     pub disable: bool,
 }
 
-/// An entry of the boundary register. A cell may have two entries: one that reads its pin, and one for its update
-/// latch.
+/// An entry of the boundary register. A cell can have two entries: one for the value that the cell captures from its
+/// pin, and one for the cell's update latch.
 #[derive(Clone, Copy)]
 pub struct Cell {
-    /// The number of the boundary cell, 0 nearest TDO.
+    /// The number of the boundary cell. Cell 0 is nearest TDO.
     pub num: u32,
     pub role: Role,
-    /// The number of the port bit among the device's port bits. CONTROL, CONTROLR and INTERNAL entries have none.
+    /// The number of the entry's port bit in the device's list of port bits. Entries with the function CONTROL,
+    /// CONTROLR or INTERNAL have none.
     pub bit: Option<u32>,
-    /// The value that the designer wants in the cell while it is not used.
+    /// The value that the designer wants in the cell while no test uses the cell.
     pub safe: Symbol,
     pub ctl: Option<Control>,
 }
@@ -138,12 +139,12 @@ pub struct Cell {
 /// A bit of a port.
 #[derive(Drop)]
 pub struct PortBit {
-    /// The number of the port.
+    /// The number of the bit's port in the device's list of ports.
     pub port: u32,
     /// The bit's index in its vector, if the port is a vector.
     pub index: Option<u32>,
     pub mode: Mode,
-    /// The pin that the chosen pin map gives the bit, if the map names the port.
+    /// The pin that the chosen pin map assigns to the bit, if the map names the port.
     pub pin: Option<Name>,
     /// Whether the port belongs to the test access port.
     pub tap: bool,
@@ -151,28 +152,28 @@ pub struct PortBit {
     pub compliance: bool,
 }
 
-/// A device as the plain record of its description.
+/// A device as a plain record of what its description says.
 #[derive(Drop)]
 pub struct RawDevice {
     pub entity: Name,
     pub package: Name,
     pub edition: Edition,
     pub ports: Items<Name>,
-    /// The length of the instruction register, from 2 to 255.
+    /// The length of the instruction register, from 2 to 255 bits.
     pub ir: u32,
     /// The code of the instruction that preloads the boundary register: SAMPLE/PRELOAD or PRELOAD.
     pub sample: Code,
     pub extest: Code,
     /// The pattern of the identification code, if the device has one.
     pub idcode: Option<Code>,
-    /// The length of the boundary register, from 1 to 65,535.
+    /// The length of the boundary register, from 1 to 65,535 cells.
     pub boundary: u32,
-    /// The port bits in the order of the ports. The bits of a vector are in order from left to right.
+    /// The port bits, in the order of the ports. The bits of a vector are in order from left to right.
     pub bits: Items<PortBit>,
     pub cells: Items<Cell>,
 }
 
-/// A device that keeps the rules of a device.
+/// A device that keeps the rules of devices, which `IsDevice` defines.
 #[derive(Drop)]
 pub struct Device {
     raw: RawDevice,
@@ -191,7 +192,7 @@ impl Model for Device {
 }
 
 impl Device {
-    /// Returns the device with this record, which must keep the rules of a device.
+    /// Returns the device with this record, which must keep the rules of devices.
     pub fn new(raw: RawDevice) -> Device
         requires { IsDevice raw }
         ensures { result ≡ raw }
@@ -199,7 +200,7 @@ impl Device {
         Device { raw }
     }
 
-    /// Returns the record, which keeps the rules of a device.
+    /// Returns the record, which keeps the rules of devices.
     pub fn raw(&self) -> &RawDevice
         ensures value { result.now ≡ self.now }
         ensures rules { IsDevice self.now }

@@ -1,7 +1,8 @@
 // Single faults of a board.
 use crate::board::PinRef;
 
-/// What the two nets of a short read.
+/// The kind of a short, which decides the value that both nets of the short read: the And or the Or of their bits, or
+/// the bit of the net that dominates.
 #[derive(Clone, Copy)]
 pub enum Kind {
     And,
@@ -12,7 +13,7 @@ pub enum Kind {
     Second,
 }
 
-/// A single fault. Nets are given by their numbers.
+/// A single fault. A net is given by its number.
 #[derive(Clone, Copy)]
 pub enum Single {
     StuckNet { net: u32, value: bool },

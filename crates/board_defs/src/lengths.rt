@@ -5,7 +5,7 @@ ghost use Rattle.board_defs.specs.Pins.{instruction_length, data_length};
 use crate::board::{Part, PartKind};
 
 impl PartKind {
-    /// Returns the length of the part's instruction register.
+    /// Returns the length of the part's instruction register, in bits.
     pub fn instruction_length(&self) -> u32
         ensures { result ≡ instruction_length self.now }
     {
@@ -15,8 +15,8 @@ impl PartKind {
         }
     }
 
-    /// Returns the length of the part's boundary register, or 1 for the bypass register of a part that is not
-    /// described.
+    /// Returns the length of the part's boundary register. For a part without a description, returns 1, the length of
+    /// the bypass register.
     pub fn data_length(&self) -> u32
         ensures { result ≡ data_length self.now }
     {

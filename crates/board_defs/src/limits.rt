@@ -1,16 +1,16 @@
-// The limits of devices and boards, with the same values as in `specs/Limits.antt`.
+// The limits of devices and boards. `specs/Limits.antt` defines the same values.
 
-/// The most bits of an instruction register.
+/// The largest number of bits of an instruction register.
 pub const MOST_INSTRUCTION_BITS: u32 = 255;
 
-/// The most parts of a chain.
+/// The largest number of parts of a chain.
 pub const MOST_PARTS: usize = 255;
 
-/// The most bits of a data scan; also the most boundary cells and the most port bits of a device.
+/// The largest number of bits of a data scan. A device also has at most this number of boundary cells and of port bits.
 pub const MOST_BITS: u32 = 65_535;
 
-/// The most nets of a board.
+/// The largest number of nets of a board.
 pub const MOST_NETS: usize = 16_382;
 
-/// The most pins of all nets of a board.
+/// The largest number of pins of all nets of a board together.
 pub const MOST_PINS: usize = 65_535;

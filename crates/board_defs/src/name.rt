@@ -1,4 +1,4 @@
-// Names that contracts see as lists of bytes.
+// Names, whose values in contracts are lists of bytes.
 ghost use Rattle.std.specs.Prelude.{◌≡◌, ℕ, List, IfOk, map};
 ghost use Rattle.std.specs.Char.{to_ascii_uppercase};
 ghost use Rattle.board_defs.specs.NameBytes.{kept_bytes};
@@ -10,14 +10,15 @@ use std::marker::Model;
 /// longer than this.
 const SHORT: usize = 24;
 
-// The bytes of a name: in the value itself, whose first `length` bytes count, or in memory of their own.
+// The bytes of a name. A short name has its bytes in the value itself, of which the first `length` bytes count. A long
+// name has memory of its own.
 #[derive(Debug, Drop)]
 enum Kept {
     Short { bytes: [u8; SHORT], length: u8 },
     Long(Vec<u8>),
 }
 
-/// A name. Contracts see it as the list of its bytes.
+/// A name. Its value in contracts is the list of its bytes.
 #[derive(Debug, Drop)]
 pub struct Name {
     kept: Kept,
@@ -35,7 +36,7 @@ impl Model for Name {
 }
 
 impl Name {
-    /// Returns the name with these bytes.
+    /// Returns a name with a copy of these bytes.
     pub fn of(alloc: Global, bytes: &[u8]) -> Result<Name, AllocError>
         ensures { IfOk result (λ name. name ≡ bytes.now) }
     {
@@ -52,7 +53,7 @@ impl Name {
         })
     }
 
-    /// Returns the name with these bytes, its lower-case ASCII letters changed to capitals.
+    /// Returns a name with a copy of these bytes, in which lower-case ASCII letters are changed to upper case.
     pub fn in_upper_case(alloc: Global, bytes: &[u8]) -> Result<Name, AllocError>
         ensures { IfOk result (λ name. name ≡ map to_ascii_uppercase bytes.now) }
     {
@@ -72,7 +73,7 @@ impl Name {
         })
     }
 
-    /// Returns the name with these bytes, which it takes over.
+    /// Returns the name with these bytes. Takes ownership of the vector.
     pub fn from_vec(bytes: Vec<u8>) -> Name
         ensures { result ≡ bytes.items }
     {

@@ -1,4 +1,4 @@
-// Queries about a board's pins, on the plain records.
+// Questions about a board's pins, on the plain records.
 ghost use Rattle.std.specs.Prelude.{◌≡◌, ◌≤◌, ◌^◌, ◌<◌, ◌&&◌, option_copied, option_and_then, length, slice_get};
 ghost use Rattle.std.specs.List.{list_any};
 ghost use Rattle.board_defs.specs.DeviceRules.{is_driving, is_reading, is_receiving, is_writing, is_loading, is_controlling, is_inner, may_receive, may_drive, is_linkage, bit_of, is_on, drives_bit, reads_bit, driving_entry};
@@ -9,14 +9,14 @@ use crate::board::{Ctl, Drive, Net, NetPin, Part, PartKind, PinAt, PinRef, RawBo
 use crate::device::{Cell, Control, Mode, PortBit, RawDevice, Role, Symbol};
 
 impl Role {
-    /// Returns whether the entry drives its port: OUTPUT2, OUTPUT3 or BIDIR.
+    /// Returns whether an entry with this function drives its port: OUTPUT2, OUTPUT3 or BIDIR.
     pub fn is_driving(self) -> bool
         ensures { result ≡ is_driving self }
     {
         matches!(self, Role::Output2 | Role::Output3 | Role::Bidir)
     }
 
-    /// Returns whether the entry reads its port: INPUT, CLOCK, OBSERVE_ONLY or BIDIR.
+    /// Returns whether an entry with this function reads its port: INPUT, CLOCK, OBSERVE_ONLY or BIDIR.
     pub fn is_reading(self) -> bool
         ensures { result ≡ is_reading self }
     {
@@ -26,36 +26,36 @@ impl Role {
         )
     }
 
-    /// Returns whether the entry can belong to a receiver: INPUT, CLOCK or BIDIR.
+    /// Returns whether an entry with this function can make its pin a receiver: INPUT, CLOCK or BIDIR.
     pub fn is_receiving(self) -> bool
         ensures { result ≡ is_receiving self }
     {
         matches!(self, Role::Input | Role::Clock | Role::Bidir)
     }
 
-    /// Returns whether the entry takes its value from the update latch: OUTPUT2, OUTPUT3, BIDIR, CONTROL, CONTROLR or
-    /// INTERNAL.
+    /// Returns whether the function is one of a cell with an update latch: OUTPUT2, OUTPUT3, BIDIR, CONTROL, CONTROLR
+    /// or INTERNAL.
     pub fn is_writing(self) -> bool
         ensures { result ≡ is_writing self }
     {
         self.is_driving() || self.is_inner()
     }
 
-    /// Returns whether the entry defines what its cell captures: a reading entry, or INTERNAL.
+    /// Returns whether an entry with this function defines what its cell captures: a reading function, or INTERNAL.
     pub fn is_loading(self) -> bool
         ensures { result ≡ is_loading self }
     {
         self.is_reading() || matches!(self, Role::Internal)
     }
 
-    /// Returns whether the entry makes its cell a control cell: CONTROL or CONTROLR.
+    /// Returns whether an entry with this function makes its cell a control cell: CONTROL or CONTROLR.
     pub fn is_controlling(self) -> bool
         ensures { result ≡ is_controlling self }
     {
         matches!(self, Role::Control | Role::ControlR)
     }
 
-    /// Returns whether the entry is on no port: CONTROL, CONTROLR or INTERNAL.
+    /// Returns whether an entry with this function has no port: CONTROL, CONTROLR or INTERNAL.
     pub fn is_inner(self) -> bool
         ensures { result ≡ is_inner self }
     {
@@ -64,14 +64,14 @@ impl Role {
 }
 
 impl Mode {
-    /// Returns whether the part receives from a pin of this mode: in or inout.
+    /// Returns whether the part can receive from a pin of this mode: in or inout.
     pub fn may_receive(self) -> bool
         ensures { result ≡ may_receive self }
     {
         matches!(self, Mode::Inward | Mode::Both)
     }
 
-    /// Returns whether the part may drive a pin of this mode: out, inout or buffer.
+    /// Returns whether the part can drive a pin of this mode: out, inout or buffer.
     pub fn may_drive(self) -> bool
         ensures { result ≡ may_drive self }
     {
@@ -87,7 +87,7 @@ impl Mode {
 }
 
 impl Symbol {
-    /// Returns the bit that stands for the symbol: 0 for X.
+    /// Returns the bit of the symbol. X counts as 0.
     pub fn bit(self) -> bool
         ensures { result ≡ bit_of self }
     {
@@ -96,7 +96,7 @@ impl Symbol {
 }
 
 impl Cell {
-    /// Returns whether the entry is on port bit `bit`.
+    /// Returns whether the entry belongs to port bit `bit`.
     pub fn is_on(&self, bit: u32) -> bool
         ensures { result ≡ is_on bit self.now.bit }
     {
@@ -209,7 +209,7 @@ impl RawBoard {
         }
     }
 
-    /// Returns the driving entry of the port bit `at`, if it has one.
+    /// Returns the driving entry of the port bit at `at`, if there is one.
     pub fn driving_entry(&self, at: PinAt) -> Option<Cell>
         ensures { result ≡ entry_at self.now at }
     {
@@ -219,7 +219,8 @@ impl RawBoard {
         }
     }
 
-    /// Returns the port bit `at`, if the part is described and has it.
+    /// Returns the port bit at `at`. Returns None if the chain has no such part, the part is not described, or the
+    /// device has no such bit.
     pub fn port_bit(&self, at: PinAt) -> Option<&PortBit>
         ensures { option_copied result ≡ bit_at self.now at }
     {
@@ -229,7 +230,7 @@ impl RawBoard {
         }
     }
 
-    /// Returns whether the chosen pin map gives the port bit a pin.
+    /// Returns whether the chosen pin map assigns a pin to the port bit.
     pub fn is_pinned(&self, at: PinAt) -> bool
         ensures { result ≡ is_pinned self.now at }
     {
@@ -239,7 +240,7 @@ impl RawBoard {
         }
     }
 
-    /// Returns whether the pin is a TAP pin or is named in the compliance patterns.
+    /// Returns whether the pin belongs to a test access port or is named by compliance patterns.
     pub fn is_test_pin(&self, pin: &NetPin) -> bool
         ensures { result ≡ is_test_pin self.now pin.now }
     {
@@ -252,7 +253,7 @@ impl RawBoard {
         }
     }
 
-    /// Returns whether the pin is dark: something that no setting controls may drive it.
+    /// Returns whether the pin is dark: something that no setting controls may drive its net.
     pub fn is_dark(&self, pin: &NetPin) -> bool
         ensures { result ≡ is_dark self.now pin.now }
     {
@@ -277,7 +278,7 @@ impl RawBoard {
         pins.iter().any(|pin| self.guards(pin))
     }
 
-    /// Returns whether the net is guarded: only drivers that are always on may be enabled on it.
+    /// Returns whether the net is guarded. On a guarded net, only drivers that are always on may be enabled.
     pub fn is_guarded(&self, net: &Net) -> bool
         ensures { result ≡ guarded self.now net.now }
     {

@@ -7,7 +7,7 @@ use crate::board::Ctl;
 use std::alloc::{AllocError, Global};
 use std::marker::Model;
 
-/// A set of controls. Contracts see it as the list of the controls, in control order without repeats.
+/// A set of controls. Its value in contracts is the list of its controls, in control order and without repeats.
 #[derive(Drop)]
 pub struct Setting {
     controls: Vec<Ctl>,
@@ -26,7 +26,7 @@ impl Model for Setting {
 }
 
 impl Setting {
-    /// Returns the setting without controls.
+    /// Returns the setting that has no controls.
     pub fn new(alloc: Global) -> Setting
         ensures { result ≡ [] }
     {
@@ -35,7 +35,7 @@ impl Setting {
         }
     }
 
-    /// Returns the setting with these controls, which must be in control order without repeats.
+    /// Returns the setting with these controls. They must be in control order and without repeats.
     pub fn of(controls: Vec<Ctl>) -> Setting
         requires { IsInControlOrder controls.items }
         ensures { result ≡ controls.items }
@@ -43,7 +43,7 @@ impl Setting {
         Setting { controls }
     }
 
-    /// Returns the controls in control order: by the part's place in the chain, then by the cell.
+    /// Returns the controls in control order: by the number of the part in the chain, then by the number of the cell.
     pub fn controls(&self) -> &[Ctl]
         ensures value { result.now ≡ self.now }
         ensures order { IsInControlOrder self.now }
@@ -58,8 +58,8 @@ impl Setting {
         has_control(&self.controls, c)
     }
 
-    /// Adds the control at its place in control order, unless the setting already has it. If memory is refused,
-    /// nothing changes.
+    /// Adds the control at its place in control order. Changes nothing if the setting has the control already, or if
+    /// memory is refused.
     pub fn add(&mut self, c: Ctl) -> Result<(), AllocError>
         ensures added { OnOk result (self.new ≡ inserted c self.old) }
         ensures same { OnErr result (self.new ≡ self.old) }
@@ -74,7 +74,7 @@ fn comes_before(a: Ctl, b: Ctl) -> bool
     a.part < b.part || (a.part == b.part && a.cell < b.cell)
 }
 
-/// Returns the number of controls that come before `c`.
+/// Returns the number of controls in the list that precede `c` in control order.
 fn place_of(controls: &[Ctl], c: Ctl) -> usize
     requires { IsInControlOrder controls.now }
     ensures place { result ≡ prefix_len (λ d. precedes d c) controls.now }

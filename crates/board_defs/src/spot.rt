@@ -1,6 +1,7 @@
 // A place in a text.
 
-/// A word of a text: the number of its line and its number among the words of that line, both from 1.
+/// The place of a word in a text: the number of its line and its number among the words of that line. Both count from
+/// 1.
 #[derive(Clone, Copy, Debug)]
 pub struct Spot {
     pub line: u32,

@@ -1,4 +1,4 @@
--- The identity test passes exactly where each code fits its pattern.
+-- The identity test passes if and only if each code fits its pattern.
 use Rattle.std.proofs.Common.{◌≡◌, ◌≢◌, ℕ, zero, suc, ◌^◌, ◌<◌, Bool, true, false, ◌&&◌, List, [], ◌∷◌, length, map, Option, Some, None, refl, sym, ◌∙◌, ap, subst, arith}
 use Rattle.std.specs.Prelude.{slice_get}
 use Rattle.std.proofs.Math.Bool.{and-true}
@@ -29,7 +29,7 @@ use Rattle.ident_test.specs.IdentTest.{ArePatterns, IsIdentTest, EachRunTells}
 use Rattle.ident_test.proofs.LengthLemmas.{AllWhole, whole_by, bits_least, bits_most}
 use Rattle.ident_test.proofs.ResetLemmas.{AllSelected, head_selects}
 
--- a bit passes where it fits
+-- a bit passes if and only if it fits its symbol
 bit_fits : (symbol : Symbol) (bit : Bool) → bit_passes (wanted symbol) bit ≡ fits symbol bit
 bit_fits Zero true = refl
 bit_fits Zero false = refl
@@ -37,7 +37,7 @@ bit_fits One true = refl
 bit_fits One false = refl
 bit_fits Any bit = refl
 
--- and so does a code
+-- a code passes if and only if it fits its pattern
 code_passes : (pattern : List Symbol) (code : List Bool) → scan_passes (map symbol_bit pattern) code ≡ code_fits pattern code
 code_passes [] code = refl
 code_passes (symbol ∷ pattern) [] = refl
@@ -45,12 +45,12 @@ code_passes (symbol ∷ pattern) (bit ∷ code) =
     ap (λ (b : Bool). b && scan_passes (map symbol_bit pattern) code) (bit_fits symbol bit)
     ∙ ap (λ (b : Bool). fits symbol bit && b) (code_passes pattern code)
 
--- a part selects its identification register where it has a pattern, else its bypass register
+-- a part with a pattern selects its identification register, and any other part its bypass register
 abbrev selects : Option (List Symbol) → Instruction
 selects (Some pattern) = Idcode
 selects None = Bypass
 
--- what the part is known to have after a reset
+-- the instruction that a part has after a reset
 coded_at : (pattern : Option (List Symbol)) (part : TestLogic) → IsCoded pattern part → part.at_reset ≡ Some (selects pattern)
 coded_at (Some pattern) part h = h.0
 coded_at None part h = h
@@ -70,7 +70,7 @@ selecting (pattern ∷ patterns) (p ∷ ps) idle selected coded = (
   selecting patterns ps idle.1 selected.1 coded.1,
 )
 
--- what one part loads is as long as its pattern, and passes where the code fits
+-- the bits that one part loads are as many as its pattern has, and pass if and only if the code fits
 record Loads (pattern : Option (List Symbol)) (part : TestLogic) (loaded : List Bool) : Type 0 where
   size : length (map symbol_bit (register_pattern pattern)) ≡ length loaded
   passes : scan_passes (map symbol_bit (register_pattern pattern)) loaded ≡ part_fits pattern part
@@ -89,7 +89,7 @@ first_whole : (pattern : Option (List Symbol)) (patterns : List (Option (List Sy
 first_whole (Some pattern) patterns h = ((h.0, tt), h.1)
 first_whole None patterns h = (tt, h)
 
--- the registers of all parts
+-- the expected bits of the registers of all parts
 abbrev all_bits : List (Option (List Symbol)) → List (List ScanBit)
 all_bits patterns = map (λ part. map symbol_bit (register_pattern part)) patterns
 
@@ -189,7 +189,7 @@ ident_test patterns are = record {
   fails = λ wiring parts coded fit chain choices start. decides patterns are wiring parts coded chain choices start ∙ fit;
 }
 
--- the parts of a board under an assignment of codes
+-- the parts of a board with assigned codes
 one_coded : (pattern : Option (List Symbol)) (device : RawDevice) (code : List Bool) → device.idcode ≡ pattern → length code ≡ 32 →
     IsCoded pattern (coded_by pattern code (test_logic (Described device)))
 one_coded (Some pattern) device code is size = (refl, size)
@@ -226,7 +226,7 @@ codes_assigned (first ∷ devices) codes zero device is =
     (coded_by first.idcode (codes 0) (test_logic (Described first)), refl, subst (λ (d : RawDevice). HasCode d (codes 0) (coded_by first.idcode (codes 0) (test_logic (Described first)))) same (coded_alone first.idcode first (codes 0) refl))
 codes_assigned (first ∷ devices) codes (suc k) device is = codes_assigned devices (λ n. codes (suc n)) k device is
 
--- what is said of passing and of failing is said of each run
+-- the promises on passing and on failing decide each run
 pub each_run_tells : (patterns : List (Option (List Symbol))) (text : List ℕ) → IsIdentTest patterns text → EachRunTells patterns text
 each_run_tells patterns text test clocks wiring parts chain choices means coded start = by_fit (all_fit patterns parts) refl
   where

@@ -1,4 +1,4 @@
--- How many bits the scan of the identity test has.
+-- The number of bits of the identity test's scan.
 use Rattle.std.proofs.Common.{◌≡◌, ℕ, suc, ◌+◌, ◌*◌, ◌<◌, ◌≤◌, List, [], ◌∷◌, length, map, Option, Some, None, All, IfSome, ap, ◌∙◌, length-append, arith}
 use Rattle.std.proofs.lemmas.List.{length-map}
 use Rattle.board_defs.specs.declared.device.Symbol.{Symbol}
@@ -31,7 +31,7 @@ bits_most [] h = omega arith
 bits_most (None ∷ patterns) h = omega (arith, length-ident_bits None patterns, bits_most patterns h)
 bits_most (Some pattern ∷ patterns) h = omega (arith, length-ident_bits (Some pattern) patterns, h.0, bits_most patterns h.1)
 
--- rows of 8,160 bits have room for the scan
+-- rows with room for 8,160 bits have room for the scan
 pub room_of : (patterns : List (Option (List Symbol))) → All (λ pattern. IfSome pattern (λ code. length code ≡ 32)) patterns → length patterns ≤ 255 →
     length (ident_bits patterns) ≤ 8160
 room_of patterns each few = omega (arith, bits_most patterns (whole_by patterns each), few)

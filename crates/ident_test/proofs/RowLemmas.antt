@@ -9,18 +9,18 @@ use Rattle.ident_test.specs.Patterns.{symbol_bit, register_pattern, ident_bits, 
 use Rattle.ident_test.specs.inner.Rows.{placed}
 use Rattle.ident_test.proofs.LengthLemmas.{length-ident_bits}
 
--- the scan is as long as all registers
+-- the scan has as many bits as all registers together
 pub bits_are : (patterns : List (Option (List Symbol))) → sum_by (λ part. length (register_pattern part)) patterns ≡ length (ident_bits patterns)
 bits_are [] = refl
 bits_are (part ∷ patterns) = omega (arith, sum_by-cons (λ (part : Option (List Symbol)). length (register_pattern part)) part patterns, bits_are patterns, length-ident_bits part patterns)
 
--- no value is written yet
+-- writing no values changes nothing
 pub placed_nothing : (at : ℕ) (bits : List Bool) → placed at [] bits ≡ bits
 placed_nothing at bits =
     let here : at + 0 ≡ at = omega arith in
     ap (λ n. take at bits ++ drop n bits) here ∙ take-append-drop at bits
 
--- and one more
+-- writing one more value
 pub placed_more : (at : ℕ) (vs bits : List Bool) (v : Bool) → at + length vs < length bits → set (placed at vs bits) (at + length vs) v ≡ placed at (vs ++ v ∷ []) bits
 placed_more at vs bits v lt =
     let front : List Bool = take at bits in
@@ -36,7 +36,7 @@ placed_more at vs bits v lt =
     ∙ ap (λ t. front ++ t) (sym (append_assoc vs (v ∷ []) rest))
     ∙ ap (λ n. front ++ ((vs ++ v ∷ []) ++ drop n bits)) next
 
--- one symbol of a pattern more
+-- writing one more symbol of a pattern
 pub symbol_more : (g : ScanBit → Bool) (pattern : List Symbol) (i at position : ℕ) (now was : List Bool) (d : Symbol) (bit : Bool) → i < length pattern →
     at + length pattern ≤ length was → position ≡ at + i → now ≡ placed at (map g (map symbol_bit (take i pattern))) was →
     bit ≡ g (symbol_bit (get_or pattern i d)) →
@@ -57,7 +57,7 @@ symbol_more g pattern i at position now was d bit lt room is_at so_far is_bit =
     ∙ ap (λ b. placed at (vs ++ b ∷ []) was) is_bit
     ∙ ap (λ t. placed at t was) (sym values)
 
--- values that are written where zeros stood
+-- writing values where there were zeros
 placed_zeros : (done vs : List Bool) (at zeros : ℕ) → length done ≡ at → length vs ≤ zeros →
     placed at vs (done ++ replicate zeros false) ≡ (done ++ vs) ++ replicate (zeros - length vs) false
 placed_zeros done vs at zeros is_at few =
@@ -69,7 +69,7 @@ placed_zeros done vs at zeros is_at few =
     ∙ drop-replicate (length vs) zeros false)
     ∙ sym (append_assoc done vs (replicate (zeros - length vs) false))
 
--- the part before
+-- the list from the part before on
 pub part_before : (parts : List (Option (List Symbol))) (i : ℕ) (part : Option (List Symbol)) → 0 < i → i ≤ length parts → part ≡ get_or parts (i - 1) part →
     drop (i - 1) parts ≡ part ∷ drop i parts
 part_before parts i part some within is =
@@ -84,7 +84,7 @@ drop_bits [] (suc i) = omega arith
 drop_bits (part ∷ parts) zero = omega arith
 drop_bits (part ∷ parts) (suc i) = omega (arith, drop_bits parts i, length-ident_bits part parts)
 
--- what the register of one part more makes of a row, in which those of the parts after it are written
+-- a row after the register of one more part is written; those of the parts after this one are in the row already
 pub record WritesMore (parts : List (Option (List Symbol))) (i at : ℕ) (pattern : List Symbol) : Type 0 where
   pub next : at + length pattern ≡ length (ident_bits (drop (i - 1) parts))
   pub room : at + length pattern ≤ length (ident_bits parts)
@@ -135,7 +135,7 @@ length-placed at vs bits le =
       length-drop (at + length vs) bits,
     )
 
--- zeros are shifted in
+-- only zeros are shifted in
 symbols_zero : (pattern : List Symbol) → tdi_bits (map symbol_bit pattern) ≡ replicate (length pattern) false
 symbols_zero [] = refl
 symbols_zero (symbol ∷ pattern) = ap (λ t. false ∷ t) (symbols_zero pattern)
@@ -150,7 +150,7 @@ tdi_zero (part ∷ patterns) =
     ∙ ap (λ t. tdi_bits (ident_bits patterns) ++ t) (sym (symbols_zero here))
     ∙ sym (map-append (λ b. b.tdi) (ident_bits patterns) (map symbol_bit here))
 
--- the text of the test is that of its scan, between the head and the tail
+-- the text of the test is the head, the text of the scan and the tail
 pub text_is : (patterns : List (Option (List Symbol))) → head_text ++ (scan_text (ident_scan patterns) ++ tail_text) ≡ ident_text patterns
 unfolding svf_text
 text_is patterns = ap (λ t. head_text ++ (t ++ tail_text)) (sym (append-nil (scan_text (ident_scan patterns))))

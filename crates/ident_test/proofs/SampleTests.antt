@@ -1,4 +1,4 @@
--- Texts and runs of the identity tests of small chains.
+-- Texts and runs of the identity test on small chains.
 use Rattle.std.proofs.Common.{◌≡◌, Bool, true, false, List, [], ◌∷◌, ◌++◌, map, replicate, Option, Some, None, refl}
 use Rattle.std.specs.Prelude.{codes}
 use Rattle.std.specs.Fmt.{digits}
@@ -14,14 +14,14 @@ use Rattle.tap_defs.proofs.chain.SampleRun.{choices, no_wiring, pausing, shiftin
 use Rattle.ident_test.specs.Patterns.{ident_scan, ident_text}
 use Rattle.ident_test.specs.CodedParts.{AreCoded, all_fit}
 
--- XXXX0001001000110100000000000111, the bit nearest TDO first
+-- the pattern XXXX0001001000110100000000000111, as symbols from the one nearest TDO on
 abbrev known_part : List Symbol
 known_part =
     One ∷ One ∷ One ∷ Zero ∷ Zero ∷ Zero ∷ Zero ∷ Zero ∷ Zero ∷ Zero ∷ Zero ∷ Zero
     ∷ Zero ∷ Zero ∷ One ∷ Zero ∷ One ∷ One ∷ Zero ∷ Zero ∷ Zero ∷ One ∷ Zero ∷ Zero ∷ One ∷ Zero ∷ Zero ∷ Zero
     ∷ Any ∷ Any ∷ Any ∷ Any ∷ []
 
--- the last part has the lowest position
+-- the last part of the chain has the lowest position in the scan
 known_text : ident_text (Some known_part ∷ None ∷ []) ≡ sample_text (codes "SDR 33 TDI (000000000) TDO (00246800E) MASK (01FFFFFFF);" ∷ [])
 unfolding svf_text digits
 known_text = refl
@@ -30,12 +30,12 @@ turned_text : ident_text (None ∷ Some known_part ∷ []) ≡ sample_text (code
 unfolding svf_text digits
 turned_text = refl
 
--- where nothing is compared, nothing but TDI is printed
+-- if no bit is compared, only the field TDI is printed
 unknown_text : ident_text (Some (replicate 32 Any) ∷ []) ≡ sample_text (codes "SDR 32 TDI (00000000);" ∷ [])
 unfolding svf_text digits
 unknown_text = refl
 
--- a part with a short pattern, 0X1, and one without
+-- patterns of a part with the short pattern 0X1 and a part without a pattern
 abbrev patterns : List (Option (List Symbol))
 patterns = Some (One ∷ Any ∷ Zero ∷ []) ∷ None ∷ []
 
@@ -45,7 +45,7 @@ coded code = record { ir_length = 4; boundary_length = 0; extest = None; preload
 abbrev bypassed : TestLogic
 bypassed = record { ir_length = 2; boundary_length = 0; extest = None; preload = None; at_reset = Some Bypass; idcode = [] }
 
--- before the text they are in other states, under other instructions
+-- before the test, the two parts are in different TAP states and have different instructions
 abbrev two : List Bool → List ChainPart
 two code =
     record { logic = coded code; state = record pausing { identification = on ∷ on ∷ on ∷ [] } }
@@ -63,7 +63,7 @@ start = record {
 abbrev clocks : List Clock
 clocks = test_clocks (ident_scan patterns ∷ [])
 
--- the bypass bit leaves first, then the code from its lowest bit on
+-- the bypass bit leaves first, and then the code, lowest bit first
 reads : tdos no_wiring clocks choices (two (on ∷ off ∷ off ∷ [])) ≡
     (on ∷ off ∷ off ∷ off ∷ off ∷ off ∷ [])
     ++ (off ∷ off ∷ off ∷ []) ++ (off ∷ on ∷ off ∷ off ∷ []) ++ (off ∷ off ∷ [])
@@ -71,7 +71,7 @@ reads : tdos no_wiring clocks choices (two (on ∷ off ∷ off ∷ [])) ≡
 unfolding tdos
 reads = refl
 
--- 001 and 011 fit 0X1
+-- the codes 001 and 011 fit 0X1
 abbrev outcome : List Bool → Bool
 outcome code = run_passes clocks (tdos no_wiring clocks choices (two code))
 
@@ -83,7 +83,7 @@ high_fits : outcome (on ∷ on ∷ off ∷ []) ≡ true
 unfolding tdos
 high_fits = refl
 
--- 101 and 000 do not
+-- the codes 101 and 000 do not fit 0X1
 first_differs : outcome (on ∷ off ∷ on ∷ []) ≡ false
 unfolding tdos
 first_differs = refl
@@ -92,14 +92,14 @@ last_differs : outcome (off ∷ off ∷ off ∷ []) ≡ false
 unfolding tdos
 last_differs = refl
 
--- and so the definition says
+-- the definition `all_fit` says the same of the four codes
 all_told : map (λ code. all_fit patterns (coded code ∷ bypassed ∷ []))
     ((on ∷ off ∷ off ∷ []) ∷ (on ∷ on ∷ off ∷ []) ∷ (on ∷ off ∷ on ∷ []) ∷ (off ∷ off ∷ off ∷ []) ∷ [])
     ≡ true ∷ true ∷ false ∷ false ∷ []
 all_told = refl
 
--- parts with patterns are coded whatever else is so of them: of whatever lengths, with codes of instructions or without, and though the
--- code doesn't fit
+-- Parts with patterns are coded whatever their lengths, with or without instruction codes, and even if the code does not fit the
+-- pattern.
 abbrev zeros : List Bool
 zeros = replicate 32 off
 

@@ -1,4 +1,4 @@
--- Described parts with identification codes (IEEE 1149.1-1990, section 11), and which codes fit the parts' patterns.
+-- Described parts with identification codes (IEEE 1149.1-1990, section 11), and when a code fits a pattern.
 use Rattle.std.specs.Prelude.{◌≡◌, ℕ, suc, Bool, true, not, ◌&&◌, List, [], ◌∷◌, length, Option, Some, None}
 use Rattle.board_defs.specs.declared.device.Symbol.{Symbol}
 use Rattle.board_defs.specs.declared.device.Symbol.TheVariants.{Zero, One, Any}
@@ -7,51 +7,51 @@ use Rattle.board_defs.specs.declared.device.RawDevice.{RawDevice}
 use Rattle.tap_defs.specs.chain.TestLogic.{TestLogic, Bypass, Idcode}
 use Rattle.tap_defs.specs.board.OnBoard.{test_logic}
 
--- a described part with a pattern selects IDCODE in Test-Logic-Reset, under which it loads a code of 32 bits; a part without a pattern
--- selects BYPASS
+-- A described part with a pattern selects IDCODE in Test-Logic-Reset, and its identification code has 32 bits. A part without a
+-- pattern selects BYPASS.
 abbrev pub IsCoded : Option (List Symbol) → TestLogic → Type 0
 IsCoded (Some pattern) part = (part.at_reset ≡ Some Idcode) × (length part.idcode ≡ 32)
 IsCoded None part = part.at_reset ≡ Some Bypass
 
--- the parts of a chain, each with its pattern
+-- the parts of a chain are coded, each with its pattern
 abbrev pub AreCoded : List (Option (List Symbol)) → List TestLogic → Type 0
 AreCoded [] [] = Unit {0}
 AreCoded [] (part ∷ parts) = ⊥
 AreCoded (pattern ∷ patterns) [] = ⊥
 AreCoded (pattern ∷ patterns) (part ∷ parts) = IsCoded pattern part × AreCoded patterns parts
 
--- X fits 0 and 1
+-- the bit fits the symbol; X fits 0 and 1
 abbrev pub fits : Symbol → Bool → Bool
 fits Zero bit = not bit
 fits One bit = bit
 fits Any bit = true
 
--- each bit of a code fits its symbol; the first bit and the first symbol are nearest TDO
+-- Each bit of the code fits its symbol. The first bit and the first symbol are nearest TDO.
 abbrev pub code_fits : List Symbol → List Bool → Bool
 code_fits (symbol ∷ pattern) (bit ∷ code) = fits symbol bit && code_fits pattern code
 code_fits _ _ = true
 
--- the code of a part fits its pattern, if it has one
+-- the code of the part fits its pattern, if it has one
 abbrev pub part_fits : Option (List Symbol) → TestLogic → Bool
 part_fits (Some pattern) part = code_fits pattern part.idcode
 part_fits None part = true
 
--- the code of each part does
+-- the code of each part fits its pattern
 abbrev pub all_fit : List (Option (List Symbol)) → List TestLogic → Bool
 all_fit (pattern ∷ patterns) (part ∷ parts) = part_fits pattern part && all_fit patterns parts
 all_fit _ _ = true
 
--- a part of a board whose code is known: if the device has a pattern, Test-Logic-Reset selects IDCODE, which loads the code
+-- The part with a known code. If there is a pattern, the part selects IDCODE in Test-Logic-Reset, and has this code.
 abbrev pub coded_by : Option (List Symbol) → List Bool → TestLogic → TestLogic
 coded_by (Some pattern) code part = record part { at_reset = Some Idcode; idcode = code }
 coded_by None code part = part
 
--- the parts of a chain of described devices under an assignment of codes: part `k` has code `k`, if it has a pattern
+-- the parts of a chain of described devices, in which part `k` has code `k` if its device has a pattern
 abbrev pub coded_parts : List RawDevice → (ℕ → List Bool) → List TestLogic
 coded_parts [] codes = []
 coded_parts (device ∷ devices) codes = coded_by device.idcode (codes 0) (test_logic (Described device)) ∷ coded_parts devices (λ k. codes (suc k))
 
--- a part of a board with the registers and instruction codes of its device, and with this code if the device has a pattern
+-- the part has the register lengths and the instruction codes of its device, and has this code if the device has a pattern
 pub record HasCode (device : RawDevice) (code : List Bool) (part : TestLogic) : Type 0 where
   pub ir_length : part.ir_length ≡ (test_logic (Described device)).ir_length
   pub boundary_length : part.boundary_length ≡ (test_logic (Described device)).boundary_length

@@ -1,31 +1,31 @@
--- The scan of the identity test, and its text. After a reset a part with IDCODE has its identification register between TDI and TDO, and
--- any other described part its bypass register (IEEE 1149.1-1990, sections 6 and 11).
+-- The scan of the identity test, and its text. After a reset, a part with IDCODE has its identification register between TDI and TDO,
+-- and any other described part has its bypass register there (IEEE 1149.1-1990, sections 6 and 11).
 use Rattle.std.specs.Prelude.{ℕ, Bool, true, false, List, [], ◌∷◌, map, Option, Some, None}
 use Rattle.board_defs.specs.declared.device.Symbol.{Symbol}
 use Rattle.board_defs.specs.declared.device.Symbol.TheVariants.{Zero, One, Any}
 use Rattle.tap_defs.specs.chain.Scan.{ScanBit, Scan, joined}
 use Rattle.tap_defs.specs.chain.Text.{svf_text}
 
--- the bit that a symbol of a pattern expects; X expects none
+-- the bit that a symbol of a pattern expects, or None for X
 abbrev pub wanted : Symbol → Option Bool
 wanted Zero = Some false
 wanted One = Some true
 wanted Any = None
 
--- a 0 is shifted in, and the bit that comes out is compared with the symbol
+-- the scan bit of a symbol: a 0 is shifted in, and the bit at TDO is compared with the symbol
 abbrev pub symbol_bit : Symbol → ScanBit
 symbol_bit symbol = record { tdi = false; expect = wanted symbol }
 
--- what comes out of a part's register: a code that fits the pattern, or the 0 that the bypass register loads in Capture-DR
+-- the symbols that are expected of a part's register: those of its pattern, or the 0 that a bypass register loads in Capture-DR
 abbrev pub register_pattern : Option (List Symbol) → List Symbol
 register_pattern (Some pattern) = pattern
 register_pattern None = Zero ∷ []
 
--- the bits of all parts, in the order from TDI to TDO
+-- the bits of all parts' registers, joined for a scan; the parts are in the order from TDI to TDO
 abbrev pub ident_bits : List (Option (List Symbol)) → List ScanBit
 ident_bits patterns = joined (map (λ part. map symbol_bit (register_pattern part)) patterns)
 
--- the scan of data with these bits
+-- the data scan with these bits
 abbrev pub ident_scan : List (Option (List Symbol)) → Scan
 ident_scan patterns = record { ir = false; bits = ident_bits patterns }
 

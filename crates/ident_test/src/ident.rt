@@ -14,7 +14,8 @@ use bt_bits::{Line, Row};
 use svf_writer::{write_head, write_scan, write_tail};
 use tap_defs::{ScanRows, Shape};
 
-// What comes out of a part's register: its code if it has a pattern, otherwise the 0 of the bypass register.
+// Returns the symbols that are expected of a part's register: the pattern of its identification code, or the 0 of the bypass
+// register if the part has no pattern.
 fn register_pattern(part: &Option<Code>) -> &[Symbol]
     ensures { result.now ≡ register_pattern part.now }
 {
@@ -24,7 +25,7 @@ fn register_pattern(part: &Option<Code>) -> &[Symbol]
     }
 }
 
-// Returns the number of bits of a part's register. An identification code has 32 (IEEE 1149.1-1990, section 11).
+// Returns the number of bits of the part's register. An identification register has 32 (IEEE 1149.1-1990, section 11).
 fn register_bits(part: &Option<Code>) -> u32
     requires { IfSome part.now (λ code. length code ≡ 32) }
     ensures value { result ≡ length (register_pattern part.now) }
@@ -49,21 +50,21 @@ fn scan_length(parts: &[Option<Code>]) -> u32
     bits
 }
 
-// Returns whether a bit is expected to be 1.
+// Returns whether the symbol expects a 1.
 fn expects_one(symbol: Symbol) -> bool
     ensures { result ≡ unwrap_or (wanted symbol) false }
 {
     matches!(symbol, Symbol::One)
 }
 
-// Returns whether a bit is compared.
+// Returns whether a bit with this symbol is compared.
 fn is_compared(symbol: Symbol) -> bool
     ensures { result ≡ is_some (wanted symbol) }
 {
     !matches!(symbol, Symbol::Any)
 }
 
-// Writes what is compared of a register whose lowest bit has position `at`.
+// Sets the expected bits and the mask of one register. Its lowest bit has position `at`.
 fn set_register(at: u32, pattern: &[Symbol], tdo: &mut Row, mask: &mut Row)
     requires few { at + length pattern.now ≤ most_bits }
     requires tdo { at + length pattern.now ≤ length tdo.old.bits }
@@ -81,7 +82,7 @@ fn set_register(at: u32, pattern: &[Symbol], tdo: &mut Row, mask: &mut Row)
     }
 }
 
-// Writes what is compared of all registers, the last part's first.
+// Sets the expected bits and the masks of all registers, beginning with the last part.
 fn set_registers(parts: &[Option<Code>], tdo: &mut Row, mask: &mut Row)
     requires few { length (ident_bits parts.now) ≤ most_bits }
     requires tdo { tdo.old.bits ≡ replicate (length (ident_bits parts.now)) false }
@@ -99,7 +100,7 @@ fn set_registers(parts: &[Option<Code>], tdo: &mut Row, mask: &mut Row)
     }
 }
 
-// Fills the rows of the scan.
+// Fills the rows of the scan with the bits of all parts.
 #[tactic(auto, using(crate::proofs::LengthLemmas::room_of))]
 fn fill_rows(parts: &[Option<Code>], rows: &mut ScanRows)
     requires few { length parts.now ≤ most_parts }
@@ -115,7 +116,7 @@ fn fill_rows(parts: &[Option<Code>], rows: &mut ScanRows)
     set_registers(parts, rows.tdo, rows.mask);
 }
 
-// Puts the scan.
+// Puts the statement of the scan.
 fn put_scan<K: Sink>(
     parts: &[Option<Code>],
     rows: &mut ScanRows,
@@ -137,11 +138,13 @@ fn put_scan<K: Sink>(
     write_scan(shape, rows.tdi, rows.tdo, rows.mask, line, out)
 }
 
-/// Puts the text of the identity test of described parts with these IDCODE patterns, in the order from TDI to TDO: a reset, one
-/// scan of data, a reset. A part with a pattern has 32 bits in the scan; those with a 0 or 1 in the pattern are compared. Each
-/// other part has one bit, which is compared with the 0 of its bypass register. There must be 1 to 255 parts, 32 symbols in
-/// each pattern, and room for the scan. It takes no memory. The rows and the line are scratch space and may hold anything
-/// afterwards. It fails only if the sink does; then a prefix of the text was put.
+/// Writes the identity test of described parts with these IDCODE patterns, in the order from TDI to TDO. The text is a reset,
+/// one data scan and another reset. In the scan, a part with a pattern has 32 bits, of which those with a 0 or 1 in the pattern
+/// are compared. Any other part has one bit, which is compared with the 0 of its bypass register.
+///
+/// There must be 1 to 255 parts, each pattern must have 32 symbols, and the rows must have room for the scan. The call takes no
+/// memory. The rows and the line are scratch space, and their contents are unspecified afterwards. The call fails only if the
+/// sink fails, which has then taken a prefix of the text.
 pub fn write_ident<K: Sink>(
     parts: &[Option<Code>],
     tdi: &mut Row,

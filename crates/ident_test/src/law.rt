@@ -1,4 +1,4 @@
-//! The laws of the identity test, as contracts of functions that do nothing: a caller knows the law after the call.
+//! Laws of the identity test. Each is the contract of a function that does nothing: a caller knows the law after calling it.
 ghost use Rattle.std.specs.Prelude.{◌≡◌, ℕ, Bool, List, Option, Some, length, map, slice_get};
 ghost use Rattle.board_defs.specs.declared.device.RawDevice.{RawDevice};
 ghost use Rattle.board_defs.specs.declared.device.Symbol.{Symbol};
@@ -7,18 +7,18 @@ ghost use Rattle.ident_test.specs.CodedParts.{AreCoded, HasCode, coded_parts};
 ghost use Rattle.ident_test.specs.IdentTest.{ArePatterns, EachRunTells, IsIdentTest};
 ghost use Rattle.ident_test.specs.Patterns.{ident_text};
 
-/// The text of the identity test passes on every chain of parts whose codes fit their patterns, and fails on every chain with
-/// a code that does not, from any state and whatever the pins capture.
+/// The text of the identity test passes on every chain whose codes fit their patterns, and fails on every chain with a code
+/// that does not fit. This is so from any state, and whatever the pins capture.
 pub fn ident_tests()
     ensures { (patterns : List (Option (List Symbol))) → ArePatterns patterns → IsIdentTest patterns (ident_text patterns) }
 {}
 
-/// Described devices under an assignment of codes of 32 bits are parts with the patterns of the devices.
+/// If every code has 32 bits, described devices with these codes are parts with the patterns of the devices.
 pub fn parts_coded()
     ensures { (devices : List RawDevice) (codes : ℕ → List Bool) → ((k : ℕ) → length (codes k) ≡ 32) → AreCoded (map (λ device. device.idcode) devices) (coded_parts devices codes) }
 {}
 
-/// If a text is an identity test of such patterns, each run of it passes exactly if all codes fit.
+/// Each run of an identity test for these patterns passes if and only if all codes fit.
 pub fn each_run_tells()
     ensures { (patterns : List (Option (List Symbol))) (text : List ℕ) → IsIdentTest patterns text → EachRunTells patterns text }
 {}

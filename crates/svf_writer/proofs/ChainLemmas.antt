@@ -13,14 +13,14 @@ use Rattle.tap_defs.specs.chain.ChainScans.{marks, compared, chain_scans}
 use Rattle.tap_defs.proofs.chain.RowLemmas.{tdi_bits-code_bits, tdi_bits-compared}
 use Rattle.svf_writer.specs.inner.Chain.{bypass_bits, mark_bits, marked}
 
--- the first of some equal bits is changed
+-- changing the first of several equal bits
 set_first : (done : List Bool) (at m : ℕ) (x y : Bool) → length done ≡ at → 0 < m → set (done ++ replicate m x) at y ≡ done ++ y ∷ replicate (m - 1) x
 set_first done at zero x y is_at some = absurd (omega arith)
 set_first done at (suc m) x y is_at some =
     let less : suc m - 1 ≡ m = omega arith in
     set_at done x (replicate m x) y at is_at ∙ ap (λ k. done ++ y ∷ replicate k x) (sym less)
 
--- ones, and one more
+-- setting one more bit of a row that begins with ones
 pub ones_more : (len at : ℕ) → at < len → set (replicate at true ++ replicate (len - at) false) at true ≡ replicate (at + 1) true ++ replicate (len - (at + 1)) false
 ones_more len at within =
     let less : len - at - 1 ≡ len - (at + 1) = omega arith in
@@ -29,7 +29,7 @@ ones_more len at within =
     ∙ sym (append_assoc (replicate at true) (true ∷ []) (replicate (len - (at + 1)) false))
     ∙ ap (λ t. t ++ replicate (len - (at + 1)) false) (replicate_more at true)
 
--- the bits of one part's code
+-- bits that are shifted in without a comparison expect 0 in the row of TDO
 sent_tdo : (n : ℕ) → tdo_bits (map sent (replicate n true)) ≡ replicate n false
 sent_tdo zero = refl
 sent_tdo (suc n) = ap (λ t. false ∷ t) (sent_tdo n)
@@ -52,7 +52,7 @@ bypass_mask (suc (suc n)) long =
     let rest : n ≡ suc (suc n) - 2 = omega arith in
     ap (λ t. true ∷ true ∷ t) (sent_mask n) ∙ ap (λ k. true ∷ true ∷ replicate k false) rest
 
--- ones are shifted into a whole chain
+-- the row of TDI has only ones
 pub bypass_bits-tdi : (lengths : List ℕ) → tdi_bits (bypass_bits lengths) ≡ replicate (sum lengths) true
 bypass_bits-tdi [] = refl
 bypass_bits-tdi (n ∷ lengths) =
@@ -65,7 +65,7 @@ bypass_bits-tdi (n ∷ lengths) =
 pub length-bypass_bits : (lengths : List ℕ) → length (bypass_bits lengths) ≡ sum lengths
 length-bypass_bits lengths = sym (length-map (bypass_bits lengths) (λ b. b.tdi)) ∙ ap length (bypass_bits-tdi lengths) ∙ length-replicate (sum lengths) true
 
--- what is compared of one part more
+-- the row of TDO after the bits of one more part are set
 pub tdo_step : (rest : List ℕ) (n at total : ℕ) (bits : List Bool) → 2 ≤ n → at ≡ sum rest → at + n ≤ total → bits ≡ tdo_bits (bypass_bits rest) ++ replicate (total - at) false → set bits at true ≡ tdo_bits (bypass_bits (n ∷ rest)) ++ replicate (total - (at + n)) false
 tdo_step rest n at total bits long is_at within so_far =
     let done : List Bool = tdo_bits (bypass_bits rest) in
@@ -99,7 +99,7 @@ set_after n i k bits is_i =
     let less : i - n ≡ k = omega arith in
     set-append_right (replicate n false) bits n i true (length-replicate n false) (omega arith) ∙ ap (λ j. replicate n false ++ set bits j true) less
 
--- the marks stand from a place on
+-- the marks in a row of zeros
 pub marked-zeros : (at rest : ℕ) → marked at (replicate (at + (8 + rest)) false) ≡ replicate at false ++ (marks ++ replicate rest false)
 marked-zeros at rest =
     let here : at ≡ at + 0 = omega arith in
@@ -112,7 +112,7 @@ marked-zeros at rest =
     ∙ ap (λ t. set t (at + 7) true) (set_after at (at + 5) 5 (set (set zeros 0 true) 2 true) refl)
     ∙ set_after at (at + 7) 7 (set (set (set zeros 0 true) 2 true) 5 true) refl
 
--- the bits of bits that are all compared
+-- if all bits are compared, the row of TDO has the expected bits
 compared_tdo : (ins out : List Bool) → length ins ≡ length out → tdo_bits (compared ins out) ≡ out
 compared_tdo [] [] same = refl
 compared_tdo [] (o ∷ out) same = absurd (omega arith)
@@ -141,7 +141,7 @@ mark_bits-mask parts =
     let long : parts + 8 ≡ length (marks ++ replicate parts false) = omega (arith, length-append marks (replicate parts false), length-replicate parts false) in
     ap (λ k. replicate k true) long ∙ sym (compared_mask (marks ++ replicate parts false) (replicate parts false ++ marks) (same_length parts))
 
--- the part before
+-- the list from the part before on
 pub drop_before : (lengths : List ℕ) (i : ℕ) → 0 < i → i ≤ length lengths → drop (i - 1) lengths ≡ get_or lengths (i - 1) 0 ∷ drop i lengths
 drop_before lengths i some within =
     let next : i - 1 + 1 ≡ i = omega arith in
@@ -154,7 +154,7 @@ sum_before lengths i some within =
 pub sum_drop : (lengths : List ℕ) (i : ℕ) → sum (drop i lengths) ≤ sum lengths
 sum_drop lengths i = omega (arith, sum_by-take-drop (λ (x : ℕ). x) lengths i)
 
--- there is room for the part before
+-- the row has room for the part before
 pub room_before : (lengths : List ℕ) (i at : ℕ) → 0 < i → i ≤ length lengths → at ≡ sum (drop i lengths) → at + get_or lengths (i - 1) 0 ≤ sum lengths
 room_before lengths i at some within is_at = omega (arith, sum_before lengths i some within, sum_drop lengths (i - 1))
 
@@ -162,7 +162,7 @@ any_one : (a b : List Bool) → list_any (λ bit. bit) (a ++ true ∷ b) ≡ tru
 any_one [] b = refl
 any_one (x ∷ a) b = ap (λ t. x || t) (any_one a b) ∙ or-true x
 
--- something is compared of each part
+-- some bit of each part is compared
 pub bypass_bits-compared : (lengths : List ℕ) → 0 < length lengths → All (λ n. 2 ≤ n) lengths → list_any (λ bit. bit) (mask_bits (bypass_bits lengths)) ≡ true
 bypass_bits-compared [] some each = absurd (omega arith)
 bypass_bits-compared (n ∷ lengths) some each =
@@ -170,7 +170,7 @@ bypass_bits-compared (n ∷ lengths) some each =
     ∙ ap (λ t. mask_bits (bypass_bits lengths) ++ t) (bypass_mask n (each 0 0 (omega arith))))
     ∙ any_one (mask_bits (bypass_bits lengths)) (true ∷ replicate (n - 2) false)
 
--- some bits are shifted in
+-- at least one bit is shifted in
 pub sum_some : (lengths : List ℕ) → 0 < length lengths → All (λ n. 2 ≤ n) lengths → 0 < sum lengths
 sum_some [] some each = absurd (omega arith)
 sum_some (n ∷ lengths) some each = omega (arith, sum_by-cons (λ (x : ℕ). x) n lengths, each 0 0 (omega arith))

@@ -17,7 +17,7 @@ masked_bit o true masked = refl
 masked_bit false false masked = refl
 masked_bit true false masked = let bad : false ≡ true = masked refl in absurd cc
 
--- the rows of a scan that is made of rows
+-- the rows of a scan that was made from rows are those rows
 pub tdi_bits-scan_bits : (tdi tdo mask : List Bool) → length tdo ≡ length tdi → length mask ≡ length tdi → tdi_bits (scan_bits tdi tdo mask) ≡ tdi
 tdi_bits-scan_bits [] tdo mask o m = refl
 tdi_bits-scan_bits (i ∷ is) [] mask o m = absurd (omega arith)
@@ -33,12 +33,12 @@ tdo_bits-scan_bits (i ∷ is) (o' ∷ os) (m' ∷ ms) o m masked =
     ap (λ b. b ∷ tdo_bits (scan_bits is os ms)) (masked_bit o' m' (masked 0))
     ∙ ap (λ t. o' ∷ t) (tdo_bits-scan_bits is os ms (omega arith) (omega arith) (λ k. masked (suc k)))
 
--- something is compared where the mask has a 1
+-- a scan compares a bit if and only if its mask has a 1
 pub list_any-mask_bits : (bits : List ScanBit) → list_any (λ bit. bit) (mask_bits bits) ≡ compares bits
 list_any-mask_bits [] = refl
 list_any-mask_bits (b ∷ bits) = ap (λ t. is_some b.expect || t) (list_any-mask_bits bits)
 
--- a bit of TDO is 1 only where it is compared
+-- wherever the row of TDO has a 1, the row of MASK has a 1
 pub IsMasked-rows : (bits : List ScanBit) → IsMasked (tdo_bits bits) (mask_bits bits)
 IsMasked-rows bits = one_masked bits
 
@@ -48,7 +48,7 @@ compares-scan_bits tdi tdo mask o m = sym (list_any-mask_bits (scan_bits tdi tdo
 pub length-scan_bits : (tdi tdo mask : List Bool) → length tdo ≡ length tdi → length mask ≡ length tdi → length (scan_bits tdi tdo mask) ≡ length tdi
 length-scan_bits tdi tdo mask o m = sym (length-map (scan_bits tdi tdo mask) (λ b. b.tdi)) ∙ ap length (tdi_bits-scan_bits tdi tdo mask o m)
 
--- what a scan of rows is written from
+-- the conditions on the rows of a scan that is written
 pub record Written (tdi tdo mask : List Bool) (compare : Bool) : Type 0 where
   pub same_tdo : length tdo ≡ length tdi
   pub same_mask : length mask ≡ length tdi
@@ -63,7 +63,7 @@ compare_text-rows long tdi tdo mask true w =
     ∙ ap (λ t. 41 ∷ gap long ∷ codes "TDO (" ++ (laid long (hex_text tdo) ++ (41 ∷ gap long ∷ codes "MASK (" ++ (laid long (hex_text t) ++ codes ");"))))
     (mask_bits-scan_bits tdi tdo mask w.same_tdo w.same_mask)
 
--- the scan of rows
+-- the scan that has these rows
 abbrev pub scan_of : Bool → List Bool → List Bool → List Bool → Scan
 scan_of ir tdi tdo mask = record { ir = ir; bits = scan_bits tdi tdo mask }
 
@@ -90,7 +90,7 @@ fields_text-lines : (tdi tdo mask : List Bool) (compare : Bool) → fields_text 
 fields_text-lines tdi tdo mask true = simp append_assoc
 fields_text-lines tdi tdo mask false = simp append_assoc
 
--- a scan that has room in one line
+-- the text of a scan that fits into one line
 pub scan_text-short : (ir : Bool) (tdi tdo mask : List Bool) (compare : Bool) → Written tdi tdo mask compare → length (command_text ir tdi) + fields_length compare (digit_count (length tdi)) ≤ 80 → scan_text (scan_of ir tdi tdo mask) ≡ command_text ir tdi ++ (fields_text false tdi tdo mask compare ++ 10 ∷ [])
 scan_text-short ir tdi tdo mask compare w short =
     let fits : ltb 80 (length (form false (scan_of ir tdi tdo mask))) ≡ false =
@@ -99,7 +99,7 @@ scan_text-short ir tdi tdo mask compare w short =
     ∙ ap (λ t. t ++ 10 ∷ []) (form-rows false ir tdi tdo mask compare w)
     ∙ append_assoc (command_text ir tdi) (fields_text false tdi tdo mask compare) (10 ∷ [])
 
--- a longer scan
+-- the text of a scan that does not fit into one line
 pub scan_text-long : (ir : Bool) (tdi tdo mask : List Bool) (compare : Bool) → Written tdi tdo mask compare → 80 < length (command_text ir tdi) + fields_length compare (digit_count (length tdi)) → scan_text (scan_of ir tdi tdo mask) ≡ (command_text ir tdi ++ 10 ∷ []) ++ fields_lines tdi tdo mask compare
 scan_text-long ir tdi tdo mask compare w more =
     let long : ltb 80 (length (form false (scan_of ir tdi tdo mask))) ≡ true =
@@ -110,7 +110,7 @@ scan_text-long ir tdi tdo mask compare w more =
     ∙ ap (λ t. command_text ir tdi ++ t) (fields_text-lines tdi tdo mask compare)
     ∙ sym (append_assoc (command_text ir tdi) (10 ∷ []) (fields_lines tdi tdo mask compare))
 
--- the line that the command begins, where the fields have room in it
+-- the line with the command, if the fields fit into it
 pub line_short : (ir : Bool) (tdi tdo mask : List Bool) (compare : Bool) (line : List ℕ) → Written tdi tdo mask compare → line ≡ command_text ir tdi → length line + fields_length compare (digit_count (length tdi)) ≤ 80 → line ++ (fields_text false tdi tdo mask compare ++ 10 ∷ []) ≡ scan_text (scan_of ir tdi tdo mask)
 line_short ir tdi tdo mask compare line w begun short =
     ap (λ t. t ++ (fields_text false tdi tdo mask compare ++ 10 ∷ [])) begun
@@ -119,14 +119,14 @@ line_short ir tdi tdo mask compare line w begun short =
 not_short : (n : ℕ) → (n ≤ 80 → false ≡ true) → 80 < n
 not_short n refused = elim (cases_lt 80 n) [ inl more ↦ more | inr short ↦ (let bad : false ≡ true = refused short in absurd cc) ]
 
--- and where they have none
+-- the line with the command, if the fields do not fit into it
 pub line_long : (ir : Bool) (tdi tdo mask : List Bool) (compare : Bool) (line : List ℕ) → Written tdi tdo mask compare → line ≡ command_text ir tdi → (length line + fields_length compare (digit_count (length tdi)) ≤ 80 → false ≡ true) → (line ++ 10 ∷ []) ++ fields_lines tdi tdo mask compare ≡ scan_text (scan_of ir tdi tdo mask)
 line_long ir tdi tdo mask compare line w begun refused =
     ap (λ t. (t ++ 10 ∷ []) ++ fields_lines tdi tdo mask compare) begun
     ∙ sym (scan_text-long ir tdi tdo mask compare w
     (subst (λ t. 80 < length t + fields_length compare (digit_count (length tdi))) begun (not_short (length line + fields_length compare (digit_count (length tdi))) refused)))
 
--- rows that hold the bits of a scan make that scan, and are masked
+-- rows that hold the bits of a scan give that scan, and are masked
 pub scan_of_rows : (bits : List ScanBit) (tdi tdo mask : List Bool) → tdi ≡ tdi_bits bits → tdo ≡ tdo_bits bits → mask ≡ mask_bits bits → scan_bits tdi tdo mask ≡ bits
 scan_of_rows bits tdi tdo mask is_tdi is_tdo is_mask =
     ap (λ t. scan_bits t tdo mask) is_tdi ∙ ap (λ t. scan_bits (tdi_bits bits) t mask) is_tdo ∙ ap (scan_bits (tdi_bits bits) (tdo_bits bits)) is_mask

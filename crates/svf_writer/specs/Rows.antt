@@ -1,11 +1,11 @@
--- What must hold of rows that are written as scans.
+-- Conditions on rows that are written as scans.
 use Rattle.std.specs.Prelude.{◌≡◌, ℕ, ◌+◌, ◌≤◌, Bool, true, false, List, length, slice_index_or, sum}
 
--- each bit of TDO that is 1 has a 1 in MASK
+-- wherever TDO has a 1, MASK has a 1
 abbrev pub IsMasked : List Bool → List Bool → Type 0
 IsMasked tdo mask = (i : ℕ) → slice_index_or tdo i false ≡ true → slice_index_or mask i false ≡ true
 
--- there is room for both scans of the chain test of parts with these instruction lengths
+-- the room is enough for both scans of the chain test of parts with these instruction lengths
 pub record IsRoom (lengths : List ℕ) (room : ℕ) : Type 0 where
   pub codes : sum lengths ≤ room
   pub marks : length lengths + 8 ≤ room

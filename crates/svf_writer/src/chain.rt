@@ -14,10 +14,10 @@ use bt_base::{PutFault, Sink};
 use bt_bits::{Line, Row};
 use tap_defs::{ScanRows, Shape};
 
-// The number of bits of the marks in the data scan.
+// The number of bits of A5, the marks that the data scan shifts.
 const MARKS: u32 = 8;
 
-// Replaces a row by `len` ones.
+// Replaces the row's bits by `len` ones.
 fn fill_ones(len: u32, row: &mut Row)
     requires { len ≤ row.old.room }
     ensures bits { row.new.bits ≡ replicate len true }
@@ -29,7 +29,7 @@ fn fill_ones(len: u32, row: &mut Row)
     }
 }
 
-// Sets the marks, the bits of A5, from a place on.
+// Sets the bits of the marks A5 that are 1. The lowest bit of A5 has position `at`. No other bit changes.
 fn set_marks(at: u32, row: &mut Row)
     requires few { at ≤ most_parts }
     requires bits { at + 8 ≤ length row.old.bits }
@@ -42,7 +42,7 @@ fn set_marks(at: u32, row: &mut Row)
     row.set(at + 7, true);
 }
 
-// Fills the rows of the data scan of `parts` parts: the marks are shifted in and come out `parts` bits later.
+// Fills the rows of the data scan of `parts` parts. The marks are shifted in, and are expected `parts` bits later at TDO.
 fn fill_marks(parts: u32, rows: &mut ScanRows)
     requires few { parts ≤ most_parts }
     requires room { EachHasRoom (λ room. parts + 8 ≤ room) rows.old }
@@ -56,7 +56,8 @@ fn fill_marks(parts: u32, rows: &mut ScanRows)
     fill_ones(parts + MARKS, rows.mask);
 }
 
-// Sets what is compared of one part's instruction register: 01 at its two lowest bits, the lowest of which has position `at`.
+// Sets what is compared of one part's instruction register: the value 01 in its two lowest bits. The lowest bit has position
+// `at`.
 fn set_capture(at: u32, tdo: &mut Row, mask: &mut Row)
     requires few { at ≤ most_bits }
     requires tdo { at + 2 ≤ length tdo.old.bits }
@@ -71,7 +72,7 @@ fn set_capture(at: u32, tdo: &mut Row, mask: &mut Row)
     mask.set(at + 1, true);
 }
 
-// Sets what is compared of all instruction registers, the last part's first.
+// Sets what is compared of the instruction registers of all parts, beginning with the last part.
 fn set_captures(lengths: &[u32], tdo: &mut Row, mask: &mut Row)
     requires each { All (λ n. 2 ≤ n) lengths.now }
     requires total { sum lengths.now ≤ most_bits }
@@ -89,7 +90,7 @@ fn set_captures(lengths: &[u32], tdo: &mut Row, mask: &mut Row)
     }
 }
 
-// Returns the number of instruction bits of all parts.
+// Returns the number of instruction bits of all parts together.
 fn bits_of(lengths: &[u32]) -> u32
     requires { sum lengths.now ≤ most_bits }
     ensures { result ≡ sum lengths.now }
@@ -97,7 +98,7 @@ fn bits_of(lengths: &[u32]) -> u32
     lengths.iter().sum()
 }
 
-// Fills the rows of the instruction scan: ones are shifted in, and 01 is expected of each part.
+// Fills the rows of the instruction scan. Ones are shifted in, and each part must give 01.
 fn fill_codes(lengths: &[u32], rows: &mut ScanRows)
     requires each { All (λ n. 2 ≤ n) lengths.now }
     requires total { sum lengths.now ≤ most_bits }
@@ -174,12 +175,14 @@ fn write_scans<K: Sink>(
     write_marks(lengths.len() as u32, rows, line, out)
 }
 
-/// Puts the two scans of the chain test of parts with these instruction lengths, in the order from TDI to TDO. The first scan
-/// shifts ones, which are BYPASS, into every instruction register and compares the 01 that each of them loads in Capture-IR
-/// (IEEE 1149.1-1990, section 6). The second one shifts A5 through the bypass registers and compares it as many bits later as
-/// there are parts. There must be 1 to 255 parts with lengths from 2 to 255, and room for both scans. It takes no memory. The
-/// rows and the line are scratch space and may hold anything afterwards. It fails only if the sink does; then a prefix of the
-/// text was put.
+/// Writes the two scans of the chain test for parts with these instruction lengths, in the order from TDI to TDO. The first
+/// scan shifts ones, which mean BYPASS, into every instruction register, and compares the 01 that each register loads in
+/// Capture-IR (IEEE 1149.1-1990, section 6). The second scan shifts A5 through the bypass registers. With `n` parts, A5 is
+/// expected at TDO `n` bits later.
+///
+/// There must be 1 to 255 parts with lengths from 2 to 255 bits, and the rows must have room for both scans. The call takes
+/// no memory. The rows and the line are scratch space, and their contents are unspecified afterwards. The call fails only if
+/// the sink fails, which has then taken a prefix of the text.
 pub fn write_chain<K: Sink>(
     lengths: &[u32],
     tdi: &mut Row,

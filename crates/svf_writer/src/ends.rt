@@ -1,11 +1,11 @@
-// The lines before and after the scans of a text.
+// The text before and after the scans.
 ghost use Rattle.bt_base.specs.Puts.{Puts};
 ghost use Rattle.tap_defs.specs.chain.Text.{head_text, tail_text};
 
 use bt_base::{PutFault, Sink};
 
-/// Puts the lines before the scans: TRST* is inactive, scans end in Run-Test/Idle, and the test begins there after a reset. It
-/// fails only if the sink does; then a prefix of the text was put.
+/// Writes the statements before the scans. They make TRST* inactive, let each scan end in Run-Test/Idle, reset the chain and
+/// go to Run-Test/Idle. The call fails only if the sink fails, which has then taken a prefix of the text.
 pub fn write_head<K: Sink>(out: &mut K) -> Result<(), PutFault>
     ensures { Puts (K.shown out.old) (K.shown out.new) head_text result }
 {
@@ -16,7 +16,8 @@ pub fn write_head<K: Sink>(out: &mut K) -> Result<(), PutFault>
     out.put(b"STATE IDLE;\n")
 }
 
-/// Puts the line after the scans: a reset. It fails only if the sink does.
+/// Writes the statement after the scans, a reset. The call fails only if the sink fails, which has then taken a prefix of the
+/// text.
 pub fn write_tail<K: Sink>(out: &mut K) -> Result<(), PutFault>
     ensures { Puts (K.shown out.old) (K.shown out.new) tail_text result }
 {

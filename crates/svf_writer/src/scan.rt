@@ -13,10 +13,10 @@ use bt_base::{PutFault, Sink};
 use bt_bits::{Line, Row};
 use tap_defs::Shape;
 
-// The most characters of a scan that is written in one line.
+// The largest number of characters of a scan statement that is written in one line, without the line feed.
 const MAX_SHORT: usize = 80;
 
-// The most digits in a line of a longer scan.
+// The largest number of digits in a line of a longer statement.
 const LINE_DIGITS: u32 = 64;
 
 // Begins a line with the command and the length of a scan.
@@ -30,7 +30,7 @@ fn begin(ir: bool, tdi: &Row, line: &mut Line)
     line.push_number(u64::from(tdi.len()));
 }
 
-// Returns the number of digits of a row's field.
+// Returns the number of hexadecimal digits of a row's field.
 fn digit_count(row: &Row) -> u32
     requires { length row.now.bits ≤ most_bits }
     ensures { result ≡ digit_count (length row.now.bits) }
@@ -49,7 +49,7 @@ fn push_field(label: &[u8], row: &Row, line: &mut Line)
     row.put_hex(0, digit_count(row), line);
 }
 
-// Appends the fields of a scan to its line and ends it.
+// Appends the fields of a scan to the line of its command, and a line feed.
 fn push_fields(compare: bool, tdi: &Row, tdo: &Row, mask: &Row, line: &mut Line)
     requires bits { length tdi.now.bits ≤ most_bits }
     requires tdo { length tdo.now.bits ≡ length tdi.now.bits }
@@ -65,7 +65,7 @@ fn push_fields(compare: bool, tdi: &Row, tdo: &Row, mask: &Row, line: &mut Line)
     line.push(b");\n");
 }
 
-// Returns the length of the fields of a scan in one line.
+// Returns the number of characters of a scan's fields in one line.
 fn fields_length(compare: bool, digits: u32) -> usize
     requires { digits ≤ most_bits }
     ensures { result ≡ fields_length compare digits }
@@ -78,7 +78,7 @@ fn fields_length(compare: bool, digits: u32) -> usize
     }
 }
 
-// Fills a line with digits, puts it, and empties it.
+// Appends 64 digits of the row's field, from digit `from` on, and a line feed to the line. Puts the line and empties it.
 fn put_full_line<K: Sink>(
     row: &Row,
     from: u32,
@@ -98,7 +98,7 @@ fn put_full_line<K: Sink>(
     done
 }
 
-// Returns whether the fields of a scan fit into the line that its command begins.
+// Returns whether the fields of a scan fit into the line that has its command.
 fn has_room(compare: bool, tdi: &Row, line: &Line) -> bool
     requires { length tdi.now.bits ≤ most_bits }
     ensures { IsTrue result ↔ (length line.now + fields_length compare (digit_count (length tdi.now.bits)) ≤ 80) }
@@ -106,7 +106,7 @@ fn has_room(compare: bool, tdi: &Row, line: &Line) -> bool
     line.len() + fields_length(compare, digit_count(tdi)) <= MAX_SHORT
 }
 
-// Puts a field in lines of its own: a label, digits in lines of 64, and an end.
+// Puts a field in lines of its own: the label, the digits in lines of 64, and `end`.
 fn put_field<K: Sink>(
     label: &[u8],
     row: &Row,
@@ -173,7 +173,7 @@ fn put_fields<K: Sink>(
     }
 }
 
-// Puts the line of the command of a longer scan, and then its fields.
+// Ends the line of the command, puts it, and then puts the fields of a scan that is too long for one line.
 fn put_lines<K: Sink>(
     compare: bool,
     tdi: &Row,
@@ -194,10 +194,12 @@ fn put_lines<K: Sink>(
     put_fields(compare, tdi, tdo, mask, line, out)
 }
 
-/// Puts the statement of a scan (SVF Revision E, SIR and SDR): in one line if that has at most 80 characters, otherwise with
-/// each field in lines of at most 64 digits. The rows must have one length, from 1 to 65,535; `shape.compare` must say whether
-/// the mask has a 1; and each bit of TDO that is 1 must have a 1 in the mask. Each line goes out in one put. It takes no
-/// memory, and the line is scratch space. It fails only if the sink does; then a prefix of the text was put.
+/// Writes the statement of a scan (SVF Revision E, SIR and SDR). A statement of at most 80 characters is in one line. A longer
+/// one has its command in one line, and each field in lines of at most 64 digits. Each line is put by itself.
+///
+/// The rows must have the same length, from 1 to 65,535 bits. `shape.compare` must say whether the mask has a 1. Wherever TDO
+/// has a 1, the mask must have a 1. The call takes no memory. The line is scratch space, and its content is unspecified
+/// afterwards. The call fails only if the sink fails, which has then taken a prefix of the text.
 pub fn write_scan<K: Sink>(
     shape: Shape,
     tdi: &Row,

@@ -4,14 +4,14 @@ use Rattle.tap_defs.specs.chain.Scan.{ScanBit}
 use Rattle.tap_defs.specs.chain.Codes.{instructs}
 use Rattle.tap_defs.specs.chain.ChainScans.{marks, compared}
 
--- the code of ones, which is BYPASS, for each part
+-- the bits of a scan that shifts a code of ones, which means BYPASS, into each part
 abbrev pub bypass_bits : List ℕ → List ScanBit
 bypass_bits lengths = (instructs (map (λ n. replicate n true) lengths)).bits
 
--- the marks, which come out after as many bits as there are parts
+-- the bits of a scan that shifts the marks in and expects them at TDO after one bit for each part
 abbrev pub mark_bits : ℕ → List ScanBit
 mark_bits parts = compared (marks ++ replicate parts false) (replicate parts false ++ marks)
 
--- the bits with the marks set from a place on
+-- the bits with the marks set at position `at` and the positions above it
 abbrev pub marked : ℕ → List Bool → List Bool
 marked at bits = slice_set (slice_set (slice_set (slice_set bits at true) (at + 2) true) (at + 5) true) (at + 7) true

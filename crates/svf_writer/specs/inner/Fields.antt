@@ -1,28 +1,28 @@
--- The parts of the text of a scan, from its rows.
+-- The parts of a scan statement's text, made from its rows.
 use Rattle.std.specs.Prelude.{ℕ, ◌+◌, ◌*◌, Bool, true, false, List, ◌∷◌, ◌++◌, length, codes, decimal}
 use Rattle.bt_bits.specs.Hex.{hex_text}
 use Rattle.tap_defs.specs.chain.Text.{command_word, gap, laid, broken}
 
--- the command and the length
+-- the command and the length of a scan
 abbrev pub command_text : Bool → List Bool → List ℕ
 command_text ir tdi = command_word ir ++ 32 ∷ decimal (length tdi)
 
--- what follows TDI: TDO and MASK, if a bit is compared
+-- the text after the digits of TDI: if a bit is compared, it has the fields TDO and MASK
 abbrev pub rest_text : Bool → List Bool → List Bool → Bool → List ℕ
 rest_text long tdo mask false = codes ");"
 rest_text long tdo mask true =
     41 ∷ gap long ∷ codes "TDO (" ++ (laid long (hex_text tdo) ++ (41 ∷ gap long ∷ codes "MASK (" ++ (laid long (hex_text mask) ++ codes ");")))
 
--- the fields
+-- the text of the fields
 abbrev pub fields_text : Bool → List Bool → List Bool → List Bool → Bool → List ℕ
 fields_text long tdi tdo mask compare = gap long ∷ codes "TDI (" ++ (laid long (hex_text tdi) ++ rest_text long tdo mask compare)
 
--- the length of the fields in one line
+-- the number of characters of the fields in one line
 abbrev pub fields_length : Bool → ℕ → ℕ
 fields_length true digits = 3 * digits + 23
 fields_length false digits = digits + 8
 
--- the fields, each in lines of its own
+-- the text of the fields, each in lines of its own
 abbrev pub fields_lines : List Bool → List Bool → List Bool → Bool → List ℕ
 fields_lines tdi tdo mask false = codes "TDI (" ++ (broken 64 (hex_text tdi) ++ codes ");\n")
 fields_lines tdi tdo mask true =
