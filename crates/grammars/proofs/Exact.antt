@@ -1,16 +1,16 @@
--- A reader decides a production: on a whole list it answers the value, and on a cut it runs out of tokens.
+-- The reader of a production decides it: on a whole list it finds the value, and on a cut it runs out of tokens.
 use Rattle.std.proofs.Common.{◌≡◌, true, false, List, [], ◌∷◌, ◌++◌, Option, Some, None, IsSome, inl, inr, refl, sym, ◌∙◌, ap, subst, append_assoc, append-nil}
 use Rattle.grammars.specs.Production.{Production}
 use Rattle.grammars.specs.Production as production
 use Rattle.grammars.specs.inner.Reader.{Reader, Outcome, found, refused, after}
 use Rattle.grammars.specs.inner.Reader as reader
 
--- no token is left
+-- the reader has read all tokens
 abbrev pub RunsOut : {T A : Type 0} → Outcome T A → Type 0
 RunsOut (found a rest) = rest ≡ []
 RunsOut (refused rest) = rest ≡ []
 
--- what a reader answers depends on the tokens up to there, and on the one that cannot stand
+-- the answer of the reader depends only on the tokens that it read and, if it refuses, on the token that does not fit
 pub record Reads {T A : Type 0} (read : Reader T A) (tokens : List T) (a : A) (rest : List T) : Type 0 where
   pub front : List T
   pub split : tokens ≡ front ++ rest
@@ -51,7 +51,7 @@ decides_none = record {
   is_cut = λ tokens h. h;
 }
 
--- the place of one token
+-- the reader of one token's place
 local_value : {T A : Type 0} (value : T → Option A) (token : T) (tokens : List T) (v : Option A) → value token ≡ v
     → IsLocalAt (reader.place value) (token ∷ tokens) (reader.value_then v token tokens)
 local_value value token tokens (Some a) e = record { front = token ∷ []; split = refl; again = λ more. ap (λ v. reader.value_then v token more) e }
@@ -105,7 +105,7 @@ decides_place value = record {
   is_cut = is_cut_place value;
 }
 
--- a part, and then the part that its value tells
+-- the reader of a part that follows another part and depends on its value
 local_second : {T A B : Type 0} (p : Reader T A) (q : A → Reader T B) (tokens : List T) (a : A) (mid : List T) → Reads p tokens a mid
     → (o : Outcome T B) → IsLocalAt (q a) mid o → IsLocalAt (reader.in_turn p q) tokens o
 local_second p q tokens a mid h (found b rest) k = record {
@@ -131,7 +131,7 @@ local_after p q each tokens (refused rest) h = record {
   again = λ token tail more e. ap (λ o. after o q) (h.again token tail more e);
 }
 
--- what was read whole is read so, whatever follows
+-- if the reader reads all of a list, it reads the same tokens in front of any more tokens
 pub reads_on : {T A : Type 0} {p : Production T A} {r : Reader T A} → Decides p r → (front : List T) (a : A) → r front ≡ found a [] → (more : List T) → r (front ++ more) ≡ found a more
 reads_on {A} {p} {r} d front a e more =
     let h : Reads r front a [] = subst (λ o. IsLocalAt r front o) e (d.local front) in
@@ -146,7 +146,7 @@ nothing_left : {T A : Type 0} (r : Reader T A) (o : Outcome T A) → IsLocalAt r
 nothing_left r (found a rest) h = no_rest h.front rest h.split
 nothing_left r (refused rest) h = no_rest h.front rest h.split
 
--- of no token a reader leaves none
+-- a reader of no tokens runs out of tokens
 pub runs_out : {T A : Type 0} {p : Production T A} {r : Reader T A} → Decides p r → RunsOut (r [])
 runs_out {A} {p} {r} d = nothing_left r (r []) (d.local [])
 

@@ -1,4 +1,4 @@
--- Each grammar is decided by its reader.
+-- The reader of each grammar decides it.
 use Rattle.std.proofs.Common.{◌≡◌, ◌<◌, List, length, ◌⊎◌, inl, inr, sym, ◌∙◌, ap}
 use Rattle.grammars.specs.Turn.{Turn, again, last}
 use Rattle.grammars.specs.Grammar.{Grammar, place, done, in_turn, turns, production_of, reader_of}
@@ -7,14 +7,14 @@ use Rattle.grammars.proofs.Turns.{Shrinks, keeps, decides_turns, shrinks_place, 
 use Rattle.grammars.specs.inner.Reader.{Outcome, after, found, refused}
 use Rattle.grammars.specs.inner.Reader as reader
 
--- at least one token
+-- the grammar derives only lists with at least one token
 abbrev pub TakesToken : {T A : Type 0} → Grammar T A → Type 0
 TakesToken (place value) = Unit {0}
 TakesToken (done a) = ⊥
 TakesToken (in_turn {A} p q) = TakesToken p ⊎ ((a : A) → TakesToken (q a))
 TakesToken (turns turn before) = ⊥
 
--- each turn takes a token
+-- every turn of a repetition takes at least one token
 abbrev pub EachTurnTakes : {T A : Type 0} → Grammar T A → Type 0
 EachTurnTakes (place value) = Unit {0}
 EachTurnTakes (done a) = Unit {0}
@@ -43,12 +43,12 @@ read_grammar (turns turn before) h = record {
 pub decides_grammar : {T A : Type 0} (g : Grammar T A) → EachTurnTakes g → Decides (production_of g) (reader_of g)
 decides_grammar g h = (read_grammar g h).decides
 
--- reading any number of turns, one at a time
+-- reading any number of turns is reading one turn and then the others
 pub turn_at : {T S A : Type 0} (turn : S → Grammar T (Turn S A)) → ((s : S) → TakesToken (turn s) × EachTurnTakes (turn s)) → (s : S) (tokens : List T)
     → reader_of (turns turn s) tokens ≡ after (reader_of (turn s) tokens) (reader.follow (λ s. reader_of (turns turn s)))
 turn_at turn h s tokens = turns_once (λ s. reader_of (turn s)) (λ s. (read_grammar (turn s) (h s).1).shrinks (h s).0) s tokens
 
--- A loop that reads one turn after another.
+-- the outcome of a loop that reads turns, if it goes on after this turn
 pub goes_on : {T S A : Type 0} (turn : S → Grammar T (Turn S A)) → ((s : S) → TakesToken (turn s) × EachTurnTakes (turn s)) → (s s' : S) (tokens rest : List T) (outcome : Outcome T A)
     → reader_of (turns turn s) tokens ≡ outcome → reader_of (turn s) tokens ≡ found (again s') rest → reader_of (turns turn s') rest ≡ outcome
 goes_on turn h s s' tokens rest outcome so_far e =

@@ -1,4 +1,4 @@
--- Numbers of at most 9 digits fit.
+-- A number of at most 9 digits fits into 32 bits.
 use Rattle.std.proofs.Common.{ℕ, ◌<◌, ◌≤◌, ◌^◌, List, length, IsTrue, arith, lit<}
 use Rattle.std.proofs.Math.Nat.{pow-le-pow_right}
 use Rattle.std.proofs.lemmas.Bool.Decides.{nat_tests}

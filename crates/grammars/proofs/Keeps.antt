@@ -1,4 +1,4 @@
--- What holds of each value that a grammar derives, by what its tokens weigh.
+-- Facts about every value that a grammar derives, depending on the weight of its tokens.
 use Rattle.std.proofs.Common.{◌≡◌, ℕ, zero, suc, ◌+◌, ◌≤◌, List, [], ◌∷◌, ◌++◌, Option, Some, sym, ◌∙◌, ap, subst, arith}
 use Rattle.grammars.specs.Turn.{Turn, again, last}
 use Rattle.grammars.specs.Production.{Production, Follows}
@@ -13,7 +13,8 @@ pub total-append : {T : Type 0} (weight : T → ℕ) (xs ys : List T) → total 
 total-append weight [] ys = omega arith
 total-append weight (x ∷ xs) ys = let e : total weight (xs ++ ys) ≡ total weight xs + total weight ys = total-append weight xs ys in omega arith
 
--- The fact holds of each value of the production, with the weight of its tokens on top of what was given.
+-- The fact is true of every value of the production. Its number is the weight of the value's tokens, added to what was
+-- given before.
 abbrev pub Kept : {T A : Type 0} → (T → ℕ) → Production T A → ℕ → (ℕ → A → Type 0) → Type 0
 Kept {T} {A} weight p given Fact = (tokens : List T) (a : A) → p.Whole tokens a → Fact (given + total weight tokens) a
 
@@ -50,7 +51,7 @@ keeps_in_turn {T} {A} {B} {weight} {p} {q} {given} {First} {Fact} first second =
   kept = kept_in_turn weight (production_of p) (λ a. production_of (q a)) given First Fact first.kept (λ a n h. (second a n h).kept);
 }
 
--- what holds behind a turn
+-- the fact after a turn, with the state or with the value
 abbrev pub BehindTurn : {S A : Type 0} → (ℕ → S → Type 0) → (ℕ → A → Type 0) → ℕ → Turn S A → Type 0
 BehindTurn Before Fact n (again s) = Before n s
 BehindTurn Before Fact n (last a) = Fact n a
@@ -73,10 +74,10 @@ keeps_turns {T} {S} {A} {weight} {turn} {Before} {Fact} h s n before = record {
   kept = λ tokens a whole. kept_up_to whole.0 weight (λ s. production_of (turn s)) Before Fact (λ s n b. (h s n b).kept) s n before tokens a whole.1;
 }
 
--- of a part that is not looked at nothing is known
+-- nothing needs to be known of the value of a part
 pub keeps_nothing : {T A : Type 0} {weight : T → ℕ} {g : Grammar T A} {given : ℕ} → Keeps weight g given (λ n a. Unit {0})
 keeps_nothing {T} {A} {weight} {g} {given} = record { kept = λ tokens a whole. tt }
 
--- tokens weigh nothing negative
+-- the weight of tokens is never negative
 pub keeps_more : {T A : Type 0} {weight : T → ℕ} {g : Grammar T A} {given : ℕ} → Keeps weight g given (λ n a. given ≤ n)
 keeps_more {T} {A} {weight} {g} {given} = record { kept = λ tokens a whole. omega arith }

@@ -1,4 +1,4 @@
--- A loop that reads a list, entry by entry.
+-- A loop that reads a list entry by entry.
 use Rattle.std.proofs.Common.{◌≡◌, ℕ, zero, suc, ◌+◌, ◌*◌, ◌<◌, ◌≤◌, Bool, true, false, List, [], ◌∷◌, ◌++◌, length, inl, refl, sym, ◌∙◌, ap, subst, arith, length-append, zero-add}
 use Rattle.grammars.specs.Turn.{turn_of}
 use Rattle.grammars.specs.inner.Reader.{found, refused}
@@ -7,7 +7,7 @@ use Rattle.grammars.specs.Lists.{list_turn, list_of, Fronts, GoesWrongAt}
 use Rattle.grammars.proofs.Exact.{Reads, Decides, IsLocalAt, reads_on, front_alone}
 use Rattle.grammars.proofs.Grammars.{TakesToken, EachTurnTakes, read_grammar, decides_grammar, goes_on, ends, stops, turn_shrinks}
 
--- what a list is made of can be read
+-- the entries of the list and the tokens between them can be read
 pub record CanRead {T A : Type 0} (entry : Grammar T A) (more : Grammar T Bool) : Type 0 where
   pub takes : TakesToken entry
   pub takes_mark : TakesToken more
@@ -21,7 +21,7 @@ list_takes can before = (inl can.takes, (can.entries, λ one. (can.marks, λ ano
 pub each_takes : {T A : Type 0} {entry : Grammar T A} {more : Grammar T Bool} → CanRead entry more → EachTurnTakes (list_of entry more)
 each_takes can = λ before. list_takes can before
 
--- what was read at the front
+-- a part of a grammar that was read at the front of the tokens
 pub record ReadFront {T A : Type 0} (g : Grammar T A) (tokens : List T) (a : A) (rest : List T) : Type 0 where
   pub front : List T
   pub split : tokens ≡ front ++ rest
@@ -33,7 +33,7 @@ read_front {T} g h tokens a rest e =
     let k : Reads (reader_of g) tokens a rest = subst (λ o. IsLocalAt (reader_of g) tokens o) e (d.local tokens) in
     record { front = k.front; split = k.split; whole = d.is_whole k.front a (front_alone (reader_of g) tokens a rest k) }
 
--- a front that is whole is what the reader finds
+-- a front that the grammar derives is what the reader finds
 pub found_front : {T A : Type 0} (g : Grammar T A) → EachTurnTakes g → (tokens front back : List T) (a : A) → tokens ≡ front ++ back → (production_of g).Whole front a → reader_of g tokens ≡ found a back
 found_front g h tokens front back a split whole =
     let d : Decides (production_of g) (reader_of g) = decides_grammar g h in
@@ -63,12 +63,12 @@ front_after {T} {A} {entry} {more} can n one tokens mid rest e f h =
     let last : h.next.back ≡ rest = cc (here, f) in
     subst (λ ts. Fronts entry more n ts) last h.next.next.1
 
--- after these entries, reading goes on at the rest
+-- the state of the loop after these entries, of which the rest is still to be read
 pub record Progress {T A : Type 0} (entry : Grammar T A) (more : Grammar T Bool) (tokens rest : List T) (before : List A) : Type 0 where
   pub reads : reader_of (turns (list_turn entry more) before) rest ≡ reader_of (list_of entry more) tokens
   pub stand : (n : ℕ) → Fronts entry more n rest → Fronts entry more (n + length before) tokens
   pub only : (n : ℕ) → Fronts entry more (n + length before) tokens → Fronts entry more n rest
-  -- each entry and its mark take a token
+  -- each entry and the token after it take at least two tokens
   pub fewer : 2 * length before + length rest ≤ length tokens
 
 takes_token : {T A : Type 0} (g : Grammar T A) → EachTurnTakes g → TakesToken g → (tokens : List T) (a : A) (rest : List T) → reader_of g tokens ≡ found a rest → length rest < length tokens
@@ -131,7 +131,7 @@ pub stops_after_entry : {T A : Type 0} {entry : Grammar T A} {more : Grammar T B
 stops_after_entry {T} {A} {entry} {more} can tokens here mid rest before one so_far e f =
     stops (list_turn entry more) (list_takes can) before here rest (reader_of (list_of entry more) tokens) so_far.reads (turn_stops_later entry more before one here mid rest e f)
 
--- a list that was refused has no value
+-- a list that the reader refused has no value
 pub no_value : {T A : Type 0} (g : Grammar T A) → EachTurnTakes g → (tokens rest : List T) → reader_of g tokens ≡ refused rest → (a : A) → (production_of g).Whole tokens a → ⊥
 no_value g h tokens rest e a whole =
     let k : reader_of g tokens ≡ found a [] = (decides_grammar g h).whole tokens a whole in
@@ -171,13 +171,13 @@ wrong_after_entry {T} {A} {entry} {more} can tokens here mid rest before one so_
         let k : reader_of more mid ≡ found h.next.value h.next.back = subst (λ ts. reader_of more ts ≡ found h.next.value h.next.back) same second in
         cc (k, f)
 
--- each turn leaves fewer tokens
+-- fewer tokens are left after each turn
 pub shorter : {T A : Type 0} {entry : Grammar T A} {more : Grammar T Bool} → CanRead entry more → (here mid rest : List T) (before : List A) (one : A) (another : Bool)
     → reader_of entry here ≡ found one mid → reader_of more mid ≡ found another rest → length rest < length here
 shorter {T} {A} {entry} {more} can here mid rest before one another e f =
     turn_shrinks (list_turn entry more) (list_takes can) before (turn_of another (before ++ one ∷ [])) here rest (turn_again entry more before one another here mid rest e f)
 
--- what was read to the end is whole, and nothing else is
+-- if the reader reads all of a list, the grammar derives the list with that value and no other
 pub value_of_list : {T A : Type 0} (g : Grammar T A) → EachTurnTakes g → (tokens : List T) (a : A) → reader_of g tokens ≡ found a [] → (production_of g).Whole tokens a
 value_of_list g h tokens a e = (decides_grammar g h).is_whole tokens a e
 

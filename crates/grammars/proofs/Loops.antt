@@ -1,11 +1,11 @@
--- Loops that read one turn after another, where a test says whether another comes.
+-- Loops that read turns, where a test says whether another turn follows.
 use Rattle.std.proofs.Common.{◌≡◌, Bool, true, false, List, ◌∙◌, ap}
 use Rattle.grammars.specs.Turn.{Turn, turn_of}
 use Rattle.grammars.specs.inner.Reader.{Outcome, found}
 use Rattle.grammars.specs.Grammar.{Grammar, turns, reader_of}
 use Rattle.grammars.proofs.Grammars.{TakesToken, EachTurnTakes, goes_on, ends}
 
--- another turn comes: what is left gives what the whole gives
+-- another turn follows: the outcome for the rest is the outcome for the whole
 pub another : {T A : Type 0} (turn : A → Grammar T (Turn A A)) → ((a : A) → TakesToken (turn a) × EachTurnTakes (turn a)) → (a a' : A) (more : Bool) (tokens rest : List T) (outcome : Outcome T A)
     → reader_of (turns turn a) tokens ≡ outcome → more ≡ true → reader_of (turn a) tokens ≡ found (turn_of more a') rest → reader_of (turns turn a') rest ≡ outcome
 another turn h a a' more tokens rest outcome so_far e read = goes_on turn h a a' tokens rest outcome so_far (read ∙ ap (λ b. found (turn_of b a') rest) e)

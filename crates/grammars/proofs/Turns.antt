@@ -1,4 +1,4 @@
--- Any number of turns: reading with enough turns is reading with as many as there are tokens.
+-- Reading any number of turns: reading with enough turns is reading with one turn more than there are tokens.
 use Rattle.std.proofs.Common.{◌≡◌, ℕ, zero, suc, ◌+◌, ◌<◌, ◌≤◌, List, [], ◌∷◌, ◌++◌, length, Option, Some, None, refl, sym, ◌∙◌, ap, subst, arith, length-append}
 use Rattle.std.proofs.lemmas.List.{append_cancel_right}
 use Rattle.grammars.specs.Turn.{Turn, again, last}
@@ -8,7 +8,7 @@ use Rattle.grammars.specs.inner.Reader.{Reader, Outcome, found, refused, after}
 use Rattle.grammars.specs.inner.Reader as reader
 use Rattle.grammars.proofs.Exact.{RunsOut, Reads, Refuses, IsLocalAt, Decides, decides_none, decides_done, decides_bind, runs_out}
 
--- what it finds takes a token
+-- if the reader finds a value, it has taken at least one token
 abbrev pub Shrinks : {T A : Type 0} → Reader T A → Type 0
 Shrinks {T} {A} read = (tokens : List T) (a : A) (rest : List T) → read tokens ≡ found a rest → length rest < length tokens
 
@@ -27,7 +27,7 @@ pub decides_up_to : {T S A : Type 0} (n : ℕ) {turn : S → Production T (Turn 
 decides_up_to zero d s = decides_none
 decides_up_to (suc n) d s = decides_bind (d s) (decides_follow (decides_up_to n d))
 
--- Two ways to go on that are related on shorter lists make two readings that are related.
+-- if two ways to go on are related on shorter lists, the two readings are related
 record Relation (T A : Type 0) : Type 1 where
   Related : Outcome T A → Outcome T A → Type 0
   same : (o : Outcome T A) → Related o o
@@ -75,7 +75,7 @@ raise_out (suc n) (suc m) read d shrinks s tokens le h =
     related outs (reader.turns_up_to n read) (reader.turns_up_to m read) (length tokens)
     (λ t rest lt. raise_out n m read d shrinks t rest (omega arith)) (read s tokens) (shrinks s tokens) h
 
--- reading with n turns, where n is more than the tokens
+-- reading with `n` turns, if `n` exceeds the number of tokens
 enough : {T S A : Type 0} (n : ℕ) (read : S → Reader T (Turn S A)) → EachShrinks read → (s : S) (tokens : List T) → length tokens < n
     → reader.turns_up_to n read s tokens ≡ reader.turns read s tokens
 unfolding reader.turns
@@ -120,7 +120,7 @@ decides_turns {T} {S} {A} {turn} {read} d shrinks s = record {
   is_cut = λ tokens h. (suc (length tokens), (decides_up_to (suc (length tokens)) d s).is_cut tokens h);
 }
 
--- reading any number of turns, one at a time
+-- reading any number of turns is reading one turn and then the others
 pub turns_once : {T S A : Type 0} (read : S → Reader T (Turn S A)) → EachShrinks read → (s : S) (tokens : List T)
     → reader.turns read s tokens ≡ after (read s tokens) (reader.follow (reader.turns read))
 unfolding reader.turns
@@ -128,7 +128,7 @@ turns_once read shrinks s tokens =
     related equal (reader.turns_up_to (length tokens) read) (reader.turns read) (length tokens)
     (λ t rest lt. enough (length tokens) read shrinks t rest lt) (read s tokens) (shrinks s tokens)
 
--- what takes a token
+-- readers that take at least one token
 shrinks_value : {T A : Type 0} (token : T) (tokens : List T) (v : Option A) (a : A) (rest : List T) → reader.value_then v token tokens ≡ found a rest → length rest < length (token ∷ tokens)
 shrinks_value token tokens (Some b) a rest e = let same : tokens ≡ rest = cc in subst (λ ts. length ts < length (token ∷ tokens)) same (omega arith)
 shrinks_value token tokens None a rest e = cc
@@ -140,7 +140,7 @@ shrinks_place value (token ∷ tokens) a rest e = shrinks_value token tokens (va
 no_longer : {T A : Type 0} (r : Reader T A) (tokens : List T) (a : A) (rest : List T) → Reads r tokens a rest → length rest ≤ length tokens
 no_longer r tokens a rest h = rw h.split (omega (arith, length-append h.front rest))
 
--- what it finds takes no token back
+-- if the reader finds a value, the rest is no longer than the tokens were
 abbrev pub Keeps : {T A : Type 0} → Reader T A → Type 0
 Keeps {T} {A} read = (tokens : List T) (a : A) (rest : List T) → read tokens ≡ found a rest → length rest ≤ length tokens
 

@@ -1,4 +1,4 @@
--- Grammars over tokens T. Each derives token lists, and gives each of them a value.
+-- Grammars over tokens `T`. A grammar derives lists of tokens, and gives each of these lists a value.
 use Rattle.std.specs.Prelude.{Option}
 use Rattle.grammars.specs.Turn.{Turn}
 use Rattle.grammars.specs.Production.{Production}
@@ -7,16 +7,16 @@ use Rattle.grammars.specs.inner.Reader.{Reader}
 use Rattle.grammars.specs.inner.Reader as reader
 
 pub data Grammar (T : Type 0) : Type 0 → Type 1 where
-  -- one token, which fits if it has a value
+  -- one token, which fits if `T → Option A` gives a value for it
   place : {A : Type 0} → (T → Option A) → Grammar T A
-  -- no token; the value is given
+  -- no token, with the given value
   done : {A : Type 0} → A → Grammar T A
-  -- a part, and then the part that its value selects
+  -- a part, followed by a part that depends on the first one's value
   in_turn : {A B : Type 0} → Grammar T A → (A → Grammar T B) → Grammar T B
-  -- any number of turns, each with the state that the turns before it left
+  -- any number of turns, each of which begins with the state that the turn before it left
   turns : {S A : Type 0} → (S → Grammar T (Turn S A)) → S → Grammar T A
 
--- the token lists that the grammar derives
+-- the production of the grammar
 abbrev pub production_of : {T A : Type 0} → Grammar T A → Production T A
 production_of (place value) = production.place value
 production_of (done a) = production.done a

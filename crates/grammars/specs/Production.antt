@@ -1,4 +1,5 @@
--- The productions of a grammar: which token lists have which value, and which lists are a cut (a prefix) of one of them.
+-- The productions of a grammar. `Whole` says which token lists have which values. `Cut` says which lists are prefixes of
+-- such a list.
 use Rattle.std.specs.Prelude.{◌≡◌, ℕ, zero, suc, List, [], ◌∷◌, ◌++◌, Option, Some, IsSome, ◌⊎◌}
 use Rattle.grammars.specs.Turn.{Turn, again, last}
 
@@ -6,28 +7,28 @@ pub record Production (T A : Type 0) : Type 1 where
   pub Whole : List T → A → Type 0
   pub Cut : List T → Type 0
 
--- a cut of the place of one token: no token, or one that fits
+-- a cut of one token's place: no token, or a token that fits
 abbrev pub CutsPlace : {T A : Type 0} → (T → Option A) → List T → Type 0
 CutsPlace value [] = Unit {0}
 CutsPlace value (token ∷ []) = IsSome (value token)
 CutsPlace value (token ∷ next ∷ tokens) = ⊥
 
--- the place of one token, which fits if it has a value
+-- one token, which fits if `value` gives a value for it
 abbrev pub place : {T A : Type 0} → (T → Option A) → Production T A
 place {T} value = record {
   Whole = λ tokens a. (token : T) × (tokens ≡ token ∷ []) × (value token ≡ Some a);
   Cut = CutsPlace value;
 }
 
--- no token; the value is given
+-- no token, with the given value
 abbrev pub done : {T A : Type 0} → A → Production T A
 done a = record { Whole = λ tokens b. (tokens ≡ []) × (b ≡ a); Cut = λ tokens. tokens ≡ [] }
 
--- nothing is derived; only the empty list is a cut
+-- a production that derives nothing, and of which only the empty list is a cut
 abbrev pub none : {T A : Type 0} → Production T A
 none = record { Whole = λ tokens a. ⊥; Cut = λ tokens. tokens ≡ [] }
 
--- the tokens are a whole `p`, and then what `Next` wants after its value
+-- the tokens are a whole `p`, and `Next` is true of its value and the tokens after it
 pub record Follows {T A : Type 0} (p : Production T A) (Next : A → List T → Type 0) (tokens : List T) : Type 0 where
   pub front : List T
   pub back : List T
@@ -36,14 +37,15 @@ pub record Follows {T A : Type 0} (p : Production T A) (Next : A → List T → 
   pub first : p.Whole front value
   pub next : Next value back
 
--- a part, and then the part that its value selects: a cut is a cut of the first, or the whole first and a cut of the second
+-- A part, followed by a part that depends on the first one's value. A cut is a cut of the first part, or the whole first
+-- part and a cut of the second.
 abbrev pub in_turn : {T A B : Type 0} → Production T A → (A → Production T B) → Production T B
 in_turn p q = record {
   Whole = λ tokens b. Follows p (λ a back. (q a).Whole back b) tokens;
   Cut = λ tokens. p.Cut tokens ⊎ Follows p (λ a back. (q a).Cut back) tokens;
 }
 
--- what comes after a turn: another turn, or nothing
+-- the production after a turn: another turn, or nothing
 abbrev pub follow : {T S A : Type 0} → (S → Production T A) → Turn S A → Production T A
 follow next (again s) = next s
 follow next (last a) = done a
@@ -52,7 +54,7 @@ abbrev pub turns_up_to : {T S A : Type 0} → ℕ → (S → Production T (Turn 
 turns_up_to zero turn before = none
 turns_up_to (suc n) turn before = in_turn (turn before) (follow (turns_up_to n turn))
 
--- any number of turns, each with the state that the turns before it left
+-- any number of turns, each of which begins with the state that the turn before it left
 abbrev pub turns : {T S A : Type 0} → (S → Production T (Turn S A)) → S → Production T A
 turns turn before = record {
   Whole = λ tokens a. (n : ℕ) × (turns_up_to n turn before).Whole tokens a;

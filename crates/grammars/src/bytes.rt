@@ -1,4 +1,4 @@
-//! What the bytes of one token mean. The case of letters does not matter.
+//! The meaning of a token's bytes. The case of letters does not matter.
 ghost use Rattle.std.specs.Prelude.{◌≡◌, IsTrue, nat_eq, zip};
 ghost use Rattle.std.specs.List.{list_all};
 ghost use Rattle.std.specs.Str.{bytes_eq};
@@ -18,7 +18,7 @@ pub fn is_short_number(bytes: &[u8]) -> bool
     !bytes.is_empty() && bytes.len() <= 9 && are_digits(bytes)
 }
 
-/// Returns the number that 1 to 9 decimal digits mean.
+/// Returns the value of a decimal number. The bytes must be 1 to 9 decimal digits.
 pub fn decimal_of(digits: &[u8]) -> u32
     requires { IsTrue (is_integer digits.now) }
     ensures { result ≡ digits_value digits.now }
@@ -39,7 +39,7 @@ fn each_agrees(bytes: &[u8], name: &[u8]) -> bool
         .all(|(byte, letter)| byte.to_ascii_uppercase() == *letter)
 }
 
-/// Returns whether the bytes, in upper case, are the name.
+/// Returns whether the bytes, changed to upper case, are `name`.
 #[tactic(auto, using(crate::proofs::Spelled::differs))]
 pub fn spells(bytes: &[u8], name: &[u8]) -> bool
     ensures { result ≡ bytes_eq (upper bytes.now) name.now }

@@ -1,8 +1,7 @@
-//! Grammars as data: which token lists they derive, with which values, and which lists are
-//! prefixes of one. A law says that reading from left to right decides both.
+//! Grammars as data: the token lists that they derive, the values of these lists, and the prefixes of such lists. A law
+//! says that reading from left to right decides all three.
 //!
-//! The crate has definitions (`specs/`), their laws (`proofs/`), and functions on the bytes of one
-//! token (`bytes`).
+//! The crate has definitions (`specs/`), their laws (`proofs/`), and functions on the bytes of one token (`bytes`).
 #![tactic(auto)]
 
 mod bytes;

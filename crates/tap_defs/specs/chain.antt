@@ -1,4 +1,5 @@
--- The chain: TAP controllers, scans, the meaning of SVF text, and the chain test. Nothing here knows about boards.
+-- The chain: TAP controllers, scans, the meaning of SVF text, and the chain test. These definitions do not depend on
+-- boards.
 pub mod Scan
 pub mod ScanRows
 pub mod Codes

@@ -4,14 +4,15 @@ ghost use Rattle.tap_defs.specs.chain.ScanRows.{AreSameRows, HaveRoomFor};
 
 use bt_bits::Row;
 
-/// The kind of a scan: whether it is one of instructions (SIR) or of data (SDR), and whether it compares some bit.
+/// The kind of a scan: whether it scans instructions (SIR) or data (SDR), and whether it compares some bit.
 #[derive(Clone, Copy)]
 pub struct Shape {
     pub ir: bool,
     pub compare: bool,
 }
 
-/// The three rows of a scan, stored: what is shifted in, what is expected to come out, and what is compared.
+/// The three rows of a scan, stored: the bits that are shifted in, the bits that are expected at TDO, and the mask of
+/// the bits that are compared.
 #[derive(Drop)]
 pub struct StoredRows {
     pub tdi: Row,
@@ -19,7 +20,7 @@ pub struct StoredRows {
     pub mask: Row,
 }
 
-/// The three rows of a scan, lent together, so that a function that fills them takes one argument.
+/// The three rows of a scan, borrowed together, so that a function that fills them takes one argument.
 #[derive(Drop)]
 pub struct ScanRows<'a> {
     pub tdi: &'a mut Row,
@@ -28,7 +29,7 @@ pub struct ScanRows<'a> {
 }
 
 impl ScanRows<'_> {
-    /// Copies the stored rows. There must be room for them.
+    /// Replaces the bits of each row by those of its stored counterpart. There must be room for them.
     pub fn copy_from(&mut self, stored: &StoredRows)
         requires { HaveRoomFor stored.now self.old }
         ensures tdi { self.new.tdi.now.bits ≡ stored.now.tdi.bits }

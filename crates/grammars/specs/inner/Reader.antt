@@ -1,8 +1,8 @@
--- Reading from left to right.
+-- Readers, which read tokens from left to right.
 use Rattle.std.specs.Prelude.{ℕ, zero, suc, List, [], ◌∷◌, length, Option, Some, None}
 use Rattle.grammars.specs.Turn.{Turn, again, last}
 
--- a value and the tokens after it, or the tokens from the first one that does not fit
+-- The outcome of reading: a value and the tokens after it, or the tokens from the first that does not fit.
 pub data Outcome (T A : Type 0) : Type 0 where
   found : A → List T → Outcome T A
   refused : List T → Outcome T A
@@ -10,7 +10,7 @@ pub data Outcome (T A : Type 0) : Type 0 where
 abbrev pub Reader : Type 0 → Type 0 → Type 0
 Reader T A = List T → Outcome T A
 
--- reads on after a value was found
+-- the outcome of reading on with `next` after a value was found
 abbrev pub after : {T A B : Type 0} → Outcome T A → (A → Reader T B) → Outcome T B
 after (found a rest) next = next a rest
 after (refused rest) next = refused rest
@@ -40,6 +40,6 @@ abbrev pub turns_up_to : {T S A : Type 0} → ℕ → (S → Reader T (Turn S A)
 turns_up_to zero turn before = none
 turns_up_to (suc n) turn before = in_turn (turn before) (follow (turns_up_to n turn))
 
--- one turn more than there are tokens is always enough
+-- a limit on the turns, one more than there are tokens, which is always enough
 unfoldable pub turns : {T S A : Type 0} → (S → Reader T (Turn S A)) → S → Reader T A
 turns turn before tokens = turns_up_to (suc (length tokens)) turn before tokens

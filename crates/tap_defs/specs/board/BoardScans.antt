@@ -18,7 +18,7 @@ use Rattle.tap_defs.specs.chain.Codes.{instructs}
 use Rattle.tap_defs.specs.chain.Text.{svf_text}
 use Rattle.tap_defs.specs.board.TestRows.{TestRow, quiet_row, code_row, row_bit, expect_bit, observing_driver, observed_count, code_width}
 
--- a scan of data: the row that it shifts in, and the row before it, which is in the latches and is compared
+-- A data scan: the row that it shifts in, and the row before. The row before is in the latches during the scan, and its bits are compared.
 pub record RowScan : Type 0 where
   pub now : TestRow
   pub before : TestRow
@@ -29,7 +29,7 @@ part_bits board scan part (Described device) =
     filled device.boundary (λ cell. record { tdi = row_bit board scan.now part device cell; expect = expect_bit board scan.before part device cell })
 part_bits board scan part (Bypass n) = record { tdi = false; expect = None } ∷ []
 
--- the bits of these parts, the first of which has this number
+-- the bits of these parts, the first of which has number `part`
 abbrev pub bits_by_part : RawBoard → RowScan → ℕ → List Part → List (List ScanBit)
 bits_by_part board scan part [] = []
 bits_by_part board scan part (p ∷ parts) = part_bits board scan part p.kind ∷ bits_by_part board scan (suc part) parts
@@ -38,31 +38,33 @@ bits_by_part board scan part (p ∷ parts) = part_bits board scan part p.kind �
 abbrev pub row_bits : RawBoard → RowScan → List (List ScanBit)
 row_bits board scan = bits_by_part board scan 0 board.chain
 
--- the scan of data with these bits
+-- the data scan with these bits
 abbrev pub scan_of_row : RawBoard → RowScan → Scan
 scan_of_row board scan = record { ir = false; bits = joined (row_bits board scan) }
 
--- the clocks of scans of data, in order
+-- the clocks of data scans, in order
 abbrev pub row_clocks : RawBoard → List RowScan → List Clock
 row_clocks board scans = all_clocks (map (scan_of_row board) scans)
 
--- the scans of a pass from row `j` on, with `more` + 1 scans left: each shifts in a row and compares the row before it, and the last one shifts in the
--- quiet row
+-- The data scans of a pass from row `j` on, of which `more + 1` are left. Each scan shifts in a row and compares the row before it. The
+-- last scan shifts in the quiet row.
 abbrev pub pass_scans : (ℕ → TestRow) → ℕ → ℕ → TestRow → List RowScan
 pass_scans rows zero j before = record { now = quiet_row; before = before } ∷ []
 pass_scans rows (suc more) j before = record { now = rows j; before = before } ∷ pass_scans rows more (suc j) (rows j)
 
--- the scans of all passes, each with `width` rows. Before each pass the latches hold the quiet row, so its first scan compares nothing
+-- The data scans of all passes, each with `width` rows. The quiet row is in the latches before each pass, so the first scan of a pass
+-- compares nothing.
 abbrev pub row_scans : (List Ctl → ℕ → TestRow) → ℕ → List (List Ctl) → List RowScan
 row_scans rows width [] = []
 row_scans rows width (pass ∷ passes) = pass_scans (rows pass) width 0 quiet_row ++ row_scans rows width passes
 
--- the code of SAMPLE/PRELOAD, or of PRELOAD for a text of 2001; for a part without a description ones, which are BYPASS
+-- The code of SAMPLE/PRELOAD, or of PRELOAD if the description follows the 2001 edition. A part without a description has a code of ones,
+-- which means BYPASS.
 abbrev pub preload_code : PartKind → List Bool
 preload_code (Described device) = map bit_of device.sample
 preload_code (Bypass n) = replicate n true
 
--- the code of EXTEST; for a part without a description ones
+-- The code of EXTEST. A part without a description has a code of ones.
 abbrev pub extest_code : PartKind → List Bool
 extest_code (Described device) = map bit_of device.extest
 extest_code (Bypass n) = replicate n true
@@ -71,7 +73,7 @@ extest_code (Bypass n) = replicate n true
 abbrev pub first_row_scan : RowScan
 first_row_scan = record { now = quiet_row; before = quiet_row }
 
--- the preload codes, the quiet row, the EXTEST codes, and these scans of data
+-- the scans of a test: the preload codes, the quiet row, the EXTEST codes, and then these data scans
 abbrev pub board_scans : RawBoard → List RowScan → List Scan
 board_scans board scans =
     instructs (map (λ part. preload_code part.kind) board.chain)
@@ -79,11 +81,11 @@ board_scans board scans =
     ∷ instructs (map (λ part. extest_code part.kind) board.chain)
     ∷ map (scan_of_row board) scans
 
--- the scans of the test with these passes and with codes of this width
+-- the scans of the test that has these passes, with codes of `width` bits
 abbrev pub test_scans : RawBoard → List (List Ctl) → ℕ → List Scan
 test_scans board passes width = board_scans board (row_scans (code_row board passes) width passes)
 
--- their text
+-- the SVF text of these scans
 abbrev pub pass_text : RawBoard → List (List Ctl) → ℕ → List ℕ
 pass_text board passes width = svf_text (test_scans board passes width)
 
@@ -91,12 +93,13 @@ pass_text board passes width = svf_text (test_scans board passes width)
 abbrev pub row_now : (ℕ → TestRow) → ℕ → ℕ → TestRow
 row_now rows width j = cond (nat_lt j width) (rows j) quiet_row
 
--- the row that scan `j` of a pass compares: the row before, or the quiet row, of which nothing is compared, in the first scan
+-- The row that scan `j` of a pass compares: row `j - 1`. The first scan has the quiet row, of which nothing is compared.
 abbrev pub row_before : (ℕ → TestRow) → ℕ → TestRow
 row_before rows zero = quiet_row
 row_before rows (suc j) = rows j
 
--- the number of scans of a test, and their places: first three, then for each pass one for each row and one for the quiet row
+-- The number of scans of a test, and the place of each. The first three come before the passes. Each pass has a scan for each row and one
+-- for the quiet row.
 pub record AreTestScans (board : RawBoard) (passes : List (List Ctl)) (width : ℕ) (scans : List Scan) : Type 0 where
   pub count : length scans ≡ 3 + length passes * suc width
   pub preload : slice_get scans 0 ≡ Some (instructs (map (λ part. preload_code part.kind) board.chain))
@@ -106,8 +109,8 @@ pub record AreTestScans (board : RawBoard) (passes : List (List Ctl)) (width : �
       slice_get scans (3 + (x * suc width + j))
       ≡ Some (scan_of_row board (record { now = row_now (code_row board passes pass) width j; before = row_before (code_row board passes pass) j }))
 
--- the scans of data of the board's test after the EXTEST codes: those of the board's passes, with the code width for the nets that they
--- observe
+-- the data scans of the board's test after the EXTEST codes: those of the board's passes, with the code width for the nets that these
+-- passes observe
 abbrev pub svf_row_scans : RawBoard → List RowScan
 svf_row_scans board =
     let passes : List (List Ctl) = passes_of board in
@@ -121,7 +124,7 @@ svf_scans board = board_scans board (svf_row_scans board)
 abbrev pub board_text : RawBoard → List ℕ
 board_text board = svf_text (svf_scans board)
 
--- the setting observes the net, which makes it a walk net
+-- the setting observes the net, so the net is a walk net
 abbrev pub is_walked : RawBoard → List Ctl → Net → Bool
 is_walked board walk net = is_some (observing_driver board (holds walk) net)
 
@@ -133,7 +136,7 @@ observes_some board pass = list_any (is_walked board pass) board.nets
 abbrev pub walk_row : RawBoard → List Ctl → ℕ → TestRow
 walk_row board walk j = record { setting = holds walk; carried = λ n. Some (count_by (is_walked board walk) (take n board.nets) == j) }
 
--- the scans of data of the walking test of a board with a pass: a row for each walk net
+-- the data scans of the walking test for this setting, with a row for each walk net
 abbrev pub walk_row_scans : RawBoard → List Ctl → List RowScan
 walk_row_scans board walk = row_scans (walk_row board) (count_by (is_walked board walk) board.nets) (walk ∷ [])
 

@@ -1,4 +1,4 @@
--- What a test of a board achieves: the statement of the headline.
+-- The promise of a test of a board.
 use Rattle.std.specs.Prelude.{◌≡◌, ℕ, List, Some}
 use Rattle.board_defs.specs.declared.board.RawBoard.{RawBoard}
 use Rattle.tap_defs.specs.chain.Run.{Clock}
@@ -7,15 +7,15 @@ use Rattle.tap_defs.specs.board.FaultSet.{FaultSet, no_faults, IsObservable, IsN
 use Rattle.tap_defs.specs.board.OnBoard.{PassOnBoard, FailOnBoard}
 use Rattle.tap_defs.specs.board.Quiet.{IsQuiet}
 
--- a text that may be applied to the board: it has a meaning, passes on the board without faults, and is quiet under every fault set
+-- The text may be applied to the board: it has a meaning, passes on the board without faults, and is quiet under every fault set.
 pub record IsHarmless (board : RawBoard) (text : List ℕ) : Type 0 where
   pub clocks : List Clock
   pub means : meaning text ≡ Some clocks
   pub passes : PassOnBoard board no_faults clocks
   pub quiet : IsQuiet board clocks
 
--- a text that tests the board: it has a meaning, passes on the board without faults, is quiet under every fault set, and fails under every
--- nonempty observable fault set
+-- The text is a test of the board: it has a meaning, passes on the board without faults, is quiet under every fault set, and fails under
+-- every nonempty observable fault set.
 pub record IsBoardTest (board : RawBoard) (text : List ℕ) : Type 0 where
   pub clocks : List Clock
   pub means : meaning text ≡ Some clocks

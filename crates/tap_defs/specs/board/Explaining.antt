@@ -1,4 +1,4 @@
--- Single faults as fault sets, the logs of a test, and which faults explain a log.
+-- The fault sets of single faults, the logs of a test, and when faults explain a log.
 use Rattle.std.specs.Prelude.{◌≡◌, ◌<◌, ℕ, suc, ◌+◌, ◌*◌, ◌==◌, Bool, true, cond, not, ◌&&◌, ◌||◌, List, [], ◌∷◌, length, filter, count_by, drop, Option, Some, None, is_some, slice_get, option_and_then, All}
 use Rattle.std.specs.List.{sum_by}
 use Rattle.board_defs.specs.declared.device.RawDevice.{RawDevice}
@@ -29,7 +29,7 @@ short_kind a b Or = OrShort
 short_kind a b First = Dominant a
 short_kind a b Second = Dominant b
 
--- the fault set of a single fault. A short has the number 0
+-- The fault set of a single fault. The short, if there is one, has number 0.
 abbrev pub set_of : Single → FaultSet
 set_of (StuckNet net value) = record no_faults { stuck = λ n. cond (n == net) (Some value) None }
 set_of (OpenPin pin value) = record no_faults { opened = λ n i. cond ((n == pin.net) && (i == pin.place)) (Some value) None }
@@ -50,7 +50,7 @@ bits_by_log (bit ∷ bits) (logged ∷ row) = record bit { expect = cond (is_som
 abbrev pub is_compared : Scan → Bool
 is_compared scan = not scan.ir && compares scan.bits
 
--- the scans, with the rows of a log in place of the expected bits of the compared SDR statements, in order; nothing else is compared
+-- The scans, with the rows of a log in place of the expected bits of the compared SDR statements, in order. No other bits are compared.
 abbrev pub scans_by_log : List Scan → List (List Bool) → List Scan
 scans_by_log [] log = []
 scans_by_log (scan ∷ scans) [] = record scan { bits = uncompared scan.bits } ∷ scans_by_log scans []
@@ -58,85 +58,84 @@ scans_by_log (scan ∷ scans) (row ∷ log) =
     cond (is_compared scan) (record scan { bits = bits_by_log scan.bits row } ∷ scans_by_log scans log)
     (record scan { bits = uncompared scan.bits } ∷ scans_by_log scans (row ∷ log))
 
--- a log of a test with these scans of data: it has a row for each compared SDR statement, and each row has a bit for each position of a scan
--- of data
+-- The log has the shape of the logs of a test with these data scans: a row for each compared SDR statement, and in each row a bit for each
+-- position of a data scan.
 pub record HasShape (board : RawBoard) (scans : List RowScan) (log : List (List Bool)) : Type 0 where
   pub rows : length log ≡ count_by is_compared (board_scans board scans)
   pub bits : All (λ row. length row ≡ data_bits board) log
 
--- in every run of the test with these faults, each compared bit of each compared SDR statement is the bit of the log in that row and at that
--- position
+-- The faults explain the log: in every run of the test with these faults, each compared bit of each compared SDR statement is the log's bit
+-- in that row and at that position.
 pub record ExplainedBy (board : RawBoard) (faults : FaultSet) (scans : List RowScan) (log : List (List Bool)) : Type 0 where
   pub shape : HasShape board scans log
   pub passes : PassOnBoard board faults (test_clocks (scans_by_log (board_scans board scans) log))
 
--- a log of the board's test that this fault explains
+-- the single fault explains this log of the board's test
 abbrev pub Explains : RawBoard → Single → List (List Bool) → Type 0
 Explains board single log = ExplainedBy board (set_of single) (svf_row_scans board) log
 
--- wherever these scans compare a bit, the row of the scan has the expected bit
+-- wherever these scans compare a bit, the scan's row of the log has the expected bit
 abbrev pub are_expected : List Scan → List (List Bool) → Bool
 are_expected [] log = true
 are_expected (scan ∷ scans) [] = true
 are_expected (scan ∷ scans) (row ∷ log) = scan_passes scan.bits row && are_expected scans log
 
--- a log in which every compared bit is the expected one
+-- the log has the shape of the test, and every compared bit is the expected one
 pub record IsExpected (board : RawBoard) (scans : List RowScan) (log : List (List Bool)) : Type 0 where
   pub shape : HasShape board scans log
   pub bits : are_expected (filter is_compared (board_scans board scans)) log ≡ true
 
--- the scans of data that compare something, in order: row `x` of a log belongs to scan `x` of these
+-- the data scans that compare something, in order; row `x` of a log belongs to the `x`th of these scans
 abbrev pub compared_scans : RawBoard → List RowScan → List RowScan
 compared_scans board scans = filter (λ scan. is_compared (scan_of_row board scan)) scans
 
--- the scans compare `width` rows of each of these passes, pass by pass: scan `x * width + j` compares row `j` of pass `x` and shifts in the row
--- after it
+-- The scans compare `width` rows of each pass, pass by pass. Scan `x * width + j` compares row `j` of pass `x` and shifts in the next row.
 pub record CompareRows (rows : List Ctl → ℕ → TestRow) (width : ℕ) (passes : List (List Ctl)) (scans : List RowScan) : Type 0 where
   pub count : length scans ≡ length passes * width
   pub each : (x : ℕ) (pass : List Ctl) (j : ℕ) → slice_get passes x ≡ Some pass → j < width →
       slice_get scans (x * width + j) ≡ Some (record { now = row_now (rows pass) width (suc j); before = rows pass j })
 
--- each scan compares the row that the scan before it shifted in; before the first scan this row is in the latches
+-- Each scan compares the row that the scan before it shifted in. The first scan compares the given row.
 abbrev pub Follow : TestRow → List RowScan → Type 0
 Follow row [] = Unit {0}
 Follow row (scan ∷ scans) = (scan.before ≡ row) × Follow scan.now scans
 
--- scans of data, each of which compares the row in the latches; every row that is compared is one of a safe setting
+-- Each scan compares the row that is in the latches, and the setting of every compared row is safe.
 pub record AreInTurn (board : RawBoard) (scans : List RowScan) : Type 0 where
   pub follow : Follow quiet_row scans
   pub safe : (x : ℕ) (scan : RowScan) → slice_get (compared_scans board scans) x ≡ Some scan → IsSafe board scan.before.setting
 
--- wherever a scan compares a bit, its row of the log has what the cells capture with these faults while the row before the scan is in the
--- latches, for all free bits
+-- Wherever a scan compares a bit, its row of the log has the bit that the cells capture under these faults, whatever the free bits are. The
+-- cells capture while the row before the scan is in the latches.
 abbrev pub IsCapturedBy : RawBoard → FaultSet → List RowScan → List (List Bool) → Type 0
 IsCapturedBy board faults scans log =
     (x : ℕ) (scan : RowScan) (logged : List Bool) (choice : Choice) → slice_get (compared_scans board scans) x ≡ Some scan → slice_get log x ≡ Some logged →
     AgreeWhereCompared (joined (row_bits board scan)) logged (row_captured board faults scan.before choice)
 
--- the two logs have the same bit wherever these scans compare one
+-- the two logs have the same bit wherever these scans compare a bit
 abbrev pub AgreeOn : RawBoard → List RowScan → List (List Bool) → List (List Bool) → Type 0
 AgreeOn board scans log other =
     (x : ℕ) (scan : RowScan) (logged second : List Bool) → slice_get (compared_scans board scans) x ≡ Some scan → slice_get log x ≡ Some logged → slice_get other x ≡ Some second →
     AgreeWhereCompared (joined (row_bits board scan)) logged second
 
--- the position of a cell in a scan of data: above the bits of the parts after its own
+-- the position of a cell in a data scan: the bits of all later parts have lower positions
 abbrev pub cell_position : RawBoard → ℕ → ℕ → ℕ
 cell_position board part cell = sum_by (λ p. data_length p.kind) (drop (suc part) board.chain) + cell
 
--- the place in the nets of the pin that a cell reads
+-- the place in the nets of the pin that the cell reads, if there is one
 abbrev pub read_place : RawBoard → ℕ → RawDevice → ℕ → Option Place
 read_place board part device cell =
     option_and_then (λ entry. option_and_then (λ b. place_of (record { part = part; bit = b }) 0 board.nets) entry.bit) (reading_entry device cell)
 
--- a compared cell of a described part: the place of the pin that it reads, and the expected bit
+-- the cell of a described part is compared in this row: it reads the pin at `place`, and `expected` is its expected bit
 pub record IsCompared (board : RawBoard) (row : TestRow) (part : ℕ) (device : RawDevice) (cell : ℕ) (place : Place) (expected : Bool) : Type 0 where
   pub is_device : device_at board part ≡ Some device
   pub below : cell < device.boundary
   pub reads : read_place board part device cell ≡ Some place
   pub expects : expect_bit board row part device cell ≡ Some expected
 
--- in each row of the log, each compared cell has the bit that this function gives from the row in the latches, the place of its pin and the
--- expected bit
+-- In each row of the log, each compared cell has the bit that `bit` gives for the row in the latches, the place of the cell's pin and the
+-- expected bit.
 abbrev pub ShowsBits : RawBoard → List RowScan → (TestRow → Place → Bool → Bool) → List (List Bool) → Type 0
 ShowsBits board scans bit log =
     (x : ℕ) (scan : RowScan) (logged : List Bool) (part : ℕ) (device : RawDevice) (cell : ℕ) (place : Place) (expected : Bool) →

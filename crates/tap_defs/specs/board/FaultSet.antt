@@ -3,14 +3,15 @@ use Rattle.std.specs.Prelude.{◌≡◌, ◌≢◌, ◌⊎◌, ℕ, Bool, Option
 use Rattle.board_defs.specs.declared.board.RawBoard.{RawBoard}
 use Rattle.board_defs.specs.Coverage.{IsCovered, ArePaired, IsTestedDriver, IsTestedReceiver}
 
--- how the nets of a short read: as the And or the Or of the bits that they are driven to, or as the bit of one of them, the dominant net
+-- The kind of a short, which decides the bit of its nets: the And or the Or of the bits to which they are driven, or the bit of the
+-- dominant net.
 pub data ShortKind : Type 0 where
   And : ShortKind
   Or : ShortKind
   Dominant : ℕ → ShortKind
 
--- the constant of each stuck net; the constant of each open pin, by its net and its place there; the short of each shorted net; and the kind of
--- each short. So a net is stuck at one constant, a pin is open at one constant, and shorts share no net
+-- The constant of each stuck net; the constant of each open pin, given by its net and its place there; the short of each shorted net, as a
+-- number; and the kind of each short. So a net is stuck at one constant, a pin is open at one constant, and shorts share no net.
 pub record FaultSet : Type 0 where
   pub stuck : ℕ → Option Bool
   pub opened : ℕ → ℕ → Option Bool
@@ -21,14 +22,15 @@ pub record FaultSet : Type 0 where
 abbrev pub no_faults : FaultSet
 no_faults = record { stuck = λ n. None; opened = λ n i. None; short = λ n. None; kind = λ k. And }
 
--- no stuck net is in a short; each short has two or more nets, all covered; and a dominant net is one of the nets of its short
+-- No stuck net is in a short. Each short has two or more nets, and all of them are covered. A dominant net belongs to its short.
 pub record IsFaultSet (board : RawBoard) (faults : FaultSet) : Type 0 where
   pub disjoint : (n : ℕ) (v : Bool) → faults.stuck n ≡ Some v → faults.short n ≡ None
   pub several : (n k : ℕ) → faults.short n ≡ Some k → (m : ℕ) × (m ≢ n) × (faults.short m ≡ Some k)
   pub covered : (n k : ℕ) → faults.short n ≡ Some k → IsCovered board n
   pub dominant : (n k d : ℕ) → faults.short n ≡ Some k → faults.kind k ≡ Dominant d → faults.short d ≡ Some k
 
--- each stuck net is covered, each open pin is tested as a driver or as a receiver, and each short has two nets that are paired
+-- The fault set is observable: each stuck net is covered, each open pin is tested as a driver or as a receiver, and each short has two
+-- paired nets.
 pub record IsObservable (board : RawBoard) (faults : FaultSet) : Type 0 where
   pub is_set : IsFaultSet board faults
   pub stuck : (n : ℕ) (v : Bool) → faults.stuck n ≡ Some v → IsCovered board n

@@ -1,4 +1,4 @@
--- The bits of the nets of a board at one moment, under any faults, and what the boundary cells capture.
+-- The bits of a board's nets at one moment, under any faults, and the bits that the boundary cells capture.
 use Rattle.std.specs.Prelude.{ℕ, suc, ◌==◌, Bool, true, false, cond, not, ◌&&◌, List, [], ◌∷◌, Option, Some, None, slice_get, unwrap_or, option_and_then, option_map}
 use Rattle.std.specs.List.{list_any, list_all, filter_map}
 use Rattle.board_defs.specs.declared.device.Control.{Control}
@@ -17,7 +17,7 @@ use Rattle.tap_defs.specs.chain.Part.{PinState, FreeBits}
 use Rattle.tap_defs.specs.chain.ShiftRegister.{filled}
 use Rattle.tap_defs.specs.board.FaultSet.{ShortKind, And, Or, Dominant, FaultSet}
 
--- whether the instruction is Extest
+-- the instruction is Extest
 abbrev pub is_extest : Instruction → Bool
 is_extest Extest = true
 is_extest Sample = false
@@ -33,17 +33,17 @@ in_extest states part = unwrap_or (option_map (λ state. is_extest state.current
 abbrev pub latch : List PinState → ℕ → ℕ → Bool
 latch states part cell = unwrap_or (option_and_then (λ state. slice_get state.latches cell) (slice_get states part)) false
 
--- there is no control, or the latch of the control differs from the disable value
+-- there is no control, or the latch of the control's cell differs from the disable value
 abbrev pub is_on_by : List PinState → ℕ → Option Control → Bool
 is_on_by states part None = true
 is_on_by states part (Some control) = not (is_same (latch states part control.cell) control.disable)
 
--- the driver with this driving entry is live: its part has the instruction Extest, and it is on
+-- the driver with this driving entry is live: its part has the instruction Extest, and it has no control or its control is on
 abbrev pub live_entry : List PinState → ℕ → Option Cell → Bool
 live_entry states part None = false
 live_entry states part (Some cell) = in_extest states part && is_on_by states part cell.ctl
 
--- the pin at this port bit is a live driver; a pin without a described part drives nothing that the model knows
+-- The pin at this port bit is a live driver. A pin of a part without a description is no driver in the model.
 abbrev pub live_where : RawBoard → List PinState → Option PinAt → Bool
 live_where board states None = false
 live_where board states (Some at) = live_entry states at.part (entry_at board at)
@@ -66,14 +66,15 @@ extest_where states (Some at) = in_extest states at.part
 abbrev pub ruled : RawBoard → List PinState → Net → Bool
 ruled board states net = not (guarded board net) && list_all (λ pin. extest_where states pin.at) net.pins
 
--- who drives a net: unknown, since the net is not ruled; nobody; one live driver, at a place and with a bit; or several drivers
+-- How a net is driven: unknown, since the net is not ruled; by no driver; by one live driver, with its place and its bit; or by several
+-- live drivers.
 pub data Feeding : Type 0 where
   Unruled : Feeding
   Undriven : Feeding
   Driven : ℕ → Bool → Feeding
   Contended : Feeding
 
--- who drives a net with one more pin, which may be live
+-- how a net with one more pin is driven, if that pin may be live
 abbrev pub counted : Bool → ℕ → Bool → Feeding → Feeding
 counted false place bit feeding = feeding
 counted true place bit Undriven = Driven place bit
@@ -81,40 +82,40 @@ counted true place bit Unruled = Unruled
 counted true place bit (Driven other value) = Contended
 counted true place bit Contended = Contended
 
--- who drives the net among these pins, the first of which is at this place
+-- how these pins drive their net; the first of them has place `place`
 abbrev pub feeding_from : RawBoard → List PinState → ℕ → List NetPin → Feeding
 feeding_from board states place [] = Undriven
 feeding_from board states place (pin ∷ pins) = counted (live board states pin) place (driver_bit board states pin.at) (feeding_from board states (suc place) pins)
 
--- who drives the net
+-- how the net is driven
 abbrev pub feeding : RawBoard → List PinState → Net → Feeding
 feeding board states net = cond (ruled board states net) (feeding_from board states 0 net.pins) Unruled
 
--- the bit, or None if the pin is open
+-- the bit of a driver, or None if its pin is open
 abbrev pub fed_unless : Option Bool → Bool → Option Bool
 fed_unless None bit = Some bit
 fed_unless (Some constant) bit = None
 
--- the bit that the net is fed: it has exactly one live driver, which is not open
+-- the bit that the net is fed: that of its only live driver, if this driver is not open
 abbrev pub fed : FaultSet → ℕ → Feeding → Option Bool
 fed faults n Unruled = None
 fed faults n Undriven = None
 fed faults n (Driven place bit) = fed_unless (faults.opened n place) bit
 fed faults n Contended = None
 
--- the pull if the pin is open, otherwise None
+-- the pull if the only live driver is open, otherwise None
 abbrev pub held_if : Option Bool → Option Bool → Option Bool
 held_if None pull = None
 held_if (Some constant) pull = pull
 
--- the pull that holds the net: it has no live driver, or exactly one, which is open
+-- the pull that holds the net, if it has no live driver, or only one and this one is open
 abbrev pub held : FaultSet → ℕ → Option Bool → Feeding → Option Bool
 held faults n pull Unruled = None
 held faults n pull Undriven = pull
 held faults n pull (Driven place bit) = held_if (faults.opened n place) pull
 held faults n pull Contended = None
 
--- the constant of the net's one live driver, if that is open
+-- the constant of the net's only live driver, if this driver is open
 abbrev pub cut : FaultSet → ℕ → Feeding → Option Bool
 cut faults n Unruled = None
 cut faults n Undriven = None
@@ -126,11 +127,12 @@ abbrev pub or_else : Option Bool → Option Bool → Option Bool
 or_else None second = second
 or_else (Some first) second = Some first
 
--- the bit of a net that is neither stuck nor shorted: the bit that it is fed, else the pull that holds it, else the constant of its open driver
+-- The bit of a net that is neither stuck nor shorted: the bit that it is fed, else the pull that holds it, else the constant of its open
+-- driver.
 abbrev pub unshorted_bit : FaultSet → ℕ → Option Bool → Feeding → Option Bool
 unshorted_bit faults n pull feeding = or_else (fed faults n feeding) (or_else (held faults n pull feeding) (cut faults n feeding))
 
--- the number of a net, with something that belongs to the net
+-- a net's number, with a value that belongs to the net
 abbrev pub OfNet : Type 0 → Type 0
 OfNet A = ℕ × A
 
@@ -143,7 +145,7 @@ abbrev pub bit_at_net : ℕ → List (OfNet Bool) → Option Bool
 bit_at_net d [] = None
 bit_at_net d (bit ∷ bits) = cond (bit.0 == d) (Some bit.1) (bit_at_net d bits)
 
--- the bits of some nets, combined by the kind of their short. If the dominant net is not among them, it is their And
+-- The combined bit of some nets, by the kind of their short. If the dominant net is not among them, the And of their bits is taken.
 abbrev pub combined : ShortKind → List (OfNet Bool) → Bool
 combined And bits = all_bits bits
 combined Or bits = list_any (λ bit. bit.1) bits
@@ -167,7 +169,7 @@ is_decided Undriven = true
 is_decided (Driven place bit) = true
 is_decided Contended = false
 
--- the number of a net with what belongs to it, if there is something
+-- the number of a net with a value of the net, if there is a value
 abbrev pub numbered : {A : Type 0} → ℕ → Option A → Option (ℕ × A)
 numbered n None = None
 numbered n (Some a) = Some (n, a)
@@ -180,13 +182,13 @@ bits_fed board faults states nets = filter_map (λ net. numbered net.0 (fed faul
 abbrev pub bits_held : RawBoard → FaultSet → List PinState → List (OfNet Net) → List (OfNet Bool)
 bits_held board faults states nets = filter_map (λ net. numbered net.0 (held faults net.0 net.1.pull (feeding board states net.1))) nets
 
--- the fed bits, combined; if no net is fed, the pulls, combined; if none is held either, a free bit
+-- the combined fed bits; if no net is fed, the combined pulls; if no net is held either, a free bit
 abbrev pub first_combined : ShortKind → List (OfNet Bool) → List (OfNet Bool) → Bool → Bool
 first_combined kind [] [] free = free
 first_combined kind [] (pull ∷ pulls) free = combined kind (pull ∷ pulls)
 first_combined kind (bit ∷ bits) pulls free = combined kind (bit ∷ bits)
 
--- the bit of short `k`: a free bit if one of its nets is not ruled or has two live drivers
+-- the bit of short `k`, which is free if one of its nets is not ruled or has two live drivers
 abbrev pub short_bit : RawBoard → FaultSet → List PinState → Bool → ℕ → Bool
 short_bit board faults states free k =
     let nets : List (OfNet Net) = shorted_nets faults k 0 board.nets in
@@ -194,39 +196,39 @@ short_bit board faults states free k =
     (first_combined (faults.kind k) (bits_fed board faults states nets) (bits_held board faults states nets) free)
     free
 
--- the bit of a net: its constant if it is stuck, the bit of its short if it is in one, otherwise its own
+-- the bit of a net: its constant if it is stuck, else the bit of its short if it is in one, else the bit of a net without such a fault
 abbrev pub net_bit_by : RawBoard → FaultSet → List PinState → (ℕ → Bool) → ℕ → Net → Option Bool → Option ℕ → Option Bool
 net_bit_by board faults states shorts n net (Some constant) short = Some constant
 net_bit_by board faults states shorts n net None (Some k) = Some (short_bit board faults states (shorts k) k)
 net_bit_by board faults states shorts n net None None = unshorted_bit faults n net.pull (feeding board states net)
 
--- the bit of net `n`: its constant if it is stuck, the bit of its short if it is in one, otherwise what its driver and its pull give.
--- None means a free bit for each cell that captures. `shorts k` is the bit of short `k` if nothing decides it
+-- The bit of net `n`: its constant if it is stuck, else the bit of its short if it is in one, else the bit that its driver and its pull
+-- give. None means a free bit for each cell that captures. `shorts k` is the bit of short `k` if nothing decides that bit.
 abbrev pub net_bit : RawBoard → FaultSet → List PinState → (ℕ → Bool) → ℕ → Net → Option Bool
 net_bit board faults states shorts n net = net_bit_by board faults states shorts n net (faults.stuck n) (faults.short n)
 
--- the place of a pin among these pins, the first of which is at this place
+-- the place of a pin among these pins, if it is one of them; the first pin has place `place`
 abbrev pub place_in : PinAt → ℕ → List NetPin → Option ℕ
 place_in at place [] = None
 place_in at place (pin ∷ pins) = cond (is_at at pin.at) (Some place) (place_in at (suc place) pins)
 
--- a place of a net
+-- a place in the nets: the number of a net, the net, and a place in it
 pub record Place : Type 0 where
   pub number : ℕ
   pub net : Net
   pub place : ℕ
 
--- this place in net `n` if there is one, otherwise the other place
+-- the given place in net `n` if there is one, otherwise `next`
 abbrev pub or_next : ℕ → Net → Option ℕ → Option Place → Option Place
 or_next n net None next = next
 or_next n net (Some place) next = Some (record { number = n; net = net; place = place })
 
--- the place of a pin in the nets, from net `n` on
+-- the place of a pin in these nets, if it is in one of them; the first net has number `n`
 abbrev pub place_of : PinAt → ℕ → List Net → Option Place
 place_of at n [] = None
 place_of at n (net ∷ nets) = or_next n net (place_in at 0 net.pins) (place_of at (suc n) nets)
 
--- what a cell captures of a pin at this place: the constant of the pin if it is open, else the bit of the net, else a free bit
+-- the bit that a cell captures from a pin at this place: the constant of the pin if it is open, else the bit of the net, else a free bit
 abbrev pub read_at : RawBoard → FaultSet → List PinState → (ℕ → Bool) → Bool → Option Place → Bool
 read_at board faults states shorts free None = free
 read_at board faults states shorts free (Some p) =
@@ -236,26 +238,26 @@ read_at board faults states shorts free (Some p) =
 abbrev pub reads_pin : RawBoard → List PinState → PinAt → Bool
 reads_pin board states at = receives_where board (Some at) && not (live_where board states (Some at))
 
--- what a cell captures of the pin at the port bit of its entry
+-- the bit that a cell captures from the pin at its entry's port bit
 abbrev pub read_bit : RawBoard → FaultSet → List PinState → (ℕ → Bool) → Bool → ℕ → Option ℕ → Bool
 read_bit board faults states shorts free part None = free
 read_bit board faults states shorts free part (Some b) =
     let at : PinAt = record { part = part; bit = b } in
     cond (reads_pin board states at) (read_at board faults states shorts free (place_of at 0 board.nets)) free
 
--- what a cell with this reading entry captures: an INPUT, CLOCK or BIDIR entry reads its pin; any other cell captures a free bit
+-- The bit that a cell with this reading entry captures. An INPUT, CLOCK or BIDIR entry reads its pin. Any other cell captures a free bit.
 abbrev pub read_entry : RawBoard → FaultSet → List PinState → (ℕ → Bool) → Bool → ℕ → Option Cell → Bool
 read_entry board faults states shorts free part None = free
 read_entry board faults states shorts free part (Some cell) =
     cond (is_receiving cell.role) (read_bit board faults states shorts free part cell.bit) free
 
--- what a cell of a part of this kind captures; a part without a description has no boundary cells
+-- The bits that the cells of a part of this kind capture. A part without a description has no boundary cells.
 abbrev pub captured_by : RawBoard → FaultSet → List PinState → (ℕ → Bool) → (ℕ → Bool) → ℕ → PartKind → List Bool
 captured_by board faults states shorts free part (WithoutDescription n) = []
 captured_by board faults states shorts free part (Described device) =
     filled device.boundary (λ cell. read_entry board faults states shorts (free cell) part (reading_entry device cell))
 
--- what the boundary cells of a part capture under Extest
+-- the bits that the boundary cells of a part capture under Extest
 abbrev pub captured : RawBoard → FaultSet → List PinState → (ℕ → Bool) → (ℕ → FreeBits) → ℕ → List Bool
 captured board faults states shorts free part =
     unwrap_or (option_map (λ p. captured_by board faults states shorts (free part).cells part p.kind) (slice_get board.chain part)) []

@@ -1,4 +1,4 @@
--- A board round its chain: what the chain knows of the board's parts, and what the pins give the boundary cells.
+-- A board around its chain: the parts of the chain, and the bits that the pins give the boundary cells.
 use Rattle.std.specs.Prelude.{List, [], map, Option, Some, None}
 use Rattle.board_defs.specs.declared.board.PartKind.{PartKind}
 use Rattle.board_defs.specs.declared.board.PartKind.TheVariants.{Described, Bypass as WithoutDescription}
@@ -10,13 +10,14 @@ use Rattle.tap_defs.specs.chain.Run.{Clock, Wiring, PassesOn, FailsOn}
 use Rattle.tap_defs.specs.board.FaultSet.{FaultSet}
 use Rattle.tap_defs.specs.board.NetBits.{captured}
 
--- Test-Logic-Reset selects IDCODE where the device declares an identification pattern, else BYPASS (IEEE 1149.1-1990, section 6). What
--- IDCODE shifts is not known
+-- The instruction in Test-Logic-Reset: IDCODE if the device declares an identification pattern, else BYPASS (IEEE 1149.1-1990, section
+-- 6). IDCODE is modeled as another instruction, since the bits that it shifts are not known.
 abbrev pub reset_by : {A : Type 0} → Option A → Instruction
 reset_by None = Bypass
 reset_by (Some code) = Other
 
--- a described part with its lengths and codes; of a part without a description only the length of its instruction register is known
+-- The test logic of a part. A described part has the lengths and codes of its device. Of a part without a description only the length
+-- of the instruction register is known.
 abbrev pub test_logic : PartKind → TestLogic
 test_logic (Described device) = record {
   ir_length = device.ir;
@@ -32,18 +33,18 @@ test_logic (WithoutDescription n) = record { ir_length = n; boundary_length = 0;
 abbrev pub board_logics : RawBoard → List TestLogic
 board_logics board = map (λ part. test_logic part.kind) board.chain
 
--- the board round its chain, with these faults
+-- the board around its chain, with these faults
 abbrev pub board_wiring : RawBoard → FaultSet → Wiring
 board_wiring board faults states choice part = captured board faults states choice.shorts choice.parts part
 
--- any state of the board's chain
+-- `chain` is some state of the board's chain
 abbrev pub IsBoardChain : RawBoard → List ChainPart → Type 0
 IsBoardChain board chain = IsChainOf (board_logics board) chain
 
--- in every run on the board with these faults every compared bit is as expected
+-- in every run on the board with these faults, every compared bit is as expected
 abbrev pub PassOnBoard : RawBoard → FaultSet → List Clock → Type 0
 PassOnBoard board faults clocks = PassesOn (board_wiring board faults) (board_logics board) clocks
 
--- in every run on the board with these faults some compared bit is not as expected
+-- in every run on the board with these faults, some compared bit is not as expected
 abbrev pub FailOnBoard : RawBoard → FaultSet → List Clock → Type 0
 FailOnBoard board faults clocks = FailsOn (board_wiring board faults) (board_logics board) clocks

@@ -25,18 +25,18 @@ abbrev pub differs : Bool → Option Bool → Bool
 differs bit None = false
 differs bit (Some value) = not (is_same bit value)
 
--- this cell of the part controls the driver of this entry, which drives a pin of the chosen pin map
+-- the cell controls the driver of this entry, and the driver's port bit has a pin
 abbrev pub controls_driver : RawBoard → ℕ → ℕ → Cell → Bool
 controls_driver board part cell entry =
     is_control_of cell entry.ctl && is_driving entry.role
     && unwrap_or (option_map (λ bit. is_pinned board (record { part = part; bit = bit })) entry.bit) false
 
--- the cell controls a driver of the device, and this bit differs from the disable value
+-- the cell controls a driver of the device, and `bit` differs from the disable value
 abbrev pub set_in : RawBoard → ℕ → ℕ → Bool → Option RawDevice → Bool
 set_in board part cell bit None = false
 set_in board part cell bit (Some device) = list_any (controls_driver board part cell) device.cells && differs bit (disable_of device cell)
 
--- the setting of those controls of drivers whose latches differ from the disable value
+-- the setting of the controls of drivers whose latches differ from the disable value
 abbrev pub latched_setting : RawBoard → List PinState → Enabling
 latched_setting board states c = set_in board c.part c.cell (latch states c.part c.cell) (device_at board c.part)
 
@@ -46,23 +46,23 @@ IsSafelySet board states =
     ((part : ℕ) (device : RawDevice) → device_at board part ≡ Some device → in_extest states part ≡ false)
     ⊎ (((part : ℕ) (device : RawDevice) → device_at board part ≡ Some device → in_extest states part ≡ true) × IsSafe board (latched_setting board states))
 
--- (b) no net has two different drivers that are each live at this moment or at the next
+-- (b) no net has two different drivers, each of which is live at this moment or at the next
 abbrev pub IsUncontested : RawBoard → List PinState → List PinState → Type 0
 IsUncontested board now next =
     (n : ℕ) (net : Net) (i j : ℕ) (p q : NetPin) → slice_get board.nets n ≡ Some net → slice_get net.pins i ≡ Some p → slice_get net.pins j ≡ Some q → i ≢ j →
     (live board now p || live board next p) ≡ true → (live board now q || live board next q) ≡ true → ⊥
 
--- the pin at a port bit is on a net that is not guarded
+-- the pin at the port bit is on an unguarded net
 abbrev pub is_on_unguarded : RawBoard → PinAt → Bool
 is_on_unguarded board at = list_any (λ net. not (guarded board net) && list_any (λ pin. is_at at pin.at) net.pins) board.nets
 
--- the entry is a driving entry of this cell, and its pin is on a net that is not guarded
+-- the entry is a driving entry of this cell, and its pin is on an unguarded net
 abbrev pub drives_unguarded : RawBoard → ℕ → ℕ → Cell → Bool
 drives_unguarded board part cell entry =
     (entry.num == cell) && is_driving entry.role
     && unwrap_or (option_map (λ bit. is_on_unguarded board (record { part = part; bit = bit })) entry.bit) false
 
--- the value as 0 or 1, or None for X
+-- the bit of a symbol, or None for X
 abbrev pub symbol_value : Symbol → Option Bool
 symbol_value Zero = Some false
 symbol_value One = Some true
@@ -72,7 +72,8 @@ symbol_value Any = None
 abbrev pub safe_bit : RawDevice → ℕ → Option Bool
 safe_bit device cell = option_and_then symbol_value (safe_value device cell)
 
--- (c) while Extest is current, the latch of a cell that controls no driver, and drives no pin on a net that is not guarded, has its safe value
+-- (c) Under Extest, a cell that controls no driver and drives no pin of an unguarded net has its safe value in its latch, if that value is
+-- 0 or 1.
 abbrev pub KeepsSafeValues : RawBoard → List PinState → Type 0
 KeepsSafeValues board states =
     (part cell : ℕ) (device : RawDevice) (value : Bool) → device_at board part ≡ Some device → in_extest states part ≡ true → cell < device.boundary →
@@ -83,7 +84,7 @@ KeepsSafeValues board states =
 abbrev pub IsQuietMoment : RawBoard → List PinState → Type 0
 IsQuietMoment board states = IsSafelySet board states × KeepsSafeValues board states
 
--- each of these moments is quiet, and no net is contested between a moment and the next
+-- each moment of the list is quiet, and no net is contested between a moment and the next
 abbrev pub StaysQuiet : RawBoard → List PinState → List (List PinState) → Type 0
 StaysQuiet board before [] = Unit {0}
 StaysQuiet board before (states ∷ later) = IsQuietMoment board states × IsUncontested board before states × StaysQuiet board states later

@@ -1,4 +1,5 @@
--- What a scan of data captures while a row is in the latches, under any faults. The bits of the nets decide it; no clock is run.
+-- The bits that a data scan captures while a row is in the latches, under any faults. They follow from the bits of the nets, without
+-- running clocks.
 use Rattle.std.specs.Prelude.{◌≡◌, ℕ, suc, Bool, true, false, List, [], ◌∷◌, Option, Some, None}
 use Rattle.board_defs.specs.declared.board.PartKind.{PartKind}
 use Rattle.board_defs.specs.declared.board.PartKind.TheVariants.{Described, Bypass as WithoutDescription}
@@ -15,42 +16,42 @@ use Rattle.tap_defs.specs.board.OnBoard.{board_wiring}
 use Rattle.tap_defs.specs.board.TestRows.{TestRow, row_bit}
 use Rattle.tap_defs.specs.board.BoardScans.{RowScan}
 
--- what a part shows while the row is in the latches: a described part has EXTEST, any other part BYPASS
+-- The visible state of a part while the row is in the latches. A described part has EXTEST, and any other part has BYPASS.
 abbrev pub shown_by_part : RawBoard → TestRow → ℕ → PartKind → PinState
 shown_by_part board row part (Described device) = record { current = Extest; latches = filled device.boundary (λ cell. row_bit board row part device cell) }
 shown_by_part board row part (WithoutDescription n) = record { current = Bypass; latches = [] }
 
--- what these parts show, the first of which has this number
+-- the visible states of these parts, the first of which has number `part`
 abbrev pub shown_by_parts : RawBoard → TestRow → ℕ → List Part → List PinState
 shown_by_parts board row part [] = []
 shown_by_parts board row part (p ∷ parts) = shown_by_part board row part p.kind ∷ shown_by_parts board row (suc part) parts
 
--- what all parts show
+-- the visible states of all parts
 abbrev pub row_states : RawBoard → TestRow → List PinState
 row_states board row = shown_by_parts board row 0 board.chain
 
--- what the data register of a part loads if its pins have these bits; a part in BYPASS loads 0
+-- The bits that the data register of a part loads if its boundary cells get these bits. A part in BYPASS loads 0.
 abbrev pub register_of : PartKind → List Bool → List Bool
 register_of (Described device) pins = pins
 register_of (WithoutDescription n) pins = false ∷ []
 
--- what the data registers of the parts load, from the bits of their pins
+-- the bits that the data registers of the parts load, if the boundary cells get these bits
 abbrev pub registers : (ℕ → List Bool) → List Part → List (List Bool)
 registers pins [] = []
 registers pins (p ∷ parts) = register_of p.kind (pins 0) ∷ registers (λ k. pins (suc k)) parts
 
--- the bits that a scan captures while the row is in the latches; the first bit is nearest TDO
+-- The bits that a data scan captures while the row is in the latches. The first bit is nearest TDO.
 abbrev pub row_captured : RawBoard → FaultSet → TestRow → Choice → List Bool
 row_captured board faults row choice = joined (registers (board_wiring board faults (row_states board row) choice) board.chain)
 
--- each of these scans passes with what it captures while the row that the scan before it shifted in is in the latches, for all free bits
+-- Each scan passes, whatever the free bits are, if it captures while the row that the scan before it shifted in is in the latches.
 abbrev pub CapturesPass : RawBoard → FaultSet → TestRow → List RowScan → List Scan → Type 0
 CapturesPass board faults row [] scans = Unit {0}
 CapturesPass board faults row (t ∷ ts) [] = Unit {0}
 CapturesPass board faults row (t ∷ ts) (scan ∷ scans) =
     ((choice : Choice) → scan_passes scan.bits (row_captured board faults row choice) ≡ true) × CapturesPass board faults t.now ts scans
 
--- two bits are the same, if they are compared
+-- the two bits are equal if they are compared
 abbrev pub AgreeAt : Option Bool → Bool → Bool → Type 0
 AgreeAt None x y = Unit {0}
 AgreeAt (Some expected) x y = x ≡ y

@@ -1,4 +1,4 @@
--- Who drives a net while a row is in the latches, from the enabled driver and the bit of its cell.
+-- How a net is driven while a row is in the latches. This follows from the enabled driver and the bit of its cell.
 use Rattle.std.specs.Prelude.{ℕ, ◌==◌, Bool, false, cond, ◌&&◌, Option, Some, None, slice_get}
 use Rattle.board_defs.specs.declared.device.Control.{Control}
 use Rattle.board_defs.specs.declared.device.Cell.{Cell}
@@ -11,7 +11,7 @@ use Rattle.board_defs.specs.Pins.{device_at, entry_at, is_same}
 use Rattle.tap_defs.specs.board.NetBits.{Feeding, Undriven, Driven}
 use Rattle.tap_defs.specs.board.TestRows.{TestRow, first_enabled, row_bit}
 
--- what a cell of a part holds in a row
+-- the bit of a part's cell in a row
 abbrev pub cell_bit : RawBoard → TestRow → ℕ → Option RawDevice → ℕ → Bool
 cell_bit board row part None cell = false
 cell_bit board row part (Some device) cell = row_bit board row part device cell
@@ -21,28 +21,28 @@ abbrev pub is_switched_off : Bool → Cell → Option Control → Bool
 is_switched_off bit cell None = false
 is_switched_off bit cell (Some control) = (control.cell == cell.num) && is_same bit control.disable
 
--- what the enabled driver at this place gives its net: the bit of its cell, or nothing if it is a switching driver with its disable value
+-- How the driver with this entry drives its net if it is enabled. A switching driver whose cell has the disable value drives nothing.
 abbrev pub entry_feeds : RawBoard → TestRow → PinAt → ℕ → Option Cell → Feeding
 entry_feeds board row at place None = Undriven
 entry_feeds board row at place (Some cell) =
     let bit : Bool = cell_bit board row at.part (device_at board at.part) cell.num in
     cond (is_switched_off bit cell cell.ctl) Undriven (Driven place bit)
 
--- what the enabled driver at this place and port bit gives its net
+-- how the driver at this port bit drives its net if it is enabled
 abbrev pub at_feeds : RawBoard → TestRow → ℕ → Option PinAt → Feeding
 at_feeds board row place None = Undriven
 at_feeds board row place (Some at) = entry_feeds board row at place (entry_at board at)
 
--- what the pin at this place gives its net if it is the enabled driver
+-- how the pin at this place drives its net if it is the enabled driver
 abbrev pub pin_feeds : RawBoard → TestRow → ℕ → Option NetPin → Feeding
 pin_feeds board row place None = Undriven
 pin_feeds board row place (Some pin) = at_feeds board row place pin.at
 
--- what the enabled driver of the net gives it, if there is one
+-- how the enabled driver drives the net, if there is one
 abbrev pub driver_feeds : RawBoard → TestRow → Net → Option ℕ → Feeding
 driver_feeds board row net None = Undriven
 driver_feeds board row net (Some place) = pin_feeds board row place (slice_get net.pins place)
 
--- who drives the net in a row
+-- how the net is driven in a row
 abbrev pub row_feeding : RawBoard → TestRow → Net → Feeding
 row_feeding board row net = driver_feeds board row net (first_enabled board row.setting 0 net.pins)

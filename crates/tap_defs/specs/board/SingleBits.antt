@@ -1,4 +1,4 @@
--- The bit of a compared cell under a single fault, from the row in the latches.
+-- The bit of a compared cell under a single fault. It follows from the row in the latches.
 use Rattle.std.specs.Prelude.{ℕ, ◌==◌, Bool, false, cond, ◌&&◌, ◌||◌, Option, Some, None, slice_get, option_and_then, unwrap_or}
 use Rattle.board_defs.specs.declared.board.Net.{Net}
 use Rattle.board_defs.specs.declared.board.RawBoard.{RawBoard}
@@ -10,22 +10,23 @@ use Rattle.tap_defs.specs.board.NetBits.{Feeding, Unruled, Undriven, Driven, Con
 use Rattle.tap_defs.specs.board.TestRows.{TestRow, first_enabled}
 use Rattle.tap_defs.specs.board.RowDriving.{row_feeding}
 
--- the bit that the net is driven to, if it is driven
+-- the bit to which a net is driven, if one driver drives it
 abbrev pub bit_of_feeding : Feeding → Option Bool
 bit_of_feeding Unruled = None
 bit_of_feeding Undriven = None
 bit_of_feeding (Driven place bit) = Some bit
 bit_of_feeding Contended = None
 
--- the bit that a net is driven to in a row: it has an enabled driver, and that is not a switching driver with its disable value
+-- The bit to which the net is driven in a row, if it is driven. It must have an enabled driver, and that driver must not be a switching
+-- driver whose cell has the disable value.
 abbrev pub driven_to : RawBoard → TestRow → Option Net → Option Bool
 driven_to board row net = option_and_then (λ n. bit_of_feeding (row_feeding board row n)) net
 
--- the bit that a net is pulled to
+-- the value to which the net is pulled, if it is pulled
 abbrev pub pulled_to : Option Net → Option Bool
 pulled_to net = option_and_then (λ n. n.pull) net
 
--- the bits of two nets, combined by the kind of their short; if only one is there, that bit
+-- the combined bit of two nets, by the kind of their short; if only one net has a bit, that bit
 abbrev pub shorted : Kind → Option Bool → Option Bool → Option Bool
 shorted kind None second = second
 shorted kind (Some first) None = Some first
@@ -34,24 +35,25 @@ shorted Or (Some first) (Some second) = Some (first || second)
 shorted First (Some first) (Some second) = Some first
 shorted Second (Some first) (Some second) = Some second
 
--- the bit of two shorted nets: from the bits that they are driven to; if neither is driven, from the bits that they are pulled to
+-- The bit of two shorted nets. It follows from the bits to which they are driven, or, if neither is driven, from their pulls.
 abbrev pub shorted_nets_bit : RawBoard → TestRow → Kind → Option Net → Option Net → Option Bool
 shorted_nets_bit board row kind first second =
     or_else (shorted kind (driven_to board row first) (driven_to board row second)) (shorted kind (pulled_to first) (pulled_to second))
 
--- the place is the given one
+-- the place, if there is one, is `place`
 abbrev pub is_place : Option ℕ → ℕ → Bool
 is_place None place = false
 is_place (Some other) place = other == place
 
--- the bit of a cell on the net whose pin at this place is open: the value of the pin at its own cells; while the pin is the enabled driver, the
--- pull of the net, or the value of the pin if the net has no pull; otherwise the expected bit
+-- The bit of a cell on the net with the open pin. A cell of the pin itself has the value of the pin. For any other cell there are two
+-- cases. If the open pin is the enabled driver, the bit is the net's pull, or the value of the pin if the net has no pull. Otherwise it is
+-- the expected bit.
 abbrev pub open_bit : RawBoard → TestRow → ℕ → Bool → Place → Bool → Bool
 open_bit board row opened value at expected =
     cond (at.place == opened) value
     (cond (is_place (first_enabled board row.setting 0 at.net.pins) opened) (unwrap_or at.net.pull value) expected)
 
--- the bit of a compared cell under a single fault; a fault of another net does not change it
+-- the bit of a compared cell under a single fault, which is the expected bit unless the fault is on the cell's net
 abbrev pub single_bit : RawBoard → Single → TestRow → Place → Bool → Bool
 single_bit board (StuckNet net value) row at expected = cond (at.number == net) value expected
 single_bit board (OpenPin pin value) row at expected = cond (at.number == pin.net) (open_bit board row pin.place value at expected) expected

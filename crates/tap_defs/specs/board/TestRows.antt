@@ -1,4 +1,4 @@
--- The rows of a test: what each boundary cell of a board holds in a row, and what it is expected to capture.
+-- The rows of a test: the bit that each boundary cell of a board has in a row, and the bit that it is expected to capture.
 use Rattle.std.specs.Prelude.{◌≡◌, ◌≢◌, ℕ, suc, ◌+◌, ◌/◌, ◌%◌, ◌^◌, ◌<◌, ◌≤◌, ◌==◌, nat_le, Bool, true, false, cond, not, ◌&&◌, ◌||◌, List, [], ◌∷◌, take, Option, Some, None, find, is_some, option_and_then, unwrap_or, count_by}
 use Rattle.std.specs.List.{list_any, range_with_len}
 use Rattle.board_defs.specs.declared.device.Cell.{Cell}
@@ -13,12 +13,12 @@ use Rattle.board_defs.specs.Settings.{Enabling, holds, enables}
 use Rattle.tap_defs.specs.board.NetBits.{Place, place_of}
 use Rattle.tap_defs.specs.board.Quiet.{controls_driver, safe_bit}
 
--- the place of the first enabled driver among some pins; in a safe setting it is the only one
+-- the place of the first enabled driver among some pins, which is the only one if the setting is safe
 abbrev pub first_enabled : RawBoard → Enabling → ℕ → List NetPin → Option ℕ
 first_enabled board setting place [] = None
 first_enabled board setting place (pin ∷ pins) = cond (enables board setting pin) (Some place) (first_enabled board setting (suc place) pins)
 
--- some pin at another place than the driver's is a receiver
+-- some pin at a place other than the driver's is a receiver
 abbrev pub reads_beside : RawBoard → ℕ → ℕ → List NetPin → Bool
 reads_beside board driver place [] = false
 reads_beside board driver place (pin ∷ pins) = (not (place == driver) && receives board pin) || reads_beside board driver (suc place) pins
@@ -37,7 +37,7 @@ observing_driver board setting net =
 abbrev pub is_observed : RawBoard → List (List Ctl) → Net → Bool
 is_observed board passes net = list_any (λ pass. is_some (observing_driver board (holds pass) net)) passes
 
--- the code of a net: its number, from 1 and in net order, among the nets that some pass observes
+-- the code of a net: its number among the nets that some pass observes, counted from 1 in net order
 abbrev pub code_of_net : RawBoard → List (List Ctl) → ℕ → ℕ
 code_of_net board passes n = suc (count_by (is_observed board passes) (take n board.nets))
 
@@ -45,11 +45,11 @@ code_of_net board passes n = suc (count_by (is_observed board passes) (take n bo
 abbrev pub observed_count : RawBoard → List (List Ctl) → ℕ
 observed_count board passes = count_by (is_observed board passes) board.nets
 
--- the width of `n` codes: the smallest `w` with n + 2 ≤ 2 ^ w, so that no code is all zeros or all ones
+-- the code width of `n` codes: the smallest `w` with `n + 2 ≤ 2 ^ w`, so that no code has only zeros or only ones
 abbrev pub code_width : ℕ → ℕ
 code_width n = unwrap_or (find (λ w. nat_le (n + 2) (2 ^ w)) (range_with_len 0 (n + 2))) 0
 
--- this width is enough for the codes from 1 to `n` without a code of all zeros or all ones, and no smaller width is
+-- `width` is the smallest width at which no code from 1 to `n` has only zeros or only ones
 pub record IsCodeWidth (n width : ℕ) : Type 0 where
   pub enough : n + 2 ≤ 2 ^ width
   pub least : (less : ℕ) → less < width → 2 ^ less < n + 2
@@ -58,7 +58,8 @@ pub record IsCodeWidth (n width : ℕ) : Type 0 where
 abbrev pub code_bit : ℕ → ℕ → Bool
 code_bit c j = ((c / 2 ^ j) % 2) == 1
 
--- what the codes from 1 to `n` can tell within a width: each has a 0 bit and a 1 bit, and each two differ in some bit
+-- codes of `width` bits tell `n` nets apart: each code from 1 to `n` has a 0 bit and a 1 bit, and every two of these codes differ in some
+-- bit
 pub record CodesTell (n width : ℕ) : Type 0 where
   pub has : (c : ℕ) (v : Bool) → 1 ≤ c → c ≤ n → (j : ℕ) × (j < width) × (code_bit c j ≡ v)
   pub differ : (c d : ℕ) → 1 ≤ c → c ≤ n → 1 ≤ d → d ≤ n → c ≢ d → (j : ℕ) × (j < width) × (code_bit c j ≡ not (code_bit d j))
@@ -67,12 +68,12 @@ pub record CodesTell (n width : ℕ) : Type 0 where
 abbrev pub net_code_bit : RawBoard → List (List Ctl) → ℕ → ℕ → Bool
 net_code_bit board passes j n = code_bit (code_of_net board passes n) j
 
--- a row: the setting that is on, and the bit of each net that carries one
+-- a row: its setting, and the bit of each net that carries one
 pub record TestRow : Type 0 where
   pub setting : Enabling
   pub carried : ℕ → Option Bool
 
--- the quiet row: no control is on, and no net carries a bit
+-- the quiet row, in which no control is enabled and no net carries a bit
 abbrev pub quiet_row : TestRow
 quiet_row = record { setting = λ c. false; carried = λ n. None }
 
@@ -80,8 +81,8 @@ quiet_row = record { setting = λ c. false; carried = λ n. None }
 abbrev pub code_row : RawBoard → List (List Ctl) → List Ctl → ℕ → TestRow
 code_row board passes pass j = record { setting = holds pass; carried = λ n. Some (net_code_bit board passes j n) }
 
--- the bit of a cell that carries no net's bit: if it controls a driver, the opposite of the disable value if it is in the setting, otherwise the
--- disable value; for any other cell its safe value, with X as 0
+-- The bit of a cell that carries no net's bit. A cell that controls a driver has the disable value, or its opposite if the setting holds
+-- the cell. Any other cell has its safe value, with X as 0.
 abbrev pub steady_bit : RawBoard → Enabling → ℕ → RawDevice → ℕ → Bool
 steady_bit board setting part device cell =
     let off : Bool = unwrap_or (disable_of device cell) false in
@@ -94,55 +95,55 @@ abbrev pub only_if : Bool → Option Bool → Option Bool
 only_if true bit = bit
 only_if false bit = None
 
--- the bit of the net, if the driver by which the net is observed is at this place
+-- the bit of the net, if the driver that observes the net is at this place
 abbrev pub data_observed : Option Bool → ℕ → Option ℕ → Option Bool
 data_observed bit place None = None
 data_observed bit place (Some driver) = only_if (driver == place) bit
 
--- the bit of the net of a pin at this place, if the pin is the driver by which it is observed
+-- the bit of the net of a pin at this place, if the pin is the driver by which the net is observed
 abbrev pub data_place : RawBoard → TestRow → Option Place → Option Bool
 data_place board row None = None
 data_place board row (Some p) = data_observed (row.carried p.number) p.place (observing_driver board row.setting p.net)
 
--- the bit of the net of the pin at this port bit, under the same condition
+-- the bit of the net of the pin at this port bit, if the pin is the driver by which the net is observed
 abbrev pub data_pin : RawBoard → TestRow → ℕ → Option ℕ → Option Bool
 data_pin board row part None = None
 data_pin board row part (Some b) = data_place board row (place_of (record { part = part; bit = b }) 0 board.nets)
 
--- the driving entry of a cell, of which there is at most one
+-- the driving entry of a cell, which has at most one
 abbrev pub driving_cell : RawDevice → ℕ → Option Cell
 driving_cell device cell = find (λ e. (e.num == cell) && is_driving e.role) device.cells
 
--- the bit of an observed net, in the cell of its enabled driver
+-- the bit of the observed net that the cell drives, if the cell is that of the net's enabled driver
 abbrev pub data_bit : RawBoard → TestRow → ℕ → RawDevice → ℕ → Option Bool
 data_bit board row part device cell = option_and_then (λ e. data_pin board row part e.bit) (driving_cell device cell)
 
--- what a cell holds in a row
+-- the bit of a cell in a row
 abbrev pub row_bit : RawBoard → TestRow → ℕ → RawDevice → ℕ → Bool
 row_bit board row part device cell = unwrap_or (data_bit board row part device cell) (steady_bit board row.setting part device cell)
 
--- the bit of the net, if the driver by which the net is observed is at another place
+-- the bit of the net, if the driver that observes the net is at another place
 abbrev pub expect_observed : Option Bool → ℕ → Option ℕ → Option Bool
 expect_observed bit place None = None
 expect_observed bit place (Some driver) = only_if (not (driver == place)) bit
 
--- the expected bit of a pin at this place, if another pin is the driver by which its net is observed
+-- the expected bit of a pin at this place, if the driver by which its net is observed is another pin
 abbrev pub expect_place : RawBoard → TestRow → Option Place → Option Bool
 expect_place board row None = None
 expect_place board row (Some p) = expect_observed (row.carried p.number) p.place (observing_driver board row.setting p.net)
 
--- the expected bit of the pin at this port bit, if it is a receiver and another pin drives its net
+-- the expected bit of the pin at this port bit, if it is a receiver and another pin drives its observed net
 abbrev pub expect_pin : RawBoard → TestRow → ℕ → Option ℕ → Option Bool
 expect_pin board row part None = None
 expect_pin board row part (Some b) =
     cond (receives_where board (Some (record { part = part; bit = b }))) (expect_place board row (place_of (record { part = part; bit = b }) 0 board.nets)) None
 
--- the expected bit of a cell with this reading entry, if that is INPUT, CLOCK or BIDIR
+-- the expected bit of a cell with this reading entry, if the entry is INPUT, CLOCK or BIDIR
 abbrev pub expect_entry : RawBoard → TestRow → ℕ → Option Cell → Option Bool
 expect_entry board row part None = None
 expect_entry board row part (Some e) = cond (is_receiving e.role) (expect_pin board row part e.bit) None
 
--- what a compared cell is expected to capture while the row is in the latches. Compared is every INPUT, CLOCK and BIDIR cell of a receiver on an
--- observed net, at a pin other than the enabled driver's
+-- The bit that a cell is expected to capture while the row is in the latches, or None if the cell is not compared. Every INPUT, CLOCK and
+-- BIDIR cell of a receiver on an observed net is compared, except at the pin of the enabled driver.
 abbrev pub expect_bit : RawBoard → TestRow → ℕ → RawDevice → ℕ → Option Bool
 expect_bit board row part device cell = expect_entry board row part (reading_entry device cell)

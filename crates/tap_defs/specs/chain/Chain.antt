@@ -1,26 +1,27 @@
--- One TCK cycle of a chain: all parts have the same TMS, and the TDO of each part is the TDI of the next one in the same cycle
+-- One TCK cycle of a chain. All parts have the same TMS. The TDO of each part is the TDI of the next part in the same cycle
 -- (IEEE 1149.1-1990, section 3, the interconnection of components).
 use Rattle.std.specs.Prelude.{◌≡◌, ℕ, suc, Bool, List, [], ◌∷◌, map}
 use Rattle.tap_defs.specs.chain.TestLogic.{TestLogic}
 use Rattle.tap_defs.specs.chain.Part.{PartState, PinState, pin_state, FreeBits, part_after, part_tdo, IsStateOf}
 
--- a part of a chain, with its state. Chains are lists in the order from TDI to TDO
+-- A part of a chain, with its state. A chain is a list of parts in the order from TDI to TDO.
 pub record ChainPart : Type 0 where
   pub logic : TestLogic
   pub state : PartState
 
--- what the pins of each part show
+-- the visible state of each part
 abbrev pub pin_states : List ChainPart → List PinState
 pin_states parts = map (λ p. pin_state p.state) parts
 
--- the chain after a cycle: `pins k` has the bits that the pins of part `k` give its boundary cells, and `free k` its free bits
+-- The chain after a cycle. `pins k` has the bits that the pins of part `k` give its boundary cells, and `free k` has the free
+-- bits of part `k`.
 abbrev pub chain_after : List ChainPart → (ℕ → List Bool) → (ℕ → FreeBits) → Bool → Bool → List ChainPart
 chain_after [] pins free tms tdi = []
 chain_after (p ∷ parts) pins free tms tdi =
     record p { state = part_after p.logic (pins 0) (free 0) tms tdi p.state }
     ∷ chain_after parts (λ k. pins (suc k)) (λ k. free (suc k)) tms (part_tdo (free 0) tdi p.state)
 
--- TDO of the chain in the cycle, which is that of its last part
+-- TDO of the chain in the cycle, which is TDO of its last part
 abbrev pub chain_tdo : List ChainPart → (ℕ → FreeBits) → Bool → Bool
 chain_tdo [] free tdi = tdi
 chain_tdo (p ∷ parts) free tdi = chain_tdo parts (λ k. free (suc k)) (part_tdo (free 0) tdi p.state)
@@ -34,7 +35,7 @@ abbrev pub AllAreStates : List ChainPart → Type 0
 AllAreStates [] = Unit {0}
 AllAreStates (p ∷ parts) = IsStateOf p.logic p.state × AllAreStates parts
 
--- any state of a chain of these parts; the TAP states may differ
+-- `chain` is some state of a chain of these parts, whose TAP states may differ
 pub record IsChainOf (parts : List TestLogic) (chain : List ChainPart) : Type 0 where
   pub logics_are : logics chain ≡ parts
   pub states_are : AllAreStates chain

@@ -1,4 +1,5 @@
--- The registers of a chain through which a scan goes, and what the capture states load into them (IEEE 1149.1-1990, sections 6 and 8).
+-- The registers of a chain through which scans go, and the bits that the capture states load into them (IEEE 1149.1-1990, sections 6
+-- and 8).
 use Rattle.std.specs.Prelude.{◌≡◌, ◌≢◌, ℕ, suc, Bool, false, List, [], ◌∷◌, length, map}
 use Rattle.tap_defs.specs.declared.tap.TapState.{TapState}
 use Rattle.tap_defs.specs.chain.TestLogic.{TestLogic, Instruction, Extest, Sample, Bypass, Idcode, Other}
@@ -19,15 +20,15 @@ selected_by Other boundary bypass identification = []
 abbrev pub data_register : PartState → List Bool
 data_register s = selected_by s.current s.boundary s.bypass s.identification
 
--- the registers between TDI and TDO of all parts
+-- the registers between TDI and TDO in Shift-DR, one for each part
 abbrev pub data_registers : List ChainPart → List (List Bool)
 data_registers parts = map (λ p. data_register p.state) parts
 
--- what a part holds after Update-DR: its latches, its bypass bit, or its identification register
+-- the bits that a part holds after Update-DR: its latches, its bypass bit, or its identification register
 abbrev pub held_bits : PartState → List Bool
 held_bits s = selected_by s.current s.latches s.bypass s.identification
 
--- what all parts hold
+-- the bits that each part holds after Update-DR
 abbrev pub all_held : List ChainPart → List (List Bool)
 all_held parts = map (λ p. held_bits p.state) parts
 
@@ -35,7 +36,7 @@ all_held parts = map (λ p. held_bits p.state) parts
 abbrev pub ir_registers : List ChainPart → List (List Bool)
 ir_registers parts = map (λ p. p.state.ir) parts
 
--- what Capture-DR loads into the register that an instruction selects, for a boundary register of `n` cells
+-- the bits that Capture-DR loads into the register that an instruction selects, for a boundary register of `n` cells
 abbrev pub dr_capture : TestLogic → List Bool → FreeBits → Instruction → ℕ → List Bool
 dr_capture logic pins free Extest n = pins
 dr_capture logic pins free Sample n = filled n free.cells
@@ -43,27 +44,27 @@ dr_capture logic pins free Bypass n = false ∷ []
 dr_capture logic pins free Idcode n = logic.idcode
 dr_capture logic pins free Other n = []
 
--- what Capture-DR loads into the registers of all parts
+-- the bits that Capture-DR loads into the selected register of each part
 abbrev pub dr_captures : (ℕ → List Bool) → (ℕ → FreeBits) → List ChainPart → List (List Bool)
 dr_captures pins free [] = []
 dr_captures pins free (p ∷ parts) =
     dr_capture p.logic (pins 0) (free 0) p.state.current (length p.state.boundary)
     ∷ dr_captures (λ k. pins (suc k)) (λ k. free (suc k)) parts
 
--- what Capture-IR loads into the registers of all parts
+-- the bits that Capture-IR loads into the instruction register of each part
 abbrev pub ir_captures : (ℕ → FreeBits) → List ChainPart → List (List Bool)
 ir_captures free [] = []
 ir_captures free (p ∷ parts) = captured_ir p.state.ir (free 0).ir ∷ ir_captures (λ k. free (suc k)) parts
 
--- what the pins give the boundary cells of each part
+-- the bits that the pins give the boundary cells of each part
 abbrev pub pins_at : Wiring → Choice → List ChainPart → ℕ → List Bool
 pins_at wiring choice parts = wiring (pin_states parts) choice
 
--- what a scan of data captures; Capture-DR is the old state of its third clock
+-- the bits that a data scan captures; the third clock of the scan is the one whose old state is Capture-DR
 abbrev pub data_captured : Wiring → Choices → List ChainPart → List (List Bool)
 data_captured wiring choices parts = dr_captures (pins_at wiring (choices 2) parts) (choices 2).parts parts
 
--- what a scan of instructions captures; Capture-IR is the old state of its fourth clock
+-- the bits that an instruction scan captures; the fourth clock of the scan is the one whose old state is Capture-IR
 abbrev pub codes_captured : Choices → List ChainPart → List (List Bool)
 codes_captured choices parts = ir_captures (choices 3).parts parts
 
@@ -72,7 +73,7 @@ abbrev pub AllIn : TapState → List ChainPart → Type 0
 AllIn t [] = Unit {0}
 AllIn t (p ∷ parts) = (p.state.tap ≡ t) × AllIn t parts
 
--- every part is in this TAP state, with an instruction that selects a register of the model
+-- every part is in this TAP state, and has an instruction that selects a register of the model
 abbrev pub AllSelectingIn : TapState → List ChainPart → Type 0
 AllSelectingIn t [] = Unit {0}
 AllSelectingIn t (p ∷ parts) = ((p.state.tap ≡ t) × (p.state.current ≢ Other)) × AllSelectingIn t parts

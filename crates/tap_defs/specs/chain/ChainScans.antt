@@ -8,13 +8,14 @@ use Rattle.tap_defs.specs.chain.Text.{svf_text}
 abbrev pub marks : List Bool
 marks = true ∷ false ∷ true ∷ false ∷ false ∷ true ∷ false ∷ true ∷ []
 
--- bits to shift in, each with the bit that must come out
+-- bits to shift in, each with the expected bit at TDO
 abbrev pub compared : List Bool → List Bool → List ScanBit
 compared [] out = []
 compared (i ∷ ins) [] = []
 compared (i ∷ ins) (o ∷ out) = record { tdi = i; expect = Some o } ∷ compared ins out
 
--- the code of ones, which is BYPASS, for each part; then the marks, which come out after as many bits as there are parts
+-- The scans of the chain test. The first shifts a code of ones, which means BYPASS, into each part. The second shifts
+-- the marks in and expects them at TDO after one bit for each part.
 abbrev pub chain_scans : List ℕ → List Scan
 chain_scans lengths =
     let zeros : List Bool = replicate (length lengths) false in

@@ -1,4 +1,4 @@
--- What the chain test finds out: the number of parts.
+-- The promise of the chain test, which checks the number of parts.
 use Rattle.std.specs.Prelude.{◌≡◌, ◌≢◌, ℕ, ◌≤◌, List, length, map, sum, All, Some}
 use Rattle.tap_defs.specs.chain.TestLogic.{TestLogic}
 use Rattle.tap_defs.specs.chain.Run.{Clock, Wiring, PassesOn, FailsOn}
@@ -8,13 +8,13 @@ use Rattle.tap_defs.specs.chain.Svf.{meaning}
 abbrev pub ir_lengths : List TestLogic → List ℕ
 ir_lengths parts = map (λ p. p.ir_length) parts
 
--- the instruction lengths of a chain of one or more parts: each is 2 or more (IEEE 1149.1-1990, section 6)
+-- the lengths are instruction lengths of a chain of one or more parts, each of which has 2 or more bits (IEEE 1149.1-1990, section 6)
 pub record AreIrLengths (lengths : List ℕ) : Type 0 where
   pub some : 1 ≤ length lengths
   pub wide : All (λ n. 2 ≤ n) lengths
 
--- the text has a meaning. It passes on every chain of parts with these lengths, described or not. It fails on every chain of one or more
--- parts that has another number of parts and no more instruction bits in total. Both hold for everything that the pins may capture
+-- The text has a meaning. It passes on every chain of parts with these lengths, described or not. It fails on every chain of one or more
+-- parts that has another number of parts and no more instruction bits in total. Both are true whatever the pins capture.
 pub record IsChainTest (lengths : List ℕ) (text : List ℕ) : Type 0 where
   pub clocks : List Clock
   pub means : meaning text ≡ Some clocks

@@ -1,4 +1,4 @@
--- The clocks of scans (SVF Revision E, SIR, SDR and STATE; the path of the controllers is that of IEEE 1149.1-1990, section 5).
+-- The clocks of scans (SVF Revision E, SIR, SDR and STATE). The path of the controllers is that of IEEE 1149.1-1990, section 5.
 use Rattle.std.specs.Prelude.{Bool, true, false, List, [], ◌∷◌, ◌++◌, Some, None}
 use Rattle.tap_defs.specs.chain.Scan.{ScanBit, Scan}
 use Rattle.tap_defs.specs.chain.Run.{Clock}
@@ -11,21 +11,21 @@ plain tms = record { tms = tms; tdi = None; expect = None }
 abbrev pub shift_clock : Bool → ScanBit → Clock
 shift_clock tms bit = record { tms = tms; tdi = Some bit.tdi; expect = bit.expect }
 
--- the clocks that shift these bits in: TMS is 1 in the last clock and 0 in the others
+-- the clocks that shift these bits in, of which only the last has TMS 1
 abbrev pub shift_clocks : List ScanBit → List Clock
 shift_clocks [] = []
 shift_clocks (b ∷ []) = shift_clock true b ∷ []
 shift_clocks (b ∷ c ∷ bits) = shift_clock false b ∷ shift_clocks (c ∷ bits)
 
--- from Run-Test/Idle to Shift-DR, the shifts, and through Update-DR back to Run-Test/Idle
+-- the clocks from Run-Test/Idle to Shift-DR, the shift clocks, and the clocks through Update-DR back to Run-Test/Idle
 abbrev pub sdr_clocks : List ScanBit → List Clock
 sdr_clocks bits = plain true ∷ plain false ∷ plain false ∷ (shift_clocks bits ++ plain true ∷ plain false ∷ [])
 
--- from Run-Test/Idle to Shift-IR, the shifts, and through Update-IR back to Run-Test/Idle
+-- the clocks from Run-Test/Idle to Shift-IR, the shift clocks, and the clocks through Update-IR back to Run-Test/Idle
 abbrev pub sir_clocks : List ScanBit → List Clock
 sir_clocks bits = plain true ∷ plain true ∷ plain false ∷ plain false ∷ (shift_clocks bits ++ plain true ∷ plain false ∷ [])
 
--- the clocks of an SIR or of an SDR statement
+-- the clocks of an SIR or an SDR statement with these bits
 abbrev pub clocks_by : Bool → List ScanBit → List Clock
 clocks_by true bits = sir_clocks bits
 clocks_by false bits = sdr_clocks bits
@@ -39,11 +39,11 @@ abbrev pub all_clocks : List Scan → List Clock
 all_clocks [] = []
 all_clocks (s ∷ scans) = scan_clocks s ++ all_clocks scans
 
--- STATE RESET: five clocks with TMS 1 lead from every state to Test-Logic-Reset
+-- the clocks of STATE RESET: five with TMS 1, which lead from every state to Test-Logic-Reset
 abbrev pub reset_clocks : List Clock
 reset_clocks = plain true ∷ plain true ∷ plain true ∷ plain true ∷ plain true ∷ []
 
--- STATE RESET and STATE IDLE
+-- the clocks of STATE RESET and STATE IDLE
 abbrev pub head_clocks : List Clock
 head_clocks = reset_clocks ++ plain false ∷ []
 

@@ -6,7 +6,7 @@ use Rattle.tap_defs.specs.chain.Tap.{next_state}
 use Rattle.tap_defs.specs.chain.TestLogic.{Instruction, Extest, Sample, Bypass, Idcode, Other, TestLogic, instruction_of, reset_instruction}
 use Rattle.tap_defs.specs.chain.ShiftRegister.{shifted_out, shifted, filled, captured_ir}
 
--- the state of the test logic of a part: the controller, the registers, the current instruction, and the update latches of the boundary cells
+-- the state of a part's test logic: the controller, the registers, the current instruction, and the update latches of the boundary cells
 pub record PartState : Type 0 where
   pub tap : TapState
   pub ir : List Bool
@@ -16,27 +16,27 @@ pub record PartState : Type 0 where
   pub identification : List Bool
   pub latches : List Bool
 
--- what the pins of a part follow: the current instruction and the update latches
+-- the visible state of a part, which its pins depend on: the current instruction and the update latches
 pub record PinState : Type 0 where
   pub current : Instruction
   pub latches : List Bool
 
--- what a part in this state shows
+-- the visible state of a part in this state
 abbrev pub pin_state : PartState → PinState
 pin_state s = record { current = s.current; latches = s.latches }
 
--- what one cycle leaves open: a part may behave by any of these bits
+-- The bits that one cycle leaves open. The standard and the description do not decide them, so a part may have any of them.
 pub record FreeBits : Type 0 where
-  -- what Capture-IR and Capture-DR load if nothing decides it, and what the latches become
+  -- the undecided bits that Capture-IR and Capture-DR load, and the undecided bits of the latches
   pub ir : ℕ → Bool
   pub cells : ℕ → Bool
   pub latches : ℕ → Bool
   -- TDO outside the shift states
   pub tdo : Bool
-  -- whether Test-Logic-Reset selects an instruction other than BYPASS, if that is not known
+  -- whether Test-Logic-Reset selects an instruction other than BYPASS, for a part for which this is not known
   pub other : Bool
 
--- what the old state does to the registers. Under EXTEST Capture-DR loads what the pins give the boundary cells
+-- The registers after the old state has acted. Under EXTEST, Capture-DR loads the bits that the pins give the boundary cells.
 abbrev pub old_state_acts : TapState → Instruction → TestLogic → List Bool → FreeBits → Bool → PartState → PartState
 old_state_acts CaptureIR i logic pins free tdi s = record s { ir = captured_ir s.ir free.ir }
 old_state_acts ShiftIR i logic pins free tdi s = record s { ir = shifted s.ir tdi }
@@ -59,7 +59,7 @@ tdo_in ShiftDR Bypass free tdi s = s.bypass
 tdo_in ShiftDR Idcode free tdi s = shifted_out s.identification tdi
 tdo_in _ _ free tdi s = free.tdo
 
--- what the new state does to the current instruction and the latches
+-- the current instruction and the latches after the new state has acted
 abbrev pub new_state_acts : TapState → Instruction → TestLogic → FreeBits → PartState → PartState
 new_state_acts UpdateIR i logic free s = record s { current = instruction_of logic s.ir }
 new_state_acts UpdateDR Extest logic free s = record s { latches = s.boundary }
@@ -79,7 +79,7 @@ part_after logic pins free tms tdi s =
 abbrev pub part_tdo : FreeBits → Bool → PartState → Bool
 part_tdo free tdi s = tdo_in s.tap s.current free tdi s
 
--- each register has the length that the part says
+-- each register has the length that the part's test logic gives
 pub record IsStateOf (logic : TestLogic) (s : PartState) : Type 0 where
   pub ir : length s.ir ≡ logic.ir_length
   pub boundary : length s.boundary ≡ logic.boundary_length

@@ -1,31 +1,33 @@
--- Runs of a list of clocks on a chain.
+-- Running a list of clocks on a chain.
 use Rattle.std.specs.Prelude.{◌≡◌, ℕ, suc, Bool, true, false, ◌&&◌, List, [], ◌∷◌, Option, Some, None, unwrap_or}
 use Rattle.std.specs.Bool.{beq}
 use Rattle.tap_defs.specs.chain.TestLogic.{TestLogic}
 use Rattle.tap_defs.specs.chain.Part.{PinState, FreeBits}
 use Rattle.tap_defs.specs.chain.Chain.{ChainPart, pin_states, chain_after, chain_tdo, IsChainOf}
 
--- a clock: TMS, TDI if it is given, and the bit that TDO is compared with, if it is compared
+-- A clock: TMS, TDI if it is given, and the expected bit at TDO if TDO is compared.
 pub record Clock : Type 0 where
   pub tms : Bool
   pub tdi : Option Bool
   pub expect : Option Bool
 
--- what one cycle of a chain leaves open: the free bits of each part, the bits of shorted nets that nothing decides, and TDI
+-- the choices that one cycle of a chain leaves open: the free bits of each part, the undecided bits of shorted nets, and a
+-- TDI that is not given
 pub record Choice : Type 0 where
   pub parts : ℕ → FreeBits
   pub shorts : ℕ → Bool
   pub tdi : Bool
 
--- the choices of a run, for each cycle
+-- the choices of each cycle of a run
 abbrev pub Choices : Type 0
 Choices = ℕ → Choice
 
--- the board around a chain: from what all pins show, the bits that the pins of part `k` give its boundary cells
+-- the board around a chain, as a function that gives the bits of part `k`'s boundary cells for the visible states of all
+-- parts
 abbrev pub Wiring : Type 0
 Wiring = List PinState → Choice → ℕ → List Bool
 
--- TDI in a clock
+-- TDI in a clock, which is a choice if the clock does not give it
 abbrev pub clock_tdi : Clock → Choice → Bool
 clock_tdi c choice = unwrap_or c.tdi choice.tdi
 
@@ -57,18 +59,18 @@ tdos wiring [] choices parts = []
 tdos wiring (c ∷ clocks) choices parts =
     clock_tdo c (choices 0) parts ∷ tdos wiring clocks (later choices) (clock_after wiring c (choices 0) parts)
 
--- what the pins show after each of these clocks
+-- the visible states of the parts after each of these clocks
 unfoldable pub shown : Wiring → List Clock → Choices → List ChainPart → List (List PinState)
 shown wiring [] choices parts = []
 shown wiring (c ∷ clocks) choices parts =
     pin_states (clock_after wiring c (choices 0) parts) ∷ shown wiring clocks (later choices) (clock_after wiring c (choices 0) parts)
 
--- a bit that is compared is as expected
+-- the bit is as expected, if it is compared
 abbrev pub bit_passes : Option Bool → Bool → Bool
 bit_passes None bit = true
 bit_passes (Some expected) bit = beq expected bit
 
--- every compared bit of a run with these bits at TDO is as expected
+-- if these bits come out at TDO, every compared bit of the clocks is as expected
 abbrev pub run_passes : List Clock → List Bool → Bool
 run_passes [] bits = true
 run_passes (c ∷ clocks) [] = true
@@ -79,7 +81,7 @@ abbrev pub PassesOn : Wiring → List TestLogic → List Clock → Type 0
 PassesOn wiring parts clocks =
     (chain : List ChainPart) (choices : Choices) → IsChainOf parts chain → run_passes clocks (tdos wiring clocks choices chain) ≡ true
 
--- in every run some compared bit is not as expected
+-- in every run, from any state and with any choices, some compared bit is not as expected
 abbrev pub FailsOn : Wiring → List TestLogic → List Clock → Type 0
 FailsOn wiring parts clocks =
     (chain : List ChainPart) (choices : Choices) → IsChainOf parts chain → run_passes clocks (tdos wiring clocks choices chain) ≡ false

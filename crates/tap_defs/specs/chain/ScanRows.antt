@@ -1,24 +1,24 @@
--- The three rows of a scan in code: what they hold, that they have room, and that a call leaves the same rows behind.
+-- Facts about the three rows of a scan in code: their bits, their room, and that a call does not exchange them.
 use Rattle.std.specs.Prelude.{◌≡◌, ℕ, ◌≤◌, Bool, List, length}
 use Rattle.tap_defs.specs.declared.scan.ScanRows.{ScanRows}
 use Rattle.tap_defs.specs.declared.scan.StoredRows.{StoredRows}
 use Rattle.tap_defs.specs.chain.Scan.{ScanBit, tdi_bits, tdo_bits, mask_bits}
 
--- three lists have the bits of a scan: what is shifted in, what is expected, and what is compared
+-- the three lists are the rows of a scan: what is shifted in, what is expected, and what is compared
 pub record AreBitsOf (bits : List ScanBit) (shifted expected marks : List Bool) : Type 0 where
   pub tdi : shifted ≡ tdi_bits bits
   pub tdo : expected ≡ tdo_bits bits
   pub mask : marks ≡ mask_bits bits
 
--- stored rows have the bits of a scan
+-- the stored rows have the bits of the scan
 abbrev pub AreRowsOf : List ScanBit → StoredRows → Type 0
 AreRowsOf bits stored = AreBitsOf bits stored.tdi.bits stored.tdo.bits stored.mask.bits
 
--- lent rows have the bits of a scan
+-- the borrowed rows have the bits of the scan
 abbrev pub HoldBits : List ScanBit → ScanRows → Type 0
 HoldBits bits rows = AreBitsOf bits rows.tdi.now.bits rows.tdo.now.bits rows.mask.now.bits
 
--- the room of each of the three rows fits
+-- `Fits` is true of the room of each of the three rows
 pub record EachHasRoom (Fits : ℕ → Type 0) (rows : ScanRows) : Type 0 where
   pub tdi : Fits rows.tdi.now.room
   pub tdo : Fits rows.tdo.now.room
@@ -30,7 +30,7 @@ pub record HaveRoomFor (stored : StoredRows) (rows : ScanRows) : Type 0 where
   pub tdo : length stored.tdo.bits ≤ rows.tdo.now.room
   pub mask : length stored.mask.bits ≤ rows.mask.now.room
 
--- they are the same three rows, each with the room that it had
+-- `new` borrows the same three rows as `old`, and each has the same room as before
 pub record AreSameRows (old new : ScanRows) : Type 0 where
   pub tdi : new.tdi.ghost_name ≡ old.tdi.ghost_name
   pub tdo : new.tdo.ghost_name ≡ old.tdo.ghost_name

@@ -5,22 +5,23 @@ use Rattle.tap_defs.specs.chain.Clocks.{scan_clocks, reset_clocks, head_clocks}
 use Rattle.tap_defs.specs.chain.SvfTokens.{without_comments, tokens_from, pieces_from}
 use Rattle.tap_defs.specs.chain.SvfStatements.{Statement, TrstOff, EndIrIdle, EndDrIdle, StateReset, StateIdle, ScanOf, statements_of}
 
--- what is known before a statement: whether the controllers are in Run-Test/Idle, and whether ENDIR IDLE and ENDDR IDLE came before
+-- what earlier statements established: whether the controllers are in Run-Test/Idle, and whether ENDIR IDLE and ENDDR IDLE have
+-- been given
 pub record Standing : Type 0 where
   pub idle : Bool
   pub ends_ir : Bool
   pub ends_dr : Bool
 
--- whether a scan of this kind may follow: it begins in Run-Test/Idle, and an earlier statement said that it ends there
+-- A scan of this kind may follow. It begins in Run-Test/Idle, and an earlier statement must have said that such scans end there.
 abbrev pub may_scan : Standing → Bool → Bool
 may_scan standing true = standing.idle && standing.ends_ir
 may_scan standing false = standing.idle && standing.ends_dr
 
--- these clocks, followed by the others if those have a meaning
+-- these clocks, followed by the clocks of the rest if the rest has a meaning
 abbrev pub followed_by : List Clock → Option (List Clock) → Option (List Clock)
 followed_by clocks more = option_map (λ cs. clocks ++ cs) more
 
--- the clocks of statements. STATE IDLE must come right after STATE RESET
+-- The clocks of statements, or None if they have no meaning. STATE IDLE must come right after STATE RESET.
 abbrev pub clocks_of : Standing → List Statement → Option (List Clock)
 clocks_of standing [] = Some []
 clocks_of standing (TrstOff ∷ more) = clocks_of standing more
@@ -32,14 +33,14 @@ clocks_of standing (StateIdle ∷ more) = None
 clocks_of standing (ScanOf scan ∷ more) =
     if may_scan standing scan.ir then followed_by (scan_clocks scan) (clocks_of standing more) else None
 
--- before the text nothing is known
+-- nothing is established before the text
 abbrev pub at_start : Standing
 at_start = record { idle = false; ends_ir = false; ends_dr = false }
 
--- the statements of a text, or None if something else is in it
+-- the statements of a text, or None if the text is not a list of these statements
 unfoldable pub text_statements : List ℕ → Option (List Statement)
 text_statements text = option_and_then statements_of (pieces_from [] (tokens_from [] (without_comments false text)))
 
--- the clocks that a text means
+-- the clocks that the text means, or None if it has no meaning
 unfoldable pub meaning : List ℕ → Option (List Clock)
 meaning text = option_and_then (clocks_of at_start) (text_statements text)

@@ -1,4 +1,4 @@
--- The statements of an SVF text (SVF Revision E) that this product writes. Any other statement has no meaning here.
+-- The SVF statements that this program writes (SVF Revision E). Any other statement has no meaning here.
 use Rattle.std.specs.Prelude.{ℕ, Bool, true, false, ◌&&◌, List, [], ◌∷◌, ◌++◌, map, Option, Some, None, option_map, option_and_then, codes, bytes_eq}
 use Rattle.std.specs.Prelude.{if◌then◌else◌, nat_lt}
 use Rattle.std.specs.Char.{is_ascii_digit}
@@ -10,7 +10,7 @@ use Rattle.tap_defs.specs.chain.Codes.{sent}
 use Rattle.tap_defs.specs.chain.Text.{command_word}
 use Rattle.tap_defs.specs.chain.SvfTokens.{Token, Word, Open, Close}
 
--- TRST OFF, ENDIR IDLE, ENDDR IDLE, STATE RESET, STATE IDLE, and the statements SIR and SDR
+-- a statement: TRST OFF, ENDIR IDLE, ENDDR IDLE, STATE RESET, STATE IDLE, or one of the scans SIR and SDR
 pub data Statement : Type 0 where
   TrstOff : Statement
   EndIrIdle : Statement
@@ -19,12 +19,13 @@ pub data Statement : Type 0 where
   StateIdle : Statement
   ScanOf : Scan → Statement
 
--- a field: a word, and hexadecimal digits in parentheses
+-- a field: its name, and its hexadecimal digits, which are in parentheses
 pub record Field : Type 0 where
   pub name : List ℕ
   pub digits : List ℕ
 
--- the fields in these tokens, after the part of a field that has begun. Between the digits of a field there may be blanks
+-- The fields in these tokens. The first argument is the part of a field that has been read. Blanks may separate the
+-- digits of a field, so the digits may be several words.
 abbrev pub fields_from : Option Field → List Token → Option (List Field)
 fields_from None [] = Some []
 fields_from None (Word name ∷ Open ∷ tokens) = fields_from (Some (record { name = name; digits = [] })) tokens
@@ -33,27 +34,27 @@ fields_from (Some f) (Word more ∷ tokens) = fields_from (Some (record f { digi
 fields_from (Some f) (Close ∷ tokens) = option_map (λ fields. f ∷ fields) (fields_from None tokens)
 fields_from (Some f) _ = None
 
--- the `n` bits of the field with this name
+-- the `n` bits of the field, if it has this name and is a field of `n` bits
 abbrev pub bits_of : List ℕ → ℕ → Field → Option (List Bool)
 bits_of name n field = if bytes_eq field.name name then field_bits n field.digits else None
 
--- the bits of a scan from those of its three fields
+-- the bits of a scan from the bits of its three fields
 abbrev pub compared_bits : Option (List Bool) → Option (List Bool) → Option (List Bool) → Option (List ScanBit)
 compared_bits (Some tdi) (Some tdo) (Some mask) = Some (scan_bits tdi tdo mask)
 compared_bits _ _ _ = None
 
--- the bits of a scan of `n` bits: TDI alone, or TDI, TDO and MASK
+-- the bits of a scan of `n` bits, whose fields are TDI alone, or TDI, TDO and MASK
 abbrev pub bits_of_fields : ℕ → List Field → Option (List ScanBit)
 bits_of_fields n (tdi ∷ []) = option_map (map sent) (bits_of (codes "TDI") n tdi)
 bits_of_fields n (tdi ∷ tdo ∷ mask ∷ []) =
     compared_bits (bits_of (codes "TDI") n tdi) (bits_of (codes "TDO") n tdo) (bits_of (codes "MASK") n mask)
 bits_of_fields n _ = None
 
--- the length of a scan: a decimal number that is not 0
+-- the length of a scan, which is a decimal number other than 0
 abbrev pub length_of : List ℕ → Option ℕ
 length_of word = if list_all is_ascii_digit word && nat_lt 0 (digits_value 10 word) then Some (digits_value 10 word) else None
 
--- whether the word is SIR, or None if it is neither SIR nor SDR
+-- true for the word SIR, false for the word SDR, and None for any other word
 abbrev pub scan_command : List ℕ → Option Bool
 scan_command word =
     if bytes_eq word (command_word true) then Some true else (
@@ -64,7 +65,7 @@ abbrev pub scan_by : Option Bool → Option (List ScanBit) → Option Statement
 scan_by (Some ir) (Some bits) = Some (ScanOf (record { ir = ir; bits = bits }))
 scan_by _ _ = None
 
--- the statements of two words
+-- the statement of two words, if there is one
 abbrev pub two_words : List ℕ → List ℕ → Option Statement
 two_words a b =
     if bytes_eq a (codes "TRST") && bytes_eq b (codes "OFF") then Some TrstOff else (
@@ -73,14 +74,14 @@ two_words a b =
     if bytes_eq a (codes "STATE") && bytes_eq b (codes "RESET") then Some StateReset else (
     if bytes_eq a (codes "STATE") && bytes_eq b (codes "IDLE") then Some StateIdle else None))))
 
--- the statement of the tokens before a semicolon
+-- the statement that these tokens before a semicolon form, if they form one
 abbrev pub statement_of : List Token → Option Statement
 statement_of (Word a ∷ Word b ∷ []) = two_words a b
 statement_of (Word command ∷ Word n ∷ t ∷ tokens) =
     scan_by (scan_command command) (option_and_then (λ m. option_and_then (bits_of_fields m) (fields_from None (t ∷ tokens))) (length_of n))
 statement_of _ = None
 
--- the statements of these lists of tokens, or None if one of them is not a statement
+-- the statements of these lists of tokens, or None if one of the lists is not a statement
 abbrev pub statements_of : List (List Token) → Option (List Statement)
 statements_of [] = Some []
 statements_of (piece ∷ pieces) = option_and_then (λ s. option_map (λ more. s ∷ more) (statements_of pieces)) (statement_of piece)

@@ -1,10 +1,10 @@
--- The TAP controller: the state after a clock, by TMS (IEEE 1149.1-1990, section 5, the state diagram).
+-- The TAP controller: the state after a clock with this TMS (IEEE 1149.1-1990, section 5, the state diagram).
 use Rattle.std.specs.Prelude.{Bool, cond}
 use Rattle.tap_defs.specs.declared.tap.TapState.{TapState}
 use Rattle.tap_defs.specs.declared.tap.TapState.TheVariants.{TestLogicReset, RunTestIdle, SelectDR, CaptureDR, ShiftDR, Exit1DR, PauseDR, Exit2DR}
 use Rattle.tap_defs.specs.declared.tap.TapState.TheVariants.{UpdateDR, SelectIR, CaptureIR, ShiftIR, Exit1IR, PauseIR, Exit2IR, UpdateIR}
 
--- the table: the next state for TMS 1, and for TMS 0
+-- the next state, in a table whose rows give the state for TMS 1 and then the state for TMS 0
 abbrev pub next_state : TapState → Bool → TapState
 next_state TestLogicReset tms = cond tms TestLogicReset RunTestIdle
 next_state RunTestIdle tms = cond tms SelectDR RunTestIdle

@@ -7,34 +7,35 @@ abbrev pub command_word : Bool → List ℕ
 command_word true = codes "SIR"
 command_word false = codes "SDR"
 
--- what comes before a field: a line end in the form of several lines, otherwise a space
+-- the character before a field: a line feed if the statement is in several lines, otherwise a space
 abbrev pub gap : Bool → ℕ
 gap true = 10
 gap false = 32
 
--- digits, with a line end before each digit that does not fit into its line; lines after the first have room for 64
+-- The digits, with a line feed before each digit that does not fit into its line. The first line has room for `room`
+-- digits, and later lines have room for 64.
 abbrev pub broken : ℕ → List ℕ → List ℕ
 broken room [] = []
 broken zero (d ∷ ds) = 10 ∷ d ∷ broken 63 ds
 broken (suc room) (d ∷ ds) = d ∷ broken room ds
 
--- the digits of a field: in lines of 64 in the form of several lines
+-- the digits of a field, which are in lines of 64 if the statement is in several lines
 abbrev pub laid : Bool → List ℕ → List ℕ
 laid true digits = broken 64 digits
 laid false digits = digits
 
--- what follows TDI: TDO and MASK, if a bit is compared
+-- the text after the digits of TDI: if a bit is compared, it has the fields TDO and MASK
 abbrev pub compare_text : Bool → List ScanBit → Bool → List ℕ
 compare_text long bits false = codes ");"
 compare_text long bits true =
     41 ∷ gap long ∷ codes "TDO (" ++ (laid long (hex_text (tdo_bits bits)) ++ (41 ∷ gap long ∷ codes "MASK (" ++ (laid long (hex_text (mask_bits bits)) ++ codes ");")))
 
--- a scan in one line, or in the form of several lines, without the last line end
+-- a scan statement in one line or in several lines, without the last line feed
 abbrev pub form : Bool → Scan → List ℕ
 form long scan =
     command_word scan.ir ++ (32 ∷ decimal (length scan.bits) ++ (gap long ∷ codes "TDI (" ++ (laid long (hex_text (tdi_bits scan.bits)) ++ compare_text long scan.bits (compares scan.bits))))
 
--- a scan in one line if that has at most 80 characters, otherwise in several lines
+-- the statement of a scan: in one line if it has at most 80 characters there, otherwise in several lines
 abbrev pub scan_text : Scan → List ℕ
 scan_text scan = form (nat_lt 80 (length (form false scan))) scan ++ 10 ∷ []
 
@@ -55,7 +56,7 @@ tail_text = line (codes "STATE RESET;")
 unfoldable pub svf_text : List Scan → List ℕ
 svf_text scans = head_text ++ (scan_texts scans ++ tail_text)
 
--- each scan has at least one bit, and no more bits than the number in a text can say
+-- each scan has at least one bit, and its number of bits fits into 64 bits
 abbrev pub AllSized : List Scan → Type 0
 AllSized [] = Unit {0}
 AllSized (s ∷ scans) = ((0 < length s.bits) × (length s.bits < 2 ^ 64)) × AllSized scans

@@ -1,4 +1,4 @@
--- What a scan does to a chain: the captured bits come out in order, and the bits that are shifted in are held.
+-- The effect of a scan on a chain: the captured bits come out in order, and the chain then holds the bits that were shifted in.
 use Rattle.std.specs.Prelude.{◌≡◌, ◌<◌, take, drop, Bool, true, ◌&&◌, List, [], ◌∷◌, ◌++◌, length, map}
 use Rattle.tap_defs.specs.declared.tap.TapState.TheVariants.{RunTestIdle}
 use Rattle.tap_defs.specs.chain.TestLogic.{TestLogic, Instruction, instruction_of}
@@ -8,24 +8,24 @@ use Rattle.tap_defs.specs.chain.Scan.{ScanBit, tdi_bits, joined}
 use Rattle.tap_defs.specs.chain.Clocks.{sdr_clocks, sir_clocks}
 use Rattle.tap_defs.specs.chain.ChainRegisters.{all_held, ir_registers, data_captured, codes_captured, AllIn, AllSelectingIn}
 
--- every compared bit of a scan is as expected if these bits come out
+-- if the bits `out` come out at TDO, every compared bit of the scan is as expected
 abbrev pub scan_passes : List ScanBit → List Bool → Bool
 scan_passes [] out = true
 scan_passes (b ∷ bits) [] = true
 scan_passes (b ∷ bits) (o ∷ out) = bit_passes b.expect o && scan_passes bits out
 
--- what a scan of data does not change in a part
+-- the properties of a part that a data scan does not change
 pub record DataFrame : Type 0 where
   pub logic : TestLogic
   pub current : Instruction
   pub ir : List Bool
 
--- what a scan of data does not change in a part of a chain
+-- the properties of a part of a chain that a data scan does not change
 abbrev pub data_frame : ChainPart → DataFrame
 data_frame p = record { logic = p.logic; current = p.state.current; ir = p.state.ir }
 
--- a scan of data that captures these registers: the TDO bits of its shift clocks, the only ones that it compares, are `leaving`; after it
--- the chain holds `staying`, in registers as long as the captured ones; and the controllers are in Run-Test/Idle again
+-- A data scan that captures these registers. The TDO bits of its shift clocks are `leaving`, and it compares no other bits. Afterwards
+-- the chain holds `staying`, in registers of the captured lengths. The controllers are in Run-Test/Idle again.
 pub record ScansData (bits : List ScanBit) (captured : List (List Bool)) (leaving staying tdo : List Bool) (before after : List ChainPart) : Type 0 where
   pub leaves : take (length bits) (drop 3 tdo) ≡ leaving
   pub compares : run_passes (sdr_clocks bits) tdo ≡ scan_passes bits leaving
@@ -34,7 +34,7 @@ pub record ScansData (bits : List ScanBit) (captured : List (List Bool)) (leavin
   pub frames : map data_frame after ≡ map data_frame before
   pub idle : AllSelectingIn RunTestIdle after
 
--- what a scan of instructions does not change in a part
+-- the properties of a part that an instruction scan does not change
 pub record CodeFrame : Type 0 where
   pub logic : TestLogic
   pub boundary : List Bool
@@ -42,7 +42,7 @@ pub record CodeFrame : Type 0 where
   pub identification : List Bool
   pub latches : List Bool
 
--- what a scan of instructions does not change in a part of a chain
+-- the properties of a part of a chain that an instruction scan does not change
 abbrev pub code_frame : ChainPart → CodeFrame
 code_frame p = record {
   logic = p.logic;
@@ -52,7 +52,8 @@ code_frame p = record {
   latches = p.state.latches;
 }
 
--- a scan of instructions: like a scan of data, and after it each part has the instruction with the code in its instruction register
+-- An instruction scan. The TDO bits of its shift clocks are `leaving`, and the instruction registers then hold `staying`. Each part then
+-- has the instruction of the code in its instruction register.
 pub record ScansCodes (bits : List ScanBit) (leaving staying tdo : List Bool) (before after : List ChainPart) : Type 0 where
   pub leaves : take (length bits) (drop 4 tdo) ≡ leaving
   pub compares : run_passes (sir_clocks bits) tdo ≡ scan_passes bits leaving
@@ -62,7 +63,7 @@ pub record ScansCodes (bits : List ScanBit) (leaving staying tdo : List Bool) (b
   pub frames : map code_frame after ≡ map code_frame before
   pub idle : AllIn RunTestIdle after
 
--- a scan of data as long as the registers: the captured bits come out, and the shifted bits are held
+-- a data scan as long as the registers: the captured bits come out, and the chain then holds the bits that were shifted in
 abbrev pub DataTransport : Type 0
 DataTransport =
     (wiring : Wiring) (bits : List ScanBit) (choices : Choices) (parts : List ChainPart) →
@@ -71,7 +72,8 @@ DataTransport =
     length bits ≡ length (joined captured) →
     ScansData bits captured (joined captured) (tdi_bits bits) (tdos wiring (sdr_clocks bits) choices parts) parts (run wiring (sdr_clocks bits) choices parts)
 
--- a scan of data of any length `n`: of the captured bits followed by the shifted bits, the first `n` come out, and the others are held
+-- A data scan of any length `n`. Of the captured bits followed by the bits that are shifted in, the first `n` come out, and the chain
+-- then holds the others.
 abbrev pub LongDataTransport : Type 0
 LongDataTransport =
     (wiring : Wiring) (bits : List ScanBit) (choices : Choices) (parts : List ChainPart) →
@@ -81,7 +83,7 @@ LongDataTransport =
     ScansData bits captured (take (length bits) stream) (drop (length bits) stream)
     (tdos wiring (sdr_clocks bits) choices parts) parts (run wiring (sdr_clocks bits) choices parts)
 
--- a scan of instructions as long as the instruction registers, under any current instructions
+-- an instruction scan as long as the instruction registers, under any current instructions
 abbrev pub CodeTransport : Type 0
 CodeTransport =
     (wiring : Wiring) (bits : List ScanBit) (choices : Choices) (parts : List ChainPart) →
@@ -89,7 +91,7 @@ CodeTransport =
     ScansCodes bits (joined (codes_captured choices parts)) (tdi_bits bits)
     (tdos wiring (sir_clocks bits) choices parts) parts (run wiring (sir_clocks bits) choices parts)
 
--- a scan of instructions of any length
+-- an instruction scan of any length
 abbrev pub LongCodeTransport : Type 0
 LongCodeTransport =
     (wiring : Wiring) (bits : List ScanBit) (choices : Choices) (parts : List ChainPart) →
