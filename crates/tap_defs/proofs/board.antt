@@ -1,4 +1,4 @@
--- Lemmas of the board round its chain.
+-- Lemmas on the board around its chain.
 pub mod InTestLemmas
 pub mod RowScanLemmas
 pub mod WrongLemmas

@@ -1,4 +1,4 @@
--- Lemmas of the chain.
+-- Lemmas on the chain.
 pub mod ListLemmas
 pub mod MoveLemmas
 pub mod RunLemmas

@@ -104,13 +104,13 @@ walk_harmless board walk rules safe =
     only zero p e = let z : walk ≡ p = cc e in subst (λ (q : List Ctl). IsSafe board (holds q)) z safe
     only (suc x) p e = cc e
 
--- where each pass is safe, the text of the passes may be applied, whatever the codes
+-- if each pass is safe, the text of the passes may be applied to the board, whatever the codes are
 pub passes_harmless : (board : RawBoard) (passes : List (List Ctl)) (width : ℕ) → IsBoard board →
     ((x : ℕ) (pass : List Ctl) → slice_get passes x ≡ Some pass → IsSafe board (holds pass)) →
     IsHarmless board (pass_text board passes width)
 passes_harmless board passes width rules safe = is_harmless board (code_row board passes) width passes rules safe (λ p j c. refl) (λ x p e j. safe x p e)
 
--- the text of the board's own passes
+-- the text of the board's own passes is a test of the board
 pub board_tested : (board : RawBoard) → IsBoard board → IsBoardTest board (board_text board)
 board_tested board rules =
     is_test board (passes_of board) (code_width (observed_count board (passes_of board))) rules (passes_kept board rules) (width_is (observed_count board (passes_of board))).enough

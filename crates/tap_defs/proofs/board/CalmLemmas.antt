@@ -1,4 +1,4 @@
--- The whole list of scans is quiet.
+-- The scans of a whole test are quiet.
 use Rattle.std.specs.Prelude.{option_map, slice_get}
 use Rattle.std.proofs.Common.{◌≡◌, false, ◌<◌, List, suc, ◌∷◌, ◌∙◌, ◌++◌, true, Some, None, Bool, zero, [], ℕ, Option, ◌&&◌, refl, length, arith, cond, append_assoc, subst, sym, ap, map, inl, take, drop}
 use Rattle.board_defs.specs.declared.board.Net.{Net}
@@ -79,7 +79,7 @@ off_quiet board s off = (inl (λ k device e. off k), λ k cell device v e extest
 abbrev pub LiveWithin : RawBoard → Enabling → List PinState → Type 0
 LiveWithin board setting s = (n : ℕ) (net : Net) (i : ℕ) (p : NetPin) → slice_get board.nets n ≡ Some net → slice_get net.pins i ≡ Some p → live board s p ≡ true → enables board setting p ≡ true
 
--- a moment of a pass, or outside the test
+-- a moment of a pass with this setting, or a moment outside the test
 pub record Moment (board : RawBoard) (setting : Enabling) (s : List PinState) : Type 0 where
   pub quiet_moment : IsQuietMoment board s
   pub within : LiveWithin board setting s
@@ -87,7 +87,7 @@ pub record Moment (board : RawBoard) (setting : Enabling) (s : List PinState) : 
 moment_off : (board : RawBoard) (setting : Enabling) (s : List PinState) → IsOff s → Moment board setting s
 moment_off board setting s off = record { quiet_moment = off_quiet board s off; within = λ n net i p en ei on. absurd (both_ways (live board s p) (off_live board s off p) on) }
 
--- a smaller setting enables no more
+-- a smaller setting enables no more drivers
 abbrev pub Within : Enabling → Enabling → Type 0
 Within small big = (c : Ctl) → small c ≡ true → big c ≡ true
 
@@ -121,7 +121,7 @@ moments_apart : (board : RawBoard) (setting : Enabling) → IsSafe board setting
     Moment board setting next → IsUncontested board now next
 moments_apart board setting safe now next f g = uncontested board setting safe now next f.within g.within
 
--- the empty setting is safe
+-- the setting without controls is safe
 abbrev pub nothing : Enabling
 nothing c = false
 
@@ -149,7 +149,7 @@ nothing_safe board rule = record {
     always_on : (net : Net) (p : NetPin) → enables board nothing p ≡ true → drive board net p ≡ Some AlwaysOn
     always_on net p h = by_at net p.at h
 
--- what these clocks show is quiet, and so is what comes after it
+-- the moments after these clocks are quiet if all later moments are
 abbrev pub StaysBy : RawBoard → Wiring → List Clock → Choices → List ChainPart → Type 0
 StaysBy board wiring cs free chain = (rest : List (List PinState)) → StaysQuiet board (pin_states (run wiring cs free chain)) rest → StaysQuiet board (pin_states chain) (shown wiring cs free chain ++ rest)
 
@@ -181,14 +181,14 @@ switch_then board setting safe moments chain next s m k rest h =
     (all_then board setting safe (pin_states chain) m s.old (a ∷ a ∷ rest) s.old_are
     (k.quiet_moment, moments_apart board setting safe (pin_states chain) a m k, (k.quiet_moment, moments_apart board setting safe a a k k, h)))
 
--- one clock
+-- one clock is quiet
 step_then : (board : RawBoard) (setting : Enabling) → IsSafe board setting →
     (wiring : Wiring) (c : Clock) (free : Choices) (chain : List ChainPart) → Moment board setting (pin_states chain) →
     Moment board setting (pin_states (clock_after wiring c (free 0) chain)) → StaysBy board wiring (c ∷ []) free chain
 unfolding run shown
 step_then board setting safe wiring c free chain m k rest h = (k.quiet_moment, moments_apart board setting safe (pin_states chain) (pin_states (clock_after wiring c (free 0) chain)) m k, h)
 
--- in Test-Logic-Reset no part has Extest
+-- in Test-Logic-Reset no part has the instruction Extest
 abbrev LogicsOff : List TestLogic → Type 0
 LogicsOff [] = Unit {0}
 LogicsOff (f ∷ fs) = ((other : Bool) → is_extest (reset_instruction f.at_reset other) ≡ false) × LogicsOff fs
@@ -235,7 +235,7 @@ preload_off (p ∷ ps) (n ∷ chain) e =
     one (Described device) = refl
     one (WithoutDescription m) = refl
 
--- scans of passes that stay quiet, and leave the quiet row in the latches
+-- the scans of passes stay quiet, and leave the quiet row in the latches
 pub record Stayed (board : RawBoard) (wiring : Wiring) (clocks : List Clock) (free : Choices) (chain : List ChainPart) : Type 0 where
   pub stays : StaysBy board wiring clocks free chain
   pub last : TestRow
@@ -310,7 +310,7 @@ module _ (board : RawBoard) (rules : IsBoard board) (faults : FaultSet) where
       (stay_scans (setting p) (safe 0 p refl) (rows p) (within p) width 0 quiet_row before (nothing_within (setting p)) free chain h)
       (λ f m b k. stay_passes setting rows width ps (λ x. safe (suc x)) within b f m k)
 
-  -- the tail
+  -- the tail stays quiet
   tail_stays : (before : TestRow) (free : Choices) (chain : List ChainPart) → IsBoardChain board chain →
       InTest board (shifted_row board (record { now = quiet_row; before = before })) chain → StaysBy board around reset_clocks free chain
   unfolding run shown
@@ -352,7 +352,7 @@ module _ (board : RawBoard) (rules : IsBoard board) (faults : FaultSet) where
       let off : LogicsOff (logics n4) = subst (λ (l : List TestLogic). LogicsOff l) (sym (run_logics around four free states ∙ start.logics_are)) (logics_off board.chain) in
       chain_off n4 (pins_at around (f 0) n4) (f 0).parts true (f 0).tdi (run_resets around free states) off
 
-  -- a whole run, from the fifth clock on
+  -- a whole run stays quiet from the fifth clock on
   whole_stays : (setting : List Ctl → Enabling) (rows : List Ctl → ℕ → TestRow) (width : ℕ) (ps : List (List Ctl)) →
       ((x : ℕ) (p : List Ctl) → slice_get ps x ≡ Some p → IsSafe board (setting p)) →
       ((p : List Ctl) (j : ℕ) → Within (rows p j).setting (setting p)) → (states : List ChainPart) (free : Choices) →

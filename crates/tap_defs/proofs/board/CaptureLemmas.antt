@@ -1,4 +1,4 @@
--- What scans of data compare on a board is a function of the rows, the faults and the free bits.
+-- The rows, the faults and the free bits determine what data scans capture on a board.
 use Rattle.std.proofs.Common.{◌≡◌, ◌↔◌, ℕ, suc, ◌<◌, Bool, true, false, cond, ◌&&◌, ◌||◌, List, [], ◌∷◌, ◌++◌, length, map, replicate, Option, Some, None, refl, sym, ◌∙◌, ap, subst, arith, append_assoc}
 use Rattle.std.specs.Prelude.{is_some}
 use Rattle.std.proofs.lemmas.Bool.{and_parts, and_from}
@@ -32,7 +32,7 @@ use Rattle.tap_defs.proofs.board.RowScanLemmas.{row_scan_by}
 use Rattle.tap_defs.proofs.board.EntryLemmas.{stays_of, row_scan_some, AllSilent, quiet_silent, entered, f3, scan2, in_test_after}
 use Rattle.tap_defs.proofs.chain.HeadLemmas.{scans_decide}
 
--- what a part shows while the row is in its latches
+-- the visible state of a part while the row is in its latches
 part_shows : (board : RawBoard) (t : RowScan) (k : ℕ) (kind : PartKind) (logic : TestLogic) (s : PartState) → logic ≡ test_logic kind →
     IsStateOf logic s →
     s.current ≡ in_test kind → held_bits s ≡ tdi_bits (part_bits board t k kind) → record { current = s.current; latches = s.latches } ≡ shown_by_part board t.now k kind
@@ -61,12 +61,12 @@ parts_show board t k (p ∷ ps) (n ∷ chain) l h c e =
     let e1 : all_held chain ≡ map tdi_bits (bits_by_part board t (suc k) ps) = cc e in
     cons_path (part_shows board t k p.kind n.logic n.state l0 h.0 c0 e0) (parts_show board t (suc k) ps chain l1 h.1 c1 e1)
 
--- while the row is in the latches, the pins show it
+-- while the row is in the latches, the visible states of the parts are those of the row
 pub row_shown : (board : RawBoard) (t : RowScan) (chain : List ChainPart) → IsBoardChain board chain →
     InTest board (shifted_row board t) chain → pin_states chain ≡ row_states board t.now
 row_shown board t chain start h = parts_show board t 0 board.chain chain h.logics_are start.states_are h.currents h.stays
 
--- scans of data that shift the rows in, whatever they compare
+-- data scans that shift these rows in, whatever they compare
 abbrev pub ShiftRows : RawBoard → List RowScan → List Scan → Type 0
 ShiftRows board [] [] = Unit {0}
 ShiftRows board [] (s ∷ scans) = ⊥
@@ -84,7 +84,7 @@ module _ (board : RawBoard) (rules : IsBoard board) (faults : FaultSet) where
   abbrev Held : TestRow → TestRow → List ChainPart → Type 0
   Held row before chain = IsBoardChain board chain × InTest board (shifted_row board (record { now = row; before = before })) chain
 
-  -- one scan
+  -- one scan, with what it compares and what it leaves in the chain
   record Scanned (t : RowScan) (row : TestRow) (scan : Scan) (free : Choices) (chain : List ChainPart) : Type 0 where
     compares : run_passes (scan_clocks scan) (tdos around (scan_clocks scan) free chain) ≡ scan_passes scan.bits (row_captured board faults row (free 2))
     held : Held t.now t.before (run around (scan_clocks scan) free chain)
@@ -105,7 +105,7 @@ module _ (board : RawBoard) (rules : IsBoard board) (faults : FaultSet) where
             held = (stays_of board rules faults (sdr_clocks scan.bits) free chain h.0, d.in_test);
           }
 
-  -- where the captures pass, a run of the scans passes
+  -- if the scans pass with what is captured, a run of them passes
   pub run_follows : (ts : List RowScan) (scans : List Scan) (row before : TestRow) (free : Choices) (chain : List ChainPart) →
       Held row before chain → ShiftRows board ts scans →
       CapturesPass board faults row ts scans → run_passes (all_clocks scans) (tdos around (all_clocks scans) free chain) ≡ true
@@ -121,7 +121,7 @@ module _ (board : RawBoard) (rules : IsBoard board) (faults : FaultSet) where
       (e.compares ∙ ok.0 (free 2))
       (run_follows ts scans t.now t.before (choices_after first free) next e.held shifts.2 ok.1)
 
-  -- these choices go on for ever
+  -- the choices in which every cycle has the same choice
   abbrev always : Choice → Choices
   always choice = λ k. choice
 
@@ -129,7 +129,7 @@ module _ (board : RawBoard) (rules : IsBoard board) (faults : FaultSet) where
   always_after choice [] = refl
   always_after choice (c ∷ cs) = always_after choice cs
 
-  -- the captures pass with these free bits
+  -- the scans pass with what is captured, for these free bits
   abbrev pub CapturesPassBy : Choice → TestRow → List RowScan → List Scan → Type 0
   CapturesPassBy choice row [] scans = Unit {0}
   CapturesPassBy choice row (t ∷ ts) [] = Unit {0}
@@ -157,7 +157,7 @@ module _ (board : RawBoard) (rules : IsBoard board) (faults : FaultSet) where
   with_any (t ∷ ts) [] row h = tt
   with_any (t ∷ ts) (s ∷ scans) row h = ((λ choice. (h choice).0), with_any ts scans t.now (λ choice. (h choice).1))
 
--- clocks that differ in what they compare alone
+-- clocks that differ only in what they compare
 abbrev pub Alike : List Clock → List Clock → Type 0
 Alike [] [] = Unit {0}
 Alike [] (d ∷ ds) = ⊥
@@ -253,14 +253,14 @@ tdi_bits-bits_by_log [] row = refl
 tdi_bits-bits_by_log (b ∷ bits) [] = tdi_bits-uncompared (b ∷ bits)
 tdi_bits-bits_by_log (b ∷ bits) (r ∷ row) = cons_path refl (tdi_bits-bits_by_log bits row)
 
--- a statement that compares nothing, or is an SIR, takes no row of the log
+-- a statement that is an SIR or compares nothing takes no row of the log
 skipped : (s : Scan) (scans : List Scan) (log : List (List Bool)) → is_compared s ≡ false →
     scans_by_log (s ∷ scans) log ≡ record { ir = s.ir; bits = uncompared s.bits } ∷ scans_by_log scans log
 skipped s scans [] e = refl
 skipped s scans (row ∷ log) e =
     ap (λ (b : Bool). cond b (record { ir = s.ir; bits = bits_by_log s.bits row } ∷ scans_by_log scans log) (record { ir = s.ir; bits = uncompared s.bits } ∷ scans_by_log scans (row ∷ log))) e
 
--- with a log in place of the expected bits the same rows are shifted in
+-- with a log in place of the expected bits, the scans shift in the same rows
 log_shifts : (board : RawBoard) (ts : List RowScan) (log : List (List Bool)) →
     ShiftRows board ts (scans_by_log (map (scan_of_row board) ts) log)
 log_shifts board [] log = tt
@@ -277,7 +277,7 @@ pub silent_compares : (bits : List ScanBit) → AllSilent bits → compares bits
 silent_compares [] h = refl
 silent_compares (b ∷ bits) h = ap (λ (o : Option Bool). is_some o || compares bits) h.0 ∙ silent_compares bits h.1
 
--- some state of each chain
+-- some state of a part's test logic
 abbrev some_state : TestLogic → PartState
 some_state logic = record {
   tap = RunTestIdle;
@@ -311,8 +311,8 @@ some_start board = record { logics_are = same (board_logics board); states_are =
       states parts,
     )
 
--- the head of a test with its first three scans: with a log in place of the expected bits these compare nothing, and EXTEST is
--- entered as ever
+-- The head of a test and its first three scans. With a log in place of the expected bits they compare nothing, and the parts
+-- enter EXTEST as before.
 module _ (board : RawBoard) (rules : IsBoard board) (faults : FaultSet) (ts : List RowScan) (log : List (List Bool)) where
   abbrev env : Wiring
   env = board_wiring board faults
@@ -387,7 +387,7 @@ module _ (board : RawBoard) (rules : IsBoard board) (faults : FaultSet) (ts : Li
         ∙ after-append (sir_clocks preload) (sdr_clocks quiet ++ sir_clocks extest) f
         ∙ after-append (sdr_clocks quiet) (sir_clocks extest) (choices_after (sir_clocks preload) f)
 
-    -- what the run compares with the log
+    -- only the scans of the rows decide whether the run agrees with the log
     pub log_decides : run_passes (test_clocks (scans_by_log (board_scans board ts) log)) (tdos env (test_clocks (scans_by_log (board_scans board ts) log)) free chain)
         ≡ run_passes (all_clocks compared) (tdos env (all_clocks compared) left under_extest)
     log_decides =
@@ -433,6 +433,6 @@ module _ (board : RawBoard) (rules : IsBoard board) (faults : FaultSet) (ts : Li
           captures_follow board rules faults choice ts compared quiet_row quiet_row (under_extest chain free start) (in_extest_held chain free start) (log_shifts board ts log)
           (sym (ap (λ (g : Choices). run_passes (all_clocks compared) (tdos env (all_clocks compared) g (under_extest chain free start))) ends) ∙ run_ok)
 
-  -- a log is what every run compares exactly where it is what the rows capture
+  -- every run agrees with a log if and only if the log is what is captured for the rows
   pub log_captured : PassOnBoard board faults (test_clocks (scans_by_log (board_scans board ts) log)) ↔ CapturesPass board faults quiet_row ts compared
   log_captured = (captures_by_log, log_by_captures)

@@ -1,4 +1,4 @@
--- From any state, after the head and the first three scans, the quiet row is in the latches under EXTEST.
+-- After the head and the first three scans, from any state, the quiet row is in the latches under EXTEST.
 use Rattle.std.proofs.Common.{not, ◌≡◌, ◌≢◌, ℕ, zero, suc, ◌<◌, ◌≤◌, Bool, true, false, cond, ◌&&◌, List, [], ◌∷◌, length, map, Option, Some, refl, sym, ◌∙◌, ap, subst, length-append, take, arith, ◌++◌, ◌==◌, None}
 use Rattle.std.specs.Prelude.{slice_get, option_map, unwrap_or}
 use Rattle.std.specs.List.{list_all, AllByRecursion}
@@ -47,14 +47,14 @@ use Rattle.tap_defs.proofs.chain.HeadLemmas.{chain_logics, chain_lengths, ir_siz
 use Rattle.tap_defs.proofs.chain.InstructLemmas.{AllRoom, tdi_bits-instructs, instructs_pass, length-instructs}
 use Rattle.tap_defs.proofs.chain.RowLemmas.{all_ones-replicate}
 
--- the parts of a board keep their rules, by recursion on the chain
+-- the parts of a board keep their rules; this form is defined by recursion on the chain
 abbrev pub Parts : List Part → Type 0
 Parts ps = AllByRecursion (λ p. IsPart p.kind) ps
 
 pub parts_of : (board : RawBoard) → IsBoard board → Parts board.chain
 parts_of board rules = recursion_from_All (λ (p : Part). IsPart p.kind) board.chain rules.parts
 
--- what surrounds the chain fits it
+-- the bits that the board gives a part's boundary cells are as many as the part has
 captured_size : (board : RawBoard) (faults : FaultSet) (free : Choice) (chain : List ChainPart) (k : ℕ) (p : Part) →
     slice_get board.chain k ≡ Some p → length (pins_at (board_wiring board faults) free chain k) ≡ (test_logic p.kind).boundary_length
 captured_size board faults free chain k p e =
@@ -76,7 +76,7 @@ fits_logics : (ps : List Part) (pins : ℕ → List Bool) →
 fits_logics [] pins q = tt
 fits_logics (p ∷ ps) pins q = (q 0 p refl, fits_logics ps (λ k. pins (suc k)) (λ k. q (suc k)))
 
--- a run keeps the chain's parts and the lengths of their registers
+-- a run keeps the parts of the chain and the lengths of their registers
 pub stays_of : (board : RawBoard) → IsBoard board → (faults : FaultSet) (cs : List Clock) (free : Choices) (chain : List ChainPart) →
     IsBoardChain board chain → IsBoardChain board (run (board_wiring board faults) cs free chain)
 stays_of board rules faults cs free chain h =
@@ -97,7 +97,7 @@ room_by (p ∷ ps) h = (wide_part p.kind h.0, room_by ps h.1)
 room_of : (board : RawBoard) → IsBoard board → (chain : List ChainPart) → IsBoardChain board chain → AllRoom (ir_sizes chain)
 room_of board rules chain h = subst (λ (l : List ℕ). AllRoom l) (sym (chain_lengths (board_logics board) chain h)) (room_by board.chain (parts_of board rules))
 
--- codes as long as the instruction registers
+-- each code is as long as the part's instruction register
 abbrev pub CodesFit : (PartKind → List Bool) → List Part → Type 0
 CodesFit code [] = Unit {0}
 CodesFit code (p ∷ ps) = (length (code p.kind) ≡ (test_logic p.kind).ir_length) × CodesFit code ps
@@ -107,7 +107,7 @@ code_lengths : (code : PartKind → List Bool) (ps : List Part) → CodesFit cod
 code_lengths code [] h = refl
 code_lengths code (p ∷ ps) h = cons_path h.0 (code_lengths code ps h.1)
 
--- the instructions that the codes mean
+-- the codes mean these instructions
 abbrev pub CodesMean : (PartKind → List Bool) → (PartKind → Instruction) → List Part → Type 0
 CodesMean code instruction [] = Unit {0}
 CodesMean code instruction (p ∷ ps) = (instruction_of (test_logic p.kind) (code p.kind) ≡ instruction p.kind) × CodesMean code instruction ps
@@ -125,7 +125,7 @@ meanings code instruction (p ∷ ps) (n ∷ chain) h f c =
     let c1 : ir_registers chain ≡ map (λ p. code p.kind) ps = cc c in
     cons_path (ap (λ (x : TestLogic). instruction_of x n.state.ir) f0 ∙ ap (λ (x : List Bool). instruction_of (test_logic p.kind) x) c0 ∙ h.0) (meanings code instruction ps chain h.1 f1 c1)
 
--- a scan of instructions on the board
+-- an instruction scan on the board, after which the parts have these instructions
 pub record Instructed (board : RawBoard) (instruction : PartKind → Instruction) (clocks : List Clock) (out : List Bool) (chain next : List ChainPart) : Type 0 where
   pub passes : run_passes clocks out ≡ true
   pub is_start : IsBoardChain board next
@@ -186,7 +186,7 @@ extest_fits (p ∷ ps) h = (one p.kind h.0, extest_fits ps h.1)
     one (Described device) k = map_size device.extest ∙ k.codes.extest_length
     one (WithoutDescription n) k = length-replicate n true
 
--- the instruction while the quiet row is shifted in
+-- the instructions of the parts while the quiet row is shifted in
 abbrev pub preloading : PartKind → Instruction
 preloading (Described device) = Sample
 preloading (WithoutDescription n) = Bypass
@@ -266,7 +266,7 @@ pub only_if-None : (b : Bool) → only_if b None ≡ None
 only_if-None true = refl
 only_if-None false = refl
 
--- the quiet row carries nothing that could be compared
+-- in the quiet row no bit is expected
 pub quiet_expects : (board : RawBoard) (k : ℕ) (device : RawDevice) (cell : ℕ) → expect_bit board quiet_row k device cell ≡ None
 quiet_expects board k device cell = by_entry (reading_entry device cell)
   where
@@ -305,7 +305,7 @@ pub quiet_compares : (board : RawBoard) (now : TestRow) (os : List Bool) →
     scan_passes (joined (row_bits board (record { now = now; before = quiet_row }))) os ≡ true
 quiet_compares board now os = silent_passes (joined (row_bits board (record { now = now; before = quiet_row }))) os (quiet_silent board now 0 board.chain)
 
--- a scan of data has a bit for each part at least
+-- a data scan has at least one bit for each part
 row_scan_total : (board : RawBoard) (t : RowScan) (k : ℕ) (ps : List Part) → Parts ps → length ps ≤ length (joined (bits_by_part board t k ps))
 row_scan_total board t k [] h = omega arith
 row_scan_total board t k (p ∷ ps) h = omega (arith, length-append (joined (bits_by_part board t (suc k) ps)) (part_bits board t k p.kind), row_scan_total board t (suc k) ps h.1, one p.kind h.0)
@@ -317,7 +317,7 @@ row_scan_total board t k (p ∷ ps) h = omega (arith, length-append (joined (bit
 pub row_scan_some : (board : RawBoard) → IsBoard board → (t : RowScan) → 0 < length (joined (row_bits board t))
 row_scan_some board rules t = omega (arith, row_scan_total board t 0 board.chain (parts_of board rules), rules.chain_some)
 
--- while the quiet row is shifted in
+-- while the quiet row is shifted in, each part selects a register of the model
 preload_in : (ps : List Part) (chain : List ChainPart) → map (λ n. n.state.current) chain ≡ map (λ p. preloading p.kind) ps →
     AllIn RunTestIdle chain → AllSelectingIn RunTestIdle chain
 preload_in ps [] e h = tt
@@ -385,7 +385,7 @@ preloads board rules faults now free chain h tap e =
           (s.stays ∙ drop_front (length bits) (joined registers) (tdi_bits bits) fits ∙ tdi_bits-joined (row_bits board t));
     }
 
--- and stays there when EXTEST comes
+-- the quiet row stays in the latches when EXTEST becomes current
 stored_same : (ps : List Part) (chain ms : List ChainPart) → map (λ n. n.state.current) chain ≡ map (λ p. preloading p.kind) ps →
     map (λ n. n.state.current) ms ≡ map (λ p. in_test p.kind) ps → map code_frame ms ≡ map code_frame chain → all_held ms ≡ all_held chain
 stored_same ps [] [] e f g = refl
@@ -488,7 +488,7 @@ module _ (board : RawBoard) (rules : IsBoard board) (faults : FaultSet) (states 
   pub in_test_after : InTest board (shifted_row board first_row_scan) entered
   in_test_after = enters board first_row_scan preloaded entered scan1.currents scan1.stays scan2.frames scan2.is_start scan2.idle scan2.currents
 
-  -- what the whole text compares
+  -- a whole text passes if and only if its scans of rows pass
   pub whole_passes_as : (ts : List RowScan) →
       run_passes (test_clocks (board_scans board ts)) (tdos wiring (test_clocks (board_scans board ts)) free states) ≡ run_passes (row_clocks board ts) (tdos wiring (row_clocks board ts) f3 entered)
   whole_passes_as ts =

@@ -1,4 +1,4 @@
--- Where no open pin stands on a shorted net, what a compared cell captures does not depend on free bits.
+-- If no open pin is on a shorted net, the bit that a compared cell captures does not depend on free bits.
 use Rattle.std.proofs.Common.{◌≡◌, ◌≢◌, ◌⊎◌, inl, inr, ℕ, zero, suc, ◌+◌, ◌==◌, Bool, true, false, cond, not, ◌&&◌, List, [], ◌∷◌, Option, Some, None, refl, sym, ◌∙◌, ap, subst, arith}
 use Rattle.std.specs.Prelude.{slice_get}
 use Rattle.std.specs.List.{list_all}
@@ -23,7 +23,7 @@ use Rattle.tap_defs.proofs.board.FeedingLemmas.{PinRules, apart, placed, all_dea
 use Rattle.tap_defs.proofs.board.QuietLemmas.{BoardRules, live_on}
 use Rattle.tap_defs.proofs.board.ResponseLemmas.{driven_bit, plain_is}
 
--- pins of which at most one is live feed a net at most one bit
+-- if at most one of the pins is live, their net has at most one live driver
 one_feeds : (board : RawBoard) (states : List PinState) (m : ℕ) (ps : List NetPin) →
     ((i j : ℕ) (p q : NetPin) → slice_get ps i ≡ Some p → slice_get ps j ≡ Some q → i ≢ j → live board states p ≡ true → live board states q ≡ true → ⊥) →
     is_decided (feeding_from board states m ps) ≡ true
@@ -37,7 +37,7 @@ one_feeds board states m (p ∷ ps) one = by_head (one_feeds board states (suc m
         ap (λ (f : Feeding). is_decided (counted true m (driver_bit board states p.at) f))
         (all_dead board states (suc m) ps (λ i q eq. false_from_ne_true (live board states q) (λ on. one 0 (suc i) p q refl eq (λ z. absurd (omega (arith, z))) e on)))
 
--- the nets of a short
+-- a test that each net of a short passes
 shorted_pass : (faults : FaultSet) (k n : ℕ) (nets : List Net) (test : OfNet Net → Bool) →
     ((i : ℕ) (net : Net) → slice_get nets i ≡ Some net → faults.short (n + i) ≡ Some k → test (n + i, net) ≡ true) → list_all test (shorted_nets faults k n nets) ≡ true
 shorted_pass faults k n [] test h = refl
@@ -83,7 +83,7 @@ shorted_has faults k n (x ∷ nets) (suc i) net e s =
     by_test rest true = inr rest
     by_test rest false = rest
 
--- where some net is fed or held, the bit of the short is not free
+-- if some net of a short is fed or held, the bit of the short is not free
 combined_fixed : (kind : ShortKind) (fs hs : List (OfNet Bool)) (x : OfNet Bool) → Has fs x ⊎ Has hs x → (free other : Bool) →
     first_combined kind fs hs free ≡ first_combined kind fs hs other
 combined_fixed kind (f ∷ fs) hs x h free other = refl
@@ -98,7 +98,7 @@ module _ (board : RawBoard) (row : TestRow) (safe : IsSafe board row.setting) (r
       ap (λ (o : Option PinAt). extest_where (pin_states chain) o) a
       ∙ extest_is board (record { now = row; before = before }) chain at.part part device h ek ed
 
-  -- every net that is not guarded is ruled, and has at most one live driver
+  -- every unguarded net is ruled and has at most one live driver
   pub decided : (n : ℕ) (net : Net) → slice_get board.nets n ≡ Some net → guarded board net ≡ false →
       is_decided (feeding board (pin_states chain) net) ≡ true
   decided n net en unguarded =
@@ -126,7 +126,7 @@ module _ (board : RawBoard) (row : TestRow) (safe : IsSafe board row.setting) (r
         let z : 0 + i ≡ i = omega arith in
         decided i x e (covered_open i x e (subst (λ (m : ℕ). IsCovered board m) z (is_set.covered (0 + i) k s))))
 
-    -- a net that the row observes, with the bit that it carries
+    -- a net that the row observes, with the bit that the net carries
     module _ (n : ℕ) (net : Net) (en : slice_get board.nets n ≡ Some net) (d : ℕ) (observing : observing_driver board row.setting net ≡ Some d) (v : Bool) (carried_is : row.carried n ≡ Some v) where
       carries_v : Carries d net.pull v (feeding board (pin_states chain) net)
       carries_v = carries board row safe n net (rules.nets n net en) d observing before chain h v carried_is
@@ -158,7 +158,7 @@ module _ (board : RawBoard) (row : TestRow) (safe : IsSafe board row.setting) (r
             ∙ combined_fixed (faults.kind k) fs hs (n, v) (is_given carries_v) free other
             ∙ sym (ap (λ (b : Bool). cond b (first_combined (faults.kind k) fs hs other) other) (all_decided k))
 
-      -- its bit is one, whatever the free bits
+      -- the net has the same bit whatever the free bits are
       abbrev Fixed : Type 0
       Fixed = (bit : Bool) × ((shorts : ℕ → Bool) → net_bit board faults (pin_states chain) shorts n net ≡ Some bit)
 

@@ -1,4 +1,4 @@
--- What the chain of a board under test holds between two scans, and which scans are wrong.
+-- The state of the chain between two scans of a board's test, and wrong scans.
 use Rattle.std.proofs.Common.{◌≡◌, false, [], ◌⊎◌, List, ◌∷◌, Bool, map}
 use Rattle.board_defs.specs.declared.board.RawBoard.{RawBoard}
 use Rattle.board_defs.specs.declared.board.PartKind.{PartKind}
@@ -19,7 +19,7 @@ abbrev pub in_test : PartKind → Instruction
 in_test (Described device) = Extest
 in_test (WithoutDescription n) = Bypass
 
--- between two scans: each described part under Extest, each other part under Bypass, and this row in the latches
+-- between two scans, each described part has EXTEST, each other part has BYPASS, and this row is in the latches
 pub record InTest (board : RawBoard) (row : List (List Bool)) (chain : List ChainPart) : Type 0 where
   pub idle : AllSelectingIn RunTestIdle chain
   pub logics_are : map (λ n. n.logic) chain ≡ map (λ p. test_logic p.kind) board.chain
@@ -29,12 +29,12 @@ pub record InTest (board : RawBoard) (row : List (List Bool)) (chain : List Chai
 abbrev pub shifted_row : RawBoard → RowScan → List (List Bool)
 shifted_row board t = map tdi_bits (row_bits board t)
 
--- in every run the scan finds a wrong bit, where the row before it is in the latches
+-- in every run, the scan finds a wrong bit if the row before it is in the latches
 abbrev pub IsWrong : RawBoard → FaultSet → List (List Bool) → RowScan → Type 0
 IsWrong board faults row t =
     (chain : List ChainPart) (free : Choice) → InTest board row chain → scan_passes (joined (row_bits board t)) (joined (registers (pins_at (board_wiring board faults) free chain) board.chain)) ≡ false
 
--- so does some scan of these
+-- in every run, one of these scans finds a wrong bit
 abbrev pub SomeWrong : RawBoard → FaultSet → List (List Bool) → List RowScan → Type 0
 SomeWrong board faults row [] = ⊥
 SomeWrong board faults row (t ∷ ts) = IsWrong board faults row t ⊎ SomeWrong board faults (shifted_row board t) ts

@@ -1,4 +1,4 @@
--- What is live while a row of a pass is in the latches.
+-- The live drivers while a row of a pass is in the latches.
 use Rattle.std.proofs.Common.{◌≡◌, ℕ, zero, suc, ◌<◌, ◌==◌, Bool, true, false, cond, not, ◌&&◌, List, [], ◌∷◌, Option, Some, None, refl, sym, ◌∙◌, ap, subst, zero-add}
 use Rattle.std.specs.Prelude.{slice_get, unwrap_or, option_map, option_and_then, find}
 use Rattle.std.specs.List.{list_any}
@@ -32,7 +32,7 @@ use Rattle.tap_defs.proofs.board.InTestLemmas.{in_test, InTest, shifted_row}
 use Rattle.tap_defs.proofs.chain.ScanLemmas.{filled_at}
 use Rattle.tap_defs.proofs.board.WrongLemmas.{bits_at}
 
--- what the rules of a device say of its controls
+-- what the rules of devices say about controls
 pub record IsWired (device : RawDevice) : Type 0 where
   pub below : (i : ℕ) (e : Cell) (control : Control) → slice_get device.cells i ≡ Some e → e.ctl ≡ Some control →
       control.cell < device.boundary
@@ -51,12 +51,12 @@ found_by : (p : Cell → Bool) (xs : List Cell) (x y : Cell) → (find p xs ≡ 
 found_by p xs x y ih true q h = let z : y ≡ x = cc h in (subst (λ (w : Cell). p w ≡ true) z q, (0, h))
 found_by p xs x y ih false q h = let r = ih h in (r.0, (suc r.1.0, r.1.1))
 
--- what find gives the test, and stands in the list
+-- the item that `find` returns passes the test and is in the list
 pub found : (p : Cell → Bool) (xs : List Cell) (x : Cell) → find p xs ≡ Some x → (p x ≡ true) × ((i : ℕ) × (slice_get xs i ≡ Some x))
 found p [] x e = cc e
 found p (y ∷ xs) x e = found_by p xs x y (found p xs x) (p y) refl e
 
--- where some item passes, find gives one
+-- if some item passes, `find` returns an item
 pub find_some : (p : Cell → Bool) (xs : List Cell) (i : ℕ) (x : Cell) → slice_get xs i ≡ Some x → p x ≡ true →
     (y : Cell) × (find p xs ≡ Some y)
 find_some p [] i x e q = cc e
@@ -67,7 +67,7 @@ find_some p (y ∷ xs) (suc i) x e q = by_head (p y) (find_some p xs i x e q)
     by_head true r = (y, refl)
     by_head false r = r
 
--- the state of a described part under test
+-- the state of a described part during a test
 pub record UnderTest (row : List Bool) (chain : List ChainPart) (k : ℕ) : Type 0 where
   pub node : ChainPart
   pub at_k : slice_get chain k ≡ Some node
@@ -132,7 +132,7 @@ pub same_self : (b : Bool) → not (is_same b b) ≡ false
 same_self true = refl
 same_self false = refl
 
--- a driver that the setting does not enable, and whose cell carries no code, is not live
+-- a driver is not live if the setting does not enable it and its cell carries no net's bit
 pub dead_if_off : (board : RawBoard) (row before : TestRow) (chain : List ChainPart) (k b : ℕ) (part : Part) (device : RawDevice) →
     let t : RowScan = record { now = row; before = before } in
     let at : PinAt = record { part = k; bit = b } in
@@ -201,7 +201,7 @@ dead_if_off board row before chain k b part device h ek ed wired pinned off idle
         let f = found (drives_bit b) device.cells c e in
         by_ctl c f.1.0 f.0 f.1.1 c.ctl refl (sym (ap (λ (o : Option Cell). enables_entry row.setting k o) e) ∙ off_entry)
 
--- a control that the setting holds, and that is another cell than the driver's, enables the driver
+-- a control of the setting that is not the driver's own cell enables the driver
 pub control_on : (board : RawBoard) (row before : TestRow) (chain : List ChainPart) (at : PinAt) (part : Part) (device : RawDevice) →
     InTest board (shifted_row board (record { now = row; before = before })) chain → slice_get board.chain at.part ≡ Some part →
     part.kind ≡ Described device → IsWired device → is_pinned board at ≡ true → (e : Cell) (i : ℕ) → drives_bit at.bit e ≡ true →

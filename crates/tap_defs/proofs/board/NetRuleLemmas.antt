@@ -1,4 +1,4 @@
--- What the rules of devices and boards say of controls, entries and pins.
+-- What the rules of devices and boards say about controls, entries and pins.
 use Rattle.std.proofs.Common.{◌≡◌, ℕ, zero, suc, ◌+◌, ◌<◌, ◌==◌, Bool, true, false, cond, ◌&&◌, ◌||◌, List, [], ◌∷◌, Option, Some, None, refl, sym, ◌∙◌, ap, subst, arith}
 use Rattle.std.specs.Prelude.{slice_get, option_map, option_and_then, is_some}
 use Rattle.std.specs.List.{list_any}
@@ -29,7 +29,7 @@ use Rattle.tap_defs.proofs.board.FeedingLemmas.{PinRules, apart, placed, NetRule
 use Rattle.tap_defs.proofs.board.ReadingLemmas.{IsRead, any_is, AllRead}
 use Rattle.tap_defs.proofs.board.QuietLemmas.{BoardRules, device_of, control_is}
 
--- one place, one item
+-- one place of a list has only one item
 same_item : {A : Type 0} (xs : List A) (i j : ℕ) (x y : A) → slice_get xs i ≡ Some x → slice_get xs j ≡ Some y → i ≡ j → y ≡ x
 same_item xs i j x y ex ey e =
     let two : Some y ≡ Some x = sym ey ∙ sym (ap (λ (k : ℕ). slice_get xs k) e) ∙ ex in
@@ -83,7 +83,7 @@ module _ (device : RawDevice) (rules : IsDevice device) where
   num_below : (i : ℕ) (e : Cell) → slice_get device.cells i ≡ Some e → e.num < device.boundary
   num_below i e ei = all_stands (λ (c : Cell). c.num < device.boundary) device.cells i e ei rules.cells_below
 
-  -- the entry of a control's cell
+  -- the entry that owns the cell of a control
   data Owner (e : Cell) (control : Control) : Type 0 where
     own_cell : control.cell ≡ e.num → Owner e control
     control_cell : (k : ℕ) (x : Cell) → slice_get device.cells k ≡ Some x → x.num ≡ control.cell → is_controlling x.role ≡ true →
@@ -141,7 +141,7 @@ module _ (device : RawDevice) (rules : IsDevice device) where
     num_below = num_below;
   }
 
--- where a pin stands, if it stands once
+-- the place of a pin that occurs only once in the nets
 self_at : (at : PinAt) → is_at at (Some at) ≡ true
 self_at at = ap (λ (b : Bool). b && (at.bit == at.bit)) (eq-eqb at.part at.part refl) ∙ eq-eqb at.bit at.bit refl
 

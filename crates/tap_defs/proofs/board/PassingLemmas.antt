@@ -1,4 +1,4 @@
--- With no fault each compared bit is as expected.
+-- Without faults, each compared bit is as expected.
 use Rattle.std.proofs.Common.{◌≡◌, ◌≢◌, ℕ, zero, suc, ◌+◌, ◌<◌, ◌==◌, Bool, true, false, cond, not, ◌&&◌, List, [], ◌∷◌, Option, Some, None, refl, sym, ◌∙◌, ap, subst, arith}
 use Rattle.std.specs.Prelude.{slice_get, unwrap_or, option_map}
 use Rattle.board_defs.specs.declared.device.Cell.{Cell}
@@ -40,7 +40,7 @@ all_cells (suc n) f g q =
     ap (λ (b : Bool). b && scan_passes (filled n (λ k. f (suc k))) (filled n (λ k. g (suc k)))) (q 0 (omega arith))
     ∙ all_cells n (λ k. f (suc k)) (λ k. g (suc k)) (λ c h. q (suc c) (omega arith))
 
--- where a pin is found, it stands
+-- the place that was found for a pin is the place of that pin
 pub record Stands (board : RawBoard) (at : PinAt) (p : Place) (m : ℕ) (nets : List Net) : Type 0 where
   pub index : ℕ
   pub number_is : p.number ≡ m + index
@@ -148,7 +148,7 @@ none_there pins [] k e = refl
 none_there pins (p ∷ ps) zero e = cc e
 none_there pins (p ∷ ps) (suc k) e = none_there (λ j. pins (suc j)) ps k e
 
--- a scan that compares row j, where row j is in the latches and nothing is faulty
+-- without faults, a scan that compares a row passes if that row is in the latches
 pub good_scan : (board : RawBoard) (row : TestRow) → IsSafe board row.setting →
     ((n : ℕ) (net : Net) → slice_get board.nets n ≡ Some net → NetRules board n net) →
     (now before : TestRow) (free : Choice) (chain : List ChainPart) →

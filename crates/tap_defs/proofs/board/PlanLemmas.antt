@@ -1,4 +1,4 @@
--- Passes that do what some safe setting does, with codes of enough bits, make a plan.
+-- Passes that meet the requirements on passes, with codes of enough bits, make a plan.
 use Rattle.std.specs.Prelude.{is_some, nat_lt, slice_get}
 use Rattle.std.proofs.Common.{◌≡◌, ◌+◌, ◌∷◌, true, ◌≢◌, [], false, ◌&&◌, ◌<◌, Some, suc, ◌≤◌, ◌∙◌, ◌==◌, zero, ◌^◌, refl, ℕ, Bool, List, None, ◌||◌, Option, cond, arith, ap, not, ltb-true, ltb-false, sym, subst}
 use Rattle.board_defs.specs.declared.board.Ctl.{Ctl}
@@ -22,7 +22,7 @@ use Rattle.tap_defs.proofs.board.NetRuleLemmas.{all_read, net_rules}
 use Rattle.tap_defs.proofs.board.CodeBitLemmas.{has_one, count_whole, count_up, has_zero, codes_differ}
 use Rattle.tap_defs.proofs.board.DetectionLemmas.{IsPlan, Sees}
 
--- a setting that observes a net by a pin has that pin as the one that is observed
+-- if a safe setting observes a net by a pin, that pin is the observing driver
 first_is : (board : RawBoard) (setting : Enabling) (m d : ℕ) (ps : List NetPin) (p : NetPin) → slice_get ps d ≡ Some p →
     enables board setting p ≡ true →
     ((i : ℕ) (q : NetPin) → slice_get ps i ≡ Some q → enables board setting q ≡ true → i ≡ d) → first_enabled board setting m ps ≡ Some (m + d)
@@ -69,7 +69,7 @@ observing_is board setting safe n net d en o =
     by_decision i q ei on true h = eqb-true i d h
     by_decision i q ei on false h = absurd (safe.one n net i d q o.pin en ei o.stands (λ e. eqb-false i d h e) on o.enabled)
 
--- and only then is it observed
+-- conversely, if a pin is the observing driver, the setting observes the net by it
 pub observed_by : (board : RawBoard) (setting : Enabling) (net : Net) (d : ℕ) → observing_driver board setting net ≡ Some d →
     ObservesBy board setting net d
 observed_by board setting net d e =
@@ -98,7 +98,7 @@ module _ (board : RawBoard) (rules : IsBoard board) (passes : List (List Ctl)) (
       slice_get board.nets n ≡ Some net → ObservesBy board (holds pass) net d → Sees board pass n d
   sees x pass e n net d en o = record { net = net; rules = net_rules board rules n net en; observing = observing_is board (holds pass) (are.safe x pass e) n net d en o }
 
-  -- a covered net is observed
+  -- a covered net is observed, so it has a code
   record Coded (n : ℕ) : Type 0 where
     net : Net
     stands : slice_get board.nets n ≡ Some net

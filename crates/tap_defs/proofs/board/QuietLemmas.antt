@@ -32,7 +32,7 @@ use Rattle.tap_defs.proofs.board.FeedingLemmas.{PinRules, apart, placed, NetRule
 use Rattle.tap_defs.proofs.board.ReadingLemmas.{any_is}
 use Rattle.tap_defs.proofs.board.PassingLemmas.{stands_at}
 
--- what is known of the board
+-- the facts about the board that these proofs need
 pub record BoardRules (board : RawBoard) : Type 0 where
   pub nets : (n : ℕ) (net : Net) → slice_get board.nets n ≡ Some net → NetRules board n net
   pub devices : (k : ℕ) (part : Part) (device : RawDevice) → slice_get board.chain k ≡ Some part → part.kind ≡ Described device →
@@ -80,7 +80,7 @@ module _ (board : RawBoard) (row : TestRow) (safe : IsSafe board row.setting) (r
   abbrev t : RowScan
   t = record { now = row; before = before }
 
-  -- what carries a code is the pin of an enabled driver
+  -- a cell that carries a net's bit is that of an enabled driver
   carries_code : (at : PinAt) (p : Place) (i : ℕ) → place_of at 0 board.nets ≡ Some p → observing_driver board row.setting p.net ≡ Some i →
       (i == p.place) ≡ true →
       (enables_at board row.setting at ≡ true) × ((guarded board p.net ≡ false) × ((pin : NetPin) × (slice_get p.net.pins p.place ≡ Some pin) × (pin.at ≡ Some at)) × (slice_get board.nets p.number ≡ Some p.net))
@@ -95,7 +95,7 @@ module _ (board : RawBoard) (row : TestRow) (safe : IsSafe board row.setting) (r
         (w.unguarded, (s.pin, s.pin_is, s.at_is), subst (λ (x : ℕ). slice_get board.nets x ≡ Some p.net) n s.net_is),
       )
 
-  -- a pin whose driver is off carries no code
+  -- the cell of a driver that is off carries no net's bit
   off_idle : (at : PinAt) → enables_at board row.setting at ≡ false → data_place board row (place_of at 0 board.nets) ≡ None
   off_idle at off = by_place (place_of at 0 board.nets) refl
     where
@@ -113,7 +113,7 @@ module _ (board : RawBoard) (row : TestRow) (safe : IsSafe board row.setting) (r
       by_place None e = refl
       by_place (Some p) e = by_driver p e (observing_driver board row.setting p.net) refl
 
-  -- a live driver is enabled
+  -- every live driver is enabled
   pub live_on : (n : ℕ) (net : Net) (i : ℕ) (p : NetPin) → slice_get board.nets n ≡ Some net → slice_get net.pins i ≡ Some p →
       live board (pin_states chain) p ≡ true → enables board row.setting p ≡ true
   live_on n net i p en ei on = by_rules ((rules.nets n net en).pins i p ei)
@@ -131,7 +131,7 @@ module _ (board : RawBoard) (row : TestRow) (safe : IsSafe board row.setting) (r
       by_rules (apart a) = absurd (both_ways (live board (pin_states chain) p) (ap (λ (o : Option PinAt). live_where board (pin_states chain) o) a) on)
       by_rules (placed at part device a ek ed wired pinned place) = by_test at part device a ek ed wired pinned (enables_at board row.setting at) refl
 
-  -- what is on is in the setting
+  -- every control that is on belongs to the setting
   set_within : (c : Ctl) → latched_setting board (pin_states chain) c ≡ true → row.setting c ≡ true
   set_within c on = by_device (device_at board c.part) refl on
     where
@@ -192,14 +192,15 @@ module _ (board : RawBoard) (row : TestRow) (safe : IsSafe board row.setting) (r
           let b = pinned_is board c.part y.1.bit parts.2 in
           by_entry device (device_of board c.part device e) y.1 y.0 k.0 b.0 y.2 k.1 k.2 parts.1 b.1 b.2 x.0 x.1 (row.setting c) refl
 
-  -- while a row of a safe pass is in the latches, all parts have Extest and what is on is safe
+  -- while a row of a safe pass is in the latches, all described parts have EXTEST, and the controls that are on are a
+  -- safe setting
   pub safely_set : IsSafelySet board (pin_states chain)
   safely_set = inr (
     (λ k device e. let d = device_of board k device e in extest_is board t chain k d.part device h d.at_k d.kind_is),
     safe_within board (latched_setting board (pin_states chain)) row.setting set_within safe,
   )
 
-  -- a cell that controls no driver and drives no pin of an open net has its safe value
+  -- a cell that controls no driver and drives no pin of an unguarded net has its safe value
   pub keeps_safe : KeepsSafeValues board (pin_states chain)
   keeps_safe k cell device v e extest below controls drives value =
       let d = device_of board k device e in
@@ -250,7 +251,7 @@ module _ (board : RawBoard) (row : TestRow) (safe : IsSafe board row.setting) (r
           by_bit None xb = refl
           by_bit (Some b) xb = by_place b xb (place_of (record { part = k; bit = b }) 0 board.nets) refl
 
--- two rows of one pass, one after the other
+-- no net is contested between two moments that show rows of one pass
 pub uncontested : (board : RawBoard) (setting : Enabling) → IsSafe board setting → (now next : List PinState) →
     ((n : ℕ) (net : Net) (i : ℕ) (p : NetPin) → slice_get board.nets n ≡ Some net → slice_get net.pins i ≡ Some p → live board now p ≡ true → enables board setting p ≡ true) →
     ((n : ℕ) (net : Net) (i : ℕ) (p : NetPin) → slice_get board.nets n ≡ Some net → slice_get net.pins i ≡ Some p → live board next p ≡ true → enables board setting p ≡ true) → IsUncontested board now next

@@ -21,7 +21,7 @@ use Rattle.tap_defs.proofs.board.LiveLemmas.{found, find_some}
 use Rattle.tap_defs.proofs.board.FeedingLemmas.{PinRules, apart, placed, NetRules}
 use Rattle.tap_defs.proofs.board.WrongLemmas.{Compared}
 
--- a cell number has one reading entry at most, and each entry's number is that of a cell
+-- a cell has at most one reading entry, and each entry has the number of a cell
 pub record IsRead (device : RawDevice) : Type 0 where
   pub one_reader : (i j : ℕ) (e d : Cell) → slice_get device.cells i ≡ Some e → is_reading e.role ≡ true →
       slice_get device.cells j ≡ Some d → is_reading d.role ≡ true → d.num ≡ e.num → d ≡ e
@@ -36,7 +36,7 @@ any_is p (x ∷ xs) e = go (any_is p xs) (p x) refl e
     go ih true q h = (0, x, refl, q)
     go ih false q h = let r = ih h in (suc r.0, r.1, r.2, r.3)
 
--- another pin that receives
+-- some pin at another place is a receiver
 pub beside : (board : RawBoard) (driver m : ℕ) (ps : List NetPin) → reads_beside board driver m ps ≡ true →
     (i : ℕ) × (p : NetPin) × (slice_get ps i ≡ Some p) × (receives board p ≡ true) × ((driver == (m + i)) ≡ false)
 beside board driver m [] e = cc e
@@ -53,7 +53,7 @@ beside board driver m (p ∷ ps) e = go (beside board driver (suc m) ps) (not (m
         let z : suc m + r.0 ≡ m + suc r.0 = omega arith in
         (suc r.0, r.1, r.2, r.3, subst (λ (x : ℕ). (driver == x) ≡ false) z r.4)
 
--- the entry of a receiver
+-- a receiver has a reading entry
 entry_of : (device : RawDevice) (b : ℕ) (o : Option PortBit) → receives_bit device b o ≡ true → list_any (reads_bit b) device.cells ≡ true
 entry_of device b None e = cc e
 entry_of device b (Some bit) e = (and_parts (may_receive bit.mode) (list_any (reads_bit b) device.cells) e).1
@@ -132,7 +132,7 @@ compared board setting n net d read rules observing =
     let z : 0 + b.0 ≡ b.0 = omega arith in
     (compared_by board setting n net d b.0 b.1 b.2 observing b.3 (subst (λ (x : ℕ). (d == x) ≡ false) z b.4) read (rules.pins b.0 b.1 b.2)).0
 
--- so has each of its receivers but the enabled driver's pin
+-- each receiver of an observed net has a compared cell, except at the pin of the enabled driver
 pub compared_at : (board : RawBoard) (setting : Enabling) (n : ℕ) (net : Net) (d i : ℕ) (p : NetPin) → AllRead board →
     NetRules board n net → observing_driver board setting net ≡ Some d → slice_get net.pins i ≡ Some p → receives board p ≡ true →
     (d == i) ≡ false → (c : Compared board setting n net) × (c.place ≡ i)

@@ -1,4 +1,4 @@
--- What a compared cell captures under any stuck nets and open pins: one bit, the same in every run.
+-- Under any stuck nets and open pins, a compared cell captures the same bit in every run.
 use Rattle.std.specs.Prelude.{unwrap_or}
 use Rattle.std.proofs.Common.{◌≡◌, None, refl, Option, Some, List, ◌∙◌, Bool, ℕ, ap, sym}
 use Rattle.board_defs.specs.declared.board.RawBoard.{RawBoard}
@@ -13,12 +13,13 @@ use Rattle.tap_defs.proofs.board.FeedingLemmas.{Carries, NetRules, pulled, drive
 use Rattle.tap_defs.proofs.board.InTestLemmas.{InTest, shifted_row}
 use Rattle.tap_defs.proofs.board.WrongLemmas.{Compared, captured_here}
 
--- the bit of a net that carries v, by its pull and by the constant of its driver where that is open
+-- the bit of a net that carries `v`, which depends on its pull and on the constant of its driver if the driver is open
 abbrev pub driven_bit : Option Bool → Option Bool → Bool → Bool
 driven_bit None pull v = v
 driven_bit (Some u) pull v = unwrap_or pull u
 
--- the bit of a compared cell: its own pin is open, its net is stuck, or the net has what its driver gives
+-- the bit of a compared cell: the constant of its own pin if it is open, else that of its net if it is stuck, else the
+-- bit that the net's driver gives
 abbrev pub response : FaultSet → ℕ → ℕ → ℕ → Option Bool → Bool → Bool
 response faults n driver place pull v = unwrap_or (faults.opened n place) (unwrap_or (faults.stuck n) (driven_bit (faults.opened n driver) pull v))
 
@@ -40,7 +41,7 @@ plain_is faults d n pull v f (pulled e p) =
     by_open None = refl
     by_open (Some u) = refl
 
--- where the net is in no short
+-- the bit of a compared cell whose net is in no short
 pub cell_responds : (board : RawBoard) (faults : FaultSet) (row : TestRow) → IsSafe board row.setting → (n : ℕ) (net : Net) →
     NetRules board n net → (d : ℕ) → observing_driver board row.setting net ≡ Some d → (c : Compared board row.setting n net) (v : Bool) →
     row.carried n ≡ Some v → faults.short n ≡ None →

@@ -1,4 +1,5 @@
--- A log is explained where each of its rows is what the row in the latches lets the cells capture, whatever the free bits are.
+-- Faults explain a log if each of its rows is what the cells capture while the right row is in the latches, whatever the free
+-- bits are.
 use Rattle.std.proofs.Common.{◌≡◌, ◌↔◌, ℕ, zero, suc, Bool, true, false, cond, ◌⊎◌, inl, inr, List, [], ◌∷◌, ◌++◌, length, map, filter, Option, Some, None, refl, sym, ◌∙◌, ap, subst, arith}
 use Rattle.std.specs.Prelude.{slice_get, is_some, option_map, unwrap_or, count_by}
 use Rattle.std.specs.List.{AllByRecursion}
@@ -33,7 +34,7 @@ use Rattle.tap_defs.proofs.board.CaptureLemmas.{silent_compares, log_captured}
 use Rattle.tap_defs.proofs.board.LogLemmas.{rows_counted, length-row_bits}
 use Rattle.tap_defs.proofs.board.OneResponseLemmas.{one_response}
 
--- a row of a log in place of the expected bits
+-- bits of a scan with a row of a log in place of the expected bits
 uncompared_passes : (bits : List ScanBit) (cap : List Bool) → scan_passes (uncompared bits) cap ≡ true
 uncompared_passes [] cap = refl
 uncompared_passes (b ∷ bits) [] = refl
@@ -72,7 +73,7 @@ agree_at_same : (o : Option Bool) (x y z : Bool) → AgreeAt o x z → AgreeAt o
 agree_at_same None x y z h k = tt
 agree_at_same (Some v) x y z h k = h ∙ sym k
 
--- two rows that agree with one capture, which is as long
+-- two rows that agree with the same capture agree with each other, if the capture is as long as the scan
 agree_same : (bits : List ScanBit) (xs ys zs : List Bool) → length bits ≡ length zs → AgreeWhereCompared bits xs zs → AgreeWhereCompared bits ys zs → AgreeWhereCompared bits xs ys
 agree_same [] xs ys zs l h k = tt
 agree_same (b ∷ bits) [] ys zs l h k = tt
@@ -148,7 +149,7 @@ module _ (board : RawBoard) (faults : FaultSet) where
   of_each (t ∷ cs) [] h = tt
   of_each (t ∷ cs) (r ∷ log) h = (h 0 t r refl refl, of_each cs log (λ x. h (suc x)))
 
--- what surrounds the chain fits it, whatever all pins show
+-- whatever the visible states are, the board gives each part as many bits as it has boundary cells
 wiring_fits : (board : RawBoard) (faults : FaultSet) (states : List PinState) (choice : Choice) → FitsPins (board_wiring board faults states choice) board.chain
 wiring_fits board faults states choice k p device e d =
     ap (λ (o : Option Part). length (unwrap_or (option_map (λ q. captured_by board faults states choice.shorts (choice.parts k).cells k q.kind) o) [])) e
@@ -168,11 +169,11 @@ module _ (board : RawBoard) (rules : IsBoard board) (faults : FaultSet) (scans :
         (merge board faults scans quiet_row log follow (of_each board faults (compared_scans board scans) log (λ x scan logged e f choice. h x scan logged choice e f)));
   }
 
-  -- a log is explained where each of its rows is what is captured
+  -- faults explain a log if and only if each of its rows is what is captured
   pub explained_by_rows : (log : List (List Bool)) → ExplainedBy board faults scans log ↔ (HasShape board scans log × IsCapturedBy board faults scans log)
   explained_by_rows log = (λ h. (h.shape, captured_rows log h), λ h. explained_rows log h.0 h.1)
 
-  -- what a scan captures has a bit for each position
+  -- a scan captures a bit for each position
   captures_all : (t : RowScan) (choice : Choice) → length (joined (row_bits board t)) ≡ length (row_captured board faults t.before choice)
   captures_all t choice =
       length-joined (row_bits board t) (registers (board_wiring board faults (row_states board t.before) choice) board.chain)
@@ -181,13 +182,13 @@ module _ (board : RawBoard) (rules : IsBoard board) (faults : FaultSet) (scans :
   abbrev some_choice : Choice
   some_choice = record { parts = λ k. record { ir = λ i. false; cells = λ i. false; latches = λ i. false; tdo = false; other = false }; shorts = λ k. false; tdi = false }
 
-  -- two logs that the faults explain are one where they are compared
+  -- two logs that the faults explain agree wherever bits are compared
   pub logs_agree : (log other : List (List Bool)) → ExplainedBy board faults scans log → ExplainedBy board faults scans other → AgreeOn board scans log other
   logs_agree log other h k x scan logged second e f g =
       agree_same (joined (row_bits board scan)) logged second (row_captured board faults scan.before some_choice) (captures_all scan some_choice)
       (captured_rows log h x scan logged some_choice e f) (captured_rows other k x scan second some_choice e g)
 
-  -- and there is one where no open pin stands on a shorted net
+  -- if no open pin is on a shorted net, the faults explain some log
   module _ (is_set : IsFaultSet board faults) (no_open : NoOpenShorted faults) (safe : (x : ℕ) (scan : RowScan) → slice_get (compared_scans board scans) x ≡ Some scan → IsSafe board scan.before.setting) where
     abbrev captured_log : List (List Bool)
     captured_log = map (λ t. row_captured board faults t.before some_choice) (compared_scans board scans)
@@ -214,7 +215,7 @@ module _ (board : RawBoard) (rules : IsBoard board) (faults : FaultSet) (scans :
             subst (λ (l : List Bool). AgreeWhereCompared (joined (row_bits board scan)) l (row_captured board faults scan.before choice)) same
             (one_response board faults scan rules is_set no_open (safe x scan e) some_choice choice)
 
--- the scans of a test follow one another
+-- each scan of a test compares the row that the scan before it shifted in
 abbrev last_row : List RowScan → TestRow → TestRow
 last_row [] row = row
 last_row (t ∷ ts) row = last_row ts t.now

@@ -1,4 +1,4 @@
--- A scan that is wrong makes the whole text fail.
+-- If one scan is wrong, the whole text fails.
 use Rattle.std.proofs.Common.{◌≡◌, ℕ, suc, ◌<◌, Bool, false, inl, inr, List, [], ◌∷◌, length, map, Option, Some, refl, sym, ◌∙◌, ap}
 use Rattle.std.specs.Prelude.{slice_get}
 use Rattle.board_defs.specs.declared.device.RawDevice.{RawDevice}
@@ -27,7 +27,7 @@ use Rattle.tap_defs.proofs.chain.ScanLemmas.{joined_same, tdi_bits-joined, lengt
 use Rattle.tap_defs.proofs.chain.RunLemmas.{two_pass}
 use Rattle.std.proofs.lemmas.Simd.{map-map}
 
--- the registers after Capture-DR
+-- the bits of the registers after Capture-DR
 loads_in_test : (logic : TestLogic) (kind : PartKind) (pins : List Bool) (free : FreeBits) (n : ℕ) →
     dr_capture logic pins free (in_test kind) n ≡ register_of kind pins
 loads_in_test logic (Described device) pins free n = refl
@@ -43,7 +43,7 @@ loaded_registers (n ∷ chain) (p ∷ ps) pins free e =
     let tl : map (λ n. n.state.current) chain ≡ map (λ p. in_test p.kind) ps = cc e in
     cons_path (ap (λ (i : Instruction). dr_capture n.logic (pins 0) (free 0) i (length n.state.boundary)) hd ∙ loads_in_test n.logic p.kind (pins 0) (free 0) (length n.state.boundary)) (loaded_registers chain ps (λ k. pins (suc k)) (λ k. free (suc k)) tl)
 
--- each described part has a bit for each of its cells
+-- each described part has a bit for each of its boundary cells
 abbrev pub FitsPins : (ℕ → List Bool) → List Part → Type 0
 FitsPins pins ps = (k : ℕ) (p : Part) (device : RawDevice) → slice_get ps k ≡ Some p → p.kind ≡ Described device → length (pins k) ≡ device.boundary
 
@@ -64,7 +64,7 @@ bits_fit board t k (p ∷ ps) pins q = cons_path (one p.kind (λ device e. q 0 p
     one (Described device) h = length-filled device.boundary _ ∙ sym (h device refl)
     one (Bypass n) h = refl
 
--- a scan of a pass, with any bits compared
+-- the effect of a scan of a pass, whichever bits it compares
 pub record RowScanDone (board : RawBoard) (faults : FaultSet) (t : RowScan) (bits : List ScanBit) (free : Choice) (out : List Bool) (chain next : List ChainPart) : Type 0 where
   pub compares : run_passes (sdr_clocks bits) out ≡ scan_passes bits (joined (registers (pins_at (board_wiring board faults) free chain) board.chain))
   pub in_test : InTest board (shifted_row board t) next
@@ -102,14 +102,14 @@ row_scan_by board faults t bits shifts free row chain h pos =
       };
     }
 
--- with the bits of the test compared
+-- the effect of a scan of a pass that compares the bits of the test
 pub row_scan_done : (board : RawBoard) (faults : FaultSet) (t : RowScan) (free : Choices) (row : List (List Bool)) (chain : List ChainPart) →
     InTest board row chain → 0 < length (joined (row_bits board t)) →
     let bits : List ScanBit = joined (row_bits board t) in
     RowScanDone board faults t bits (free 2) (tdos (board_wiring board faults) (sdr_clocks bits) free chain) chain (run (board_wiring board faults) (sdr_clocks bits) free chain)
 row_scan_done board faults t free row chain h pos = row_scan_by board faults t (joined (row_bits board t)) refl free row chain h pos
 
--- scans of which one is wrong fail in every run
+-- if one of the scans is wrong, they fail in every run
 pub fails_by : (board : RawBoard) (faults : FaultSet) → ((t : RowScan) → 0 < length (joined (row_bits board t))) →
     (row : List (List Bool)) (ts : List RowScan) (free : Choices) (chain : List ChainPart) → InTest board row chain →
     SomeWrong board faults row ts →

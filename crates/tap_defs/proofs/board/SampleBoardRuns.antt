@@ -1,4 +1,4 @@
--- Runs of the test of two wires on the board, with and without faults; and wrong tests, which the definitions refuse.
+-- Runs of the test of a board with two wires, with and without faults; and wrong tests, which the definitions refuse.
 use Rattle.std.proofs.Common.{◌≡◌, Bool, true, false, List, [], ◌∷◌, ◌++◌, map, take, refl}
 use Rattle.std.proofs.lemmas.Bool.{both_ways}
 use Rattle.board_defs.specs.declared.fault.Kind.TheVariants.{And}
@@ -21,7 +21,7 @@ use Rattle.tap_defs.proofs.chain.SampleTexts.{on, off, read, sdr, two_nets_scans
 use Rattle.tap_defs.proofs.chain.SampleRun.{choices}
 use Rattle.tap_defs.proofs.board.SampleBoards.{drv, rcv, pin, net, board, wires}
 
--- a state of the board's chain: each part in a TAP state of its own
+-- a state of the board's chain, in which each part has another TAP state
 abbrev driving : PartState
 driving = record { tap = PauseDR; ir = on ∷ off ∷ []; current = Extest; boundary = on ∷ off ∷ []; bypass = on; identification = []; latches = off ∷ off ∷ [] }
 
@@ -40,7 +40,7 @@ start = record {
   );
 }
 
--- whether these scans pass in the run from this state with these choices
+-- the test whether these scans pass in the run from this state with these choices
 abbrev run_of : FaultSet → List Scan → Bool
 run_of faults scans = run_passes (test_clocks scans) (tdos (board_wiring wires faults) (test_clocks scans) choices chain)
 
@@ -64,7 +64,7 @@ short : run_of (set_of (Short 0 1 And)) two_nets_scans ≡ false
 unfolding tdos
 short = refl
 
--- the rows of a log that show 0 on both nets in the first row, and what the second row is to show
+-- logs that have 0 on both nets in the first row, and these bits in the second row
 abbrev row : Bool → Bool → List Bool
 row first second = first ∷ second ∷ off ∷ off ∷ []
 
@@ -91,19 +91,20 @@ short_other : explains_in_run (Short 0 1 And) (row on off ∷ row off on ∷ [])
 unfolding tdos
 short_other = refl
 
--- the test without its masks does not find a stuck net
+-- without its masks, the test does not find a stuck net
 masks_are_needed : FailOnBoard wires (set_of (StuckNet 0 off)) (test_clocks (map (λ (s : Scan). record s { bits = uncompared s.bits }) two_nets_scans)) → ⊥
 unfolding tdos
 masks_are_needed fails = both_ways _ (fails chain choices start) refl
 
--- nor do the codes 0 and 1
+-- with the codes 0 and 1, the test does not find a stuck net either
 codes_from_one : FailOnBoard wires (set_of (StuckNet 0 off)) (test_clocks (take 3 two_nets_scans
     ++ sdr (sent off ∷ sent off ∷ sent off ∷ sent on ∷ []) ∷ sdr (read off off ∷ read off on ∷ sent off ∷ sent off ∷ [])
     ∷ sdr (read off off ∷ read off off ∷ sent off ∷ sent off ∷ []) ∷ [])) → ⊥
 unfolding tdos
 codes_from_one fails = both_ways _ (fails chain choices start) refl
 
--- the test with the parts in the other order does not pass, nor one that also compares the cell of an output
+-- a test with the parts in the wrong order does not pass, and neither does a test that also compares the cell of an
+-- output
 parts_in_order : PassOnBoard wires no_faults (test_clocks (svf_scans (board (Described rcv ∷ Described drv ∷ []) (net (pin 1 0 ∷ pin 0 0 ∷ []) ∷ net (pin 1 1 ∷ pin 0 1 ∷ []) ∷ [])))) → ⊥
 unfolding tdos
 parts_in_order passes = both_ways _ refl (passes chain choices start)

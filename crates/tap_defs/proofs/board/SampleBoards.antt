@@ -1,4 +1,4 @@
--- Small boards for the samples.
+-- Small boards that the samples use.
 use Rattle.std.proofs.Common.{ℕ, ◌+◌, Bool, true, false, List, [], ◌∷◌, ◌++◌, map, Option, Some, None}
 use Rattle.std.specs.Prelude.{codes}
 use Rattle.board_defs.specs.declared.device.Symbol.TheVariants.{Zero, One, Any}
@@ -17,7 +17,7 @@ use Rattle.board_defs.specs.declared.board.NetPin.{NetPin}
 use Rattle.board_defs.specs.declared.board.Net.{Net}
 use Rattle.board_defs.specs.declared.board.RawBoard.{RawBoard}
 
--- port bits of a device: those of the test access port come first
+-- port bits of a device, of which those of the test access port come first
 abbrev pub port_bit : ℕ → Option ℕ → Mode → List ℕ → Bool → PortBit
 port_bit port index mode pin tap = record { port = port; index = index; mode = mode; pin = Some pin; tap = tap; compliance = false }
 
@@ -26,7 +26,7 @@ taps =
     port_bit 0 None Inward (codes "T1") true ∷ port_bit 1 None Inward (codes "T3") true ∷ port_bit 2 None Inward (codes "T4") true
     ∷ port_bit 3 None Outward (codes "T2") true ∷ []
 
--- the bits of a port of this mode, with indexes 1 and 2
+-- the two bits of a port of this mode, with the indexes 1 and 2
 abbrev pub two_bits : Mode → List PortBit
 two_bits mode = port_bit 4 (Some 1) mode (codes "1") false ∷ port_bit 4 (Some 2) mode (codes "2") false ∷ []
 
@@ -36,7 +36,7 @@ one_bit mode = port_bit 4 None mode (codes "1") false ∷ []
 abbrev pub entry : ℕ → Role → ℕ → Option Control → Cell
 entry num role bit ctl = record { num = num; role = role; bit = Some bit; safe = Any; ctl = ctl }
 
--- a control cell with safe value 1, and the control of a driver that it disables by 1
+-- a control cell with safe value 1, and a driver's control that disables the driver at 1
 abbrev pub control : ℕ → Cell
 control num = record { num = num; role = ControlRole; bit = None; safe = One; ctl = None }
 
@@ -58,7 +58,8 @@ device bits cells boundary = record {
   cells = cells;
 }
 
--- two outputs that are always on, also in the edition of 2001 with the codes 00 of PRELOAD and 01 of EXTEST; two inputs; one input
+-- devices: two outputs that are always on; the same in the 2001 edition, with the PRELOAD code 00 and the EXTEST code 01; two
+-- inputs; one input
 abbrev pub drv : RawDevice
 drv = device (two_bits Outward) (entry 0 Output2 4 None ∷ entry 1 Output2 5 None ∷ []) 2
 
@@ -71,7 +72,7 @@ rcv = device (two_bits Inward) (entry 0 Input 4 None ∷ entry 1 Input 5 None �
 abbrev pub rcv1 : RawDevice
 rcv1 = device (one_bit Inward) (entry 0 Input 4 None ∷ []) 1
 
--- a three-state output, and an output that drives low only, by its own cell
+-- devices: a three-state output, and an output that drives only low and is enabled by its own cell
 abbrev pub ts : RawDevice
 ts = device (one_bit Outward) (entry 0 Output3 4 (by 1) ∷ control 1 ∷ []) 2
 
@@ -86,11 +87,11 @@ buf2 = device
     ∷ port_bit 7 None Linkage (codes "6") false ∷ port_bit 8 None Linkage (codes "7") false ∷ [])
     (entry 4 Input 4 None ∷ control 4 ∷ entry 3 Input 5 None ∷ entry 2 Input 6 None ∷ entry 1 Output3 7 (by 4) ∷ entry 0 Output3 8 (by 4) ∷ []) 5
 
--- a pin of part k at port bit b, and a pin of a foreign part
+-- the pin of part `k` at port bit `b`, and a pin of a part outside the chain
 abbrev pub pin_at_bit : ℕ → ℕ → NetPin
 pin_at_bit k b = record { part = codes "U"; pin = codes "1"; at = Some (record { part = k; bit = b }); inert = false }
 
--- a pin of part k at bit b, counted after the bits of the test access port
+-- the pin of part `k` at port bit `b`, where port bits count from those after the test access port
 abbrev pub pin : ℕ → ℕ → NetPin
 pin k b = pin_at_bit k (b + 4)
 
@@ -106,7 +107,8 @@ net pins = pulled None pins
 abbrev pub board : List PartKind → List Net → RawBoard
 board kinds nets = record { chain = map (λ kind. record { name = codes "U"; kind = kind }) kinds; nets = nets }
 
--- two nets from a driver to a receiver, with each edition of the driver, and with a part without a description between them
+-- Boards with two nets from a driver to a receiver: one for each edition of the driver, and one with a part without a description
+-- between them.
 abbrev pub two_wires : ℕ → List Net
 two_wires receiver = net (pin 0 0 ∷ pin receiver 0 ∷ []) ∷ net (pin 0 1 ∷ pin receiver 1 ∷ []) ∷ []
 
@@ -123,14 +125,14 @@ wires_round = board (Described drv ∷ Bypass 3 ∷ Described rcv ∷ []) (two_w
 abbrev pub bus : RawBoard
 bus = board (Described ts ∷ Described ts ∷ Described rcv1 ∷ []) (net (pin 0 0 ∷ pin 1 0 ∷ pin 2 0 ∷ []) ∷ [])
 
--- two buffers, of which the first drives the second; enables without a driver, a supply, and the clock of the test access port
+-- a board of two buffers, of which the first drives the second, with enable inputs without a driver, a supply net, and the TCK net
 abbrev pub buffers : RawBoard
 buffers = board (Described buf2 ∷ Described buf2 ∷ []) (
     net (pin 0 4 ∷ pin 1 2 ∷ []) ∷ net (pin 0 3 ∷ pin 1 1 ∷ []) ∷ net (pin 0 0 ∷ pin 1 0 ∷ [])
     ∷ record { name = codes "VCC"; supply = true; pull = None; pins = pin 0 6 ∷ pin 1 6 ∷ foreign ∷ [] }
     ∷ net (pin_at_bit 0 2 ∷ pin_at_bit 1 2 ∷ foreign ∷ []) ∷ [])
 
--- a net that is pulled up, with a driver that drives low only
+-- a net that is pulled up, with a driver that drives only low
 abbrev pub pulled_up : RawBoard
 pulled_up = board (Described od ∷ Described rcv1 ∷ []) (pulled (Some true) (pin 0 0 ∷ pin 1 0 ∷ []) ∷ [])
 

@@ -1,4 +1,4 @@
--- Live drivers, who drives a net, shorts of every kind, and what each kind of cell captures, case by case.
+-- Samples of live drivers, of how nets are driven, of shorts of every kind, and of what each kind of cell captures.
 use Rattle.std.proofs.Common.{◌≡◌, ℕ, ◌==◌, Bool, true, false, ◌&&◌, List, [], ◌∷◌, map, take, Option, Some, None, refl}
 use Rattle.std.specs.Prelude.{codes, cond, nat_lt}
 use Rattle.std.specs.List.{enumerate_from}
@@ -16,27 +16,28 @@ use Rattle.tap_defs.specs.board.NetBits.{live, net_bit, captured, feeding, Feedi
 use Rattle.tap_defs.proofs.chain.SampleTexts.{on, off}
 use Rattle.tap_defs.proofs.board.SampleBoards.{port_bit, one_bit, entry, by, control, device, drv, rcv, rcv1, ts, od, pin, pin_at_bit, foreign, pulled, net, board, bus}
 
--- what a part shows under this instruction with these latches
+-- the visible state of a part with this instruction and these latches
 abbrev shows : Instruction → List Bool → PinState
 shows instruction latches = record { current = instruction; latches = latches }
 
 abbrev under_test : List Bool → PinState
 under_test latches = shows Extest latches
 
--- a three-state driver, a driver that is always on, one that its own cell disables at 1, and one that a control disables at 0
+-- drivers: a three-state driver, a driver that is always on, a driver that its own cell disables at 1, and a driver that a control
+-- disables at 0
 abbrev ts0 : RawDevice
 ts0 = device (one_bit Outward) (entry 0 Output3 4 (Some (record { cell = 1; disable = false })) ∷ control 1 ∷ []) 2
 
 abbrev drivers : RawBoard
 drivers = board (Described ts ∷ Described drv ∷ Described od ∷ Described ts0 ∷ []) []
 
--- whether the driver of each part is live, with these latches of its cell and of the cell after it
+-- for each part, whether its driver is live, with these latches of its cell and of the cell after it
 abbrev live_of : Instruction → Bool → Bool → List Bool
 live_of instruction first second =
     let states : List PinState = map (λ latches. shows instruction latches) ((first ∷ second ∷ []) ∷ (first ∷ second ∷ []) ∷ (first ∷ []) ∷ (first ∷ second ∷ []) ∷ []) in
     map (λ k. live drivers states (pin k 0)) (0 ∷ 1 ∷ 2 ∷ 3 ∷ [])
 
--- a driver is live where its control differs from the disable value, whatever its bit
+-- a driver is live if its control differs from the disable value, whatever the driver's bit is
 live_low : live_of Extest off off ≡ true ∷ true ∷ true ∷ false ∷ []
 live_low = refl
 
@@ -46,11 +47,11 @@ live_high = refl
 live_own : live_of Extest on off ≡ true ∷ true ∷ false ∷ false ∷ []
 live_own = refl
 
--- and never under another instruction
+-- no driver is live under another instruction
 live_under_other : map (λ i. live_of i off off) (Sample ∷ Bypass ∷ Idcode ∷ Other ∷ []) ≡ map (λ (i : Instruction). false ∷ false ∷ false ∷ false ∷ []) (Sample ∷ Bypass ∷ Idcode ∷ Other ∷ [])
 live_under_other = refl
 
--- who drives a net of two three-state drivers and a receiver: its controls have these latches
+-- how a net of two three-state drivers and a receiver is driven, with these latches of the controls
 abbrev states_of : Bool → Bool → Instruction → List PinState
 states_of first second receiver = under_test (on ∷ first ∷ []) ∷ under_test (off ∷ second ∷ []) ∷ shows receiver (off ∷ []) ∷ []
 
@@ -69,7 +70,8 @@ second_drives = refl
 two_drive : fed_by [] off off Extest ≡ Contended
 two_drive = refl
 
--- where a receiver's part is under another instruction, or a pin guards the net, nothing is known; a pin of an inert part changes nothing
+-- If a receiver's part has another instruction, or a pin guards the net, nothing is known of the net. A pin of an inert part changes
+-- nothing.
 receiver_bypassed : fed_by [] off on Bypass ≡ Unruled
 receiver_bypassed = refl
 
@@ -88,7 +90,7 @@ beside_inert = refl
 on_supply : feeding bus (states_of off on Extest) (record (net (pin 0 0 ∷ pin 2 0 ∷ [])) { supply = true }) ≡ Unruled
 on_supply = refl
 
--- the pin at this place of net n is open; net n is stuck; and the nets below this number are shorted
+-- fault sets with one fault more: an open pin, a stuck net, or a short of the nets with lower numbers
 abbrev opened : ℕ → ℕ → Bool → FaultSet → FaultSet
 opened net place constant faults = record faults { opened = λ n i. cond ((n == net) && (i == place)) (Some constant) (faults.opened n i) }
 
@@ -98,18 +100,18 @@ stuck net constant faults = record faults { stuck = λ n. cond (n == net) (Some 
 abbrev shorted : ℕ → ShortKind → FaultSet
 shorted count kind = record no_faults { short = λ n. cond (nat_lt n count) (Some 0) None; kind = λ k. kind }
 
--- the bits of the nets, where a short that nothing decides gives this bit
+-- the bits of the nets, if `short` is the bit of a short that nothing decides
 abbrev net_bits : Bool → RawBoard → FaultSet → List PinState → List (Option Bool)
 net_bits short b faults s = map (λ net. net_bit b faults s (λ k. short) net.0 net.1) (enumerate_from 0 b.nets)
 
--- a net of two three-state drivers and a receiver, with this pull
+-- a board with one net of two three-state drivers and a receiver, with this pull
 abbrev pulled_bus : Option Bool → List NetPin → RawBoard
 pulled_bus pull more = record bus { nets = pulled pull (pin 0 0 ∷ pin 1 0 ∷ pin 2 0 ∷ more) ∷ [] }
 
 abbrev bus_bit : Option Bool → FaultSet → Bool → Bool → List (Option Bool)
 bus_bit pull faults first second = net_bits on (pulled_bus pull []) faults (states_of first second Extest)
 
--- an open driver that is live: the pull, either way, else its constant, either way
+-- if the live driver is open, the net has its pull, else the constant of the driver
 open_to_pull : map (λ constant. bus_bit (Some off) (opened 0 0 constant no_faults) off on) (off ∷ on ∷ []) ≡ (Some off ∷ []) ∷ (Some off ∷ []) ∷ []
 open_to_pull = refl
 
@@ -119,18 +121,19 @@ open_to_high_pull = refl
 open_to_constant : map (λ constant. bus_bit None (opened 0 0 constant no_faults) off on) (off ∷ on ∷ []) ≡ (Some off ∷ []) ∷ (Some on ∷ []) ∷ []
 open_to_constant = refl
 
--- an open driver that is off, with the other on; and two live drivers, of which one is open: the net stays contended
+-- An open driver that is off changes nothing while the other driver is on. If two drivers are live and one of them is open, the net stays
+-- contended.
 open_but_off : bus_bit (Some on) (opened 0 0 on no_faults) on off ≡ Some off ∷ []
 open_but_off = refl
 
 open_contended : bus_bit (Some on) (opened 0 0 on no_faults) off off ≡ None ∷ []
 open_contended = refl
 
--- an open receiver leaves the net as it is
+-- an open receiver does not change its net
 open_receiver : bus_bit None (opened 0 2 off no_faults) off on ≡ Some on ∷ []
 open_receiver = refl
 
--- a stuck net has its constant, also where its driver is open, where two drivers are live and where a pin guards it
+-- a stuck net has its constant, even if its driver is open, two drivers are live, or a pin guards it
 stuck_open : bus_bit (Some on) (stuck 0 off (opened 0 0 on no_faults)) off on ≡ Some off ∷ []
 stuck_open = refl
 
@@ -140,12 +143,12 @@ stuck_contended = refl
 stuck_guarded : net_bits on (pulled_bus None (foreign ∷ [])) (stuck 0 on no_faults) (states_of off off Extest) ≡ Some on ∷ []
 stuck_guarded = refl
 
--- three nets with these pulls, each from a three-state driver to an input
+-- a board with three nets with these pulls, each from a three-state driver to an input
 abbrev three : Option Bool → Option Bool → Option Bool → RawBoard
 three first second third = board (Described ts ∷ Described ts ∷ Described ts ∷ Described rcv ∷ Described rcv ∷ []) (
     pulled first (pin 0 0 ∷ pin 3 0 ∷ []) ∷ pulled second (pin 1 0 ∷ pin 3 1 ∷ []) ∷ pulled third (pin 2 0 ∷ pin 4 0 ∷ []) ∷ [])
 
--- a driver that drives this bit, or none
+-- the visible state of a driver that drives this bit, or that drives nothing
 abbrev giving : Option Bool → PinState
 giving None = under_test (off ∷ on ∷ [])
 giving (Some bit) = under_test (bit ∷ off ∷ [])
@@ -153,7 +156,7 @@ giving (Some bit) = under_test (bit ∷ off ∷ [])
 abbrev three_give : Option Bool → Option Bool → Option Bool → List PinState
 three_give first second third = giving first ∷ giving second ∷ giving third ∷ under_test (off ∷ off ∷ []) ∷ under_test (off ∷ off ∷ []) ∷ []
 
--- the bit of the short of the first two nets as And, as Or, with the first dominant and with the second; both nets have it
+-- the bits of the first two nets, shorted in each way: And, Or, the first dominant, and the second dominant
 abbrev kinds : List ShortKind
 kinds = And ∷ Or ∷ Dominant 0 ∷ Dominant 1 ∷ []
 
@@ -164,7 +167,7 @@ pair_by short pull other first second =
 abbrev pair : Option Bool → Option Bool → Option Bool → Option Bool → List (List (Option Bool))
 pair pull other first second = pair_by off pull other first second
 
--- both nets read this bit by And, by Or, and with each of them dominant
+-- the expected bits of both nets in each of these four ways
 abbrev read : Bool → Bool → Bool → Bool → List (List (Option Bool))
 read and or first second = map (λ bit. Some bit ∷ Some bit ∷ []) (and ∷ or ∷ first ∷ second ∷ [])
 
@@ -177,14 +180,14 @@ low_and_high = refl
 both_high : pair (Some off) (Some off) (Some on) (Some on) ≡ read on on on on
 both_high = refl
 
--- what is driven goes before pulls, also before the pull of the dominant net
+-- a bit to which a net is driven takes precedence over pulls, even over the pull of the dominant net
 driven_and_held : pair None (Some off) (Some on) None ≡ read on on on on
 driven_and_held = refl
 
 held_and_driven : pair (Some on) None None (Some off) ≡ read off off off off
 held_and_driven = refl
 
--- where neither is driven, the pulls are taken in the same way, and one alone gives its bit
+-- If neither net is driven, their pulls are combined in the same way. If only one net has a pull, both nets have that bit.
 pulls_differ : pair (Some on) (Some off) None None ≡ read off on on off
 pulls_differ = refl
 
@@ -194,11 +197,11 @@ other_pulls = refl
 one_pull : pair None (Some on) None None ≡ read on on on on
 one_pull = refl
 
--- with no pull the bit is free, and one for both nets
+-- without pulls the bit is free, and it is the same for both nets
 nothing_decides : map (λ bit. pair_by bit None None None None) (off ∷ on ∷ []) ≡ read off off off off ∷ read on on on on ∷ []
 nothing_decides = refl
 
--- three nets: a dominant net that is not driven leaves the And of the others, driven or pulled
+-- three shorted nets: if the dominant net is not driven, the And of the other nets' bits is taken, driven or pulled
 abbrev all_three : ShortKind → RawBoard → Option Bool → Option Bool → Option Bool → List (Option Bool)
 all_three kind b first second third = net_bits on b (shorted 3 kind) (three_give first second third)
 
@@ -223,11 +226,11 @@ three_or = refl
 three_and : all_three And (three None None None) (Some on) (Some off) (Some on) ≡ each off
 three_and = refl
 
--- a net outside the short keeps its bit
+-- a net that is not in the short keeps its bit
 third_apart : net_bits on (three None None None) (shorted 2 And) (three_give (Some on) (Some off) (Some on)) ≡ Some off ∷ Some off ∷ Some on ∷ []
 third_apart = refl
 
--- an open driver in a short: its net is not driven, and its constant does not count
+-- if the driver of a shorted net is open, the net is not driven, and the constant of the driver does not count
 open_in_short : net_bits on (three None None None) (opened 0 0 off (shorted 2 And)) (three_give (Some off) (Some on) None) ≡ Some on ∷ Some on ∷ None ∷ []
 open_in_short = refl
 
@@ -238,7 +241,7 @@ open_short_free : map (λ bit. net_bits bit (three None None None) (opened 0 0 o
     (Some off ∷ Some off ∷ None ∷ []) ∷ (Some on ∷ Some on ∷ None ∷ []) ∷ []
 open_short_free = refl
 
--- a short with a net that is not ruled, and with one that two drivers contend for, is free whatever the nets are driven to
+-- the bit of a short is free if one of its nets is not ruled or has two live drivers, whatever the nets are driven to
 abbrev one_unruled : Bool → List (Option Bool)
 one_unruled bit =
     net_bits bit (three None None None) (record (shorted 3 Or) { short = λ n. cond (n == 1) None (Some 0) })
@@ -253,7 +256,7 @@ crowded = record (three None None None) { nets = net (pin 0 0 ∷ pin 1 0 ∷ pi
 short_contended : map (λ bit. net_bits bit crowded (shorted 2 And) (three_give (Some on) (Some on) (Some on))) (off ∷ on ∷ []) ≡ (Some off ∷ Some off ∷ []) ∷ (Some on ∷ Some on ∷ []) ∷ []
 short_contended = refl
 
--- what the boundary cells of a part capture where every free bit is this bit
+-- the bits that the boundary cells of a part capture if every free bit is `free`
 abbrev captures : RawBoard → FaultSet → List PinState → ℕ → Bool → List Bool
 captures b faults s k free =
     captured b faults s (λ j. free) (λ j. record { ir = λ i. free; cells = λ i. free; latches = λ i. free; tdo = free; other = free }) k
@@ -261,7 +264,8 @@ captures b faults s k free =
 abbrev captures_by : RawBoard → FaultSet → List PinState → ℕ → List (List Bool)
 captures_by b faults s k = map (captures b faults s k) (off ∷ on ∷ [])
 
--- a bidirectional pin of one BIDIR cell, and one of an output and an input cell: each reads the net only while it does not drive
+-- A bidirectional pin with one BIDIR cell, and one with an output cell and an input cell. Each reads its net only while it does not
+-- drive.
 abbrev bi : RawDevice
 bi = device (one_bit Both) (entry 0 Bidir 4 (by 1) ∷ control 1 ∷ []) 2
 
@@ -289,14 +293,15 @@ own_input_free = refl
 bidir_reads : captures_by meeting no_faults second_on 0 ≡ (on ∷ off ∷ []) ∷ (on ∷ on ∷ []) ∷ []
 bidir_reads = refl
 
--- an open pin reads its constant where it does not drive, and a free bit where it does
+-- an open pin reads its constant while it does not drive, and a free bit while it drives
 open_reads : map (λ constant. captures meeting (opened 0 0 constant no_faults) second_on 0 on) (off ∷ on ∷ []) ≡ (off ∷ on ∷ []) ∷ (on ∷ on ∷ []) ∷ []
 open_reads = refl
 
 open_drives : map (λ free. captures meeting (opened 0 0 off no_faults) first_on 0 free) (off ∷ on ∷ []) ≡ (off ∷ off ∷ []) ∷ (on ∷ on ∷ []) ∷ []
 open_drives = refl
 
--- a receiver reads the constant of an open driver, its own constant before that of its net, and the bit of a stuck net
+-- A receiver reads the constant of an open driver, and the bit of a stuck net. If the receiver is open, it reads its own constant, even
+-- on a stuck net.
 reads_open_driver : captures_by meeting (opened 0 0 off no_faults) first_on 2 ≡ (off ∷ []) ∷ (off ∷ []) ∷ []
 reads_open_driver = refl
 
@@ -306,7 +311,8 @@ open_on_stuck = refl
 reads_stuck : captures_by meeting (stuck 0 off no_faults) first_on 2 ≡ (off ∷ []) ∷ (off ∷ []) ∷ []
 reads_stuck = refl
 
--- CLOCK reads like INPUT; OBSERVE_ONLY, an INPUT at an output, and an INPUT whose pin is on no net capture free bits. The nets carry 1
+-- A CLOCK cell reads like an INPUT cell. An OBSERVE_ONLY cell, an INPUT cell at an output, and an INPUT cell whose pin is on no net
+-- capture free bits. The nets carry 1.
 abbrev readers : RawDevice
 readers = device
     (port_bit 4 None Inward (codes "1") false ∷ port_bit 5 None Inward (codes "2") false ∷ port_bit 6 None Outward (codes "3") false ∷ port_bit 7 None Inward (codes "4") false ∷ [])
@@ -319,7 +325,7 @@ cells_read : captures_by reading no_faults (under_test (on ∷ on ∷ []) ∷ un
     (on ∷ off ∷ off ∷ off ∷ off ∷ off ∷ []) ∷ (on ∷ on ∷ on ∷ on ∷ on ∷ on ∷ []) ∷ []
 cells_read = refl
 
--- each cell on a guarded net captures a free bit of its own, and a part without a description has no boundary cells
+-- Each cell on a guarded net captures a free bit of its own. A part without a description has no boundary cells.
 abbrev guarded : RawBoard
 guarded = board (Described drv ∷ WithoutDescription 2 ∷ Described rcv ∷ []) (net (pin 0 0 ∷ pin 2 0 ∷ pin 2 1 ∷ foreign ∷ []) ∷ [])
 
@@ -332,7 +338,7 @@ guarded_free = refl
 no_cells : captures guarded no_faults guarded_states 1 on ≡ []
 no_cells = refl
 
--- no fault set has a stuck net in a short, a short of one net, or a short whose dominant net is not in it
+-- not fault sets: a stuck net in a short, a short of one net, and a short whose dominant net is not in it
 stuck_and_shorted : IsFaultSet (three None None None) (stuck 0 on (shorted 2 And)) → ⊥
 stuck_and_shorted is_set = let apart_is = is_set.disjoint 0 on refl in cc apart_is
 

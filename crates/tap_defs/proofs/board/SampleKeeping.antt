@@ -1,4 +1,4 @@
--- Which cells must keep their safe values, and wrong tests that break each part of quiet conduct.
+-- Samples of the cells that must keep their safe values, and of wrong tests that break each condition of quiet texts.
 use Rattle.std.proofs.Common.{◌≡◌, ℕ, zero, suc, ◌==◌, Bool, true, false, not, List, [], ◌∷◌, ◌++◌, map, take, drop, Option, Some, None, refl, inl, inr, arith}
 use Rattle.std.specs.Prelude.{codes, cond}
 use Rattle.std.specs.List.{list_any, enumerate_from}
@@ -31,8 +31,9 @@ use Rattle.tap_defs.proofs.board.SampleQuiet.{moment_at, no_set, resting, choice
 abbrev kept : ℕ → Role → Option ℕ → Symbol → Option Control → Cell
 kept num role bit safe ctl = record { num = num; role = role; bit = bit; safe = safe; ctl = ctl }
 
--- cell 0 drives pin 1, and cell 4 pin 2 with the control cell 5; cells 1 and 2 are internal; cell 3 is a control cell of nothing;
--- cell 6 reads pin 3; cell 7 would drive a port that has no pin, with the control cell 8; and cells 9 and 10 drive the pins 4 and 5
+-- Cell 0 drives pin 1. Cell 4 drives pin 2 with control cell 5. Cells 1 and 2 are internal, and cell 3 is a control cell that
+-- controls nothing. Cell 6 reads pin 3. Cell 7 is the driving cell of a port without a pin, with control cell 8. Cells 9 and 10
+-- drive pins 4 and 5.
 abbrev pub keeper : RawDevice
 keeper = device
     (port_bit 4 None Outward (codes "1") false ∷ port_bit 5 None Outward (codes "2") false ∷ port_bit 6 None Inward (codes "3") false
@@ -41,7 +42,7 @@ keeper = device
     ∷ kept 4 Output3 (Some 5) One (by 5) ∷ kept 5 ControlRole None One None ∷ kept 6 Input (Some 6) One None ∷ kept 7 Output3 (Some 7) Any (by 8)
     ∷ kept 8 ControlRole None One None ∷ kept 9 Output2 (Some 8) One None ∷ kept 10 Output2 (Some 9) One None ∷ []) 11
 
--- the pins 1 and 2 are on nets that are not guarded, pin 4 is on a dark one, and pin 5 is on none
+-- Pins 1 and 2 are on unguarded nets, pin 4 is on a dark net, and pin 5 is on no net.
 abbrev pub keeping : RawBoard
 keeping = board (Described keeper ∷ []) (net (pin 0 0 ∷ []) ∷ net (pin 0 1 ∷ pin 0 2 ∷ []) ∷ net (pin 0 4 ∷ foreign ∷ []) ∷ [])
 
@@ -58,7 +59,7 @@ safe_bits : map (safe_bit keeper) cells ≡
     Some on ∷ Some on ∷ Some off ∷ Some on ∷ Some on ∷ Some on ∷ Some on ∷ None ∷ Some on ∷ Some on ∷ Some on ∷ []
 safe_bits = refl
 
--- each latch has the safe value of its cell, but one has the other
+-- the visible state in which each latch except that of `cell` has the cell's safe value
 abbrev but : ℕ → List PinState
 but cell = record {
   current = Extest;
@@ -86,7 +87,7 @@ driver_of_guarded keeps = let low : false ≡ true = keeps 0 9 keeper true refl 
 driver_of_no_net : KeepsSafeValues keeping (but 10) → ⊥
 driver_of_no_net keeps = let low : false ≡ true = keeps 0 10 keeper true refl refl (omega arith) refl refl refl in cc low
 
--- the controls of drivers whose latch differs from the disable value: cell 5 at 0, and not cell 8, whose driver has no pin
+-- the controls that are on, with this bit in each latch: cell 5 if the bit is 0, and never cell 8, whose driver has no pin
 abbrev latched : Bool → List Bool
 latched bit = map (λ cell. latched_setting keeping (record { current = Extest; latches = map (λ k. bit) cells } ∷ []) (record { part = 0; cell = cell })) cells
 
@@ -96,7 +97,7 @@ latched_low = refl
 latched_high : latched on ≡ map (λ cell. false) cells
 latched_high = refl
 
--- one part under EXTEST and the other not
+-- one part has EXTEST and the other does not
 abbrev shows : Instruction → List Bool → PinState
 shows instruction latches = record { current = instruction; latches = latches }
 
@@ -113,7 +114,7 @@ half_unsafe : IsSafelySet wire half_in_test → ⊥
 half_unsafe (inl none) = let z : true ≡ false = none 0 inner refl in cc z
 half_unsafe (inr all) = let z : false ≡ true = all.0 1 rcv1 refl in cc z
 
--- a controlled driver that is on in a dark net
+-- a controlled driver that is on while its net is dark
 abbrev dark : RawBoard
 dark = board (Described ts ∷ Described rcv1 ∷ []) (net (pin 0 0 ∷ pin 1 0 ∷ foreign ∷ []) ∷ [])
 
@@ -124,7 +125,7 @@ dark_unsafe : IsSafelySet dark dark_on → ⊥
 dark_unsafe (inl none) = let z : true ≡ false = none 0 ts refl in cc z
 dark_unsafe (inr all) = let z : true ≡ false = all.1.free 0 _ 0 (pin 0 0) (record { part = 0; cell = 1 }) refl refl refl refl in cc z
 
--- a one-sided driver that drives: its net is not pulled
+-- a one-sided driver that drives, since its net is not pulled
 abbrev unpulled : RawBoard
 unpulled = board (Described od ∷ Described rcv1 ∷ []) (net (pin 0 0 ∷ pin 1 0 ∷ []) ∷ [])
 
@@ -139,7 +140,7 @@ one_sided_unsafe : IsSafelySet unpulled one_sided_on → ⊥
 one_sided_unsafe (inl none) = let z : true ≡ false = none 0 od refl in cc z
 one_sided_unsafe (inr all) = no_switch (all.1.own (record { part = 0; bit = 4 }) _ _ refl refl refl refl refl)
 
--- chains of two parts in Run-Test/Idle with latches 0
+-- chains of two parts in Run-Test/Idle, in which all latches are 0
 abbrev two_parts : RawDevice → List ChainPart
 two_parts first = record { logic = test_logic (Described first); state = resting (off ∷ off ∷ []) } ∷ record { logic = test_logic (Described rcv1); state = resting (off ∷ []) } ∷ []
 
@@ -168,7 +169,7 @@ abbrev later_moments : RawBoard → RawDevice → List Clock → List (List PinS
 later_moments b first clocks =
     shown (board_wiring b no_faults) (drop 5 clocks) (choices_after (take 5 clocks) choices) (run (board_wiring b no_faults) (take 5 clocks) choices (two_parts first))
 
--- (a) is broken by a test that leaves one part under SAMPLE, in the update of the third scan
+-- a test breaks (a) in the update of its third scan, since it leaves one part with SAMPLE
 abbrev one_left : List Clock
 one_left = test_clocks (take 2 (svf_scans wire) ++ instructs ((off ∷ off ∷ []) ∷ (off ∷ on ∷ []) ∷ []) ∷ [])
 
@@ -178,7 +179,7 @@ all_in_extest quiet =
     let moments = (quiet no_faults (two_parts inner) choices (no_set wire) wire_start).1 in
     half_unsafe (moment_at wire (after_reset wire inner one_left) (later_moments wire inner one_left) moments 27 half_in_test refl).0
 
--- and by one that enables a driver in a dark net, in the update of the fourth scan
+-- a test breaks (a) in the update of its fourth scan, since it enables a driver on a dark net
 abbrev dark_driven : List Clock
 dark_driven = test_clocks (take 3 (svf_scans dark) ++ sdr (sent off ∷ sent off ∷ sent off ∷ []) ∷ [])
 
@@ -188,7 +189,7 @@ dark_nets_are_left quiet =
     let moments = (quiet no_faults (two_parts ts) choices (no_set dark) dark_start).1 in
     dark_unsafe (moment_at dark (after_reset dark ts dark_driven) (later_moments dark ts dark_driven) moments 35 dark_on refl).0
 
--- (c) is broken by a test that preloads 0 into an internal cell with the safe value 1, in the update that selects EXTEST
+-- a test breaks (c) in the update that makes EXTEST current, since it preloads 0 into an internal cell with safe value 1
 abbrev zeros_preloaded : List Clock
 zeros_preloaded = test_clocks (take 1 (svf_scans wire) ++ sdr (sent off ∷ sent off ∷ sent off ∷ []) ∷ take 1 (drop 2 (svf_scans wire)))
 

@@ -1,4 +1,4 @@
--- Logs of the tests of small boards, and which single faults explain them.
+-- Logs of the tests of small boards, and the single faults that explain them.
 use Rattle.std.proofs.Common.{◌≡◌, ℕ, Bool, true, false, ◌&&◌, ◌+◌, List, [], ◌∷◌, ◌++◌, map, Option, Some, None, refl, arith, length}
 use Rattle.std.specs.Prelude.{codes, filter, slice_index_or}
 use Rattle.std.specs.Bool.{beq}
@@ -38,11 +38,11 @@ use Rattle.tap_defs.proofs.board.CaptureLemmas.{log_captured}
 use Rattle.tap_defs.proofs.chain.SampleTexts.{on, off}
 use Rattle.tap_defs.proofs.board.SampleBoards.{drv, rcv, rcv1, od, pin, pulled}
 
--- the free bits are all this one
+-- the choice in which all free bits are `bit`
 abbrev free : Bool → Choice
 free bit = record { parts = λ k. record { ir = λ i. bit; cells = λ i. bit; latches = λ i. bit; tdo = bit; other = bit }; shorts = λ k. bit; tdi = bit }
 
--- with these free bits each scan compares what the row in the latches lets the cells capture
+-- with these free bits, each scan passes if it captures while the row of the scan before it is in the latches
 abbrev captures_pass : RawBoard → FaultSet → Choice → TestRow → List RowScan → List Scan → Bool
 captures_pass board faults choice row [] scans = true
 captures_pass board faults choice row (t ∷ more) [] = true
@@ -53,11 +53,11 @@ captures board log single bit =
     let scans : List RowScan = svf_row_scans board in
     captures_pass board (set_of single) (free bit) quiet_row scans (scans_by_log (map (scan_of_row board) scans) log)
 
--- the single faults that give a log, in order
+-- the single faults that explain a log, in order
 abbrev explaining : RawBoard → List (List Bool) → List Single
 explaining board log = filter (λ single. captures board log single off && captures board log single on) (singles board)
 
--- the same by the bit of each compared cell
+-- the single faults that explain a log, found by the bit of each compared cell
 abbrev agrees : RawBoard → Single → TestRow → Bool → Option Place → Option Bool → Bool
 agrees board single row logged place None = true
 agrees board single row logged None (Some expected) = false
@@ -78,21 +78,22 @@ rows_agree board single (t ∷ more) (logged ∷ log) =
 abbrev predicted : RawBoard → List (List Bool) → List Single
 predicted board log = filter (λ single. rows_agree board single (compared_scans board (svf_row_scans board)) log) (singles board)
 
--- parts and nets with names of their own
+-- parts and nets with given names
 abbrev named_part : List ℕ → RawDevice → Part
 named_part name device = record { name = name; kind = Described device }
 
 abbrev named : List ℕ → Net → Net
 named name net = record net { name = name }
 
--- a pin of a part, at a bit counted after those of the test access port, with names of its own
+-- a pin with names made from its numbers; its port bit counts from those after the test access port
 abbrev pin_of : ℕ → ℕ → NetPin
 pin_of part bit = record (pin part bit) { part = 85 ∷ (49 + part) ∷ []; pin = (49 + bit) ∷ [] }
 
 abbrev open_pin : ℕ → ℕ → Bool → Single
 open_pin net place value = OpenPin (record { net = net; place = place }) value
 
--- two nets from a driver to a receiver, with the codes 1 and 2: two rows, of which the first bits are those of the two nets
+-- A board with two nets from a driver to a receiver, which have the codes 1 and 2. A log has two rows, in which the first two
+-- bits are those of the nets.
 abbrev two_nets : RawBoard
 two_nets = record {
   chain = named_part (codes "U1") drv ∷ named_part (codes "U2") rcv ∷ [];
@@ -108,14 +109,14 @@ row first second = first ∷ second ∷ off ∷ off ∷ []
 abbrev expected_log : List (List Bool)
 expected_log = row on off ∷ row off on ∷ []
 
--- no fault gives the expected log
+-- no single fault explains the expected log
 expected_is : explaining two_nets expected_log ≡ []
 expected_is = refl
 
 expected_cells : predicted two_nets expected_log ≡ []
 expected_cells = refl
 
--- the first net shows 0 in both rows
+-- the faults that explain a log in which the first net has 0 in both rows
 constant_is : explaining two_nets (row off off ∷ row off on ∷ []) ≡ StuckNet 0 off ∷ open_pin 0 0 off ∷ open_pin 0 1 off ∷ []
 constant_is = refl
 
@@ -126,7 +127,8 @@ constant_cells = refl
 ignored_is : explaining two_nets ((off ∷ off ∷ on ∷ on ∷ []) ∷ (off ∷ on ∷ on ∷ off ∷ []) ∷ []) ≡ StuckNet 0 off ∷ open_pin 0 0 off ∷ open_pin 0 1 off ∷ []
 ignored_is = refl
 
--- both nets show one bit in each row: their And, their Or, the first's or the second's
+-- the shorts that explain a log in which both nets have the same bit in each row: their And, their Or, the first's bit or the
+-- second's
 and_is : explaining two_nets (row off off ∷ row off off ∷ []) ≡ Short 0 1 And ∷ []
 and_is = refl
 
@@ -144,14 +146,14 @@ shorted_cells : map (predicted two_nets) (
     ≡ (Short 0 1 And ∷ []) ∷ (Short 0 1 Or ∷ []) ∷ (Short 0 1 First ∷ []) ∷ (Short 0 1 Second ∷ []) ∷ []
 shorted_cells = refl
 
--- two nets that are wrong at once, and not alike
+-- no single fault explains a log in which both nets are wrong in different ways
 no_single_is : explaining two_nets (row on off ∷ row on off ∷ []) ≡ []
 no_single_is = refl
 
 no_single_cells : predicted two_nets (row on off ∷ row on off ∷ []) ≡ []
 no_single_cells = refl
 
--- what explains a log by the definition: in every run the first net shows 0 in both rows
+-- by the definition, the first net stuck at 0 explains a log in which it has 0 in both rows
 explained : Explains two_nets (StuckNet 0 off) (row off off ∷ row off on ∷ [])
 explained = record {
   shape = record { rows = refl; bits = All-from_recursion (λ (r : List Bool). length r ≡ data_bits two_nets) (row off off ∷ row off on ∷ []) (refl, (refl, tt)) };
@@ -159,7 +161,7 @@ explained = record {
       (λ choice. refl, (λ choice. refl, (λ choice. refl, tt)));
 }
 
--- the expected log, and one that differs in a bit that is not compared
+-- the expected log, and a log that differs from it in a bit that is not compared
 is_expected : IsExpected two_nets (svf_row_scans two_nets) ((on ∷ off ∷ on ∷ off ∷ []) ∷ (off ∷ on ∷ off ∷ on ∷ []) ∷ [])
 is_expected = record {
   shape = record { rows = refl; bits = All-from_recursion (λ (r : List Bool). length r ≡ data_bits two_nets) ((on ∷ off ∷ on ∷ off ∷ []) ∷ (off ∷ on ∷ off ∷ on ∷ []) ∷ []) (refl, (refl, tt)) };
@@ -169,7 +171,8 @@ is_expected = record {
 is_unexpected : IsExpected two_nets (svf_row_scans two_nets) (row on off ∷ row on on ∷ []) → ⊥
 is_unexpected h = both_ways _ refl h.bits
 
--- a log of another shape is explained by nothing, and is not the expected one: a row too few, a row too many, a row too short
+-- Logs of another shape, with a row too few, a row too many or a row too short. No fault explains them, and they are not
+-- expected.
 abbrev NoLog : List (List Bool) → Type 0
 NoLog log = HasShape two_nets (svf_row_scans two_nets) log → ⊥
 
@@ -188,7 +191,7 @@ short_row h = let z : ◌≡◌ {A = ℕ} 3 4 = h.bits 1 [] (omega arith) in abs
 unexplained : (faults : FaultSet) → ExplainedBy two_nets faults (svf_row_scans two_nets) [] → ⊥
 unexplained faults h = no_rows h.shape
 
--- a net that is pulled up, with a driver that drives low only: where the driver is open, the net shows its pull
+-- a net that is pulled up, with a driver that drives only low: if the driver is open, the net has its pull
 abbrev pulled_net : RawBoard
 pulled_net = record {
   chain = named_part (codes "U1") od ∷ named_part (codes "U2") rcv1 ∷ [];
@@ -203,7 +206,7 @@ pulled_cells : map (predicted pulled_net) (((on ∷ off ∷ []) ∷ (on ∷ off 
     ≡ (StuckNet 0 on ∷ open_pin 0 0 off ∷ open_pin 0 0 on ∷ open_pin 0 1 on ∷ []) ∷ (StuckNet 0 off ∷ open_pin 0 1 off ∷ []) ∷ []
 pulled_cells = refl
 
--- four three-state outputs, of which cell 4 controls the first two and cell 5 the others
+-- four three-state outputs; cell 4 controls the first two, and cell 5 controls the others
 abbrev output : ℕ → ℕ → Cell
 output num control = record { num = num; role = Output3; bit = Some (4 + num); safe = Any; ctl = Some (record { cell = control; disable = true }) }
 
@@ -220,7 +223,8 @@ two = record drv {
   boundary = 6;
 }
 
--- a bus whose two drivers are on with one of two other nets each: the codes are 1, 2 and 3, and the bus is the second net
+-- A board with a bus of two drivers. Each of them is enabled together with the driver of one other net. The codes are 1, 2
+-- and 3, and the bus is the second net.
 abbrev bus : RawBoard
 bus = record {
   chain = named_part (codes "U1") two ∷ named_part (codes "U2") rcv ∷ named_part (codes "U3") rcv ∷ [];
@@ -229,22 +233,22 @@ bus = record {
       ∷ named (codes "B") (pulled None (pin_of 0 3 ∷ pin_of 2 0 ∷ [])) ∷ [];
 }
 
--- a row of the first pass, which shows A and X, and one of the second, which shows X and B
+-- a row of the first pass, with the bits of nets A and X, and a row of the second pass, with the bits of X and B
 abbrev with_a : Bool → Bool → List Bool
 with_a a x = off ∷ off ∷ a ∷ x ∷ off ∷ off ∷ off ∷ off ∷ off ∷ off ∷ []
 
 abbrev with_b : Bool → Bool → List Bool
 with_b x b = b ∷ off ∷ off ∷ x ∷ off ∷ off ∷ off ∷ off ∷ off ∷ off ∷ []
 
--- where A dominates, both nets show A in the first pass, and X shows its own bits in the second, in which A is not driven
+-- If A dominates X, both have the bits of A in the first pass. In the second pass A is not driven, and X has its own bits.
 abbrev a_dominates : List (List Bool)
 a_dominates = with_a on on ∷ with_a off off ∷ with_a off off ∷ with_b off on ∷ with_b on on ∷ with_b off off ∷ []
 
--- where X dominates, both show X
+-- if X dominates A, both have the bits of X
 abbrev x_dominates : List (List Bool)
 x_dominates = with_a off off ∷ with_a on on ∷ with_a off off ∷ with_b off on ∷ with_b on on ∷ with_b off off ∷ []
 
--- where X and B are shorted, the first pass is as ever. B has each 1 of X, so their Or is B
+-- If X and B are shorted, the first pass is as expected. B has a 1 wherever X has one, so their Or is B.
 abbrev b_dominates : List (List Bool)
 b_dominates = with_a on off ∷ with_a off on ∷ with_a off off ∷ with_b on on ∷ with_b on on ∷ with_b off off ∷ []
 

@@ -12,7 +12,7 @@ use Rattle.tap_defs.specs.board.OnBoard.{test_logic}
 use Rattle.tap_defs.proofs.chain.SampleTexts.{on, off}
 use Rattle.tap_defs.proofs.board.SampleBoards.{ts}
 
--- a device without IDCODE, one with it, and a part without a description
+-- test logics: of a device without IDCODE, of a device with IDCODE, and of a part without a description
 abbrev plain : TestLogic
 plain = test_logic (Described ts)
 
@@ -29,7 +29,7 @@ unknown = test_logic (WithoutDescription 2)
 abbrev free : Bool → FreeBits
 free bit = record { ir = λ k. bit; cells = λ k. bit; latches = λ k. bit; tdo = bit; other = bit }
 
--- a part in this state under this instruction: each register holds 1 nearest TDO and then 0, and the latches hold 0 and 1
+-- A part in this TAP state with this instruction. Each register has 1 nearest TDO and 0 above it, and the latches have 0 and 1.
 abbrev part : TapState → Instruction → PartState
 part tap instruction = record {
   tap = tap;
@@ -41,11 +41,12 @@ part tap instruction = record {
   latches = off ∷ on ∷ [];
 }
 
--- the part after a cycle with this TMS and TDI, where its pins give 0 and 1
+-- the part after a cycle with this TMS and TDI, in which its pins give the boundary cells 0 and 1
 abbrev after : TestLogic → Bool → Bool → Bool → PartState → PartState
 after logic bit tms tdi s = part_after logic (off ∷ on ∷ []) (free bit) tms tdi s
 
--- the instruction in Test-Logic-Reset: BYPASS without IDCODE, IDCODE with it, and either in a part without a description
+-- The instruction in Test-Logic-Reset. Without IDCODE it is BYPASS. With IDCODE it is Other, since the identification code is not known. In
+-- a part without a description it may be either.
 abbrev reset_to : TestLogic → Bool → Instruction
 reset_to logic other = (after logic other true off (part SelectIR Extest)).current
 
@@ -58,12 +59,13 @@ reset_identified = refl
 reset_unknown : map (reset_to unknown) (off ∷ on ∷ []) ≡ Bypass ∷ Other ∷ []
 reset_unknown = refl
 
--- the latches become any bits there, and nothing else changes
+-- in Test-Logic-Reset the latches become any bits, and nothing else changes
 reset_bits : map (λ bit. after plain bit true off (part TestLogicReset Sample)) (off ∷ on ∷ []) ≡
     record (part TestLogicReset Bypass) { latches = off ∷ off ∷ [] } ∷ record (part TestLogicReset Bypass) { latches = on ∷ on ∷ [] } ∷ []
 reset_bits = refl
 
--- what codes mean: ones are BYPASS, the codes of the description EXTEST and SAMPLE/PRELOAD, and any other code another instruction
+-- The instructions that codes mean. A code of ones means BYPASS, the codes of the description mean EXTEST and SAMPLE/PRELOAD, and any other
+-- code means another instruction.
 abbrev codes : List (List Bool)
 codes = (on ∷ on ∷ []) ∷ (off ∷ off ∷ []) ∷ (off ∷ on ∷ []) ∷ (on ∷ off ∷ []) ∷ []
 
@@ -73,11 +75,11 @@ described_codes = refl
 unknown_codes : map (instruction_of unknown) codes ≡ Bypass ∷ Other ∷ Other ∷ Other ∷ []
 unknown_codes = refl
 
--- Update-IR takes the instruction of the bits, and leaves the latches
+-- Update-IR makes the instruction of the code current, and does not change the latches
 update_ir : after plain on true off (record (part Exit1IR Sample) { ir = off ∷ off ∷ [] }) ≡ record (part UpdateIR Extest) { ir = off ∷ off ∷ [] }
 update_ir = refl
 
--- Capture-IR loads 1 and 0 and free bits above them; Shift-IR shifts, and TDO is the bit nearest TDO
+-- Capture-IR loads 1 nearest TDO, 0 next to it, and free bits above. Shift-IR shifts, and TDO is the bit nearest TDO.
 abbrev four_bits : TapState → PartState
 four_bits tap = record (part tap Sample) { ir = off ∷ on ∷ off ∷ on ∷ [] }
 
@@ -90,7 +92,7 @@ shift_ir = refl
 shift_ir_tdo : part_tdo (free on) on (four_bits ShiftIR) ≡ off
 shift_ir_tdo = refl
 
--- Capture-DR: under EXTEST the pins, under SAMPLE free bits, under BYPASS 0, and under another instruction nothing
+-- Capture-DR loads the pins' bits under EXTEST, free bits under SAMPLE, and 0 under BYPASS; under another instruction it loads nothing
 abbrev captured : Bool → Instruction → PartState
 captured bit instruction = after plain bit false on (part CaptureDR instruction)
 
@@ -107,7 +109,7 @@ capture_bypass = refl
 capture_other : captured on Other ≡ part ShiftDR Other
 capture_other = refl
 
--- Shift-DR: the boundary bits move, or the bypass bit; under another instruction nothing is known, and TDO is free
+-- Shift-DR shifts the boundary bits or the bypass bit. Under another instruction it shifts nothing that the model knows, and TDO is free.
 abbrev shifted : Instruction → PartState
 shifted instruction = after plain on false on (part ShiftDR instruction)
 
@@ -132,7 +134,8 @@ shift_tdos = refl
 other_tdo : shift_tdo on Other ≡ on
 other_tdo = refl
 
--- Update-DR: under EXTEST and SAMPLE the latches take the boundary bits, under BYPASS they stay, and under another instruction they become any bits
+-- In Update-DR the latches take the boundary bits under EXTEST and SAMPLE, and are unchanged under BYPASS. Under another instruction they
+-- become any bits.
 abbrev updated : Bool → Instruction → PartState
 updated bit instruction = after plain bit true on (part Exit1DR instruction)
 
@@ -149,7 +152,7 @@ update_other : map (λ bit. updated bit Other) (off ∷ on ∷ []) ≡
     record (part UpdateDR Other) { latches = off ∷ off ∷ [] } ∷ record (part UpdateDR Other) { latches = on ∷ on ∷ [] } ∷ []
 update_other = refl
 
--- the other states change nothing but the state, and TDO is free there
+-- all other states change only the TAP state, and TDO is free in them
 abbrev calm : List TapState
 calm = RunTestIdle ∷ SelectDR ∷ Exit1DR ∷ PauseDR ∷ Exit2DR ∷ UpdateDR ∷ SelectIR ∷ Exit1IR ∷ PauseIR ∷ Exit2IR ∷ UpdateIR ∷ []
 
@@ -165,7 +168,7 @@ silent_tdo = refl
 silent_tdo_low : map (λ tap. part_tdo (free off) on (part tap Extest)) silent ≡ map (λ tap. off) silent
 silent_tdo_low = refl
 
--- the lengths and the codes of a description; of a part without one only the instruction length is known
+-- The lengths and codes of a described part come from its description. Of any other part only the instruction length is known.
 described_logic : identified ≡
     record { ir_length = 2; boundary_length = 2; extest = Some (off ∷ off ∷ []); preload = Some (off ∷ on ∷ []); at_reset = Some Other; idcode = [] }
 described_logic = refl
@@ -173,7 +176,8 @@ described_logic = refl
 unknown_logic : unknown ≡ record { ir_length = 2; boundary_length = 0; extest = None; preload = None; at_reset = None; idcode = [] }
 unknown_logic = refl
 
--- a part whose identification code is known: reset selects it, Capture-DR loads it, Shift-DR moves it, and Update-DR leaves the latches
+-- In a part with a known identification code, a reset selects IDCODE, Capture-DR loads the code, Shift-DR shifts it, and Update-DR does not
+-- change the latches.
 abbrev coded : TestLogic
 coded = record plain { at_reset = Some Idcode; idcode = on ∷ off ∷ on ∷ [] }
 

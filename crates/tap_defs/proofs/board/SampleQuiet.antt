@@ -1,4 +1,4 @@
--- Wrong tests of two drivers on one net, which are not quiet.
+-- Wrong tests of a net with two drivers, which are not quiet.
 use Rattle.std.proofs.Common.{◌≡◌, ℕ, zero, suc, Bool, true, false, List, [], ◌∷◌, ◌++◌, take, drop, Some, refl, inl, inr, subst, arith}
 use Rattle.std.specs.Prelude.{slice_get}
 use Rattle.board_defs.specs.declared.board.PartKind.TheVariants.{Described}
@@ -18,7 +18,7 @@ use Rattle.tap_defs.proofs.chain.SampleTexts.{on, off, sdr}
 use Rattle.tap_defs.proofs.chain.SampleRun.{free_bits}
 use Rattle.tap_defs.proofs.board.SampleBoards.{ts, rcv1, bus}
 
--- what is quiet at each moment is uncontested from each to the next
+-- if a list of moments stays quiet, no net is contested between a moment and the next
 pub uncontested_at : (board : RawBoard) (before : List PinState) (moments : List (List PinState)) → StaysQuiet board before moments → (k : ℕ) (now next : List PinState) →
     slice_get (before ∷ moments) k ≡ Some now → slice_get moments k ≡ Some next → IsUncontested board now next
 uncontested_at board before [] h k now next e f = cc f
@@ -42,7 +42,7 @@ no_set board = record {
   dominant = λ n k d e f. cc e;
 }
 
--- all parts in Run-Test/Idle, and all latches 0
+-- the state of a part in Run-Test/Idle, with these bits in its boundary register and its latches
 abbrev pub resting : List Bool → PartState
 resting cells = record { tap = RunTestIdle; ir = off ∷ off ∷ []; current = Bypass; boundary = cells; bypass = off; identification = []; latches = cells }
 
@@ -67,7 +67,7 @@ start = record {
 abbrev pub choices : Choices
 choices k = record { parts = λ j. free_bits; shorts = λ j. off; tdi = on }
 
--- the chain after the fifth clock, what its pins show then, and what they show after each later clock
+-- the chain after the fifth clock, its visible states then, and those after each later clock
 abbrev fifth : List Clock → Choices → List ChainPart
 fifth clocks free = run (board_wiring bus no_faults) (take 5 clocks) free chain
 
@@ -77,7 +77,7 @@ after_reset clocks free = pin_states (fifth clocks free)
 abbrev later_moments : List Clock → Choices → List (List PinState)
 later_moments clocks free = shown (board_wiring bus no_faults) (drop 5 clocks) (choices_after (take 5 clocks) free) (fifth clocks free)
 
--- the second driver is enabled in the update that disables the first
+-- a test that enables the second driver in the update that disables the first
 abbrev without_quiet_row : List Clock
 without_quiet_row = test_clocks (take 3 (svf_scans bus)
     ++ sdr (sent off ∷ sent off ∷ sent on ∷ sent on ∷ sent off ∷ []) ∷ sdr (sent off ∷ sent on ∷ sent off ∷ sent off ∷ sent on ∷ []) ∷ [])
@@ -97,7 +97,7 @@ quiet_row_between quiet =
     let moments = (quiet no_faults chain choices (no_set bus) start).1 in
     uncontested_at bus (after_reset without_quiet_row choices) (later_moments without_quiet_row choices) moments 53 first_on second_on refl refl 0 _ 0 1 _ _ refl refl refl (λ e. omega (arith, e)) refl refl
 
--- EXTEST comes right after the reset, which may leave both control cells at 0
+-- a test that selects EXTEST right after the reset, when both control cells may have 0
 abbrev without_preload : List Clock
 without_preload = test_clocks (take 1 (drop 2 (svf_scans bus)))
 

@@ -1,4 +1,4 @@
--- Codes, and what each kind of cell holds in a row and is to capture.
+-- Samples of codes, and of the bit that each kind of cell has in a row and is expected to capture.
 use Rattle.std.proofs.Common.{◌≡◌, ℕ, Bool, false, List, [], ◌∷◌, map, Option, Some, None, refl}
 use Rattle.std.specs.List.{range_with_len}
 use Rattle.board_defs.specs.declared.device.Mode.TheVariants.{Inward, Outward, Both}
@@ -13,25 +13,26 @@ use Rattle.tap_defs.proofs.chain.SampleTexts.{on, off}
 use Rattle.tap_defs.proofs.board.SampleBoards.{one_bit, entry, by, control, device, ts, drv, rcv, pin, foreign, net, board}
 use Rattle.tap_defs.proofs.board.SampleKeeping.{keeper, keeping, cells}
 
--- n codes from 1 on, none of all zeros and none of all ones
+-- the widths of `n` codes, counted from 1, of which none has only zeros or only ones
 widths : map code_width (range_with_len 0 8) ≡ 1 ∷ 2 ∷ 2 ∷ 3 ∷ 3 ∷ 3 ∷ 3 ∷ 4 ∷ []
 widths = refl
 
 more_widths : map code_width (14 ∷ 15 ∷ 30 ∷ 31 ∷ []) ≡ 4 ∷ 5 ∷ 5 ∷ 6 ∷ []
 more_widths = refl
 
--- 13 is 1101
+-- 13 is 1101 in binary
 bits_of_code : map (code_bit 13) (0 ∷ 1 ∷ 2 ∷ 3 ∷ 4 ∷ []) ≡ on ∷ off ∷ on ∷ on ∷ off ∷ []
 bits_of_code = refl
 
--- a setting of these controls of cells of parts
+-- the setting with these controls
 abbrev set : List Ctl → Enabling
 set controls = holds controls
 
 abbrev c : ℕ → ℕ → Ctl
 c part cell = record { part = part; cell = cell }
 
--- a bidirectional part, a three-state driver, a driver that a control disables at 0, a receiver, one that only observes, and drivers that are always on
+-- devices: a bidirectional pin, a three-state driver, a driver that a control disables at 0, a receiver, an observer and drivers that are
+-- always on
 abbrev bi : RawDevice
 bi = device (one_bit Both) (entry 0 Bidir 4 (by 1) ∷ control 1 ∷ []) 2
 
@@ -44,7 +45,7 @@ observer = device (one_bit Inward) (entry 0 ObserveOnly 4 None ∷ []) 1
 abbrev clocked : RawDevice
 clocked = device (one_bit Inward) (entry 0 Clock 4 None ∷ []) 1
 
--- net 0 is dark; nets 1 and 2 are observed; net 3 has no receiver but the driver's own
+-- Net 0 is dark. Nets 1 and 2 are observed. Net 3 has no receiver except its driver.
 abbrev mixed : RawBoard
 mixed = board (Described bi ∷ Described ts ∷ Described ts0 ∷ Described rcv ∷ Described observer ∷ Described clocked ∷ Described drv ∷ Described bi ∷ []) (
     net (pin 6 0 ∷ foreign ∷ []) ∷ net (pin 1 0 ∷ pin 0 0 ∷ pin 3 0 ∷ pin 4 0 ∷ pin 5 0 ∷ []) ∷ net (pin 2 0 ∷ pin 3 1 ∷ []) ∷ net (pin 7 0 ∷ []) ∷ [])
@@ -71,22 +72,22 @@ net_codes = refl
 observed : observed_count mixed passes ≡ 2
 observed = refl
 
--- in the quiet row each control of a driver has the disable value, and each other cell its safe value, X as 0
+-- in the quiet row, a cell that controls a driver has the disable value, and any other cell has its safe value, with X as 0
 abbrev held : RawBoard → Enabling → ℕ → RawDevice → List ℕ → List Bool
 held b setting part d list = map (steady_bit b setting part d) list
 
 kept_quiet : held keeping (set []) 0 keeper cells ≡ on ∷ on ∷ off ∷ on ∷ on ∷ on ∷ on ∷ off ∷ on ∷ on ∷ on ∷ []
 kept_quiet = refl
 
--- a setting turns the control of a driver, and no other cell: cell 8 controls a port without a pin
+-- A setting changes only cells that control drivers. Cell 8 controls the driver of a port without a pin, and keeps its safe value.
 kept_set : held keeping (set (c 0 5 ∷ c 0 8 ∷ c 0 3 ∷ [])) 0 keeper cells ≡ on ∷ on ∷ off ∷ on ∷ on ∷ off ∷ on ∷ off ∷ on ∷ on ∷ on ∷ []
 kept_set = refl
 
--- the disable value goes before the safe value, which is 1
+-- the disable value takes precedence over the safe value, which is 1
 disabled_at_0 : map (λ controls. steady_bit mixed (set controls) 2 ts0 1) ([] ∷ (c 2 1 ∷ []) ∷ []) ≡ off ∷ on ∷ []
 disabled_at_0 = refl
 
--- rows 0 and 1 of a pass, where net 1 has the code 1 and net 2 the code 2
+-- rows 0 and 1 of a pass, in which net 1 has code 1 and net 2 has code 2
 abbrev row : List Ctl → ℕ → TestRow
 row pass j = code_row mixed passes pass j
 
@@ -96,14 +97,14 @@ holds_in r part d = map (row_bit mixed r part d) (range_with_len 0 d.boundary)
 abbrev rows_of : List Ctl → ℕ → RawDevice → List (List Bool)
 rows_of pass part d = map (λ j. holds_in (row pass j) part d) (0 ∷ 1 ∷ [])
 
--- the cell of the enabled driver has the net's bit, and its control the opposite of the disable value
+-- the cell of the enabled driver has the bit of its net, and the driver's control has the opposite of the disable value
 driver_of_1 : rows_of (c 1 1 ∷ c 2 1 ∷ []) 1 ts ≡ (on ∷ off ∷ []) ∷ (off ∷ off ∷ []) ∷ []
 driver_of_1 = refl
 
 driver_of_2 : rows_of (c 1 1 ∷ c 2 1 ∷ []) 2 ts0 ≡ (off ∷ on ∷ []) ∷ (on ∷ on ∷ []) ∷ []
 driver_of_2 = refl
 
--- a driver that is not enabled, one whose net is not observed and one in a dark net are as in the quiet row
+-- a driver that is not enabled, a driver whose net is not observed and a driver on a dark net have the bits of the quiet row
 other_driver : rows_of (c 1 1 ∷ c 2 1 ∷ []) 0 bi ≡ (off ∷ on ∷ []) ∷ (off ∷ on ∷ []) ∷ []
 other_driver = refl
 
@@ -113,7 +114,7 @@ unobserved_driver = refl
 dark_driver : rows_of (c 1 1 ∷ []) 6 drv ≡ (off ∷ off ∷ []) ∷ (off ∷ off ∷ []) ∷ []
 dark_driver = refl
 
--- what the cells are to capture in row 0: INPUT, CLOCK and BIDIR cells on an observed net, but not those of the driver's own pin
+-- The expected bits in row 0. INPUT, CLOCK and BIDIR cells on an observed net have one, except those of the driver's own pin.
 abbrev expected : TestRow → ℕ → RawDevice → List (Option Bool)
 expected r part d = map (expect_bit mixed r part d) (range_with_len 0 d.boundary)
 

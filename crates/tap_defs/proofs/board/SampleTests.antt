@@ -1,4 +1,4 @@
--- The texts of the tests of small boards, from the passes on.
+-- The texts of the tests of small boards, with their passes.
 use Rattle.std.proofs.Common.{◌≡◌, [], ◌∷◌, refl}
 use Rattle.std.specs.Prelude.{codes}
 use Rattle.std.specs.Fmt.{digits}
@@ -12,21 +12,21 @@ wires_text : board_text wires ≡ two_nets
 unfolding svf_text digits
 wires_text = refl
 
--- the preload code and the EXTEST code are those of the description
+-- in the 2001 edition, the preload and EXTEST codes are those of the description
 wires_2001_text : board_text wires_2001 ≡ sample_text (
     codes "SIR 4 TDI (2) TDO (5) MASK (F);" ∷ codes "SDR 4 TDI (0);" ∷ codes "SIR 4 TDI (4) TDO (5) MASK (F);"
     ∷ codes "SDR 4 TDI (4);" ∷ codes "SDR 4 TDI (8) TDO (1) MASK (3);" ∷ codes "SDR 4 TDI (0) TDO (2) MASK (3);" ∷ [])
 unfolding svf_text digits
 wires_2001_text = refl
 
--- a part without a description is in BYPASS
+-- a part without a description gets a code of ones, which means BYPASS
 wires_round_text : board_text wires_round ≡ sample_text (
     codes "SIR 7 TDI (5E) TDO (25) MASK (6F);" ∷ codes "SDR 5 TDI (00);" ∷ codes "SIR 7 TDI (1C) TDO (25) MASK (6F);"
     ∷ codes "SDR 5 TDI (08);" ∷ codes "SDR 5 TDI (10) TDO (01) MASK (03);" ∷ codes "SDR 5 TDI (00) TDO (02) MASK (03);" ∷ [])
 unfolding svf_text digits
 wires_round_text = refl
 
--- a pass for each of two drivers of a net, with the quiet row between them
+-- a net with two drivers has a pass for each of them, with the quiet row between the passes
 bus_text : board_text bus ≡ sample_text (
     codes "SIR 6 TDI (2A) TDO (15) MASK (3F);" ∷ codes "SDR 5 TDI (14);" ∷ codes "SIR 6 TDI (00) TDO (15) MASK (3F);"
     ∷ codes "SDR 5 TDI (0C);" ∷ codes "SDR 5 TDI (04) TDO (01) MASK (01);" ∷ codes "SDR 5 TDI (14) TDO (00) MASK (01);"
@@ -34,21 +34,21 @@ bus_text : board_text bus ≡ sample_text (
 unfolding svf_text digits
 bus_text = refl
 
--- guarded nets and nets without a driver are left alone
+-- guarded nets and nets without a driver have no part in the test
 buffers_text : board_text buffers ≡ sample_text (
     codes "SIR 4 TDI (A) TDO (5) MASK (F);" ∷ codes "SDR 10 TDI (210);" ∷ codes "SIR 4 TDI (0) TDO (5) MASK (F);"
     ∷ codes "SDR 10 TDI (030);" ∷ codes "SDR 10 TDI (050) TDO (004) MASK (00C);" ∷ codes "SDR 10 TDI (210) TDO (008) MASK (00C);" ∷ [])
 unfolding svf_text digits
 buffers_text = refl
 
--- the cell of a switching driver holds the net's bit, though it is a control
+-- the cell of a switching driver has the bit of the net, although it is a control
 pulled_up_text : board_text pulled_up ≡ sample_text (
     codes "SIR 4 TDI (A) TDO (5) MASK (F);" ∷ codes "SDR 2 TDI (2);" ∷ codes "SIR 4 TDI (0) TDO (5) MASK (F);"
     ∷ codes "SDR 2 TDI (2);" ∷ codes "SDR 2 TDI (0) TDO (1) MASK (1);" ∷ codes "SDR 2 TDI (2) TDO (0) MASK (1);" ∷ [])
 unfolding svf_text digits
 pulled_up_text = refl
 
--- the walking test of drivers that are always on: one net after another carries 1
+-- in the walking test of drivers that are always on, the nets carry 1 in turn
 three_wires_walk : walk_text three_wires [] ≡ sample_text (
     codes "SIR 8 TDI (AA) TDO (55) MASK (FF);" ∷ codes "SDR 8 TDI (00);" ∷ codes "SIR 8 TDI (00) TDO (55) MASK (FF);"
     ∷ codes "SDR 8 TDI (40);" ∷ codes "SDR 8 TDI (80) TDO (04) MASK (0D);" ∷ codes "SDR 8 TDI (10) TDO (08) MASK (0D);"

@@ -1,4 +1,5 @@
--- Under a single fault each compared cell captures one bit, whatever the free bits are: that of its stuck net, its open pin or its short.
+-- Under a single fault, each compared cell captures the same bit whatever the free bits are: that of its stuck net, its open pin or its
+-- short.
 use Rattle.std.proofs.Common.{◌≡◌, ◌≢◌, ◌⊎◌, inl, inr, ℕ, zero, suc, ◌+◌, ◌<◌, ◌==◌, Bool, true, false, cond, not, ◌&&◌, ◌||◌, List, [], ◌∷◌, Option, Some, None, refl, sym, ◌∙◌, ap, subst, arith}
 use Rattle.std.specs.Prelude.{slice_get, unwrap_or, option_and_then}
 use Rattle.std.specs.List.{cons_option}
@@ -42,7 +43,7 @@ use Rattle.tap_defs.proofs.board.DrivingLemmas.{feeding_is}
 use Rattle.tap_defs.proofs.board.SingleLemmas.{single_observable, single_no_open_shorted}
 use Rattle.tap_defs.proofs.board.CellPlaceLemmas.{captured_cell}
 
--- how a compared cell reads its pin
+-- the entry by which a compared cell reads the pin at a place
 pub record ReadsPlace (board : RawBoard) (row : TestRow) (part : ℕ) (device : RawDevice) (cell : ℕ) (place : Place) (v : Bool) : Type 0 where
   pub entry : Cell
   pub reads : reading_entry device cell ≡ Some entry
@@ -109,7 +110,7 @@ module _ (board : RawBoard) (row : TestRow) (part : ℕ) (device : RawDevice) (c
   pub reads_place : IsCompared board row part device cell place v → ReadsPlace board row part device cell place v
   reads_place c = by_entry (reading_entry device cell) refl c.expects c.reads
 
--- the nets of a short of two nets
+-- the nets of a short that has two nets
 module _ (a b : ℕ) (less : a < b) (kind : Kind) (one two : Net) where
   abbrev faults_of : FaultSet
   faults_of = set_of (Short a b kind)
@@ -171,7 +172,7 @@ module _ (a b : ℕ) (less : a < b) (kind : Kind) (one two : Net) where
       step n net nets false (neither n (λ q. omega (arith, q, z)) (λ q. omega (arith, q, w)))
       ∙ two_after (suc n) i j nets e (omega (arith, z)) f (omega (arith, w))
 
-  -- one bit, and two bits
+  -- combining one bit, and combining two bits
   alone : (k : Kind) (c : ℕ) (u : Bool) → combined (short_kind a b k) ((c, u) ∷ []) ≡ u
   alone And c u = and-true u
   alone Or c u = or-false u
@@ -194,7 +195,7 @@ module _ (a b : ℕ) (less : a < b) (kind : Kind) (one two : Net) where
       ap (λ (t : Bool). unwrap_or (cond t (Some u) (bit_at_net b ((b, w) ∷ []))) (all_bits ((a, u) ∷ (b, w) ∷ []))) (ne_eqb a b (λ e. omega (arith, e, less)))
       ∙ ap (λ (t : Bool). unwrap_or (cond t (Some w) None) (all_bits ((a, u) ∷ (b, w) ∷ []))) (eq-eqb b b refl)
 
-  -- what is fed, else what is held: of the two nets some is driven or pulled
+  -- the bit of a short of two nets, at least one of which is driven or pulled
   short_is : (k : Kind) (x y : Feeding) (p q : Option Bool) (v free : Bool) (d : ℕ) → is_decided x ≡ true → is_decided y ≡ true → Carries d p v x ⊎ Carries d q v y →
       first_combined (short_kind a b k) (cons_option (numbered a (fed faults_of a x)) (cons_option (numbered b (fed faults_of b y)) []))
       (cons_option (numbered a (held faults_of a p x)) (cons_option (numbered b (held faults_of b q y)) [])) free
@@ -239,7 +240,7 @@ first_driver board row net d e = go (guarded board net) e
     go true h = cc h
     go false h = inner (first_enabled board row.setting 0 net.pins) h
 
--- the bit of a compared cell
+-- the bit that a compared cell captures
 module _ (board : RawBoard) (rules : IsBoard board) (row : TestRow) (safe : IsSafe board row.setting) where
   abbrev chain : List ChainPart
   chain = holding_chain board row 0 board.chain
@@ -287,7 +288,7 @@ module _ (board : RawBoard) (rules : IsBoard board) (row : TestRow) (safe : IsSa
         by_tests true false true = refl
         by_tests true false false = refl
 
-    -- the two nets of a short
+    -- the two nets of the short
     module _ (a b : ℕ) (kind : Kind) (is_single : IsSingle board (Short a b kind)) where
       abbrev faults : FaultSet
       faults = set_of (Short a b kind)
@@ -359,7 +360,7 @@ module _ (board : RawBoard) (rules : IsBoard board) (row : TestRow) (safe : IsSa
     value (OpenPin pin u) is_single = open_value pin u
     value (Short a b kind) is_single = short_value a b kind is_single
 
-  -- what the cell captures while the row is in the latches
+  -- the bit that the cell captures while the row is in the latches
   pub cell_value : (single : Single) → IsSingle board single → (part : ℕ) (device : RawDevice) (cell : ℕ) (place : Place) (v : Bool) →
       IsCompared board row part device cell place v → (choice : Choice) →
       captured_cell board (set_of single) (row_states board row) choice part device cell ≡ single_bit board single row place v

@@ -1,4 +1,5 @@
--- A single fault explains a log exactly where each compared cell has its bit in it; and so does the expected log, with the expected bits.
+-- A single fault explains a log if and only if each compared cell has the fault's bit in the log. A log is the expected one if and only
+-- if each compared cell has its expected bit.
 use Rattle.std.proofs.Common.{◌≡◌, ◌↔◌, ℕ, zero, suc, ◌*◌, Bool, true, false, List, [], ◌∷◌, ◌++◌, length, map, filter, Option, Some, None, refl, sym, ◌∙◌, ap, subst}
 use Rattle.std.specs.Prelude.{slice_get, unwrap_or, All}
 use Rattle.std.proofs.lemmas.Bool.{and_parts, and_from}
@@ -68,7 +69,7 @@ module _ (board : RawBoard) (rules : IsBoard board) (single : Single) (is_single
         λ h. by_rows.1 (h.0, captures h.1),
       )
 
--- the expected bits
+-- a row that passes has the expected bits wherever the scan compares
 agree_expected : (bits : List ScanBit) (row : List Bool) → scan_passes bits row ≡ true → AgreeWhereCompared bits row (tdo_bits bits)
 agree_expected [] row e = tt
 agree_expected (b ∷ bits) [] e = tt
@@ -101,7 +102,7 @@ tdo_bits-joined (b ∷ bs) =
     map-append (λ (x : ScanBit). unwrap_or x.expect false) (joined bs) b
     ∙ ap (λ (l : List Bool). l ++ tdo_bits b) (tdo_bits-joined bs)
 
--- each row of a log of the expected bits passes the scan that it is of
+-- each row of an expected log passes the scan to which it belongs
 module _ (board : RawBoard) where
   abbrev statement : RowScan → Scan
   statement t = scan_of_row board t
@@ -164,7 +165,7 @@ module _ (board : RawBoard) where
         (agreement_of_cells board scan (expected_cell scan) logged
         (λ part device cell place expected c. h x scan logged part device cell place expected e f c ∙ sym (ap (λ (o : Option Bool). Some (unwrap_or o false)) c.expects)))))
 
-    -- a log is the expected one exactly where each compared cell has its expected bit
+    -- a log is the expected one if and only if each compared cell has its expected bit
     pub expected_bits : IsExpected board scans log ↔ (HasShape board scans log × Expected)
     expected_bits = (λ h. (h.shape, expected_shows h), λ h. record { shape = h.0; bits = shows_expected h.1 })
 

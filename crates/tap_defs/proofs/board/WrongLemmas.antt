@@ -1,4 +1,4 @@
--- Which scans are wrong, under which faults.
+-- Scans that are wrong, and the faults that make them wrong.
 use Rattle.std.proofs.Common.{◌≡◌, ℕ, zero, suc, ◌+◌, ◌<◌, ◌==◌, Bool, true, false, cond, not, ◌&&◌, List, [], ◌∷◌, Option, Some, None, refl, sym, ◌∙◌, ap, arith, zero-add}
 use Rattle.std.specs.Prelude.{slice_get, unwrap_or, option_map}
 use Rattle.lists.proofs.Booleans.{not_itself}
@@ -32,7 +32,7 @@ use Rattle.tap_defs.proofs.board.InTestLemmas.{InTest, shifted_row, IsWrong}
 use Rattle.tap_defs.proofs.chain.ScanLemmas.{part_passes, cell_passes, filled_at}
 use Rattle.tap_defs.proofs.board.RowScanLemmas.{bits_fit, captured_fits}
 
--- a cell that is compared for a net in a pass
+-- a cell that is compared for this net under this setting
 pub record Compared (board : RawBoard) (setting : Enabling) (n : ℕ) (net : Net) : Type 0 where
   pub k : ℕ
   pub part : Part
@@ -56,7 +56,7 @@ pub record Compared (board : RawBoard) (setting : Enabling) (n : ℕ) (net : Net
   pub observing_is : observing_driver board setting net ≡ Some driver
   pub other : (driver == place) ≡ false
 
--- what it is to have
+-- the expected bit of the cell is the bit that the net carries
 pub expects : (board : RawBoard) (row : TestRow) (n : ℕ) (net : Net) (c : Compared board row.setting n net) →
     expect_bit board row c.k c.device c.cell ≡ row.carried n
 expects board row n net c =
@@ -68,7 +68,7 @@ expects board row n net c =
     ∙ ap (λ (o : Option ℕ). expect_observed (row.carried n) c.place o) c.observing_is
     ∙ ap (λ (b : Bool). only_if (not b) (row.carried n)) c.other
 
--- what it captures: the pin is no live driver
+-- the cell captures the bit of its net, since its pin is not a live driver
 pub captures : (board : RawBoard) (faults : FaultSet) (setting : Enabling) (n : ℕ) (net : Net) (pin_state : List PinState) (shorts : ℕ → Bool) (w : Bool) (c : Compared board setting n net) →
     live_where board pin_state (Some (record { part = c.k; bit = c.bit })) ≡ false →
     read_entry board faults pin_state shorts w c.k (reading_entry c.device c.cell) ≡ unwrap_or (faults.opened n c.place) (unwrap_or (net_bit board faults pin_state shorts n net) w)
@@ -108,7 +108,7 @@ same_is false false h = refl
 abbrev pub captured_here : RawBoard → FaultSet → Choice → List ChainPart → (n : ℕ) → Net → ℕ → ℕ → ℕ → Bool
 captured_here board faults free chain n net place k cell = unwrap_or (faults.opened n place) (unwrap_or (net_bit board faults (pin_states chain) free.shorts n net) ((free.parts k).cells cell))
 
--- where a scan passes, each compared cell has captured its code's bit
+-- if a scan passes, each compared cell has captured the bit that its net carries
 pub passes_at : (board : RawBoard) (faults : FaultSet) (row now : TestRow) (n : ℕ) (net : Net) (v : Bool) → row.carried n ≡ Some v →
     (c : Compared board row.setting n net) (free : Choice) (chain : List ChainPart) →
     let t : RowScan = record { now = now; before = row } in
@@ -137,12 +137,12 @@ passes_at board faults row now n net v carried c free chain dead ok =
     let m2 : bit_passes (Some v) (reads c.cell) ≡ true = sym (ap (λ (o : Option Bool). bit_passes o (reads c.cell)) (expects board row n net c ∙ carried)) ∙ m in
     sym (captures board faults row.setting n net (pin_states chain) free.shorts ((free.parts c.k).cells c.cell) c dead) ∙ same_is v (reads c.cell) m2
 
--- the cell's pin is no live driver while the row is in the latches
+-- the pin of the cell is not a live driver while the row is in the latches
 abbrev pub IsDead : RawBoard → TestRow → PinAt → Type 0
 IsDead board row at =
     (before : TestRow) (chain : List ChainPart) → InTest board (shifted_row board (record { now = row; before = before })) chain → live_where board (pin_states chain) (Some at) ≡ false
 
--- a net that is stuck, or whose reading pin is open, has a constant in each compared cell
+-- if a net is stuck or the pin that reads it is open, a compared cell has a constant, which is wrong in some row
 pub wrong_if_constant : (board : RawBoard) (faults : FaultSet) (row before now : TestRow) (n : ℕ) (net : Net) (c : Compared board row.setting n net) (u : Bool) →
     IsDead board row (record { part = c.k; bit = c.bit }) →
     ((free : Choice) (chain : List ChainPart) → InTest board (shifted_row board (record { now = row; before = before })) chain → captured_here board faults free chain n net c.place c.k c.cell ≡ u) →
@@ -152,7 +152,7 @@ wrong_if_constant board faults row before now n net c u dead const carried chain
     false_from_ne_true (scan_passes (joined (row_bits board (record { now = now; before = row }))) (joined (registers (pins_at (board_wiring board faults) free chain) board.chain)))
     (λ ok. not_itself u (sym (passes_at board faults row now n net (not u) carried c free chain (dead before chain h) ok) ∙ const free chain h))
 
--- two nets that read one bit, while their codes differ
+-- if two nets have the same bit while their codes differ, a scan is wrong
 pub wrong_if_shorted : (board : RawBoard) (faults : FaultSet) (row before now : TestRow) (a b s : ℕ) (v : Bool) (one two : Net) (c : Compared board row.setting a one) (d : Compared board row.setting b two) →
     IsDead board row (record { part = c.k; bit = c.bit }) → IsDead board row (record { part = d.k; bit = d.bit }) →
     faults.opened a c.place ≡ None → faults.opened b d.place ≡ None → faults.stuck a ≡ None → faults.stuck b ≡ None → faults.short a ≡ Some s → faults.short b ≡ Some s →

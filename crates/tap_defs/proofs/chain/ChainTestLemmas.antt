@@ -1,4 +1,4 @@
--- The chain test passes on the chains that it is for, and fails on those with another number of parts.
+-- The chain test passes on the chains for which it was made, and fails on chains with another number of parts.
 use Rattle.std.proofs.Common.{◌≡◌, ◌≢◌, ℕ, zero, suc, ◌+◌, ◌^◌, ◌<◌, ◌≤◌, Bool, true, false, cond, ◌&&◌, List, [], ◌∷◌, ◌++◌, length, map, take, drop}
 use Rattle.std.proofs.Common.{replicate, refl, sym, ◌∙◌, ap, subst, append_assoc, length-append, arith}
 use Rattle.std.proofs.Math.Bool.{and-true}
@@ -29,7 +29,7 @@ use Rattle.tap_defs.proofs.chain.InstructLemmas.{length-instructs, tdi_bits-inst
 use Rattle.tap_defs.proofs.chain.MeaningLemmas.{text_means}
 use Rattle.tap_defs.proofs.chain.RowLemmas.{tdi_bits-compared, all_ones-replicate}
 
--- the code of ones for each part
+-- a code of ones for each part
 abbrev ones : List ℕ → List (List Bool)
 ones lengths = map (λ n. replicate n true) lengths
 
@@ -47,7 +47,7 @@ ones_are (n ∷ lengths) =
     list_all-append (λ b. b) (joined (ones lengths)) (replicate n true)
     ∙ and_from (all_ones (joined (ones lengths))) (all_ones (replicate n true)) (ones_are lengths) (all_ones-replicate n)
 
--- behind a front that is no longer than n, only ones are left after n bits
+-- if the front has at most `n` bits, only ones are left after `n` bits
 ones_left : (front ones : List Bool) (n : ℕ) → length front ≤ n → all_ones ones ≡ true → all_ones (drop n (front ++ ones)) ≡ true
 ones_left [] ones n fits h = dropped n ones h
   where
@@ -84,7 +84,7 @@ selecting_by : (ps : List ChainPart) → AllIn RunTestIdle ps → AllBypass ps �
 selecting_by [] t h = tt
 selecting_by (p ∷ ps) t h = ((t.0, not_other p.state.current h.0), selecting_by ps t.1 h.1)
 
--- each part loads a 0 in its bypass bit
+-- each part loads 0 into its bypass bit
 zero_behind : (k : ℕ) → replicate k false ++ false ∷ [] ≡ false ∷ replicate k false
 zero_behind zero = refl
 zero_behind (suc k) = cons_path refl (zero_behind k)
@@ -98,7 +98,7 @@ loads_zeros (p ∷ ps) pins free h =
     ∙ ap (λ (r : List Bool). r ++ false ∷ []) (loads_zeros ps (λ k. pins (suc k)) (λ k. free (suc k)) h.1)
     ∙ zero_behind (length ps)
 
--- the marks leave after as many zeros as there are parts
+-- the marks come out after one zero for each part
 compared_passes : (ins out rest : List Bool) → length out ≤ length ins → scan_passes (compared ins out) (out ++ rest) ≡ true
 compared_passes [] [] rest h = refl
 compared_passes (i ∷ ins) [] rest h = refl
@@ -106,7 +106,7 @@ compared_passes [] (o ∷ out) rest h = absurd (omega (arith, h))
 compared_passes (i ∷ ins) (true ∷ out) rest h = compared_passes ins out rest (omega (arith, h))
 compared_passes (i ∷ ins) (false ∷ out) rest h = compared_passes ins out rest (omega (arith, h))
 
--- where another number of zeros leaves, the first marks are not where they are wanted
+-- if another number of zeros comes out, the marks are not at the expected places
 count_fails : (ins : List Bool) (k j : ℕ) (rest : List Bool) → k ≢ j → length (replicate k false ++ marks) ≤ length ins →
     scan_passes (compared ins (replicate k false ++ marks)) (replicate j false ++ (marks ++ rest)) ≡ false
 count_fails [] k j rest ne h = absurd (omega (arith, h, length-append (replicate k false) marks))
@@ -123,7 +123,7 @@ length-compared (i ∷ ins) (o ∷ out) h = ap suc (length-compared ins out (ome
 count_by_logics : (ps : List ChainPart) (parts : List TestLogic) → logics ps ≡ parts → length ps ≡ length parts
 count_by_logics ps parts e = sym (length-map ps (λ p. p.logic)) ∙ ap (λ (l : List TestLogic). length l) e
 
--- each length is 2 or more
+-- each length is at least 2
 room_by : (lengths : List ℕ) → All (λ n. 2 ≤ n) lengths → AllRoom lengths
 room_by [] h = tt
 room_by (n ∷ lengths) h = (h 0 0 (omega arith), room_by lengths (λ k d lt. h (suc k) d (omega (arith, lt))))
@@ -170,7 +170,7 @@ module _ (lengths : List ℕ) (are : AreIrLengths lengths) (most : sum lengths �
       let counts_fit : length count_part < 2 ^ 64 = omega (arith, count_size, few_parts, most) in
       ((some_codes, codes_fit), ((some_counts, counts_fit), tt))
 
-  -- a run on any chain
+  -- a run on a chain of these parts, from any state
   module _ (wiring : Wiring) (parts : List TestLogic) (chain : List ChainPart) (choices : Choices) (start : IsChainOf parts chain) where
     abbrev headed : List ChainPart
     headed = run wiring head_clocks choices chain
@@ -190,7 +190,7 @@ module _ (lengths : List ℕ) (are : AreIrLengths lengths) (most : sum lengths �
     abbrev counts_pass : Bool
     counts_pass = run_passes (sdr_clocks count_part) (tdos wiring (sdr_clocks count_part) f7 coded)
 
-    -- what the whole text compares, its two scans do
+    -- the two scans of the test decide whether its text passes
     both_decide : run_passes (test_clocks (chain_scans lengths)) (tdos wiring (test_clocks (chain_scans lengths)) choices chain) ≡ (codes_pass && counts_pass)
     unfolding tdos
     both_decide =
@@ -219,7 +219,7 @@ module _ (lengths : List ℕ) (are : AreIrLengths lengths) (most : sum lengths �
         count_by_logics coded parts
         (run_logics wiring (sir_clocks code_part) f6 headed ∙ run_logics wiring head_clocks choices chain ∙ start.logics_are)
 
-    -- with no more instruction bits every part has BYPASS
+    -- if the instruction registers have no more bits in total, every part has BYPASS
     all_bypass : sum (ir_lengths parts) ≤ sum lengths → AllBypass coded
     all_bypass few =
         bypass_by coded code_scan.currents
@@ -227,7 +227,7 @@ module _ (lengths : List ℕ) (are : AreIrLengths lengths) (most : sum lengths �
         (code_scan.stays ∙ ap (λ (r : List Bool). drop (length code_part) (joined captured ++ r)) (tdi_bits-instructs (ones lengths)))
         ∙ ones_left (joined captured) (joined (ones lengths)) (length code_part) (omega (arith, captured_size, code_size, few)) (ones_are lengths))
 
-    -- and the second scan reads as many zeros as there are parts, and the marks behind them
+    -- the second scan then reads one zero for each part, followed by the marks
     counts_read : sum (ir_lengths parts) ≤ sum lengths →
         counts_pass ≡ scan_passes count_part (replicate (length parts) false ++ (marks ++ zeros))
     counts_read few =

@@ -1,4 +1,4 @@
--- A scan of instructions, clock by clock: the instruction registers are one register of the chain.
+-- An instruction scan, clock by clock. The instruction registers together are one register of the chain.
 use Rattle.std.proofs.Common.{◌≡◌, ℕ, suc, take, drop, Bool, true, false, List, [], ◌∷◌, ◌++◌, length, map, refl, sym, ◌∙◌, ap, append_assoc, subst, arith}
 use Rattle.std.proofs.lemmas.List.{length-map}
 use Rattle.tap_defs.specs.declared.tap.TapState.{TapState}
@@ -17,11 +17,11 @@ use Rattle.tap_defs.proofs.chain.ListLemmas.{cons_path, take_front, drop_front, 
 use Rattle.tap_defs.proofs.chain.MoveLemmas.{with_tap, at_tap, moved_to, chain_moves, map-moved_to, ir_captures-moved_to, moved_in, run_moves}
 use Rattle.tap_defs.proofs.chain.RunLemmas.{run-append, tdos-append, shifts_pass}
 
--- what a scan of instructions leaves alone in a part is so after this
+-- the properties of a part that an instruction scan does not change are still the same
 abbrev SameFrame : TestLogic → PartState → PartState → Type 0
 SameFrame logic s after = ◌≡◌ {A = CodeFrame} (code_frame (record { logic = logic; state = after })) (code_frame (record { logic = logic; state = s }))
 
--- one part in Capture-IR
+-- one part after a clock in Capture-IR
 record Captures (logic : TestLogic) (free : FreeBits) (s after : PartState) : Type 0 where
   code : after.ir ≡ captured_ir s.ir free.ir
   frame : SameFrame logic s after
@@ -45,7 +45,7 @@ chain_captures (p ∷ ps) pins free tdi h =
     let ih = chain_captures ps (λ k. pins (suc k)) (λ k. free (suc k)) (part_tdo (free 0) tdi p.state) h.1 in
     record { codes_are = cons_path e.code ih.codes_are; frames = cons_path e.frame ih.frames; taps = (e.tap, ih.taps) }
 
--- one part in Shift-IR
+-- one part after a clock in Shift-IR
 record Shifts (t : TapState) (logic : TestLogic) (tdi out : Bool) (s after : PartState) : Type 0 where
   register : s.ir ++ tdi ∷ [] ≡ out ∷ after.ir
   size : length after.ir ≡ length s.ir
@@ -64,7 +64,7 @@ part_shifts logic pins free tms tdi s e =
     at_tap (λ w. Shifts (next_state ShiftIR tms) logic tdi (part_tdo free tdi w) w (part_after logic pins free tms tdi w)) ShiftIR s e
     (shifts_by logic pins free tms tdi s)
 
--- the chain in Shift-IR: its instruction registers, joined, are one shift register
+-- the chain after a clock in Shift-IR; its joined instruction registers are one shift register
 record ChainShifts (t : TapState) (tdi out : Bool) (ps after : List ChainPart) : Type 0 where
   register : joined (ir_registers ps) ++ tdi ∷ [] ≡ out ∷ joined (ir_registers after)
   sizes : map length (ir_registers after) ≡ map length (ir_registers ps)
@@ -90,7 +90,7 @@ chain_shifts (p ∷ ps) pins free tms tdi h =
       taps = (e.tap, ih.taps);
     }
 
--- the same over all shift clocks of a scan
+-- the chain after all shift clocks of a scan
 record AllShifts (tdis out : List Bool) (ps after : List ChainPart) : Type 0 where
   register : joined (ir_registers ps) ++ tdis ≡ out ++ joined (ir_registers after)
   sizes : map length (ir_registers after) ≡ map length (ir_registers ps)
@@ -120,7 +120,7 @@ all_shifts wiring b (c ∷ bits) choices ps h =
       count = ap suc ih.count;
     }
 
--- one part as it comes to Update-IR: its test logic says what the code means
+-- one part that enters Update-IR, where its test logic says what the code means
 record Updates (logic : TestLogic) (s after : PartState) : Type 0 where
   code : after.ir ≡ s.ir
   current : after.current ≡ instruction_of logic after.ir
@@ -155,7 +155,7 @@ pub lengths-ir_captures : (ps : List ChainPart) (free : ℕ → FreeBits) → ma
 lengths-ir_captures [] free = refl
 lengths-ir_captures (p ∷ ps) free = cons_path (length-captured_ir p.state.ir (free 0).ir) (lengths-ir_captures ps (λ k. free (suc k)))
 
--- the capture of a scan, from the chain before the scan
+-- the capture of a scan, for the chain before the scan
 captures_moved : (wiring : Wiring) (choices : Choices) (ps : List ChainPart) →
     ChainCaptures (codes_captured choices ps) ps (clock_after wiring (plain false) (choices 3) (map (moved_to CaptureIR) ps))
 captures_moved wiring choices ps =
@@ -168,7 +168,7 @@ captures_moved wiring choices ps =
       taps = e.taps;
     }
 
--- a scan of instructions of any length, on any chain
+-- an instruction scan of any length, on any chain
 pub long_code_transport : LongCodeTransport
 unfolding run tdos
 long_code_transport wiring [] choices ps h some = absurd (omega (arith, some))
@@ -199,7 +199,7 @@ long_code_transport wiring (b ∷ bits) choices ps h some =
     let n7 : List ChainPart = clock_after wiring (plain false) (f5 1) n6 in
     let n7_is : n7 ≡ map (moved_to RunTestIdle) n6 = chain_moves UpdateIR n6 (pins_at wiring (f5 1) n6) (f5 1).parts false (f5 1).tdi update.taps refl refl in
     let after_is : run wiring clocks choices ps ≡ map (moved_to RunTestIdle) n6 = run-append wiring shifts tail f4 n4 ∙ n7_is in
-    -- what leaves, and what is held
+    -- the bits that come out, and the bits that are held
     let early : List Bool = tdos wiring (front ++ plain false ∷ []) choices ps in
     let tdo_is : tdos wiring clocks choices ps ≡ early ++ (out ++ tdos wiring tail f5 n5) =
     ap (λ (r : List Bool). early ++ r) (tdos-append wiring shifts tail f4 n4) in
@@ -242,7 +242,7 @@ long_code_transport wiring (b ∷ bits) choices ps h some =
       idle = subst (λ (r : List ChainPart). AllIn RunTestIdle r) (sym after_is) (moved_in RunTestIdle n6);
     }
 
--- where the scan is as long as the registers, all that was captured leaves, and all that is shifted in is held
+-- if the scan is as long as the registers, all captured bits come out, and all bits that are shifted in are held
 pub code_transport : CodeTransport
 code_transport wiring bits choices ps h some size =
     let captured : List (List Bool) = codes_captured choices ps in

@@ -1,4 +1,4 @@
--- A scan of data, clock by clock: the registers that the parts select are one register of the chain.
+-- A data scan, clock by clock. The selected registers of the parts together are one register of the chain.
 use Rattle.std.proofs.Common.{◌≡◌, ◌≢◌, ℕ, suc, take, drop, Bool, true, false, List, [], ◌∷◌, ◌++◌, length, map, refl, sym, ◌∙◌, ap, append_assoc, subst, arith}
 use Rattle.std.proofs.lemmas.List.{length-map}
 use Rattle.tap_defs.specs.declared.tap.TapState.{TapState}
@@ -16,7 +16,7 @@ use Rattle.tap_defs.proofs.chain.ListLemmas.{cons_path, take_front, drop_front, 
 use Rattle.tap_defs.proofs.chain.MoveLemmas.{at_tap, moved_to, chain_moves, map-moved_to, dr_captures-moved_to, moved_selecting, all_in, run_moves}
 use Rattle.tap_defs.proofs.chain.RunLemmas.{run-append, tdos-append, shifts_pass}
 
--- one part in Capture-DR
+-- one part after a clock in Capture-DR
 record Captures (register : List Bool) (logic : TestLogic) (s after : PartState) : Type 0 where
   register_is : data_register after ≡ register
   frame : (◌≡◌ {A = DataFrame} (data_frame (record { logic = logic; state = after })) (data_frame (record { logic = logic; state = s })))
@@ -56,7 +56,7 @@ chain_captures (p ∷ ps) pins free tdi h =
       selecting = (e.selecting, ih.selecting);
     }
 
--- one part in Shift-DR
+-- one part after a clock in Shift-DR
 record Shifts (t : TapState) (logic : TestLogic) (tdi out : Bool) (s after : PartState) : Type 0 where
   register : data_register s ++ tdi ∷ [] ≡ out ∷ data_register after
   size : length (data_register after) ≡ length (data_register s)
@@ -84,7 +84,7 @@ part_shifts logic pins free tms tdi s e h =
     at_tap (λ w. Shifts (next_state ShiftDR tms) logic tdi (part_tdo free tdi w) w (part_after logic pins free tms tdi w)) ShiftDR s e
     (shifts_by logic pins free tms tdi s.ir s.current s.boundary s.bypass s.identification s.latches h)
 
--- the chain in Shift-DR: its registers, joined, are one shift register
+-- the chain after a clock in Shift-DR; its joined registers are one shift register
 record ChainShifts (t : TapState) (tdi out : Bool) (ps after : List ChainPart) : Type 0 where
   register : joined (data_registers ps) ++ tdi ∷ [] ≡ out ∷ joined (data_registers after)
   sizes : map length (data_registers after) ≡ map length (data_registers ps)
@@ -110,7 +110,7 @@ chain_shifts (p ∷ ps) pins free tms tdi h =
       selecting = (e.selecting, ih.selecting);
     }
 
--- the same over all shift clocks of a scan
+-- the chain after all shift clocks of a scan
 record AllShifts (tdis out : List Bool) (ps after : List ChainPart) : Type 0 where
   register : joined (data_registers ps) ++ tdis ≡ out ++ joined (data_registers after)
   sizes : map length (data_registers after) ≡ map length (data_registers ps)
@@ -140,7 +140,7 @@ all_shifts wiring b (c ∷ bits) choices ps h =
       count = ap suc ih.count;
     }
 
--- one part as it comes to Update-DR
+-- one part that enters Update-DR
 record Updates (logic : TestLogic) (s after : PartState) : Type 0 where
   held : held_bits after ≡ data_register s
   frame : (◌≡◌ {A = DataFrame} (data_frame (record { logic = logic; state = after })) (data_frame (record { logic = logic; state = s })))
@@ -179,7 +179,7 @@ chain_updates (p ∷ ps) pins free tdi h =
       selecting = (e.selecting, ih.selecting);
     }
 
--- the capture of a scan, from the chain before the scan
+-- the capture of a scan, for the chain before the scan
 captures_moved : (wiring : Wiring) (choices : Choices) (ps : List ChainPart) → AllSelectingIn RunTestIdle ps →
     ChainCaptures (data_captured wiring choices ps) ps (clock_after wiring (plain false) (choices 2) (map (moved_to CaptureDR) ps))
 captures_moved wiring choices ps h =
@@ -196,7 +196,7 @@ captures_moved wiring choices ps h =
       selecting = e.selecting;
     }
 
--- a scan of data of any length, on any chain
+-- a data scan of any length, on any chain
 pub long_data_transport : LongDataTransport
 unfolding run tdos
 long_data_transport wiring [] choices ps h some = absurd (omega (arith, some))
@@ -228,7 +228,7 @@ long_data_transport wiring (b ∷ bits) choices ps h some =
     let n6_is : n6 ≡ map (moved_to RunTestIdle) n5 =
     chain_moves UpdateDR n5 (pins_at wiring (f4 1) n5) (f4 1).parts false (f4 1).tdi (all_in UpdateDR n5 update.selecting) refl refl in
     let after_is : run wiring clocks choices ps ≡ map (moved_to RunTestIdle) n5 = run-append wiring shifts tail f3 n3 ∙ n6_is in
-    -- what leaves, and what is held
+    -- the bits that come out, and the bits that are held
     let early : List Bool = tdos wiring (front ++ plain false ∷ []) choices ps in
     let tdo_is : tdos wiring clocks choices ps ≡ early ++ (out ++ tdos wiring tail f4 n4) =
     ap (λ (r : List Bool). early ++ r) (tdos-append wiring shifts tail f3 n3) in
@@ -261,7 +261,7 @@ long_data_transport wiring (b ∷ bits) choices ps h some =
       idle = subst (λ (r : List ChainPart). AllSelectingIn RunTestIdle r) (sym after_is) (moved_selecting UpdateDR RunTestIdle n5 update.selecting);
     }
 
--- where the scan is as long as the registers, all that was captured leaves, and all that is shifted in is held
+-- if the scan is as long as the registers, all captured bits come out, and all bits that are shifted in are held
 pub data_transport : DataTransport
 data_transport wiring bits choices ps h some size =
     let captured : List (List Bool) = data_captured wiring choices ps in

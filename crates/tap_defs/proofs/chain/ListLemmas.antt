@@ -1,4 +1,4 @@
--- Lists of bits, and registers joined.
+-- Lists of bits, and joined registers.
 use Rattle.std.proofs.Common.{◌≡◌, ℕ, zero, suc, Bool, List, [], ◌∷◌, ◌++◌, length, map, take, drop, refl, ◌∙◌, ap, subst, arith, length-append}
 use Rattle.std.proofs.Math.Seq.{take-append_seam, drop-append_seam}
 use Rattle.tap_defs.specs.chain.Scan.{joined}
@@ -7,14 +7,14 @@ use Rattle.tap_defs.specs.chain.ShiftRegister.{shifted_out, shifted, filled, cap
 pub cons_path : {A : Type 0} {x y : A} {xs ys : List A} → x ≡ y → xs ≡ ys → x ∷ xs ≡ y ∷ ys
 cons_path p q = cc
 
--- a front of a list, and the rest
+-- the front of a list, and its rest
 pub take_front : {A : Type 0} (n : ℕ) (front rest : List A) → length front ≡ n → take n (front ++ rest) ≡ front
 take_front n front rest e = subst (λ (m : ℕ). take m (front ++ rest) ≡ front) e (take-append_seam front rest)
 
 pub drop_front : {A : Type 0} (n : ℕ) (front rest : List A) → length front ≡ n → drop n (front ++ rest) ≡ rest
 drop_front n front rest e = subst (λ (m : ℕ). drop m (front ++ rest) ≡ rest) e (drop-append_seam front rest)
 
--- registers that are as long each are as long joined
+-- if two lists of registers have the same lengths, so do the joined registers
 pub length-joined : {A B : Type 0} (rs : List (List A)) (qs : List (List B)) → map length rs ≡ map length qs →
     length (joined rs) ≡ length (joined qs)
 length-joined [] [] e = refl
@@ -25,7 +25,7 @@ length-joined (r ∷ rs) (q ∷ qs) e =
     let tail : map length rs ≡ map length qs = cc e in
     omega (arith, length-append (joined rs) r, length-append (joined qs) q, head, length-joined rs qs tail)
 
--- a register in one shift, with the bit that leaves
+-- a register and the bit shifted in are the bit shifted out and the register after the shift
 pub shift_is : (bits : List Bool) (tdi : Bool) → bits ++ tdi ∷ [] ≡ shifted_out bits tdi ∷ shifted bits tdi
 shift_is [] tdi = refl
 shift_is (b ∷ bits) tdi = refl
@@ -38,7 +38,7 @@ pub length-filled : {A : Type 0} (n : ℕ) (f : ℕ → A) → length (filled n 
 length-filled zero f = refl
 length-filled (suc n) f = ap suc (length-filled n (λ k. f (suc k)))
 
--- a list made of given items, with a function on each
+-- a function applied to each item of `filled`
 pub map-filled : {A B : Type 0} (g : A → B) (n : ℕ) (f : ℕ → A) → map g (filled n f) ≡ filled n (λ k. g (f k))
 map-filled g zero f = refl
 map-filled g (suc n) f = cons_path refl (map-filled g n (λ k. f (suc k)))

@@ -1,4 +1,5 @@
--- Clocks that only move the controllers: the old state neither captures nor shifts, and the new one neither updates nor resets.
+-- Clocks that only move the controllers. The old state neither captures nor shifts, and the new state neither updates nor
+-- resets.
 use Rattle.std.proofs.Common.{◌≡◌, ℕ, suc, Bool, true, false, not, ◌&&◌, List, [], ◌∷◌, map, refl, sym, ◌∙◌, ap, subst}
 use Rattle.std.proofs.lemmas.Bool.{and_parts, not-true}
 use Rattle.tap_defs.specs.declared.tap.TapState.{TapState}
@@ -22,14 +23,14 @@ with_tap t s = record {
   latches = s.latches;
 }
 
--- what holds of the part with this TAP state written out holds of the part
+-- what is true of a part with its TAP state written out is true of the part
 pub at_tap : (P : PartState → Type 0) (t : TapState) (s : PartState) → s.tap ≡ t → P (with_tap t s) → P s
 at_tap P t s e p = subst (λ (u : TapState). P (with_tap u s)) (sym e) p
 
 abbrev pub moved_to : TapState → ChainPart → ChainPart
 moved_to t p = record p { state = with_tap t p.state }
 
--- the old state acts on no register
+-- the old state changes no register
 abbrev pub rests : TapState → Bool
 rests CaptureDR = false
 rests ShiftDR = false
@@ -78,7 +79,7 @@ chain_moves t (p ∷ ps) pins free tms tdi h e f =
     ∙ ap (λ (u : TapState). with_tap (next_state u tms) p.state) h.0))
     (chain_moves t ps (λ k. pins (suc k)) (λ k. free (suc k)) tms (part_tdo (free 0) tdi p.state) h.1 e f)
 
--- what is the same in every TAP state
+-- a property that does not depend on the TAP state
 pub map-moved_to : {A : Type 0} (g : ChainPart → A) (t : TapState) → ((p : ChainPart) → g (moved_to t p) ≡ g p) → (ps : List ChainPart) →
     map g (map (moved_to t) ps) ≡ map g ps
 map-moved_to g t q [] = refl
@@ -115,7 +116,7 @@ moved_twice : (t u : TapState) (ps : List ChainPart) → map (moved_to u) (map (
 moved_twice t u [] = refl
 moved_twice t u (p ∷ ps) = cons_path refl (moved_twice t u ps)
 
--- the way of a controller through some clocks, and whether they only move it
+-- the path of a controller through some clocks, and whether these clocks only move the controller
 abbrev pub way : TapState → List Clock → TapState
 way t [] = t
 way t (c ∷ cs) = way (next_state t c.tms) cs

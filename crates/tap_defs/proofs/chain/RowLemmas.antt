@@ -1,4 +1,4 @@
--- The rows of a scan, and the scan that its rows make.
+-- The rows of a scan, and the scan that is made from rows.
 use Rattle.std.proofs.Common.{◌≡◌, ℕ, zero, suc, Bool, true, false, cond, List, [], ◌∷◌, length, map, get_or, replicate, Option, Some, None, is_some, unwrap_or, refl, arith}
 use Rattle.tap_defs.specs.chain.TestLogic.{all_ones}
 use Rattle.tap_defs.specs.chain.Scan.{ScanBit, tdi_bits, tdo_bits, mask_bits, scan_bits}
@@ -6,7 +6,7 @@ use Rattle.tap_defs.specs.chain.Codes.{sent, code_bits}
 use Rattle.tap_defs.specs.chain.ChainScans.{compared}
 use Rattle.tap_defs.proofs.chain.ListLemmas.{cons_path}
 
--- what is shifted in
+-- the row of TDI
 pub tdi_bits-sent : (code : List Bool) → tdi_bits (map sent code) ≡ code
 tdi_bits-sent [] = refl
 tdi_bits-sent (b ∷ code) = cons_path refl (tdi_bits-sent code)
@@ -26,7 +26,7 @@ pub all_ones-replicate : (n : ℕ) → all_ones (replicate n true) ≡ true
 all_ones-replicate zero = refl
 all_ones-replicate (suc n) = all_ones-replicate n
 
--- the scan that its rows make
+-- a scan that is made from its own rows is the same scan
 bit_is : (tdi : Bool) (expect : Option Bool) →
     ◌≡◌ {A = ScanBit} (record { tdi = tdi; expect = cond (is_some expect) (Some (unwrap_or expect false)) None }) (record { tdi = tdi; expect = expect })
 bit_is tdi None = refl
@@ -36,7 +36,7 @@ pub scan_bits-rows : (bits : List ScanBit) → scan_bits (tdi_bits bits) (tdo_bi
 scan_bits-rows [] = refl
 scan_bits-rows (b ∷ bits) = cons_path (bit_is b.tdi b.expect) (scan_bits-rows bits)
 
--- a bit of TDO is 1 only where it is compared
+-- wherever the row of TDO has a 1, the row of MASK has a 1
 pub one_masked : (bits : List ScanBit) (i : ℕ) → get_or (tdo_bits bits) i false ≡ true → get_or (mask_bits bits) i false ≡ true
 one_masked [] i one = one
 one_masked (b ∷ bits) zero one = by_expect b.expect one
@@ -46,7 +46,7 @@ one_masked (b ∷ bits) zero one = by_expect b.expect one
     by_expect (Some o) e = refl
 one_masked (b ∷ bits) (suc i) one = one_masked bits i one
 
--- the mask of the scan that rows make
+-- the row of MASK of a scan that is made from rows
 is_compared : (o m : Bool) → is_some (cond m (Some o) None) ≡ m
 is_compared o true = refl
 is_compared o false = refl

@@ -1,4 +1,4 @@
--- Runs of the chain test of two parts, with instruction lengths 4 and 2: on such a chain, and on a chain of one part.
+-- Runs of the chain test of two parts with instruction lengths 4 and 2, on such a chain and on a chain of one part.
 use Rattle.std.proofs.Common.{◌≡◌, ℕ, true, false, List, [], ◌∷◌, ◌++◌, None, refl}
 use Rattle.tap_defs.specs.declared.tap.TapState.TheVariants.{PauseDR, ShiftIR}
 use Rattle.tap_defs.specs.chain.TestLogic.{TestLogic, Sample, Other}
@@ -8,11 +8,11 @@ use Rattle.tap_defs.specs.chain.Run.{Clock, Choices, Wiring, tdos, run_passes}
 use Rattle.tap_defs.specs.chain.Clocks.{test_clocks}
 use Rattle.tap_defs.proofs.chain.SampleTexts.{off, on, two_parts_scans}
 
--- a part without a description
+-- the test logic of a part without a description
 abbrev pub plain_logic : ℕ → TestLogic
 plain_logic n = record { ir_length = n; boundary_length = 0; extest = None; preload = None; at_reset = None; idcode = [] }
 
--- free bits are 1 in registers and 0 at TDO, and reset selects another instruction than BYPASS
+-- Free bits are 1 in registers and 0 at TDO. A reset selects an instruction other than BYPASS.
 abbrev pub free_bits : FreeBits
 free_bits = record { ir = λ k. on; cells = λ k. on; latches = λ k. on; tdo = off; other = on }
 
@@ -34,7 +34,7 @@ two = record { logic = plain_logic 4; state = pausing } ∷ record { logic = pla
 abbrev pub one : List ChainPart
 one = record { logic = plain_logic 6; state = record pausing { ir = on ∷ on ∷ on ∷ on ∷ on ∷ on ∷ [] } } ∷ []
 
--- these are states of such parts
+-- the sample chains have states of such parts
 pub two_start : IsChainOf (plain_logic 4 ∷ plain_logic 2 ∷ []) two
 two_start = record {
   logics_are = refl;
@@ -47,7 +47,7 @@ two_start = record {
 abbrev pub clocks : List Clock
 clocks = test_clocks two_parts_scans
 
--- the last part is in Shift-IR in the first clock
+-- TDO of the chain of two parts, whose last part is in Shift-IR in the first clock
 pub two_shows : tdos no_wiring clocks choices two ≡
     (on ∷ off ∷ off ∷ off ∷ off ∷ off ∷ [])
     ++ (off ∷ off ∷ off ∷ off ∷ []) ++ (on ∷ off ∷ on ∷ off ∷ on ∷ on ∷ []) ++ (off ∷ off ∷ [])
@@ -60,7 +60,7 @@ pub two_passes : run_passes clocks (tdos no_wiring clocks choices two) ≡ true
 unfolding tdos
 two_passes = refl
 
--- one part holds the marks back by one place alone
+-- TDO of the chain of one part, which delays the marks by only one place
 pub one_shows : tdos no_wiring clocks choices one ≡
     (off ∷ off ∷ off ∷ off ∷ off ∷ off ∷ [])
     ++ (off ∷ off ∷ off ∷ off ∷ []) ++ (on ∷ off ∷ on ∷ on ∷ on ∷ on ∷ []) ++ (off ∷ off ∷ [])

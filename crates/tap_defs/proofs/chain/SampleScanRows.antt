@@ -1,4 +1,5 @@
--- The rows of a scan of three bits: a 1 that is compared with 0, a 0 that is compared with 1, and a 1 with nothing.
+-- The rows of a scan of three bits: a 1 that is compared with 0, a 0 that is compared with 1, and a 1 that is not
+-- compared.
 use Rattle.std.proofs.Common.{Bool, true, false, [], ◌∷◌, Option, Some, None, refl}
 use Rattle.tap_defs.specs.chain.Scan.{ScanBit}
 use Rattle.tap_defs.specs.chain.ScanRows.{AreBitsOf}

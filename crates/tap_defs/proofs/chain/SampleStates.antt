@@ -5,7 +5,7 @@ use Rattle.tap_defs.specs.declared.tap.TapState.TheVariants.{TestLogicReset, Run
 use Rattle.tap_defs.specs.declared.tap.TapState.TheVariants.{UpdateDR, SelectIR, CaptureIR, ShiftIR, Exit1IR, PauseIR, Exit2IR, UpdateIR}
 use Rattle.tap_defs.specs.chain.Tap.{next_state}
 
--- a state, the state after it with TMS 0, and with TMS 1
+-- a state, and the states after it with TMS 0 and with TMS 1
 pub record Row : Type 0 where
   pub state : TapState
   pub low : TapState

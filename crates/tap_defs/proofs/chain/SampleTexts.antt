@@ -1,4 +1,4 @@
--- Short texts and what they mean, and texts that have no meaning.
+-- Short texts with their meanings, and texts that have no meaning.
 use Rattle.std.proofs.Common.{◌≡◌, ℕ, Bool, true, false, List, [], ◌∷◌, ◌++◌, map, replicate, Option, Some, None, refl}
 use Rattle.std.specs.Prelude.{codes, option_map, is_none}
 use Rattle.std.specs.List.{list_all}
@@ -12,12 +12,12 @@ use Rattle.tap_defs.specs.chain.Clocks.{head_clocks, reset_clocks, sdr_clocks, s
 use Rattle.tap_defs.specs.chain.SvfTokens.{tokens_from}
 use Rattle.tap_defs.specs.chain.Svf.{text_statements, meaning}
 
--- lines between the head and the tail
+-- the text of these lines
 abbrev pub lines : List (List ℕ) → List ℕ
 lines [] = []
 lines (l ∷ more) = l ++ 10 ∷ lines more
 
--- such lines with the head and the tail
+-- the text of the head, these lines and the tail
 abbrev pub sample_text : List (List ℕ) → List ℕ
 sample_text scans = head_text ++ (lines scans ++ tail_text)
 
@@ -56,7 +56,7 @@ pub two_parts_mean : meaning two_parts ≡ Some (test_clocks two_parts_scans)
 unfolding meaning text_statements tokens_from
 two_parts_mean = refl
 
--- TMS over the whole text: five ones and a zero, the two scans, and five ones
+-- TMS in all clocks of the text: five ones and a zero, the two scans, and five ones
 pub two_parts_tms : option_map (map (λ (c : Clock). c.tms)) (meaning two_parts) ≡ Some (
     (on ∷ on ∷ on ∷ on ∷ on ∷ off ∷ [])
     ++ (on ∷ on ∷ off ∷ off ∷ []) ++ (off ∷ off ∷ off ∷ off ∷ off ∷ on ∷ []) ++ (on ∷ off ∷ [])
@@ -65,7 +65,8 @@ pub two_parts_tms : option_map (map (λ (c : Clock). c.tms)) (meaning two_parts)
 unfolding meaning text_statements tokens_from
 two_parts_tms = refl
 
--- the test of two described parts without control cells, with codes A and 0 in four instruction bits, and four cells
+-- The test of two described parts without control cells. Together the parts have four instruction bits, with the codes A and 0, and
+-- four cells.
 abbrev pub two_nets : List ℕ
 two_nets = sample_text (
     codes "SIR 4 TDI (A) TDO (5) MASK (F);" ∷ codes "SDR 4 TDI (0);" ∷ codes "SIR 4 TDI (0) TDO (5) MASK (F);"
@@ -89,7 +90,7 @@ pub two_nets_mean : meaning two_nets ≡ Some (test_clocks two_nets_scans)
 unfolding meaning text_statements tokens_from
 two_nets_mean = refl
 
--- the chain test of one part, and of forty parts, whose first scan has 89 characters in one line
+-- the chain tests of one part and of forty parts; the first scan of the second test would have 89 characters in one line
 pub one_part_text : chain_text (2 ∷ []) ≡ sample_text (codes "SIR 2 TDI (3) TDO (1) MASK (3);" ∷ codes "SDR 9 TDI (0A5) TDO (14A) MASK (1FF);" ∷ [])
 unfolding svf_text digits
 one_part_text = refl
@@ -100,7 +101,8 @@ pub forty_parts_text : chain_text (replicate 40 2) ≡ sample_text (
 unfolding svf_text digits
 forty_parts_text = refl
 
--- 80 characters stand in one line, and 81 in several; a field of 64 digits has one line, and a longer one has more
+-- A statement of 80 characters is in one line, and one of 81 is in several. A field of 64 digits has one line, and a longer field has
+-- more.
 abbrev pub zero_digits : ℕ → List ℕ
 zero_digits n = replicate n 48
 
@@ -119,7 +121,7 @@ pub full_lines_text : svf_text (sir (replicate 256 (read off off)) ∷ []) ≡ s
 unfolding svf_text digits
 full_lines_text = refl
 
--- these lines right after the head
+-- the meaning of the head followed by these lines
 abbrev pub headed : List (List ℕ) → Option (List Clock)
 headed more = meaning (head_text ++ lines more)
 
@@ -130,7 +132,7 @@ pub scan_means : headed (codes "SDR 5 TDI (08) TDO (01) MASK (05);" ∷ []) ≡ 
 unfolding meaning text_statements tokens_from
 scan_means = refl
 
--- comments, blanks, line ends between digits, digits of either case, and TDO bits that are not compared
+-- a meaning in spite of comments, blanks, line ends between digits, digits in either case, and TDO bits that are not compared
 pub comment_means : headed (codes "! a; (" ∷ codes "SDR 5 // 6" ∷ codes "TDI (0!8" ∷ codes "8) TDO (0" ∷ codes " 1 )MASK (05 ) ;//" ∷ []) ≡ one_scan
 unfolding meaning text_statements tokens_from
 comment_means = refl
@@ -144,7 +146,8 @@ pub resets_mean : headed (codes "STATE RESET;STATE IDLE;TRST OFF;STATE RESET;" �
 unfolding meaning text_statements tokens_from
 resets_mean = refl
 
--- no meaning: STATE IDLE that is not right after STATE RESET, a scan that does not begin in Run-Test/Idle or without ENDDR IDLE before
+-- No meaning: STATE IDLE that is not right after STATE RESET, and a scan that does not begin in Run-Test/Idle or has no ENDDR IDLE
+-- before it.
 pub idle_late : meaning (codes "STATE RESET; ENDDR IDLE; STATE IDLE;") ≡ None
 unfolding meaning text_statements tokens_from
 idle_late = refl
@@ -161,8 +164,8 @@ pub scan_unended : meaning (codes "ENDIR IDLE; STATE RESET; STATE IDLE; SDR 4 TD
 unfolding meaning text_statements tokens_from
 scan_unended = refl
 
--- nor have scans without TDI, with one of TDO and MASK, in another order, with too many or too few digits, or with a high bit of 1;
--- nor a scan of no bit, a command in lower case, another command, or a statement that is not closed
+-- No meaning: scans without TDI, with only one of TDO and MASK, with fields in another order, with too many or too few digits, or with
+-- a 1 above the bits. Nor has a scan of no bits, a command in lower case, another command, or a statement without its semicolon.
 pub no_meaning : list_all (λ l. is_none (headed (l ∷ []))) (
     codes "SDR 4;" ∷ codes "SDR 4 TDO (1) MASK (1);" ∷ codes "SDR 4 TDI (0) TDO (1);" ∷ codes "SDR 4 TDI (0) MASK (1);"
     ∷ codes "SDR 4 TDI (0) MASK (1) TDO (1);" ∷ codes "SDR 4 TDI (0) TDO (1) MASK (1) MASK (1);"

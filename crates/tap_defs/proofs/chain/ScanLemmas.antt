@@ -1,4 +1,4 @@
--- What is compared in a scan, part by part and bit by bit.
+-- The comparisons of a scan, part by part and bit by bit.
 use Rattle.std.proofs.Common.{◌≡◌, ℕ, zero, suc, ◌<◌, Bool, true, false, ◌&&◌, ◌⊎◌, inl, inr, List, [], ◌∷◌, ◌++◌, length, map, Some, refl, sym, ◌∙◌, ap, subst, arith}
 use Rattle.std.specs.Prelude.{slice_get}
 use Rattle.std.proofs.lemmas.Bool.{and_parts}
@@ -10,7 +10,7 @@ use Rattle.tap_defs.specs.chain.Transport.{scan_passes}
 use Rattle.tap_defs.proofs.chain.ListLemmas.{cons_path, length-joined}
 use Rattle.tap_defs.proofs.chain.RunLemmas.{scan_passes-append}
 
--- a prefix and a rest of the same lengths
+-- a list that is split at the same length in two ways has the same parts
 pub split : (a b c d : List Bool) → length a ≡ length b → a ++ c ≡ b ++ d → (a ≡ b) × (c ≡ d)
 split [] [] c d h e = (refl, e)
 split [] (y ∷ b) c d h e = absurd (omega (arith, h))
@@ -21,7 +21,7 @@ split (x ∷ a) (y ∷ b) c d h e =
     let ih = split a b c d (omega (arith, h)) tl in
     (cons_path hd ih.0, ih.1)
 
--- registers of the same lengths that are the same joined
+-- if registers have the same lengths and are equal when joined, they are equal
 pub joined_same : (rs qs : List (List Bool)) → map length rs ≡ map length qs → joined rs ≡ joined qs → rs ≡ qs
 joined_same [] [] e h = refl
 joined_same [] (q ∷ qs) e h = cc e
@@ -40,14 +40,14 @@ pub lengths-tdi_bits : (bs : List (List ScanBit)) → map length (map tdi_bits b
 lengths-tdi_bits [] = refl
 lengths-tdi_bits (b ∷ bs) = cons_path (length-map b (λ (x : ScanBit). x.tdi)) (lengths-tdi_bits bs)
 
--- bits behind those of the scan are not looked at
+-- bits after those of the scan are not compared
 pub scan_passes_front : (bits : List ScanBit) (o r : List Bool) → length o ≡ length bits → scan_passes bits (o ++ r) ≡ scan_passes bits o
 scan_passes_front [] [] r e = refl
 scan_passes_front [] (x ∷ o) r e = absurd (omega (arith, e))
 scan_passes_front (b ∷ bits) [] r e = absurd (omega (arith, e))
 scan_passes_front (b ∷ bits) (x ∷ o) r e = ap (λ (t : Bool). bit_passes b.expect x && t) (scan_passes_front bits o r (omega (arith, e)))
 
--- where a scan passes, each of its parts does
+-- if a scan passes, each of its parts passes
 pub part_passes : (bs : List (List ScanBit)) (rs : List (List Bool)) → map length bs ≡ map length rs →
     scan_passes (joined bs) (joined rs) ≡ true →
     (k : ℕ) (b : List ScanBit) (r : List Bool) → slice_get bs k ≡ Some b → slice_get rs k ≡ Some r → scan_passes b r ≡ true
@@ -66,7 +66,7 @@ part_passes (x ∷ bs) (y ∷ rs) e h (suc k) b r p q =
     and_parts (scan_passes (joined bs) (joined rs)) (scan_passes x y) (sym (scan_passes-append (joined bs) x (joined rs) y (length-joined bs rs tl)) ∙ h) in
     part_passes bs rs tl both.0 k b r p q
 
--- and each of its bits
+-- if a part passes, each of its bits passes
 pub cell_passes : (bs : List ScanBit) (os : List Bool) → scan_passes bs os ≡ true → (c : ℕ) (b : ScanBit) (o : Bool) →
     slice_get bs c ≡ Some b →
     slice_get os c ≡ Some o → bit_passes b.expect o ≡ true
@@ -84,7 +84,7 @@ filled_at zero f c h = absurd (omega arith)
 filled_at (suc n) f zero h = refl
 filled_at (suc n) f (suc c) h = filled_at n (λ k. f (suc k)) c (omega arith)
 
--- where each part passes, the scan does
+-- if each part passes, the scan passes
 pub parts_pass : (bs : List (List ScanBit)) (rs : List (List Bool)) → map length bs ≡ map length rs →
     ((k : ℕ) (b : List ScanBit) (r : List Bool) → slice_get bs k ≡ Some b → slice_get rs k ≡ Some r → scan_passes b r ≡ true) →
     scan_passes (joined bs) (joined rs) ≡ true

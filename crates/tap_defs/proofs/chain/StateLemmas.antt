@@ -41,7 +41,7 @@ part_keeps logic pins free tms tdi s fit h =
     new_keeps (next_state s.tap tms) s.current logic free (record (old_state_acts s.tap s.current logic pins free tdi s) { tap = next_state s.tap tms })
     (record { ir = a.ir; boundary = a.boundary; identification = a.identification; latches = a.latches })
 
--- the wiring gives each part as many bits as it has boundary cells
+-- each part gets as many bits as it has boundary cells
 abbrev pub FitsLogics : (ℕ → List Bool) → List TestLogic → Type 0
 FitsLogics pins [] = Unit {0}
 FitsLogics pins (logic ∷ parts) = (length (pins 0) ≡ logic.boundary_length) × FitsLogics (λ k. pins (suc k)) parts

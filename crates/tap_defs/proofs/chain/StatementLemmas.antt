@@ -1,4 +1,4 @@
--- The tokens of a scan are its statement.
+-- The tokens of a scan form its statement.
 use Rattle.std.proofs.Common.{◌≡◌, ℕ, ◌^◌, ◌<◌, Bool, true, false, cond, ◌&&◌, ◌||◌, List, [], ◌∷◌, ◌++◌, length, map, Option, Some, None, refl, sym}
 use Rattle.std.proofs.Common.{◌∙◌, ap, append_assoc}
 use Rattle.std.proofs.lemmas.Bool.{lt-ltb, and_from}
@@ -29,7 +29,7 @@ command_is : (ir : Bool) → scan_command (command_word ir) ≡ Some ir
 command_is true = refl
 command_is false = refl
 
--- the fields of tokens, one by one
+-- the fields that tokens form, one by one
 abbrev field : List ℕ → List Bool → Field
 field name bits = record { name = name; digits = hex_text bits }
 

@@ -1,4 +1,4 @@
--- The text of a scan, token by token.
+-- The tokens of the text of a scan.
 use Rattle.std.proofs.Common.{◌≡◌, ℕ, zero, suc, ◌+◌, ◌^◌, ◌<◌, ◌%◌, ◌==◌, Bool, true, false, cond, not, ◌&&◌, List, [], ◌∷◌, ◌++◌, length, refl, sym}
 use Rattle.std.proofs.Common.{◌∙◌, ap, append_assoc, length-append, arith}
 use Rattle.std.proofs.lemmas.Bool.{and_parts, and_from, not-true}
@@ -14,11 +14,11 @@ use Rattle.tap_defs.specs.chain.Scan.{ScanBit, Scan, tdi_bits, tdo_bits, mask_bi
 use Rattle.tap_defs.specs.chain.Text.{command_word, gap, broken, laid, compare_text, form}
 use Rattle.tap_defs.specs.chain.SvfTokens.{Token, Word, Open, Close, End, is_blank, ended, tokens_from}
 
--- a byte that ends no word
+-- the byte belongs to a word
 abbrev pub is_solid : ℕ → Bool
 is_solid b = not (is_blank b) && (not (b == 40) && (not (b == 41) && not (b == 59)))
 
--- a byte that begins no comment
+-- the byte begins no comment
 abbrev pub is_bare : ℕ → Bool
 is_bare b = not (b == 33) && not (b == 47)
 
@@ -49,7 +49,7 @@ all_solid bs h = all_by is_plain is_solid plain_solid bs h
 pub all_bare : (bs : List ℕ) → list_all is_plain bs ≡ true → list_all is_bare bs ≡ true
 all_bare bs h = all_by is_plain is_bare plain_bare bs h
 
--- hexadecimal and decimal digits are plain
+-- hexadecimal and decimal digits belong to words and begin no comment
 hex_digit_plain : (a b c d : Bool) → is_plain (hex_digit a b c d) ≡ true
 hex_digit_plain false false false false = refl
 hex_digit_plain true false false false = refl
@@ -106,7 +106,7 @@ digit_plain b h =
 pub decimal_plain : (n : ℕ) → n < 2 ^ 64 → list_all is_plain (decimal n) ≡ true
 decimal_plain n h = all_by is_ascii_digit is_plain digit_plain (decimal n) (decimal_digits n h)
 
--- words
+-- lemmas on words
 solid_goes_on : (word : List ℕ) (b : ℕ) (rest : List ℕ) → is_solid b ≡ true →
     tokens_from word (b ∷ rest) ≡ tokens_from (word ++ b ∷ []) rest
 unfolding tokens_from
@@ -134,17 +134,17 @@ word_ends : (word : List ℕ) (tokens : List Token) → 0 < length word → ende
 word_ends [] tokens h = absurd (omega (arith, h))
 word_ends (b ∷ word) tokens h = refl
 
--- these words, and some tokens after them
+-- these words as tokens, followed by other tokens
 abbrev pub worded : List (List ℕ) → List Token → List Token
 worded [] tokens = tokens
 worded (w ∷ words) tokens = Word w ∷ worded words tokens
 
--- the words one after the other
+-- the bytes of the words, joined
 abbrev pub run_on : List (List ℕ) → List ℕ
 run_on [] = []
 run_on (w ∷ words) = w ++ run_on words
 
--- the words of digits that are laid in lines: a word has begun, and its line has some room
+-- the words of digits that are laid out in lines, if a word has begun and its line has this room
 abbrev pub pieces : List ℕ → ℕ → List ℕ → List (List ℕ)
 pieces word room [] = word ∷ []
 pieces word zero (d ∷ digits) = word ∷ pieces (d ∷ []) 63 digits
@@ -172,7 +172,7 @@ pub worded-append : (words : List (List ℕ)) (ts us : List Token) → worded wo
 worded-append [] ts us = refl
 worded-append (w ∷ words) ts us = ap (λ (r : List Token). Word w ∷ r) (worded-append words ts us)
 
--- laid digits up to a closing parenthesis, where a word has begun
+-- the tokens of laid out digits and a closing parenthesis, if a word has begun
 pieces_read : (word : List ℕ) (room : ℕ) (digits rest : List ℕ) → 0 < length word → list_all is_solid digits ≡ true →
     tokens_from word (broken room digits ++ 41 ∷ rest) ≡ worded (pieces word room digits) (Close ∷ tokens_from [] rest)
 unfolding tokens_from
@@ -196,7 +196,7 @@ laid_read true (d ∷ digits) rest some h =
     solid_goes_on [] d (broken 63 digits ++ 41 ∷ rest) both.0 ∙ pieces_read (d ∷ []) 63 digits rest (omega arith) both.1
 laid_read false digits rest some h = word_goes_on [] digits (41 ∷ rest) h ∙ word_ends digits (Close ∷ tokens_from [] rest) some
 
--- the digits of a field of some bits, and its closing parenthesis
+-- the tokens of a field's digits and its closing parenthesis
 bits_read : (long : Bool) (bits : List Bool) (rest : List ℕ) → 0 < length bits →
     tokens_from [] (laid long (hex_text bits) ++ 41 ∷ rest) ≡ worded (words_of long (hex_text bits)) (Close ∷ tokens_from [] rest)
 bits_read long bits rest h = laid_read long (hex_text bits) rest (hex_text_some bits h) (all_solid (hex_text bits) (hex_text_plain bits))
@@ -216,7 +216,7 @@ number_read : (long : Bool) (n : ℕ) (rest : List ℕ) → n < 2 ^ 64 →
 number_read long n rest h =
     word_goes_on [] (decimal n) (gap long ∷ rest) (all_solid (decimal n) (decimal_plain n h)) ∙ gap_ends long (decimal n) rest (decimal_nonempty n h)
 
--- the tokens of a field, and some tokens after them
+-- the tokens of a field, followed by other tokens
 abbrev pub field_tokens : Bool → List ℕ → List Bool → List Token → List Token
 field_tokens long name bits tokens = Word name ∷ Open ∷ worded (words_of long (hex_text bits)) (Close ∷ tokens)
 
@@ -224,7 +224,7 @@ abbrev pub compare_tokens : Bool → List ScanBit → Bool → List Token
 compare_tokens long bits true = field_tokens long (codes "TDO") (tdo_bits bits) (field_tokens long (codes "MASK") (mask_bits bits) [])
 compare_tokens long bits false = []
 
--- the tokens of a scan's statement but for its end
+-- the tokens of a scan's statement without the semicolon
 abbrev pub scan_tokens : Bool → Scan → List Token
 scan_tokens long scan =
     Word (command_word scan.ir) ∷ Word (decimal (length scan.bits))
@@ -234,7 +234,7 @@ field_tokens-append : (long : Bool) (name : List ℕ) (bits : List Bool) (ts us 
     field_tokens long name bits ts ++ us ≡ field_tokens long name bits (ts ++ us)
 field_tokens-append long name bits ts us = ap (λ (r : List Token). Word name ∷ Open ∷ r) (worded-append (words_of long (hex_text bits)) (Close ∷ ts) us)
 
--- a field's text after its name, where what follows is read
+-- the tokens of the text of MASK, in front of any text
 mask_read : (long : Bool) (bits : List Bool) (rest : List ℕ) → 0 < length bits →
     tokens_from [] (gap long ∷ codes "MASK (" ++ (laid long (hex_text bits) ++ (codes ");" ++ rest)))
     ≡ field_tokens long (codes "MASK") bits (End ∷ tokens_from [] rest)
@@ -251,7 +251,7 @@ tdo_read long bits rest tokens h e =
     ∙ ap (λ (r : List Token). Word (codes "TDO") ∷ Open ∷ r)
     (bits_read long bits rest h ∙ ap (λ (r : List Token). worded (words_of long (hex_text bits)) (Close ∷ r)) e)
 
--- from the digits of TDI on
+-- the tokens of the text from the digits of TDI on
 compare_read : (long : Bool) (bits : List ScanBit) (b : Bool) (rest : List ℕ) → 0 < length bits →
     tokens_from [] (laid long (hex_text (tdi_bits bits)) ++ (compare_text long bits b ++ 10 ∷ rest))
     ≡ worded (words_of long (hex_text (tdi_bits bits))) (Close ∷ (compare_tokens long bits b ++ End ∷ tokens_from [] rest))
@@ -291,7 +291,7 @@ command-append : (ir : Bool) (more rest : List ℕ) → (command_word ir ++ (32 
 command-append true more rest = refl
 command-append false more rest = refl
 
--- a scan's text in either form
+-- the tokens of a scan's text, in one line or in several lines
 pub form_read : (long : Bool) (scan : Scan) (rest : List ℕ) → 0 < length scan.bits → length scan.bits < 2 ^ 64 →
     tokens_from [] (form long scan ++ 10 ∷ rest) ≡ scan_tokens long scan ++ End ∷ tokens_from [] rest
 unfolding tokens_from

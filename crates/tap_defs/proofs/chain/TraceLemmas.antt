@@ -1,4 +1,4 @@
--- What the pins show: it changes only where a controller comes to Update-IR, Update-DR or Test-Logic-Reset.
+-- The visible state of a part changes only if its controller enters Update-IR, Update-DR or Test-Logic-Reset.
 use Rattle.std.proofs.Common.{◌≡◌, Bool, ◌∷◌, List, refl, false, ℕ, true, ◌&&◌, [], suc, ◌++◌, ◌<◌, ◌∙◌, length, arith, not, subst, ap, sym}
 use Rattle.tap_defs.specs.declared.tap.TapState.{TapState}
 use Rattle.tap_defs.specs.declared.tap.TapState.TheVariants.{TestLogicReset, RunTestIdle, CaptureDR, ShiftDR, Exit1DR, UpdateDR, CaptureIR, ShiftIR, Exit1IR, UpdateIR}
@@ -15,7 +15,7 @@ use Rattle.tap_defs.proofs.chain.ListLemmas.{cons_path}
 use Rattle.tap_defs.proofs.chain.HeadLemmas.{part_tap}
 use Rattle.tap_defs.proofs.chain.RunLemmas.{run-append}
 
--- a state in which the instruction or the latches change
+-- the instruction or the latches change when this state is entered
 abbrev pub changes : TapState → Bool
 changes TestLogicReset = true
 changes UpdateIR = true
@@ -62,7 +62,7 @@ shown_step t (n ∷ chain) pins free tms tdi h e =
     cons_path (part_shown n.logic (pins 0) (free 0) tms tdi n.state (ap (λ (u : TapState). changes (next_state u tms)) h.0 ∙ e))
     (shown_step t chain (λ k. pins (suc k)) (λ k. free (suc k)) tms (part_tdo (free 0) tdi n.state) h.1 e)
 
--- the way of the controllers through some clocks, and whether nothing changes on it
+-- the path of the controllers through some clocks, and whether nothing visible changes on it
 abbrev pub tap_after_all : TapState → List Clock → TapState
 tap_after_all t [] = t
 tap_after_all t (c ∷ cs) = tap_after_all (next_state t c.tms) cs
@@ -71,7 +71,7 @@ abbrev pub is_decided : TapState → List Clock → Bool
 is_decided t [] = true
 is_decided t (c ∷ cs) = not (changes (next_state t c.tms)) && is_decided (next_state t c.tms) cs
 
--- each of these moments shows the same
+-- each of these moments has the same visible states
 abbrev pub AllAre : List PinState → List (List PinState) → Type 0
 AllAre s [] = Unit {0}
 AllAre s (x ∷ xs) = (x ≡ s) × AllAre s xs
@@ -95,7 +95,7 @@ clear_run wiring t (c ∷ cs) free chain h e =
     let r = clear_run wiring (next_state t c.tms) cs (later free) next (taps_step t chain (pins_at wiring (free 0) chain) (free 0).parts c.tms (clock_tdi c (free 0)) h) two.1 in
     record { moments_are = (same, all_are_by (pin_states next) (pin_states chain) (shown wiring cs (later free) next) same r.moments_are); same = r.same ∙ same; idle = r.idle }
 
--- shifts change nothing, and lead to Exit1
+-- shift clocks change nothing visible, and lead to Exit1
 shifts_clear : (t u : TapState) → next_state t false ≡ t → next_state t true ≡ u → changes t ≡ false → changes u ≡ false →
     (b : ScanBit) (bits : List ScanBit) → (is_decided t (shift_clocks (b ∷ bits)) ≡ true) × (tap_after_all t (shift_clocks (b ∷ bits)) ≡ u)
 shifts_clear t u stay leave ct cu b [] = (ap (λ (x : Bool). not x && true) (ap changes leave ∙ cu), leave)
@@ -106,7 +106,7 @@ shifts_clear t u stay leave ct cu b (c ∷ bits) =
       ap (λ (x : TapState). tap_after_all x (shift_clocks (c ∷ bits))) stay ∙ ih.1,
     )
 
--- a scan: what was shown until its update, and what is shown from there on
+-- the visible states during a scan: the old ones until its update, and the new ones from there on
 pub record Switches (moments : List (List PinState)) (chain next : List ChainPart) : Type 0 where
   pub old : List (List PinState)
   pub old_are : AllAre (pin_states chain) old
