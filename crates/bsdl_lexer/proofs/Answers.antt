@@ -1,4 +1,4 @@
--- A text has one answer, and reading it step by step finds that answer.
+-- A text has exactly one answer, and reading the text step by step finds it.
 use Rattle.std.proofs.Common.{◌≡◌, ℕ, zero, suc, ◌+◌, ◌-◌, ◌<◌, ◌≤◌, List, [], ◌∷◌, ◌++◌, length, take, drop, Option, Some, None, Result, Ok, Err, ◌⊎◌, inl, inr, refl, sym, ◌∙◌, ap, subst, arith, append_assoc, append-nil, length-append, nat_eq}
 use Rattle.std.specs.Prelude.{IfSome}
 use Rattle.std.proofs.lemmas.Bool.{cases_lt}
@@ -16,18 +16,18 @@ use Rattle.bsdl_lexer.specs.inner.Steps.{token_of, step}
 use Rattle.bsdl_lexer.proofs.Places.{some_bytes}
 use Rattle.bsdl_lexer.proofs.Steps.{Found, next, at_end, open_text, no_token, line_behind, begins_found, step_finds, step_to_token, step_to_begin, step_to_end, step_to_open_text, step_to_byte}
 
--- reading on from one place and its line finds these tokens, up to another place and its line
+-- steps from `place` on `line` find these tokens, and end at `to` on `last_line`
 abbrev pub Walk : List ℕ → ℕ → ℕ → List Token → ℕ → ℕ → Type 0
 Walk text place line [] to last_line = (place ≡ to) × (line ≡ last_line)
 Walk text place line (token ∷ tokens) to last_line = (step text place line ≡ Ok (Some token)) × Walk text token.«end» token.line tokens to last_line
 
--- the answer, if the step after the tokens gives this result
+-- the answer is right if the step after the tokens has this result
 abbrev pub Ends : Result (Option Token) LexFault → List Token → Result (Unit {0}) LexFault → Type 0
 Ends (Ok None) tokens answer = answer ≡ Ok tt
 Ends (Ok (Some token)) tokens answer = (length tokens ≡ token_limit) × (answer ≡ Err (TooMany token.line))
 Ends (Err fault) tokens answer = answer ≡ Err fault
 
--- the tokens and the answer that are found step by step
+-- the tokens and the answer that steps from the front of the text find
 pub record Lexed (text : List ℕ) (tokens : List Token) (answer : Result (Unit {0}) LexFault) : Type 0 where
   pub to : ℕ
   pub line : ℕ
@@ -35,7 +35,7 @@ pub record Lexed (text : List ℕ) (tokens : List Token) (answer : Result (Unit 
   pub limit : length tokens ≤ token_limit
   pub ends : Ends (step text to line) tokens answer
 
--- a place of the text, on its line
+-- the place is in the text and on this line
 pub record OnLine (text : List ℕ) (place line : ℕ) : Type 0 where
   pub within : place ≤ length text
   pub line_is : line ≡ line_of text place
@@ -43,7 +43,7 @@ pub record OnLine (text : List ℕ) (place line : ℕ) : Type 0 where
 pub at_start : (text : List ℕ) → OnLine text 0 1
 at_start text = record { within = omega arith; line_is = refl }
 
--- the next token comes after a gap
+-- the token is the next one, after a gap
 pub record IsNext (text : List ℕ) (place : ℕ) (token : Token) : Type 0 where
   pub gap : Separates text place token.start
   pub is : IsToken text token
@@ -67,7 +67,7 @@ is_next text place line token on e = go (step text place line) e (step_finds tex
     go _ e (open_text at s h) = cc
     go _ e (no_token at s h) = cc
 
--- the place and line at which a walk ends
+-- the place at which a walk ends is on the line at which it ends
 pub walk_line : (text : List ℕ) (tokens : List Token) (place line to last_line : ℕ) → OnLine text place line → Walk text place line tokens to last_line → OnLine text to last_line
 walk_line text [] place line to last_line on w = subst (λ n. OnLine text to n) w.1 (subst (λ n. OnLine text n line) w.0 on)
 walk_line text (token ∷ tokens) place line to last_line on w = walk_line text tokens token.«end» token.line to last_line (is_next text place line token on w.0).after w.1
@@ -81,12 +81,12 @@ walk_stands text (token ∷ tokens) place line to last_line stop on w s =
       walk_stands text tokens token.«end» token.line to last_line stop n.after w.1 s,
     )
 
--- one more token at the end of a walk
+-- a walk that is extended by one token
 pub walk_on : (text : List ℕ) (tokens : List Token) (place line to last_line : ℕ) (token : Token) → Walk text place line tokens to last_line → step text to last_line ≡ Ok (Some token) → Walk text place line (tokens ++ token ∷ []) token.«end» token.line
 walk_on text [] place line to last_line token w e = (ap (λ n. step text n line) w.0 ∙ ap (step text to) w.1 ∙ e, (refl, refl))
 walk_on text (first ∷ tokens) place line to last_line token w e = (w.0, walk_on text tokens first.«end» first.line to last_line token w.1 e)
 
--- a walk goes over the tokens of the text, up to the last gap
+-- the tokens of the text up to `stop` are those of a walk, except for the last gap
 record Walked (text : List ℕ) (place line : ℕ) (tokens : List Token) (stop : ℕ) : Type 0 where
   to : ℕ
   last_line : ℕ
@@ -100,7 +100,7 @@ walked text (token ∷ tokens) place line stop l h =
     let k : Walked text token.«end» token.line tokens stop = walked text tokens token.«end» token.line stop (line_behind text token h.1) h.2 in
     record { to = k.to; last_line = k.last_line; walk = (step_to_token text place line token h.0 h.1 l, k.walk); gap = k.gap; line_is = k.line_is }
 
--- what is found step by step is an answer
+-- what steps find is an answer
 pub lexed_answer : (text : List ℕ) (tokens : List Token) (answer : Result (Unit {0}) LexFault) → Lexed text tokens answer → IsAnswer text tokens answer
 lexed_answer text tokens answer h = go (step text h.to h.line) (step_finds text h.to h.line on.within on.line_is) h.ends
   where
@@ -119,7 +119,7 @@ lexed_answer text tokens answer h = go (step text h.to h.line) (step_finds text 
     go _ (open_text at s k) e = subst (IsAnswer text tokens) (sym e) (at, stops at s, k)
     go _ (no_token at s k) e = subst (IsAnswer text tokens) (sym e) (at, stops at s, k)
 
--- conversely, an answer is found step by step
+-- conversely, steps find every answer
 ends_with : (text : List ℕ) (tokens : List Token) (answer : Result (Unit {0}) LexFault) (stop : ℕ) → length tokens ≤ token_limit → (w : Walked text 0 1 tokens stop) → (r : Result (Option Token) LexFault) → step text w.to w.last_line ≡ r → Ends r tokens answer → Lexed text tokens answer
 ends_with text tokens answer stop limit w r e ends = record { to = w.to; line = w.last_line; walk = w.walk; limit = limit; ends = subst (λ r. Ends r tokens answer) (sym e) ends }
 
@@ -141,7 +141,7 @@ answer_lexed text tokens (Err (TooMany line)) (at, s, b, full) =
     ends_with text tokens (Err (TooMany line)) at s.limit w (Ok (Some (token_of at (line_of text at) (b.kind, (begins_found (drop at text) b).len)))) (step_to_begin text w.to at w.last_line w.gap b w.line_is) (full, ap (λ n. Err (TooMany n)) s.line_is)
 answer_lexed text tokens (Err (Memory error)) h = absurd h
 
--- two walks from one place are the same, or one stops where the other continues
+-- two walks from the same place are the same, or one of them stops where the other continues
 data Compared (text : List ℕ) (tokens others : List Token) (to line to' line' : ℕ) : Type 0 where
   same : tokens ≡ others → to ≡ to' → line ≡ line' → Compared text tokens others to line to' line'
   first_stops : (token : Token) → step text to line ≡ Ok (Some token) → length tokens < length others → Compared text tokens others to line to' line'
@@ -162,7 +162,7 @@ compared text (t ∷ ts) (t' ∷ ts') place start_line to line to' line' w w' =
     let others : Walk text t.«end» t.line ts' to' line' = subst (λ (x : Token). Walk text x.«end» x.line ts' to' line') (sym is) w'.1 in
     longer text t t' ts ts' to line to' line' is (compared text ts ts' t.«end» t.line to line to' line' w.1 others)
 
--- if another step finds a token, the limit is reached
+-- if the step after the tokens finds a token, the limit is reached
 full_there : (tokens : List Token) (answer : Result (Unit {0}) LexFault) (token : Token) (r : Result (Option Token) LexFault) → r ≡ Ok (Some token) → Ends r tokens answer → length tokens ≡ token_limit
 full_there tokens answer token r e h = (subst (λ r. Ends r tokens answer) e h).0
 
@@ -181,19 +181,19 @@ one_lexed text tokens others answer answer' h h' (first_stops token s l) =
 one_lexed text tokens others answer answer' h h' (second_stops token s l) =
     absurd (let full : length others ≡ token_limit = full_there others answer' token (step text h'.to h'.line) s h'.ends in let limit : length tokens ≤ token_limit = h.limit in omega arith)
 
--- a text has one answer at most
+-- a text has at most one answer
 pub one_answer : (text : List ℕ) (tokens others : List Token) (answer other : Result (Unit {0}) LexFault) → IsAnswer text tokens answer → IsAnswer text others other → (tokens ≡ others) × (answer ≡ other)
 one_answer text tokens others answer other h h' =
     let k : Lexed text tokens answer = answer_lexed text tokens answer h in
     let k' : Lexed text others other = answer_lexed text others other h' in
     one_lexed text tokens others answer other k k' (compared text tokens others 0 1 k.to k.line k'.to k'.line k.walk k'.walk)
 
--- a walk from the start over at most `token_limit` tokens
+-- a walk from the front of the text, over at most `token_limit` tokens
 pub record WalksTo (text : List ℕ) (tokens : List Token) (to line : ℕ) : Type 0 where
   pub walk : Walk text 0 1 tokens to line
   pub limit : length tokens ≤ token_limit
 
--- the tokens so far are the first of the answer
+-- the tokens are the first tokens of an answer
 abbrev Completed : List ℕ → List Token → Type 0
 Completed text tokens = (more : List Token) × (answer : Result (Unit {0}) LexFault) × Lexed text (tokens ++ more) answer
 
@@ -230,11 +230,11 @@ are_first text tokens to line w =
     let k = completed (suc (length text)) text tokens to line w on (omega arith) in
     record { more = k.0; answer = k.1; whole = lexed_answer text (tokens ++ k.0) k.1 k.2 }
 
--- a text has an answer
+-- every text has an answer
 pub some_answer : (text : List ℕ) → (tokens : List Token) × (answer : Result (Unit {0}) LexFault) × IsAnswer text tokens answer
 some_answer text = let k = are_first text [] 0 1 (record { walk = (refl, refl); limit = omega arith }) in (k.more, k.answer, k.whole)
 
--- the answer of a loop over the steps
+-- the answer after the last step of a loop
 ended : (text : List ℕ) (tokens : List Token) (to line : ℕ) (answer : Result (Unit {0}) LexFault) (r : Result (Option Token) LexFault) → WalksTo text tokens to line → step text to line ≡ r → Ends r tokens answer → IsAnswer text tokens answer
 ended text tokens to line answer r w e ends = lexed_answer text tokens answer (record { to = to; line = line; walk = w.walk; limit = w.limit; ends = subst (λ r. Ends r tokens answer) (sym e) ends })
 
@@ -253,13 +253,13 @@ ends_full text tokens to line token w e full = ended text tokens to line (Err (T
 pub ends_whole : (text : List ℕ) (tokens : List Token) (to line : ℕ) → WalksTo text tokens to line → Ok None ≡ step text to line → IsAnswer text tokens (Ok tt)
 ends_whole text tokens to line w e = ended text tokens to line (Ok tt) (Ok None) w (sym e) refl
 
--- the same for the result of a function
+-- the result of a function that gives an answer is the only answer
 pub only_answer : (text : List ℕ) (tokens : List Token) (result : Result (Unit {0}) LexFault) → Gives lex_told (λ done. done) (IsAnswer text tokens) result
     → Gives lex_told (λ done. done) (λ answer. (others : List Token) (other : Result (Unit {0}) LexFault) → IsAnswer text others other → (others ≡ tokens) × (other ≡ answer)) result
 only_answer text tokens (Err fault) h = IfSome_then (lex_told fault) h (λ f is others other k. one_answer text others tokens other (Err f) k is)
 only_answer text tokens (Ok done) h = λ others other k. one_answer text others tokens other (Ok done) k h
 
--- no more lines end before a place than there are bytes
+-- a place is on a line whose number is at most one more than the place
 pub few_lines : (text : List ℕ) (place line : ℕ) → OnLine text place line → line ≤ 1 + place
 few_lines text place line on =
     let count : line_feeds (take place text) ≤ length (take place text) = count_by-le-length (λ byte. nat_eq byte line_feed) (take place text) in
@@ -267,7 +267,7 @@ few_lines text place line on =
     let here : line ≡ 1 + line_feeds (take place text) = on.line_is in
     omega arith
 
--- the next token of a walk
+-- the step after a walk finds the next token of the text
 pub next_of_walk : (text : List ℕ) (tokens : List Token) (to line : ℕ) (token : Token) → WalksTo text tokens to line → Ok (Some token) ≡ step text to line → IsNext text to token
 next_of_walk text tokens to line token w e = is_next text to line token (walk_line text tokens 0 1 to line (at_start text) w.walk) (sym e)
 

@@ -1,4 +1,4 @@
--- The gap at the front is the longest one, and the only one that ends where no gap begins.
+-- The gap that is found at the front is the longest gap, and the only one after which no gap begins.
 use Rattle.std.proofs.Common.{◌≡◌, ℕ, suc, ◌+◌, ◌≤◌, List, [], ◌∷◌, ◌++◌, length, take, drop, Bool, true, false, ◌&&◌, ◌||◌, not, ◌==◌, cond, IsTrue, ◌⊎◌, inl, inr, refl, sym, ◌∙◌, ap, subst, arith, append_assoc, append-nil, length-append, nat_eq}
 use Rattle.std.proofs.lemmas.Bool.Decides.{nat_tests}
 use Rattle.std.specs.List.{list_all}
@@ -9,7 +9,7 @@ use Rattle.bsdl_lexer.specs.inner.Lengths.{gap_len}
 abbrev pub stays : ℕ → Bool
 stays byte = not (byte == line_feed)
 
--- the rest of a comment, and the gap after it
+-- the rest of a comment, followed by a gap
 record CommentRest (more rest : List ℕ) : Type 0 where
   words : List ℕ
   tail : List ℕ
@@ -21,7 +21,7 @@ abbrev GapOrRest : Bool → List ℕ → List ℕ → Type 0
 GapOrRest true more rest = CommentRest more rest
 GapOrRest false more rest = IsGap more rest
 
--- two dashes and the rest of a comment
+-- two dashes and the rest of a comment are a gap
 from_rest : (more rest : List ℕ) → CommentRest more rest → IsGap more (dash ∷ dash ∷ rest)
 from_rest more rest h = elim h.ends [
   | inl k ↦ (let same : rest ≡ h.words = h.split ∙ ap (λ xs. h.words ++ xs) k.0 ∙ append-nil h.words in
@@ -30,7 +30,7 @@ from_rest more rest h = elim h.ends [
       subst (λ xs. IsGap more (dash ∷ dash ∷ xs)) (sym same) (comment h.words k.0 h.free k.2))
 ]
 
--- the rest of a comment without its first dash
+-- the rest of a comment without its first dash is the rest of a comment
 behind_dash : (more rest : List ℕ) → CommentRest more (dash ∷ rest) → CommentRest more rest
 behind_dash more rest h = go h.words h.split h.free
   where
@@ -89,7 +89,7 @@ fronts (first ∷ others) false = front_false first others (fronts others) (is_b
 pub gap_front : (bytes : List ℕ) → IsGap (drop (gap_len false bytes) bytes) (take (gap_len false bytes) bytes)
 gap_front bytes = fronts bytes false
 
--- no gap begins after the gap at the front
+-- no gap begins after the gap that is found
 ends_gap_true : (others : List ℕ) → ((b : Bool) → begins_gap (drop (gap_len b others) others) ≡ false) → (b : Bool) → begins_gap (drop (gap_len (cond b false true) others) others) ≡ false
 ends_gap_true others each true = each false
 ends_gap_true others each false = each true
@@ -123,7 +123,7 @@ gap_len-le-any (first ∷ others) false = cases (is_blank first) (begins_comment
 pub gap_len-le : (bytes : List ℕ) → gap_len false bytes ≤ length bytes
 gap_len-le bytes = gap_len-le-any bytes false
 
--- the only gap that ends where none begins
+-- a gap after which no gap begins is the gap that is found
 no_gap : (more : List ℕ) → begins_gap more ≡ false → gap_len false more ≡ 0
 no_gap [] e = refl
 no_gap (first ∷ others) e = cases (is_blank first) (begins_comment (first ∷ others)) e

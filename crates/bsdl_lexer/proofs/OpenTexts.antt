@@ -1,4 +1,4 @@
--- A quote begins a token, or a text that ends open.
+-- A quote begins a string token or an open string.
 use Rattle.std.proofs.Common.{◌≡◌, ℕ, suc, List, [], ◌∷◌, ◌++◌, Bool, true, false, cond, Option, Some, None, ◌⊎◌, inl, inr, refl, sym, ◌∙◌, ap, arith, nat_eq, slice_get, IsTrue}
 use Rattle.std.proofs.lemmas.Bool.Decides.{nat_tests}
 use Rattle.std.specs.List.{prefix_len, list_all}
@@ -46,7 +46,7 @@ line_end x h n = go (nat_eq x line_feed) refl
     go true e = inl (grind (arith, nat_tests))
     go false e = inr (grind (arith, nat_tests))
 
--- the bytes after a quote, up to the place where the string ends without a closing quote
+-- the bytes after a quote, up to the place where the string must be closed and is not
 record Open (others : List ℕ) : Type 0 where
   inner : List ℕ
   more : List ℕ
@@ -82,13 +82,13 @@ unfolding byte_behind
 quote_at [] = refl
 quote_at (x ∷ xs) = refl
 
--- if no token begins at a quote, an open string does
+-- if no token begins at a quote, an open string begins there
 pub begins_open : (others : List ℕ) → token_at (quote ∷ others) ≡ None → BeginsOpenText (quote ∷ others)
 begins_open others e =
     let k : Open others = open_front others (closed (byte_behind others) (prefix_len is_text_byte others) (sym (quote_at others) ∙ e)) in
     record { inner = k.inner; more = k.more; parts = ap (λ xs. quote ∷ xs) k.parts; allowed = k.allowed; is_open = k.is_open }
 
--- no token and no gap begins at an open string
+-- at an open string, no token and no gap begins
 pub open_no_token : (rest : List ℕ) → BeginsOpenText rest → token_at rest ≡ None
 open_no_token rest h = rw h.parts (quote_at (h.inner ++ h.more) ∙ not_closed (byte_behind (h.inner ++ h.more)) (prefix_len is_text_byte (h.inner ++ h.more)) (never_closed h.inner h.more h.allowed h.is_open))
 

@@ -1,4 +1,4 @@
--- Gaps and tokens at places of a text, and what is found there.
+-- Gaps and tokens at places of a text, compared with those that are found there.
 use Rattle.std.proofs.Common.{◌≡◌, ℕ, zero, suc, ◌+◌, ◌-◌, ◌<◌, ◌≤◌, List, [], ◌∷◌, ◌++◌, length, take, drop, true, false, refl, sym, ◌∙◌, ap, subst, arith, length-drop, ◌⊎◌, inl, inr}
 use Rattle.std.proofs.lemmas.Bool.{cases_lt}
 use Rattle.std.proofs.lemmas.Bool.Decides.{nat_tests}
@@ -27,7 +27,7 @@ range_from text from n = let e : from + n - from ≡ n = omega arith in ap (λ m
 pub length-range : (text : List ℕ) (from to : ℕ) → to ≤ length text → length (slice_range text from to) ≡ to - from
 length-range text from to le = length-take-le (to - from) (drop from text) (omega (arith, length-drop from text))
 
--- the gap that is found at a place
+-- the gap that is found at a place is a gap of the text
 pub separates_found : (text : List ℕ) (from : ℕ) → from ≤ length text → Separates text from (from + gap_len false (drop from text))
 separates_found text from le =
     let left : List ℕ = drop from text in
@@ -46,7 +46,7 @@ separates_to text from to h none =
     let long : length (slice_range text from to) ≡ to - from = length-range text from to h.within in
     omega (arith, h.order, len, long)
 
--- what begins a token is no blank
+-- the first byte of a token is no blank
 letter_no_blank : (b : ℕ) → is_ascii_alphabetic b ≡ true → is_blank b ≡ false
 letter_no_blank b h = grind (arith, nat_tests)
 
@@ -63,13 +63,13 @@ first_no_blank Text first others h = let same : first ≡ quote = cc h.quoted in
 first_no_blank Mark first [] h = mark_no_blank first h
 first_no_blank Mark first (second ∷ others) h = absurd h
 
--- no gap begins at the beginning of a token
+-- no gap begins where a token begins
 pub no_gap : (kind : TokenKind) (n : ℕ) (rest : List ℕ) → HasForm kind (take n rest) → begins_comment rest ≡ false → begins_gap rest ≡ false
 no_gap kind n [] h c = refl
 no_gap kind zero (first ∷ others) h c = absurd (no_empty kind h)
 no_gap kind (suc n) (first ∷ others) h c = rw (first_no_blank kind first (take n others) h, c)
 
--- a form that a range has is found to be as long or longer
+-- if a range has the form of a token, the token that is found at its start is at least as long
 pub range_within : (text : List ℕ) (start to : ℕ) (kind : TokenKind) → start ≤ to → to ≤ length text → HasForm kind (slice_range text start to) → begins_comment (drop start text) ≡ false → IsWithin (drop start text) kind (to - start)
 range_within text start to kind order le form plain =
     let word : List ℕ = slice_range text start to in
@@ -98,7 +98,7 @@ token_is_found text token h =
     exact {len} (inl longer) fits form ge some = absurd (h.longest token.kind (token.start + len) longer fits (subst (HasForm token.kind) (sym (range_from text token.start len)) form))
     exact {len} (inr le) fits form ge some = omega arith
 
--- what is found is a token of the text
+-- the token that is found is a token of the text
 pub found_is_token : (text : List ℕ) (start line : ℕ) (kind : TokenKind) (len : ℕ) → start ≤ length text → token_at (drop start text) ≡ some_token kind len → line ≡ line_of text start → IsToken text (token_of start line (kind, len))
 found_is_token text start line kind len le e l =
     let f : IsFront (drop start text) kind len = found_front (drop start text) kind len e in

@@ -1,4 +1,4 @@
--- What a step finds is in the text, and what is in the text is found by a step.
+-- A step finds exactly the next token, the end or the bad place of the text.
 use Rattle.std.proofs.Common.{◌≡◌, ℕ, ◌+◌, ◌-◌, ◌<◌, ◌≤◌, List, [], ◌∷◌, ◌++◌, length, take, drop, Bool, true, false, cond, Option, Some, None, Result, Ok, Err, refl, sym, ◌∙◌, ap, subst, arith, length-drop, nat_eq}
 use Rattle.std.proofs.Math.Seq.{take-add, drop-length}
 use Rattle.std.proofs.lemmas.Bool.Decides.{nat_tests}
@@ -20,7 +20,7 @@ use Rattle.bsdl_lexer.proofs.OpenTexts.{begins_open, open_no_token, open_no_gap}
 use Rattle.bsdl_lexer.proofs.LineFeeds.{line_feeds-append, no_line_feeds}
 use Rattle.bsdl_lexer.proofs.Places.{drop-sum, separates_found, separates_to, no_gap, some_bytes, token_is_found, found_is_token}
 
--- the line of a place further on
+-- the line of a later place
 pub line_past : (text : List ℕ) (place n line : ℕ) → line ≡ line_of text place → line + line_feeds (take n (drop place text)) ≡ line_of text (place + n)
 line_past text place n line e =
     let whole : line_feeds (take (place + n) text) ≡ line_feeds (take place text ++ take n (drop place text)) = ap line_feeds (take-add place n text) in
@@ -29,7 +29,7 @@ line_past text place n line e =
     let there : line_of text (place + n) ≡ 1 + line_feeds (take (place + n) text) = refl in
     omega (arith, whole, sum, here, there)
 
--- no line ends in a token
+-- no line ends inside a token
 pub line_behind : (text : List ℕ) (token : Token) → IsToken text token → token.line ≡ line_of text token.«end»
 line_behind text token h =
     let some : token.start < token.«end» = some_bytes text token.start token.«end» token.kind h.form in
@@ -39,7 +39,7 @@ line_behind text token h =
     let here : token.line + line_feeds (take (token.«end» - token.start) (drop token.start text)) ≡ line_of text token.«end» = on ∙ ap (line_of text) same in
     omega (arith, none, here)
 
--- what begins a token is found
+-- if a token begins at the front, a token is found there
 pub begins_found : (rest : List ℕ) (h : BeginsToken rest) → IsWithin rest h.kind (length (take h.len rest))
 begins_found rest h =
     let split : take h.len rest ++ drop h.len rest ≡ rest = take-append-drop h.len rest in
@@ -67,7 +67,7 @@ line_at text place line = line + line_feeds (take (gap_len false (drop place tex
 no_gap_behind : (text : List ℕ) (place : ℕ) → begins_gap (rest_at text place) ≡ false
 no_gap_behind text place = ap begins_gap (drop-sum place (gap_len false (drop place text)) text) ∙ ends_gap (drop place text)
 
--- what a step finds: a token, the end, or a byte that begins no token
+-- the result of a step: the next token, the end, or a byte that begins no token
 pub data Found (text : List ℕ) (place line : ℕ) : Result (Option Token) LexFault → Type 0 where
   next : (token : Token) → Separates text place token.start → IsToken text token → Found text place line (Ok (Some token))
   at_end : Separates text place (length text) → Found text place line (Ok None)

@@ -1,4 +1,4 @@
--- The answer to a text: all its tokens, or those before the first bad place and the fault.
+-- The answer to a text: all its tokens, or the tokens before the first bad place and the fault.
 use Rattle.std.specs.Prelude.{◌≡◌, ◌≢◌, ℕ, ◌≤◌, List, [], ◌∷◌, ◌++◌, length, take, drop, false, ◌⊎◌, IsTrue, Option, Some, None, Result, Ok, Err}
 use Rattle.std.specs.List.{list_all}
 use Rattle.bsdl_lexer.specs.declared.token.Token.{Token}
@@ -8,19 +8,19 @@ use Rattle.bsdl_lexer.specs.declared.token.LexFault.TheVariants.{Byte, OpenStrin
 use Rattle.bsdl_lexer.specs.Forms.{HasForm, begins_comment, begins_gap, is_text_byte, line_feed, carriage_return, quote}
 use Rattle.bsdl_lexer.specs.Tokens.{line_of, Stand, AreTokens, token_limit}
 
--- some bytes at the front have the form of a token, and no comment begins
+-- the first `len` bytes have the form of a token, and no comment begins here
 pub record BeginsToken (rest : List ℕ) : Type 0 where
   pub kind : TokenKind
   pub len : ℕ
   pub form : HasForm kind (take len rest)
   pub no_comment : begins_comment rest ≡ false
 
--- the end of the input, byte 10 or byte 13; a string does not extend past any of these
+-- the end of the input, byte 10 or byte 13, before which a string must be closed
 abbrev pub EndsOpen : List ℕ → Type 0
 EndsOpen [] = Unit {0}
 EndsOpen (byte ∷ others) = (byte ≡ line_feed) ⊎ (byte ≡ carriage_return)
 
--- a quote, then bytes that a string may have, up to the place where it ends without a closing quote
+-- a quote, followed by bytes that a string may have, up to a place where the string must be closed and is not
 pub record BeginsOpenText (rest : List ℕ) : Type 0 where
   pub inner : List ℕ
   pub more : List ℕ
@@ -28,7 +28,7 @@ pub record BeginsOpenText (rest : List ℕ) : Type 0 where
   pub allowed : IsTrue (list_all is_text_byte inner)
   pub is_open : EndsOpen more
 
--- a byte that begins no blank, comment, token or open string
+-- the first byte begins no blank, comment, token or open string
 pub record BeginsNothing (rest : List ℕ) : Type 0 where
   pub first : ℕ
   pub others : List ℕ
@@ -43,7 +43,7 @@ pub record StopsAt (text : List ℕ) (tokens : List Token) (place line : ℕ) : 
   pub limit : length tokens ≤ token_limit
   pub line_is : line ≡ line_of text place
 
--- the first bad place comes after the tokens and the gap that follows them, and the fault says what is wrong there
+-- the first bad place is where the tokens and the gap after them end, and the fault says what is wrong there
 abbrev pub IsFault : List ℕ → List Token → LexFault → Type 0
 IsFault text tokens (Byte line) = (place : ℕ) × StopsAt text tokens place line × BeginsNothing (drop place text)
 IsFault text tokens (OpenString line) = (place : ℕ) × StopsAt text tokens place line × BeginsOpenText (drop place text)
@@ -54,7 +54,7 @@ abbrev pub IsAnswer : List ℕ → List Token → Result (Unit {0}) LexFault →
 IsAnswer text tokens (Ok done) = AreTokens text tokens
 IsAnswer text tokens (Err fault) = IsFault text tokens fault
 
--- the tokens are a prefix of the tokens in the text's answer
+-- the tokens are the first tokens of the text's answer
 pub record AreFirst (text : List ℕ) (tokens : List Token) : Type 0 where
   pub answer : Result (Unit {0}) LexFault
   pub more : List Token

@@ -6,7 +6,7 @@ use Rattle.std.specs.Int.{is_in_range}
 use Rattle.bsdl_lexer.specs.declared.token.TokenKind.{TokenKind}
 use Rattle.bsdl_lexer.specs.declared.token.TokenKind.TheVariants.{Word, Number, Text, Mark}
 
--- names for bytes
+-- names of bytes
 abbrev pub line_feed : ℕ
 line_feed = 10
 
@@ -22,7 +22,7 @@ dash = 45
 abbrev pub point : ℕ
 point = 46
 
--- space, tab, and bytes 10, 11, 12 and 13
+-- space, tab, or a byte from 10 to 13
 abbrev pub is_blank : ℕ → Bool
 is_blank byte = byte == 32 || is_in_range 9 13 byte
 
@@ -38,7 +38,7 @@ is_exponent_letter byte = byte == 69 || byte == 101
 abbrev pub is_sign : ℕ → Bool
 is_sign byte = byte == 43 || byte == 45
 
--- a byte that may be between the quotes of a string: any but a quote, byte 10 and byte 13
+-- a byte that may be between the quotes of a string: any byte except a quote, byte 10 and byte 13
 abbrev pub is_text_byte : ℕ → Bool
 is_text_byte byte = not (byte == quote || (byte == line_feed || byte == carriage_return))
 
@@ -46,12 +46,12 @@ is_text_byte byte = not (byte == quote || (byte == line_feed || byte == carriage
 abbrev pub is_mark : ℕ → Bool
 is_mark byte = is_ascii_graphic byte && not (is_ascii_alphanumeric byte || byte == quote)
 
--- a letter, then letters, digits and `_`
+-- a letter, followed by letters, digits and `_`
 abbrev pub IsWord : List ℕ → Type 0
 IsWord [] = ⊥
 IsWord (first ∷ others) = IsTrue (is_ascii_alphabetic first) × IsTrue (list_all is_word_byte others)
 
--- one digit or more
+-- one or more digits
 abbrev pub IsDigits : List ℕ → Type 0
 IsDigits [] = ⊥
 IsDigits (first ∷ others) = IsTrue (list_all is_ascii_digit (first ∷ others))
@@ -61,17 +61,17 @@ abbrev pub IsFraction : List ℕ → Type 0
 IsFraction [] = Unit {0}
 IsFraction (first ∷ others) = (first ≡ point) × IsDigits others
 
--- digits, possibly with a sign before them
+-- digits, with an optional sign before them
 abbrev pub IsSigned : List ℕ → Type 0
 IsSigned [] = ⊥
 IsSigned (first ∷ others) = IsDigits (first ∷ others) ⊎ (IsTrue (is_sign first) × IsDigits others)
 
--- nothing, or `e` or `E` and digits, possibly with a sign between them
+-- nothing, or `e` or `E`, an optional sign, and digits
 abbrev pub IsExponent : List ℕ → Type 0
 IsExponent [] = Unit {0}
 IsExponent (first ∷ others) = IsTrue (is_exponent_letter first) × IsSigned others
 
--- digits, then possibly a fraction, then possibly an exponent
+-- digits, an optional fraction, and an optional exponent
 pub record IsNumber (bytes : List ℕ) : Type 0 where
   pub whole : List ℕ
   pub fraction : List ℕ
@@ -81,7 +81,7 @@ pub record IsNumber (bytes : List ℕ) : Type 0 where
   pub after_point : IsFraction fraction
   pub after_letter : IsExponent exponent
 
--- a quote, bytes that a string may have, and a quote
+-- a quote, bytes that a string may have, and a second quote
 pub record IsText (bytes : List ℕ) : Type 0 where
   pub inner : List ℕ
   pub quoted : bytes ≡ quote ∷ (inner ++ quote ∷ [])
@@ -100,7 +100,7 @@ HasForm Number = IsNumber
 HasForm Text = IsText
 HasForm Mark = IsMark
 
--- two dashes, with which a comment begins
+-- two dashes, which begin a comment
 abbrev pub begins_comment : List ℕ → Bool
 begins_comment [] = false
 begins_comment (first ∷ []) = false
@@ -111,7 +111,7 @@ abbrev pub begins_gap : List ℕ → Bool
 begins_gap [] = false
 begins_gap (first ∷ others) = is_blank first || begins_comment (first ∷ others)
 
--- Blanks and whole comments, followed by `more`. A comment extends to the end of its line or of the text.
+-- Blanks and whole comments, which `more` follows. A comment ends with its line or with the text.
 pub data IsGap (more : List ℕ) : List ℕ → Type 0 where
   nothing : IsGap more []
   blank : (byte : ℕ) (gap : List ℕ) → IsTrue (is_blank byte) → IsGap more gap → IsGap more (byte ∷ gap)

@@ -1,4 +1,4 @@
--- The tokens of a text. Places count its bytes from 0.
+-- The tokens of a text. Places are byte numbers, counted from 0.
 use Rattle.std.specs.Prelude.{◌≡◌, ℕ, ◌+◌, ◌<◌, ◌≤◌, List, [], ◌∷◌, length, take, drop, count_by, false, ◌==◌}
 use Rattle.std.specs.List.{slice_range}
 use Rattle.bsdl_lexer.specs.declared.token.Token.{Token}
@@ -9,17 +9,18 @@ use Rattle.bsdl_lexer.specs.Forms.{HasForm, IsGap, begins_comment, line_feed}
 abbrev pub line_feeds : List ℕ → ℕ
 line_feeds bytes = count_by (λ byte. byte == line_feed) bytes
 
--- the line of a place, from 1
+-- the line of a place, counted from 1
 abbrev pub line_of : List ℕ → ℕ → ℕ
 line_of text place = 1 + line_feeds (take place text)
 
--- the text between the two places consists of blanks and whole comments
+-- the bytes between the two places are blanks and whole comments
 pub record Separates (text : List ℕ) (from to : ℕ) : Type 0 where
   pub order : from ≤ to
   pub within : to ≤ length text
   pub gap : IsGap (drop to text) (slice_range text from to)
 
--- The token's range has the form of its kind, no longer range with the same start has a form, and no comment begins there.
+-- The token's range has the form of its kind. No longer range with the same start has the form of a token. No comment
+-- begins at the start.
 pub record IsToken (text : List ℕ) (token : Token) : Type 0 where
   pub within : token.end ≤ length text
   pub form : HasForm token.kind (slice_range text token.start token.end)
@@ -27,12 +28,12 @@ pub record IsToken (text : List ℕ) (token : Token) : Type 0 where
   pub no_comment : begins_comment (drop token.start text) ≡ false
   pub line : token.line ≡ line_of text token.start
 
--- Between the two places, the text has these tokens, with blanks and comments before, between and after them.
+-- Between the two places the text has these tokens, with optional blanks and comments before, between and after them.
 abbrev pub Stand : List ℕ → ℕ → List Token → ℕ → Type 0
 Stand text from [] to = Separates text from to
 Stand text from (token ∷ tokens) to = Separates text from token.start × IsToken text token × Stand text token.end tokens to
 
--- the most tokens that a text may have
+-- the largest number of tokens that a text may have
 abbrev pub token_limit : ℕ
 token_limit = 1_048_576
 

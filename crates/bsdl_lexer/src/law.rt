@@ -1,4 +1,4 @@
-//! Laws of the definitions. Each is the contract of a function that does nothing.
+//! Laws of the definitions. Each law is the contract of a function that does nothing.
 ghost use Rattle.std.specs.Prelude.{◌≡◌, ℕ, List, Result};
 ghost use Rattle.bsdl_lexer.specs.declared.token.Token.{Token};
 ghost use Rattle.bsdl_lexer.specs.declared.token.LexFault.{LexFault};

@@ -1,4 +1,4 @@
-//! The lengths of the gap and of the token at the front of some bytes.
+//! The lengths of the gap and of the token at the front of a list of bytes.
 ghost use Rattle.std.specs.Prelude.{◌≡◌, ◌+◌, ◌≤◌, ◌<◌, ◌^◌, length, take, drop, slice_get, MatchOption, IfSome, false};
 ghost use Rattle.std.specs.List.{prefix_len};
 ghost use Rattle.std.specs.Char.{is_ascii_digit};
@@ -56,7 +56,7 @@ fn digits_len(bytes: &[u8]) -> usize
         .count()
 }
 
-// A loop goes through these many bytes faster than a chain of iterators.
+// This loop is faster than a chain of iterators, and a text has many bytes in words.
 fn word_len(bytes: &[u8]) -> usize
     ensures value { result ≡ prefix_len is_word_byte bytes.now }
     ensures within { result ≤ length bytes.now }
@@ -69,7 +69,7 @@ fn word_len(bytes: &[u8]) -> usize
     bytes.len()
 }
 
-// Strings hold most of the bytes of a description, so their ends are searched for many bytes at a time.
+// Strings have most of the bytes of a description, so this search tests many bytes at a time.
 fn text_len(bytes: &[u8]) -> usize
     ensures value { result ≡ prefix_len is_text_byte bytes.now }
     ensures within { result ≤ length bytes.now }
@@ -80,7 +80,7 @@ fn text_len(bytes: &[u8]) -> usize
     }
 }
 
-/// Returns the number of digits at the front plus `front`, the number of bytes before them; or 0 if there are no
+/// Returns the number of digits at the front plus `front`, the number of bytes before them. Returns 0 if there are no
 /// digits.
 fn digits_behind(front: usize, bytes: &[u8]) -> usize
     requires { front ≤ 2 }
@@ -101,7 +101,7 @@ fn fraction_length(bytes: &[u8]) -> usize
     }
 }
 
-/// Returns the length of an exponent, given the bytes after its letter; or 0 if there is none.
+/// Returns the length of an exponent, given the bytes after its letter. Returns 0 if they are no exponent.
 fn signed_length(bytes: &[u8]) -> usize
     ensures value { result ≡ signed_len bytes.now }
     ensures within { result ≤ 1 + length bytes.now }
@@ -139,7 +139,8 @@ fn number_length(bytes: &[u8]) -> usize
     whole + (fraction + exponent)
 }
 
-/// Returns the kind and the length of a string token, given the bytes after its first quote.
+/// Returns the kind and the length of a string token, given the bytes after its first quote. Returns None if the string
+/// is not closed.
 fn closed_text(bytes: &[u8]) -> Option<(TokenKind, usize)>
     ensures value { result ≡ closed_len (slice_get bytes.now (prefix_len is_text_byte bytes.now)) (prefix_len is_text_byte bytes.now) }
     ensures within { IfSome result (λ found. found.1 ≤ 1 + length bytes.now) }
@@ -151,7 +152,7 @@ fn closed_text(bytes: &[u8]) -> Option<(TokenKind, usize)>
     }
 }
 
-/// Returns the kind and the length of the token at the front.
+/// Returns the kind and the length of the token at the front, or None if no token begins there.
 pub(crate) fn token_found(bytes: &[u8]) -> Option<(TokenKind, usize)>
     ensures value { result ≡ token_at bytes.now }
     ensures within { IfSome result (λ found. found.1 ≤ length bytes.now) }
@@ -176,7 +177,8 @@ pub(crate) fn token_found(bytes: &[u8]) -> Option<(TokenKind, usize)>
     }
 }
 
-/// Returns None if no gap continues at the front, and otherwise whether the byte after the first is in a comment.
+/// Returns None if no gap continues at the front. Otherwise returns whether the byte after the first is inside a
+/// comment.
 fn gap_step(in_comment: bool, bytes: &[u8]) -> Option<bool>
     ensures { MatchOption result (gap_len in_comment bytes.now ≡ 0) (λ next. (0 < length bytes.now) × (gap_len in_comment bytes.now ≡ 1 + gap_len next (drop 1 bytes.now))) }
 {
@@ -196,14 +198,14 @@ fn gap_step(in_comment: bool, bytes: &[u8]) -> Option<bool>
     }
 }
 
-/// Blanks and comments: their length in bytes, and the number of lines that end in them.
+/// A gap, which consists of blanks and comments: its length in bytes, and the number of lines that end in it.
 #[derive(Clone, Copy)]
 pub(crate) struct Gap {
     pub length: usize,
     pub lines: u32,
 }
 
-/// Returns the blanks and comments at the front.
+/// Returns the gap at the front.
 pub(crate) fn gap_at(bytes: &[u8]) -> Gap
     requires { length bytes.now < 2 ^ 32 }
     ensures length { result.length ≡ gap_len false bytes.now }

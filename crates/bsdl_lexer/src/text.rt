@@ -10,7 +10,7 @@ use crate::lengths::{gap_at, token_found};
 use crate::token::{LexFault, Token};
 use std::alloc::AllocError;
 
-/// The most tokens that a text may have.
+/// The largest number of tokens that a text may have.
 pub const TOKEN_LIMIT: usize = 1_048_576;
 
 fn fault_at(byte: u8, line: u32) -> LexFault
@@ -23,7 +23,8 @@ fn fault_at(byte: u8, line: u32) -> LexFault
     }
 }
 
-/// Returns the token at the front of the bytes, which are at place `start` on line `line`.
+/// Returns the token at the front of the bytes, or None if there are no bytes. The bytes begin at place `start` on line
+/// `line`.
 fn token_from(bytes: &[u8], start: usize, line: u32) -> Result<Option<Token>, LexFault>
     requires { start + length bytes.now < 2 ^ 32 }
     ensures { result ≡ step_at start line bytes.now }
@@ -42,7 +43,7 @@ fn token_from(bytes: &[u8], start: usize, line: u32) -> Result<Option<Token>, Le
     }
 }
 
-/// Returns the next token at or after the place, which is on line `line`.
+/// Returns the next token at or after `place`, which is on line `line`. Returns None at the end of the text.
 fn next_token(bytes: &[u8], place: usize, line: u32) -> Result<Option<Token>, LexFault>
     requires short { length bytes.now < 2 ^ 32 }
     requires within { place ≤ length bytes.now }
@@ -95,14 +96,15 @@ fn add_tokens(bytes: &[u8], out: &mut Vec<Token>) -> Result<(), LexFault>
 
 /// Appends the tokens of the text to an empty list. A text may have any bytes.
 ///
-/// On a fault, `out` has the tokens before the first bad place. If memory is refused, `out` has a prefix of the
-/// tokens that it would have.
+/// On a fault, `out` has the tokens before the first bad place. If memory is refused, `out` has the first tokens of
+/// that list.
 pub fn lex(bytes: &[u8], out: &mut Vec<Token>) -> Result<(), LexFault>
     requires short { length bytes.now < 2 ^ 32 }
     requires empty { out.old.items ≡ [] }
-    // All tokens, or the tokens before the first bad place with the kind and the line of the fault.
+    // On Ok, `out` has all tokens. Otherwise it has the tokens before the first bad place, and the fault has the kind
+    // and the line.
     ensures answer { Gives lex_told (λ done. done) (IsAnswer bytes.now out.new.items) result }
-    // There is no other answer.
+    // The definition allows no other answer.
     ensures only { Gives lex_told (λ done. done) (λ answer. (tokens : List Token) (other : Result (Unit {0}) LexFault) → IsAnswer bytes.now tokens other → (tokens ≡ out.new.items) × (other ≡ answer)) result }
     ensures first { AreFirst bytes.now out.new.items }
 {

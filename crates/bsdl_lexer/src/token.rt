@@ -2,12 +2,12 @@
 use std::alloc::AllocError;
 use thiserror::Error;
 
-/// The kind of a token, by its form.
+/// The kind of a token, which its form decides.
 #[derive(Clone, Copy, Debug, PartialEq, Eq)]
 pub enum TokenKind {
-    /// A letter, then letters, digits and `_`. Letters have no case.
+    /// A letter, followed by letters, digits and `_`. Upper and lower case are the same.
     Word,
-    /// Digits, then possibly `.` and digits, then possibly an exponent.
+    /// Digits, followed by an optional fraction (`.` and digits) and an optional exponent.
     Number,
     /// A string: two quotes on one line, and the bytes between them.
     Text,
@@ -15,8 +15,8 @@ pub enum TokenKind {
     Mark,
 }
 
-/// A token: the bytes `start..end` of the text. Places count from 0. `line`, from 1, is the line of its first
-/// byte.
+/// A token: the bytes `start..end` of the text. Bytes count from 0. `line` is the line of the first byte, counted from
+/// 1.
 #[derive(Clone, Copy, Debug, PartialEq, Eq)]
 pub struct Token {
     pub kind: TokenKind,
@@ -25,17 +25,17 @@ pub struct Token {
     pub line: u32,
 }
 
-/// Why a text has no list of tokens, with the line of its first bad place.
+/// The reason why a text is not a list of tokens, with the line of its first bad place.
 #[derive(Clone, Copy, Debug, PartialEq, Eq, Error)]
 pub enum LexFault {
-    /// A byte that begins no blank, comment or token.
+    /// A byte begins no blank, comment or token.
     #[error("line {0}: byte not allowed")]
     Byte(u32),
-    /// A string in which byte 10, byte 13 or the end of the input comes before the closing quote. The line is that of
-    /// its first quote.
+    /// In a string, byte 10, byte 13 or the end of the input comes before the closing quote. The line is that of the
+    /// first quote.
     #[error("line {0}: string not closed")]
     OpenString(u32),
-    /// Another token follows the first `TOKEN_LIMIT` tokens. The line is that token's.
+    /// Another token follows the first `TOKEN_LIMIT` tokens. The line is that of this token.
     #[error("line {0}: too many tokens")]
     TooMany(u32),
     #[error("out of memory")]

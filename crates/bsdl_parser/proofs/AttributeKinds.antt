@@ -17,11 +17,11 @@ use Rattle.bsdl_parser.specs.Bsdl.{used, plain_value, port_value, clock_value, n
 use Rattle.bsdl_parser.specs.Answer.{Derives}
 use Rattle.bsdl_parser.specs.Entity.{is_among, HasKind, HaveKinds}
 
--- the fact is true of each value of the phrase
+-- the fact is true of each value that the phrase derives
 abbrev Yields : {A : Type 0} → Phrase A → (A → Type 0) → Type 0
 Yields g Fact = (n : ℕ) → Keeps (λ token. 0) g n (λ m a. Fact a)
 
--- an attribute with this number has this form
+-- attributes with this number have this form
 abbrev FitsForm : ℕ → AttrForm → Type 0
 FitsForm number forms.Plain = number ≡ 1
 FitsForm number forms.Port = IsTrue (is_among (2 ∷ 3 ∷ 4 ∷ 5 ∷ 11 ∷ []) number)
@@ -58,7 +58,7 @@ used_fits name =
     last_fits true = refl
     last_fits false = tt
 
--- a value has the kind of each number that its form fits
+-- the value of a form has the kind of every number with that form
 value_kind : (form : AttrForm) → Yields (value_of form) (λ value. (number : ℕ) → FitsForm number form → HasKind number value)
 unfolding plain_value port_value clock_value number_value text_value
 value_kind forms.Plain n = keeps_in_turn keeps_nothing (λ _ _ _. keeps_in_turn keeps_nothing (λ _ _ _. keeps_in_turn keeps_nothing (λ _ _ _. keeps_done (λ number h. h))))
@@ -105,6 +105,6 @@ file_kinds n =
     keeps_in_turn keeps_nothing (λ _ _ _. keeps_in_turn keeps_nothing (λ name _ _. keeps_in_turn keeps_nothing (λ _ m _.
     keeps_in_turn (keeps_turns item_kind no_items m (All-nil AttrKind)) (λ items _ h. keeps_in_turn keeps_nothing (λ _ _ _. keeps_in_turn keeps_nothing (λ _ _ _. keeps_done h))))))
 
--- the same for the entity that the tokens derive
+-- each attribute of a derived entity has the kind of its number
 pub have_kinds : (tokens : List Lexeme) (entity : Entity) → Derives tokens entity → HaveKinds entity
 have_kinds tokens entity h = (file_kinds 0).kept tokens entity h

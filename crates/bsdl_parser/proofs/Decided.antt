@@ -1,4 +1,4 @@
--- Each turn of the file's grammar takes a token, so the grammar's reader decides the file.
+-- Each turn of the file's grammar takes at least one token, so the grammar's reader decides the file.
 use Rattle.std.proofs.Common.{ℕ, List, Bool, true, false, Option, Some, None, inl, inr}
 use Rattle.bsdl_parser.specs.declared.draft.ItemWord.{ItemWord}
 use Rattle.bsdl_parser.specs.declared.draft.ItemWord.TheVariants as words
@@ -98,6 +98,6 @@ file_takes : EachTurnTakes file
 unfolding file
 file_takes = (tt, λ _. (tt, λ name. (tt, λ _. (item_takes, λ items. (tt, λ named. (close_takes named, λ _. tt))))))
 
--- what the file's reader finds is the file's value, and tokens that it refuses are not a cut
+-- what the file's reader finds is the value of the file, and tokens that it refuses are no prefix of a file
 pub decides_file : Decides (production_of file) (reader_of file)
 decides_file = decides_grammar file file_takes

@@ -1,4 +1,4 @@
--- A loop over turns stops where one of its turns does.
+-- A loop over turns stops where one of its turns stops.
 use Rattle.std.proofs.Common.{◌≡◌, List}
 use Rattle.grammars.specs.Turn.{Turn}
 use Rattle.grammars.specs.inner.Reader.{Outcome}

@@ -8,26 +8,26 @@ use Rattle.bsdl_parser.specs.Lexeme.{Lexeme}
 use Rattle.bsdl_parser.specs.Places.{is_the_word}
 use Rattle.bsdl_parser.specs.Bsdl.{file}
 
--- the tokens are a whole file with this entity
+-- the tokens are a whole file, and `entity` is its value
 abbrev pub Derives : List Lexeme → Entity → Type 0
 Derives tokens entity = (production_of file).Whole tokens entity
 
--- the tokens are the beginning of some file
+-- the tokens are a prefix of some file
 abbrev pub BeginsFile : List Lexeme → Type 0
 BeginsFile tokens = (production_of file).Cut tokens
 
--- the first token that continues no file after the tokens before it
+-- `token` is the first token with which the tokens are no longer a prefix of a file
 pub record IsStray (tokens before : List Lexeme) (token : Lexeme) (after : List Lexeme) : Type 0 where
   pub split : tokens ≡ before ++ token ∷ after
   pub begins : BeginsFile before
   pub stray : BeginsFile (before ++ token ∷ []) → ⊥
 
--- the word `package`, at the start of the text or right after a whole file
+-- the token is the word `package`, at the start of the text or right after a whole file
 pub record StartsPackage (before : List Lexeme) (token : Lexeme) : Type 0 where
   pub word : IsTrue (is_the_word (codes "PACKAGE") token)
   pub place : (before ≡ []) ⊎ ((entity : Entity) × Derives before entity)
 
--- a stray token on this line, with the property `IsSuch`
+-- the first stray token is on this line, and `IsSuch` is true of it and the tokens before it
 pub record StraysAt (tokens : List Lexeme) (line : ℕ) (IsSuch : List Lexeme → Lexeme → Type 0) : Type 0 where
   pub before : List Lexeme
   pub token : Lexeme
@@ -36,12 +36,12 @@ pub record StraysAt (tokens : List Lexeme) (line : ℕ) (IsSuch : List Lexeme �
   pub line_is : line ≡ token.line
   pub such : IsSuch before token
 
--- the tokens are the beginning of a file, but not a whole file
+-- the tokens are a prefix of a file, but not a whole file
 pub record IsUnfinished (tokens : List Lexeme) : Type 0 where
   pub begins : BeginsFile tokens
   pub no_entity : (entity : Entity) → Derives tokens entity → ⊥
 
--- the line of the last byte, or 1; byte 10 belongs to the line that it ends
+-- The line of the last byte, or 1 for an empty text. Byte 10 belongs to the line that it ends.
 abbrev pub last_line : List ℕ → ℕ
 last_line text = 1 + count_by (λ byte. byte == 10) (take (length text - 1) text)
 

@@ -1,4 +1,4 @@
--- The grammar of a BSDL text (IEEE 1149.1-2001, B.8, as far as it is used). The comment above a production is its EBNF line.
+-- The grammar of a BSDL text, as far as it is used (IEEE 1149.1-2001, B.8). The comment above a production is its EBNF line.
 use Rattle.std.specs.Prelude.{ℕ, List, [], ◌∷◌, ◌++◌, map, Bool, true, false, ◌&&◌, not, if◌then◌else◌, Option, Some, None, codes}
 use Rattle.std.specs.Str.{bytes_eq}
 use Rattle.board_defs.specs.declared.device.Mode.{Mode}
@@ -120,7 +120,7 @@ constant = do
   text ← string (codes ";")
   done (record { name = name; text = text })
 
--- the number and the form of an attribute that is used
+-- the number and the form of the attribute with this name, if the attribute is used
 abbrev pub used : List ℕ → Option (ℕ × AttrForm)
 used name =
     if bytes_eq name (codes "PIN_MAP") then Some (1, forms.Plain) else
@@ -229,7 +229,7 @@ abbrev pub listed : {A : Type 0} → Option A → List A
 listed None = []
 listed (Some a) = a ∷ []
 
--- the items so far
+-- the items that have been read
 pub record Items : Type 0 where
   pub has_generic : Bool
   pub fallback : Option (List ℕ)
@@ -242,7 +242,8 @@ pub record Items : Type 0 where
 abbrev pub no_items : Items
 no_items = record { has_generic = false; fallback = None; has_port = false; ports = []; uses = []; constants = []; attributes = [] }
 
--- The kind of item that a word begins after these items: at most one generic and one port item, and the end only after both.
+-- The kind of item that the word begins, if such an item may follow these. A file has at most one generic and one port item,
+-- and `end` may come only after both.
 abbrev pub item_word : Items → List ℕ → Option ItemWord
 item_word before word =
     if bytes_eq word (codes "GENERIC") then some_if (not before.has_generic) words.Generic else
@@ -255,7 +256,7 @@ item_word before word =
 abbrev pub item_begin : Items → Phrase ItemWord
 item_begin before = place (λ token. if is_word token.kind then item_word before token.spelled else None)
 
--- the rest of an item, or the end of the items
+-- an item after its first word, or the end of the items
 unfoldable pub item_of : Items → ItemWord → Phrase (Turn Items Items)
 item_of before words.Generic = do
   text ← generic

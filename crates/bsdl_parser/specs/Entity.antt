@@ -1,4 +1,4 @@
--- Limits that every entity keeps.
+-- Limits that every derived entity keeps.
 use Rattle.std.specs.Prelude.{◌≡◌, ℕ, ◌^◌, ◌<◌, List, [], ◌∷◌, length, Bool, ◌==◌, IsTrue, All, IfSome}
 use Rattle.std.specs.List.{list_any}
 use Rattle.bsdl_parser.specs.declared.entity.AttrValue.{AttrValue}
@@ -8,18 +8,18 @@ use Rattle.bsdl_parser.specs.declared.entity.Entity.{Entity}
 abbrev pub is_among : List ℕ → ℕ → Bool
 is_among numbers number = list_any (λ k. k == number) numbers
 
--- an attribute with this number may have this value
+-- the value has the kind that belongs to the attribute with this number
 abbrev pub HasKind : ℕ → AttrValue → Type 0
 HasKind number values.Plain = number ≡ 1
 HasKind number (values.Port port) = IsTrue (is_among (2 ∷ 3 ∷ 4 ∷ 5 ∷ 11 ∷ []) number)
 HasKind number (values.Number value) = IsTrue (is_among (6 ∷ 9 ∷ []) number)
 HasKind number (values.Text text) = IsTrue (is_among (7 ∷ 8 ∷ 10 ∷ 12 ∷ 13 ∷ 14 ∷ []) number)
 
--- each attribute has a number from 1 to 14, and the kind of value that belongs to that number
+-- each attribute has a number from 1 to 14 and the kind of value that belongs to its number
 abbrev pub HaveKinds : Entity → Type 0
 HaveKinds entity = All (λ attribute. HasKind attribute.number attribute.value) entity.attributes
 
--- fewer than 2^32 bytes or items
+-- the list has fewer than 2^32 bytes or items
 abbrev pub IsShort : {X : Type 0} → List X → Type 0
 IsShort xs = length xs < 2 ^ 32
 
@@ -29,7 +29,7 @@ HasShortText (values.Port port) = IsShort port
 HasShortText (values.Number value) = Unit {0}
 HasShortText (values.Text text) = IsShort text
 
--- each list of the entity, and each name and text in it, is short
+-- each list of the entity, and each name and text in it, has fewer than 2^32 bytes or items
 pub record IsSmall (entity : Entity) : Type 0 where
   pub name : IsShort entity.name
   pub fallback : IfSome entity.fallback IsShort

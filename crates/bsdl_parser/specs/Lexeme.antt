@@ -5,7 +5,7 @@ use Rattle.std.specs.Char.{to_ascii_uppercase}
 use Rattle.bsdl_lexer.specs.declared.token.Token.{Token}
 use Rattle.bsdl_lexer.specs.declared.token.TokenKind.{TokenKind}
 
--- the kind, the bytes in upper case, and the line
+-- a token as the grammar sees it: its kind, its bytes in upper case, and its line
 pub record Lexeme : Type 0 where
   pub kind : TokenKind
   pub spelled : List ℕ

@@ -1,4 +1,4 @@
--- The grammar of single tokens: which tokens fit, and their values.
+-- The grammar of single tokens: which tokens fit a place, and their values.
 use Rattle.std.specs.Prelude.{ℕ, ◌-◌, List, length, Bool, true, false, ◌&&◌, if◌then◌else◌, Option, Some, None, codes}
 use Rattle.std.specs.List.{slice_range}
 use Rattle.std.specs.Str.{bytes_eq}
@@ -36,7 +36,7 @@ is_the_word name token = is_word token.kind && bytes_eq token.spelled name
 abbrev pub is_the_mark : List ℕ → Lexeme → Bool
 is_the_mark name token = is_mark token.kind && bytes_eq token.spelled name
 
--- the word `name`, in either case
+-- the word `name`, in which the case of letters does not matter
 abbrev pub keyword : List ℕ → Phrase (Unit {0})
 keyword name = place (λ token. some_if (is_the_word name token) tt)
 
@@ -44,11 +44,11 @@ keyword name = place (λ token. some_if (is_the_word name token) tt)
 abbrev pub mark : List ℕ → Phrase (Unit {0})
 mark name = place (λ token. some_if (is_the_mark name token) tt)
 
--- one of two words; the value is whether it is the first
+-- one of two words, with the value whether it is the first
 abbrev pub either_word : List ℕ → List ℕ → Phrase Bool
 either_word first second = place (λ token. if is_the_word first token then Some true else some_if (is_the_word second token) false)
 
--- one of two marks; the value is whether it is the first
+-- one of two marks, with the value whether it is the first
 abbrev pub either_mark : List ℕ → List ℕ → Phrase Bool
 either_mark first second = place (λ token. if is_the_mark first token then Some true else some_if (is_the_mark second token) false)
 
@@ -58,7 +58,7 @@ any_word = place (λ token. some_if (is_word token.kind) token.spelled)
 abbrev pub any_number : Phrase (Unit {0})
 any_number = place (λ token. some_if (is_number token.kind) tt)
 
--- the bytes between the quotes
+-- the bytes between the quotes of a string token
 abbrev pub contents : List ℕ → List ℕ
 contents spelled = slice_range spelled 1 (length spelled - 1)
 
@@ -81,10 +81,10 @@ mode_of word =
 abbrev pub mode : Phrase Mode
 mode = place (λ token. if is_word token.kind then mode_of token.spelled else None)
 
--- any token; the value is whether it is not the mark `name`
+-- any token, with the value false if it is the mark `name`
 abbrev pub other_than : List ℕ → Phrase Bool
 other_than name = place (λ token. Some (if is_the_mark name token then false else true))
 
--- a word or the mark `name`; the value is whether it is a word
+-- a word or the mark `name`, with the value whether it is a word
 abbrev pub word_or_mark : List ℕ → Phrase Bool
 word_or_mark name = place (λ token. if is_word token.kind then Some true else some_if (is_the_mark name token) false)

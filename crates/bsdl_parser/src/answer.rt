@@ -1,4 +1,4 @@
-//! Parses a text: returns its entity or its first fault.
+//! Parses a text: returns its entity, or its first fault.
 ghost use Rattle.std.specs.Prelude.{◌≡◌, ◌<◌, ◌^◌, length, count_by, ◌==◌, Result, IfOk};
 ghost use Rattle.bsdl_lexer.specs.Tokens.{AreTokens};
 ghost use Rattle.answers.specs.Gives.{Gives};
@@ -24,7 +24,7 @@ fn count_line_feeds(bytes: &[u8]) -> usize
     bytes.iter().filter(|byte| **byte == b'\n').count()
 }
 
-/// Returns the line of the last byte, or 1 if there is none.
+/// Returns the line of the text's last byte, or 1 for an empty text.
 fn last_line_of(text: &[u8]) -> u32
     requires { length text.now < 2 ^ 32 }
     ensures { result ≡ last_line text.now }
@@ -68,14 +68,14 @@ fn judge(alloc: Global, text: &[u8], tokens: &[Token]) -> Result<Entity, ParseFa
 
 /// Returns the entity that the tokens of the text derive, or the text's first fault.
 ///
-/// `tokens` are those that `bsdl_lexer::lex` finds in the text.
+/// `tokens` must be the tokens that `bsdl_lexer::lex` finds in the text.
 pub fn parse(alloc: Global, bytes: &[u8], tokens: &[Token]) -> Result<Entity, ParseFault>
     requires short { length bytes.now < 2 ^ 32 }
     requires tokens { AreTokens bytes.now tokens.now }
-    // The entity that the tokens derive; or the fault of the first token that does not fit, or of the missing
-    // rest of a file.
+    // On Ok, the tokens derive the entity. Otherwise the fault is that of the first token that does not fit, or of the
+    // missing rest of a file.
     ensures answer { Gives parse_told (λ entity. entity) (IsAnswer bytes.now (lexemes bytes.now tokens.now)) result }
-    // There is no other answer.
+    // The definition allows no other answer.
     ensures only { Gives parse_told (λ entity. entity) (λ answer. (other : Result Entity ParseFault) → IsAnswer bytes.now (lexemes bytes.now tokens.now) other → other ≡ answer) result }
 
     // Limits that every returned entity keeps.

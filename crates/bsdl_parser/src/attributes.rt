@@ -1,4 +1,4 @@
-//! Attribute items: those that are used, and those that are skipped.
+//! Attribute items. Some attributes are used, and all others are skipped.
 ghost use Rattle.std.specs.Prelude.{◌≡◌, map};
 ghost use Rattle.std.specs.Char.{to_ascii_uppercase};
 ghost use Rattle.grammars.specs.Turn.{turn_of};
@@ -13,7 +13,7 @@ use crate::stop::Stop;
 use board_defs::Name;
 use grammars::spells;
 
-/// Returns the number and the form of an attribute with this name, if it is used.
+/// Returns the number and the form of the attribute with this name, or None if the attribute is not used.
 fn used_attribute(name: &[u8]) -> Option<(u32, AttrForm)>
     ensures { result ≡ used (map to_ascii_uppercase name.now) }
 {
@@ -58,7 +58,7 @@ impl<'a> Cursor<'a> {
         Ok(used_attribute(name))
     }
 
-    /// Reads `of`, a word, `:`, the class and `is`, and returns the word.
+    /// Reads `of`, a word, `:`, the word `class` and `is`. Returns the word after `of`.
     #[tactic(auto, unfolding(crate::specs::Bsdl::of_class))]
     fn of_class(&mut self, class: &[u8]) -> Result<&'a [u8], Stop>
         ensures { ReadsTokens (reader_of (of_class class.now)) self.old self.new result (λ word. map to_ascii_uppercase word.now) }
@@ -136,7 +136,7 @@ impl<'a> Cursor<'a> {
         }
     }
 
-    /// Skips one token, and returns whether it is not the final `;`.
+    /// Skips one token. Returns false if it is the final `;`.
     #[tactic(auto, unfolding(crate::specs::Bsdl::skipped_token))]
     fn skipped_token(&mut self) -> Result<bool, Stop>
         ensures { ReadsTokens (reader_of (skipped_token tt)) self.old self.new result (λ more. turn_of more tt) }
@@ -145,7 +145,7 @@ impl<'a> Cursor<'a> {
         Ok(more)
     }
 
-    /// Skips all tokens up to the next `;`, and the `;`.
+    /// Skips all tokens up to and including the next `;`.
     fn skipped(&mut self) -> Result<(), Stop>
         ensures { ReadsTokens (reader_of (turns skipped_token tt)) self.old self.new result (λ x. x) }
     {
@@ -153,7 +153,7 @@ impl<'a> Cursor<'a> {
         Ok(())
     }
 
-    /// Reads an attribute item after its first word. Skips one that is not used, and returns None.
+    /// Reads an attribute item after its first word. If the attribute is not used, skips the item and returns None.
     #[tactic(auto, unfolding(crate::specs::Bsdl::attribute))]
     pub(crate) fn attribute_item(&mut self) -> Result<Option<Attr>, Stop>
         ensures { ReadsTokens (reader_of attribute) self.old self.new result (λ attribute. attribute) }

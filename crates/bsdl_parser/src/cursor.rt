@@ -1,4 +1,4 @@
-//! The tokens that are left, which are read from the front.
+//! A cursor over the tokens that are left, which reads them from the front.
 ghost use Rattle.std.specs.Prelude.{◌≡◌, map, length};
 ghost use Rattle.std.specs.Char.{to_ascii_uppercase};
 ghost use Rattle.grammars.specs.Grammar.{reader_of};
@@ -14,14 +14,14 @@ use grammars::spells;
 use std::alloc::Global;
 use std::marker::Model;
 
-/// Whether the next token is the word `package`, and the token's line.
+/// The facts about the next token that a fault needs: whether it is the word `package`, and its line.
 #[derive(Clone, Copy)]
 pub(crate) struct Front {
     pub is_package: bool,
     pub line: u32,
 }
 
-/// The tokens of a text that are left, and the allocator for the values that are made from them.
+/// The tokens of a text that are left, and the allocator for the values that are made of them.
 #[derive(Drop)]
 pub(crate) struct Cursor<'a> {
     alloc: Global,
@@ -82,7 +82,7 @@ fn is_the_mark(text: &[u8], token: &Token, name: &[u8]) -> bool
     is_mark(token.kind) && spells(bytes_at(text, token), name)
 }
 
-/// Returns the bytes between the quotes.
+/// Returns the bytes between the quotes of a string token.
 fn unquoted(bytes: &[u8]) -> &[u8]
     ensures { map to_ascii_uppercase result.now ≡ places.contents (map to_ascii_uppercase bytes.now) }
 {
@@ -146,7 +146,7 @@ impl<'a> Cursor<'a> {
         }
     }
 
-    /// Reads the word `name`, in either case.
+    /// Reads the word `name`. The case of letters does not matter.
     pub(crate) fn keyword(&mut self, name: &[u8]) -> Result<(), Stop>
         ensures { ReadsTokens (reader_of (places.keyword name.now)) self.old self.new result (λ x. x) }
     {
@@ -172,7 +172,7 @@ impl<'a> Cursor<'a> {
         }
     }
 
-    /// Reads one of two words, and returns whether it is the first.
+    /// Reads one of two words. Returns whether it is the first.
     pub(crate) fn either_word(&mut self, first: &[u8], second: &[u8]) -> Result<bool, Stop>
         ensures { ReadsTokens (reader_of (places.either_word first.now second.now)) self.old self.new result (λ x. x) }
     {
@@ -189,7 +189,7 @@ impl<'a> Cursor<'a> {
         }
     }
 
-    /// Reads one of two marks, and returns whether it is the first.
+    /// Reads one of two marks. Returns whether it is the first.
     pub(crate) fn either_mark(&mut self, first: &[u8], second: &[u8]) -> Result<bool, Stop>
         ensures { ReadsTokens (reader_of (places.either_mark first.now second.now)) self.old self.new result (λ x. x) }
     {
@@ -206,7 +206,7 @@ impl<'a> Cursor<'a> {
         }
     }
 
-    /// Reads a word or the mark `name`, and returns whether it is a word.
+    /// Reads a word or the mark `name`. Returns whether it is a word.
     pub(crate) fn word_or_mark(&mut self, name: &[u8]) -> Result<bool, Stop>
         ensures { ReadsTokens (reader_of (places.word_or_mark name.now)) self.old self.new result (λ x. x) }
     {
@@ -223,7 +223,7 @@ impl<'a> Cursor<'a> {
         }
     }
 
-    /// Reads any token, and returns whether it is not the mark `name`.
+    /// Reads any token. Returns false if it is the mark `name`.
     pub(crate) fn other_than(&mut self, name: &[u8]) -> Result<bool, Stop>
         ensures { ReadsTokens (reader_of (places.other_than name.now)) self.old self.new result (λ x. x) }
     {
@@ -248,7 +248,7 @@ impl<'a> Cursor<'a> {
         }
     }
 
-    /// Reads a number of 1 to 9 digits without a point or an exponent.
+    /// Reads a number of 1 to 9 digits, without a point or an exponent.
     pub(crate) fn integer(&mut self) -> Result<u32, Stop>
         ensures { ReadsTokens (reader_of places.integer) self.old self.new result (λ x. x) }
     {
@@ -262,7 +262,7 @@ impl<'a> Cursor<'a> {
         }
     }
 
-    /// Reads any word, and returns its bytes unchanged.
+    /// Reads any word. Returns its bytes unchanged.
     pub(crate) fn word_bytes(&mut self) -> Result<&'a [u8], Stop>
         ensures { ReadsTokens (reader_of places.any_word) self.old self.new result (λ bytes. map to_ascii_uppercase bytes.now) }
     {
@@ -275,7 +275,7 @@ impl<'a> Cursor<'a> {
         }
     }
 
-    /// Reads any word, and returns it in upper case.
+    /// Reads any word. Returns it in upper case.
     pub(crate) fn word(&mut self) -> Result<Name, Stop>
         ensures { ReadsTokens (reader_of places.any_word) self.old self.new result (λ name. name) }
     {
@@ -283,7 +283,7 @@ impl<'a> Cursor<'a> {
         Ok(Name::in_upper_case(self.alloc, bytes)?)
     }
 
-    /// Reads any string token, and returns the bytes between its quotes unchanged.
+    /// Reads any string token. Returns the bytes between its quotes unchanged.
     pub(crate) fn text_bytes(&mut self) -> Result<&'a [u8], Stop>
         ensures { ReadsTokens (reader_of places.any_text) self.old self.new result (λ bytes. map to_ascii_uppercase bytes.now) }
     {

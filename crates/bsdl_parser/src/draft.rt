@@ -1,8 +1,8 @@
-//! The items of an entity that were read so far, and the kinds of items.
+//! The items of an entity that have been read, and the kinds of items.
 use crate::entity::{Attr, Constant, Port};
 use board_defs::Name;
 
-/// The items that were read so far.
+/// The items that have been read.
 #[derive(Drop)]
 pub(crate) struct Draft {
     pub has_generic: bool,
@@ -14,7 +14,7 @@ pub(crate) struct Draft {
     pub attributes: Vec<Attr>,
 }
 
-/// The kind of item that a word begins.
+/// The kind of an item, which its first word decides, or the end of the items.
 #[derive(Clone, Copy)]
 pub(crate) enum ItemWord {
     Generic,
@@ -25,7 +25,7 @@ pub(crate) enum ItemWord {
     End,
 }
 
-/// The form of an attribute that is used.
+/// The form of the value of an attribute that is used.
 #[derive(Clone, Copy)]
 pub(crate) enum AttrForm {
     Plain,

@@ -1,16 +1,16 @@
 //! The contents of a BSDL text's entity. All names and texts are in upper case.
 use board_defs::{Items, Mode, Name};
 
-/// The bounds of a vector port: `left to right` or `left downto right`.
+/// The range of a vector port: `left to right` or `left downto right`.
 #[derive(Clone, Copy, Debug, PartialEq, Eq)]
 pub struct Range {
     pub left: u32,
     pub right: u32,
-    /// Whether the bounds have `to` between them, not `downto`.
+    /// Whether the bounds have `to` between them. Otherwise they have `downto`.
     pub up: bool,
 }
 
-/// A port of the logical port description. Without a range it is one bit.
+/// A port of the logical port description. A port without a range has one bit.
 #[derive(Drop)]
 pub struct Port {
     pub name: Name,
@@ -18,29 +18,29 @@ pub struct Port {
     pub range: Option<Range>,
 }
 
-/// A pin map. The constant's name is the name of a package.
+/// A pin map. The name of the constant is the name of a package.
 #[derive(Drop)]
 pub struct Constant {
     pub name: Name,
     pub text: Name,
 }
 
-/// The value of an attribute, as far as it is used.
+/// The value of an attribute, as far as this program uses it.
 #[derive(Drop)]
 pub enum AttrValue {
-    /// PIN_MAP, which has no other value.
+    /// The value of PIN_MAP, which can have no other value.
     Plain,
-    /// A TAP attribute: the port to which it belongs.
+    /// The value of a TAP attribute: the name of its port.
     Port(Name),
-    /// INSTRUCTION_LENGTH or BOUNDARY_LENGTH.
+    /// The value of INSTRUCTION_LENGTH or BOUNDARY_LENGTH.
     Number(u32),
-    /// The contents of a string.
+    /// The value of any other attribute: the content of its string.
     Text(Name),
 }
 
-/// An attribute that is used. Its number, from 1 to 14, means: PIN_MAP, TAP_SCAN_IN, TAP_SCAN_OUT, TAP_SCAN_MODE,
-/// TAP_SCAN_CLOCK, INSTRUCTION_LENGTH, INSTRUCTION_OPCODE, INSTRUCTION_CAPTURE, BOUNDARY_LENGTH, BOUNDARY_REGISTER,
-/// TAP_SCAN_RESET, IDCODE_REGISTER, COMPLIANCE_PATTERNS, COMPONENT_CONFORMANCE.
+/// An attribute that is used. The numbers from 1 to 14 mean, in this order, PIN_MAP, TAP_SCAN_IN, TAP_SCAN_OUT,
+/// TAP_SCAN_MODE, TAP_SCAN_CLOCK, INSTRUCTION_LENGTH, INSTRUCTION_OPCODE, INSTRUCTION_CAPTURE, BOUNDARY_LENGTH,
+/// BOUNDARY_REGISTER, TAP_SCAN_RESET, IDCODE_REGISTER, COMPLIANCE_PATTERNS, COMPONENT_CONFORMANCE.
 #[derive(Drop)]
 pub struct Attr {
     pub number: u32,
@@ -51,10 +51,10 @@ pub struct Attr {
 #[derive(Drop)]
 pub struct Entity {
     pub name: Name,
-    /// The default of PHYSICAL_PIN_MAP: the package that is used if the caller names none.
+    /// The default of PHYSICAL_PIN_MAP, which is the package that is used if the caller names none.
     pub fallback: Option<Name>,
     pub ports: Items<Port>,
-    /// The packages that the `use` items name.
+    /// The names of the packages in the `use` items.
     pub uses: Items<Name>,
     pub constants: Items<Constant>,
     pub attributes: Items<Attr>,

@@ -1,4 +1,4 @@
-//! A whole file.
+//! Reading a whole file.
 ghost use Rattle.std.specs.Prelude.{◌≡◌};
 ghost use Rattle.grammars.specs.Grammar.{reader_of};
 ghost use Rattle.bsdl_parser.specs.inner.Reading.{ReadsTokens};
@@ -40,7 +40,7 @@ impl<'a> Cursor<'a> {
         if is_named { self.mark(b";") } else { Ok(()) }
     }
 
-    /// Reads the file at the front, and returns its entity.
+    /// Reads a file at the front. Returns its entity.
     #[tactic(auto, unfolding(crate::specs::Bsdl::file))]
     pub(crate) fn file(&mut self) -> Result<Entity, Stop>
         ensures { ReadsTokens (reader_of file) self.old self.new result (λ entity. entity) }

@@ -1,4 +1,4 @@
-//! The items of a file.
+//! Reading the items of a file.
 ghost use Rattle.std.specs.Prelude.{◌≡◌, map};
 ghost use Rattle.std.specs.Char.{to_ascii_uppercase};
 ghost use Rattle.grammars.specs.Turn.{turn_of};
@@ -14,7 +14,7 @@ use crate::stop::Stop;
 use board_defs::Name;
 use grammars::spells;
 
-/// Returns the kind of item that the word begins after the items so far, if it may begin one there.
+/// Returns the kind of item that the word begins. Returns None if no such item may follow the items so far.
 fn begun(word: &[u8], draft: &Draft) -> Option<ItemWord>
     ensures { result ≡ item_word (items_of draft.now) (map to_ascii_uppercase word.now) }
 {
@@ -55,7 +55,7 @@ impl<'a> Cursor<'a> {
         }
     }
 
-    /// Reads a generic item after its first word, and returns the default of PHYSICAL_PIN_MAP, if there is one.
+    /// Reads a generic item after its first word. Returns the default of PHYSICAL_PIN_MAP, if there is one.
     #[tactic(auto, unfolding(crate::specs::Bsdl::generic))]
     fn generic_item(&mut self) -> Result<Option<Name>, Stop>
         ensures { ReadsTokens (reader_of generic) self.old self.new result (λ name. name) }
@@ -70,7 +70,7 @@ impl<'a> Cursor<'a> {
         Ok(fallback)
     }
 
-    /// Reads a use item after its first word, and returns the package.
+    /// Reads a use item after its first word. Returns the name of the package.
     #[tactic(auto, unfolding(crate::specs::Bsdl::used_package))]
     fn use_item(&mut self) -> Result<Name, Stop>
         ensures { ReadsTokens (reader_of used_package) self.old self.new result (λ name. name) }
@@ -109,7 +109,7 @@ impl<'a> Cursor<'a> {
         }
     }
 
-    /// Reads one item and adds it to `draft`. Returns false if it was the word `end` instead.
+    /// Reads one item and adds it to `draft`. Returns false if there is no item but the word `end`.
     #[tactic(auto, unfolding(crate::specs::Bsdl::item, crate::specs::Bsdl::item_of))]
     fn item(&mut self, draft: &mut Draft) -> Result<bool, Stop>
         ensures { ReadsTokens (reader_of (item (items_of draft.old))) self.old self.new result (λ more. turn_of more (items_of draft.new)) }
@@ -135,7 +135,7 @@ impl<'a> Cursor<'a> {
         Ok(true)
     }
 
-    /// Reads the items up to the word `end`, and that word.
+    /// Reads the items up to and including the word `end`.
     pub(crate) fn items(&mut self) -> Result<Draft, Stop>
         ensures { ReadsTokens (reader_of (turns item no_items)) self.old self.new result (λ draft. items_of draft) }
     {

@@ -1,4 +1,4 @@
-//! Laws of the definitions. Each is the contract of a function that does nothing.
+//! Laws of the definitions. Each law is the contract of a function that does nothing.
 ghost use Rattle.std.specs.Prelude.{◌≡◌, ◌^◌, ◌<◌, ℕ, List, Result, length};
 ghost use Rattle.bsdl_lexer.specs.declared.token.Token.{Token};
 ghost use Rattle.bsdl_lexer.specs.Tokens.{AreTokens};
@@ -13,14 +13,14 @@ pub fn token_lists_derive_one_entity()
     ensures { (tokens : List Lexeme) (entity other : Entity) → Derives tokens entity → Derives tokens other → entity ≡ other }
 {}
 
-/// A list of tokens has exactly one answer: the entity that it derives, or its first fault.
+/// A text and a list of tokens have exactly one answer: the entity that the tokens derive, or the first fault.
 pub fn token_lists_have_one_answer()
     ensures some { (text : List ℕ) (tokens : List Lexeme) → (answer : Result Entity ParseFault) × IsAnswer text tokens answer }
     ensures one { (text : List ℕ) (tokens : List Lexeme) (answer other : Result Entity ParseFault) → IsAnswer text tokens answer → IsAnswer text tokens other → answer ≡ other }
 {}
 
-/// Each attribute of an entity has the kind of value that belongs to its number. If the tokens are those of a
-/// text of fewer than 2^32 bytes, the names, texts and lists of the entity are short.
+/// Each attribute of a derived entity has the kind of value that belongs to its number. If the tokens are those of a
+/// text with fewer than 2^32 bytes, the names, texts and lists of the entity have fewer than 2^32 bytes or items.
 pub fn entities_keep_their_limits()
     ensures kinds { (tokens : List Lexeme) (entity : Entity) → Derives tokens entity → HaveKinds entity }
     ensures small { (text : List ℕ) (tokens : List Token) (entity : Entity) → length text < 2 ^ 32 → AreTokens text tokens → Derives (lexemes text tokens) entity → IsSmall entity }

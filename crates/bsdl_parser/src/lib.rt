@@ -1,5 +1,5 @@
-//! The grammar of BSDL texts (IEEE 1149.1b-1994 and IEEE 1149.1-2001, Annex B, as far as an interconnect test
-//! needs them), and the entity that a text describes.
+//! The grammar of BSDL texts, as far as an interconnect test needs it (IEEE 1149.1b-1994 and IEEE 1149.1-2001, Annex
+//! B), and the entity that a text describes.
 #![tactic(auto)]
 
 mod answer;

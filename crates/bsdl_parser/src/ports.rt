@@ -1,4 +1,4 @@
-//! The port item: groups of ports.
+//! Reading the port item, which has groups of ports.
 ghost use Rattle.std.specs.Prelude.{◌≡◌, ◌++◌, [], OnOk};
 ghost use Rattle.grammars.specs.Turn.{turn_of};
 ghost use Rattle.grammars.specs.Grammar.{turns, reader_of};
@@ -27,7 +27,7 @@ fn add_ports(
 }
 
 impl<'a> Cursor<'a> {
-    /// Reads one name and adds it to `names`. Returns whether another follows.
+    /// Reads one name and adds it to `names`. Returns whether another name follows.
     #[tactic(auto, unfolding(crate::specs::Bsdl::port_name))]
     fn port_name(&mut self, names: &mut Vec<Name>) -> Result<bool, Stop>
         ensures { ReadsTokens (reader_of (port_name names.old.items)) self.old self.new result (λ more. turn_of more names.new.items) }
@@ -88,7 +88,7 @@ impl<'a> Cursor<'a> {
         Ok(ports)
     }
 
-    /// Reads a port item after its first word.
+    /// Reads a port item after its first word. Returns its ports.
     #[tactic(auto, unfolding(crate::specs::Bsdl::ports))]
     pub(crate) fn port_item(&mut self) -> Result<Vec<Port>, Stop>
         ensures { ReadsTokens (reader_of ports) self.old self.new result (λ ports. ports.items) }

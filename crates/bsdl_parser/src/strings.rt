@@ -1,4 +1,4 @@
-//! Strings: one string token, or several joined by `&`.
+//! Reading strings. A string is one string token, or several that are joined by `&`.
 ghost use Rattle.std.specs.Prelude.{◌≡◌, map};
 ghost use Rattle.std.specs.Char.{to_ascii_uppercase};
 ghost use Rattle.grammars.specs.Turn.{turn_of};
@@ -10,7 +10,7 @@ use crate::cursor::Cursor;
 use crate::stop::Stop;
 use board_defs::Name;
 
-/// Returns the name with the bytes in upper case.
+/// Returns a name with these bytes, changed to upper case.
 fn upper(mut content: Vec<u8>) -> Name
     ensures { result ≡ map to_ascii_uppercase content.items }
 {
@@ -19,7 +19,7 @@ fn upper(mut content: Vec<u8>) -> Name
 }
 
 impl<'a> Cursor<'a> {
-    /// Reads one string token and appends its bytes to `content`. Returns whether another follows.
+    /// Reads one string token and appends its bytes to `content`. Returns whether another string token follows.
     #[tactic(auto, unfolding(crate::specs::Bsdl::string_piece))]
     fn piece(&mut self, close: &[u8], content: &mut Vec<u8>) -> Result<bool, Stop>
         ensures { ReadsTokens (reader_of (string_piece close.now (map to_ascii_uppercase content.old.items))) self.old self.new result (λ joined. turn_of joined (map to_ascii_uppercase content.new.items)) }
@@ -29,7 +29,7 @@ impl<'a> Cursor<'a> {
         self.either_mark(b"&", close)
     }
 
-    /// Reads a string up to the mark `close`, and that mark.
+    /// Reads a string up to and including the mark `close`.
     pub(crate) fn string(&mut self, close: &[u8]) -> Result<Name, Stop>
         ensures { ReadsTokens (reader_of (string close.now)) self.old self.new result (λ name. name) }
     {

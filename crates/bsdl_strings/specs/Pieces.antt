@@ -1,8 +1,9 @@
--- The pieces of an inner string: runs of letters, digits and `_`, single other bytes, and the end of the string.
+-- The pieces of an inner string: groups of adjacent letters, digits and `_`; single other bytes; and the end of the
+-- string.
 use Rattle.std.specs.Prelude.{ℕ, ◌==◌, List, [], ◌∷◌, Bool, true, false, ◌&&◌, ◌||◌, if◌then◌else◌}
 use Rattle.std.specs.Char.{is_ascii_alphanumeric}
 
--- space and tab
+-- the byte is a space or a tab
 abbrev pub is_blank : ℕ → Bool
 is_blank byte = (byte == 32) || (byte == 9)
 
@@ -20,17 +21,17 @@ abbrev pub starts_blank : List ℕ → Bool
 starts_blank [] = false
 starts_blank (byte ∷ bytes) = is_blank byte
 
--- the pieces, with this byte before the first
+-- the pieces, with this byte put in front of the first
 abbrev pub longer : ℕ → List (List ℕ) → List (List ℕ)
 longer byte [] = (byte ∷ []) ∷ []
 longer byte (piece ∷ pieces) = (byte ∷ piece) ∷ pieces
 
--- the piece is the end of the string, for which the empty piece stands
+-- the piece is the end of the string, which is written as the empty piece
 abbrev pub is_end : List ℕ → Bool
 is_end [] = true
 is_end (byte ∷ bytes) = false
 
--- The pieces of a text. The last one is the end. Blanks separate pieces and belong to none.
+-- The pieces of a text, the last of which is the end. Blanks separate pieces and belong to none.
 unfoldable pub pieces : List ℕ → List (List ℕ)
 pieces [] = [] ∷ []
 pieces (byte ∷ bytes) =

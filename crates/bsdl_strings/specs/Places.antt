@@ -1,4 +1,5 @@
--- The grammar of single pieces: which pieces fit, and their values. Letters have no case, and names are in upper case.
+-- The grammar of single pieces: which pieces fit a place, and their values. The case of letters does not matter, and names are in
+-- upper case.
 use Rattle.std.specs.Prelude.{ℕ, ◌==◌, List, [], ◌∷◌, length, map, reverse, Bool, true, false, ◌&&◌, ◌||◌, if◌then◌else◌, Option, Some, None, nat_lt, codes}
 use Rattle.std.specs.List.{list_all}
 use Rattle.std.specs.Str.{bytes_eq}
@@ -31,7 +32,7 @@ comma = 44
 abbrev pub colon : ℕ
 colon = 58
 
--- the piece is this byte alone
+-- the piece consists of this byte alone
 abbrev pub is_mark : ℕ → List ℕ → Bool
 is_mark byte [] = false
 is_mark byte (first ∷ []) = first == byte
@@ -42,19 +43,19 @@ abbrev pub starts_with_letter : List ℕ → Bool
 starts_with_letter [] = false
 starts_with_letter (first ∷ bytes) = is_ascii_alphabetic first
 
--- letters, digits and `_`, at least one
+-- one or more letters, digits and `_`
 abbrev pub is_pin : List ℕ → Bool
 is_pin piece = nat_lt 0 (length piece) && list_all is_word_byte piece
 
--- a letter, and then letters, digits and `_`
+-- a letter, followed by letters, digits and `_`
 abbrev pub is_word : List ℕ → Bool
 is_word piece = starts_with_letter piece && list_all is_word_byte piece
 
--- 0, 1 or X
+-- the character 0, 1 or X
 abbrev pub is_symbol : ℕ → Bool
 is_symbol byte = (byte == 48) || ((byte == 49) || (to_ascii_uppercase byte == 88))
 
--- the symbol of a character; X matches 0 and 1
+-- the symbol of a character 0, 1 or X; X matches both bits
 abbrev pub symbol_of : ℕ → Symbol
 symbol_of byte = if byte == 48 then Zero else if byte == 49 then One else Any
 
@@ -62,11 +63,11 @@ symbol_of byte = if byte == 48 then Zero else if byte == 49 then One else Any
 abbrev pub is_code : List ℕ → Bool
 is_code piece = nat_lt 0 (length piece) && list_all is_symbol piece
 
--- the code that the characters spell: the rightmost character is the bit nearest TDO, which comes first in a code
+-- The code that the characters spell. The rightmost character is the bit nearest TDO, which is the first of a code.
 abbrev pub code_of : List ℕ → List Symbol
 code_of piece = map symbol_of (reverse piece)
 
--- the function of a cell, given its name
+-- the function of an entry, given its name in upper case
 abbrev pub role_of : List ℕ → Option Role
 role_of word =
     if bytes_eq word (codes "INPUT") then Some roles.Input else
@@ -79,7 +80,7 @@ role_of word =
     if bytes_eq word (codes "BIDIR") then Some roles.Bidir else
     some_if (bytes_eq word (codes "OBSERVE_ONLY")) roles.ObserveOnly
 
--- the state of a disabled driver; in none of these does it drive
+-- the state of a disabled driver; in each of these states the driver does not drive
 abbrev pub is_result : List ℕ → Bool
 is_result word =
     bytes_eq word (codes "Z") || (bytes_eq word (codes "WEAK0") || (bytes_eq word (codes "WEAK1") ||
@@ -93,11 +94,11 @@ Part A = Grammar (List ℕ) A
 abbrev pub mark : ℕ → Part (Unit {0})
 mark byte = place (λ piece. some_if (is_mark byte piece) tt)
 
--- one of two marks; the value is whether it is the first
+-- one of two marks, with the value whether it is the first
 abbrev pub either_mark : ℕ → ℕ → Part Bool
 either_mark first second = place (λ piece. if is_mark first piece then Some true else some_if (is_mark second piece) false)
 
--- a comma or the end of the string; the value is whether it is the comma
+-- a comma or the end of the string, with the value whether it is the comma
 abbrev pub comma_or_end : Part Bool
 comma_or_end = place (λ piece. if is_mark comma piece then Some true else some_if (is_end piece) false)
 
@@ -117,11 +118,11 @@ pin_or_open = place (λ piece. if is_mark open_mark piece then Some None else so
 abbrev pub word_or_star : Part (Option (List ℕ))
 word_or_star = place (λ piece. if is_mark star piece then Some None else some_if (is_word piece) (Some (upper piece)))
 
--- an index; the value is its number
+-- an index, with its number as the value
 abbrev pub index : Part ℕ
 index = place (λ piece. some_if (is_integer piece) (digits_value piece))
 
--- a code, beginning with the bit nearest TDO
+-- a code, whose first symbol is nearest TDO
 abbrev pub code : Part (List Symbol)
 code = place (λ piece. some_if (is_code piece) (code_of piece))
 
@@ -129,7 +130,7 @@ code = place (λ piece. some_if (is_code piece) (code_of piece))
 abbrev pub safe_value : Part Symbol
 safe_value = place (λ piece. if is_mark 48 piece then Some Zero else if is_mark 49 piece then Some One else some_if (bytes_eq (upper piece) (codes "X")) Any)
 
--- value = 0 | 1; the value is whether it is 1
+-- value = 0 | 1, with the value whether it is 1
 abbrev pub bit_value : Part Bool
 bit_value = either_mark 49 48
 
@@ -141,7 +142,8 @@ role = place (λ piece. role_of (upper piece))
 abbrev pub result_word : Part (Unit {0})
 result_word = place (λ piece. some_if (is_result (upper piece)) tt)
 
--- the mark after the port name of a compliance bit; the value is None if an index follows, and otherwise whether another bit follows
+-- The mark after the port name of a compliance bit. The value is None if an index follows, and otherwise whether another bit
+-- follows.
 abbrev pub after_bit : Part (Option Bool)
 after_bit = place (λ piece. if is_mark open_mark piece then Some None else if is_mark comma piece then Some (Some true) else some_if (is_mark close_mark piece) (Some false))
 

@@ -1,5 +1,5 @@
--- The grammars of the strings inside a BSDL text (IEEE 1149.1b-1994 and IEEE 1149.1-2001, Annex B, as far as an interconnect test needs
--- them), and the values of the strings. The comment above a production is its EBNF line.
+-- The grammars of the strings inside a BSDL text, as far as an interconnect test needs them (IEEE 1149.1b-1994 and IEEE 1149.1-2001,
+-- Annex B), and the values of the strings. The comment above a production is its EBNF line.
 use Rattle.std.specs.Prelude.{◌≡◌, ℕ, ◌+◌, List, [], ◌∷◌, ◌++◌, length, Bool, true, false, Option, Some, None, IsTrue, ◌⊎◌}
 use Rattle.std.specs.List.{take_while}
 use Rattle.board_defs.specs.declared.device.Symbol.{Symbol}
@@ -21,7 +21,8 @@ use Rattle.bsdl_strings.specs.Places.{Part, mark, either_mark, comma_or_end, wor
 abbrev pub comma_or_close : Part Bool
 comma_or_close = either_mark comma close_mark
 
--- pin | "(" pin { "," pin } ")", after the one pin or the opening parenthesis
+-- The pins of a map entry, after its first piece. If that piece is a pin, nothing more is read. If it is "(", this is pin { "," pin }
+-- ")".
 abbrev pub pins_of : Option (List ℕ) → Part (List (List ℕ))
 pins_of (Some name) = done (name ∷ [])
 pins_of None = list_of pin comma_or_close
@@ -43,7 +44,7 @@ opcode = do
   codes ← list_of code comma_or_close
   done (record { name = name; codes = codes })
 
--- after the port name of a place and the mark that follows it: index ")" "," after a parenthesis, and nothing after a comma
+-- The rest of a place, after the port name and the mark that follows it. After "(" this is index ")" ",". After "," nothing more is read.
 abbrev pub indexed : List ℕ → Bool → Part PortWord
 indexed name false = done (Plain name)
 indexed name true = do
@@ -52,7 +53,7 @@ indexed name true = do
   _ ← mark comma
   done (Index name i)
 
--- what comes after the `*` or the port name of a place
+-- The rest of a place, after `*` or the port name.
 abbrev pub place_of : Option (List ℕ) → Part PortWord
 place_of None = do
   _ ← mark comma
@@ -67,7 +68,7 @@ port_place = do
   first ← word_or_star
   place_of first
 
--- index "," value "," result ")" after a comma, and nothing after a closing parenthesis
+-- The rest of a control, after its first mark. After "," this is index "," value "," result ")". After ")" nothing more is read.
 abbrev pub control_of : Bool → Part (Option Control)
 control_of false = done None
 control_of true = do
@@ -85,7 +86,7 @@ control = do
   more ← comma_or_close
   control_of more
 
--- index "(" word ",", where the word is the name of the cell's kind and is not used
+-- index "(" word ",", where the word is the name of the cell's kind, which is not used
 unfoldable pub cell : Part ℕ
 cell = do
   num ← index
@@ -105,7 +106,7 @@ entry = do
   ctl ← control
   done (record { num = num; port = port; role = role; safe = safe; ctl = ctl })
 
--- what comes after the port name of a compliance bit and the mark that follows it
+-- the rest of a compliance bit, after its port name and the mark that follows the name
 abbrev pub bit_behind : List ℕ → Option Bool → Part (PortWord × Bool)
 bit_behind name (Some more) = done (Plain name, more)
 bit_behind name None = do
@@ -114,14 +115,14 @@ bit_behind name None = do
   more ← comma_or_close
   done (Index name i, more)
 
--- bit = word | word "(" index ")", and the mark that follows it; the second value is whether that is a comma, so that another bit follows
+-- bit = word | word "(" index ")", and the mark after it; the second value is true if this mark is a comma, so that another bit follows
 unfoldable pub bit : Part (PortWord × Bool)
 bit = do
   name ← word
   next ← after_bit
   bit_behind name next
 
--- one bit, and the comma or the parenthesis that follows it
+-- one bit, and the comma or the closing parenthesis after it
 unfoldable pub bit_turn : List PortWord → Part (Turn (List PortWord) (List PortWord))
 bit_turn before = do
   one ← bit
@@ -152,11 +153,12 @@ compliance = do
   patterns ← second_parenthesis
   done (record { ports = ports; patterns = patterns })
 
--- the string is a list of such entries, and these are their values
+-- the string is a list of such entries, with these values
 abbrev pub IsListOf : {A : Type 0} → Part A → List ℕ → List A → Type 0
 IsListOf entry text values = (production_of (list_of entry comma_or_end)).Whole (pieces text) values
 
--- The string is not a list of such entries. `number` is one more than the number of whole entries, each with its comma, at its front.
+-- The string is not a list of such entries, and goes wrong at entry `number`, counted from 1. Every entry before it is whole and is
+-- followed by a comma.
 abbrev pub IsNoListOf : {A : Type 0} → Part A → List ℕ → ℕ → Type 0
 IsNoListOf entry text number = GoesWrongAt entry comma_or_end number (pieces text)
 
@@ -164,7 +166,7 @@ IsNoListOf entry text number = GoesWrongAt entry comma_or_end number (pieces tex
 abbrev pub IsPinMap : List ℕ → List MapEntry → Type 0
 IsPinMap text = IsListOf map_entry text
 
--- the string is not a pin map: it goes wrong at the entry with this number, from 1
+-- the string is not a pin map, and goes wrong at entry `number`, counted from 1
 abbrev pub IsNoPinMap : List ℕ → ℕ → Type 0
 IsNoPinMap text = IsNoListOf map_entry text
 
@@ -172,7 +174,7 @@ IsNoPinMap text = IsNoListOf map_entry text
 abbrev pub AreOpcodes : List ℕ → List Opcode → Type 0
 AreOpcodes text = IsListOf opcode text
 
--- the string is not an opcode string: it goes wrong at the entry with this number, from 1
+-- the string is not an opcode string, and goes wrong at entry `number`, counted from 1
 abbrev pub AreNoOpcodes : List ℕ → ℕ → Type 0
 AreNoOpcodes text = IsNoListOf opcode text
 
@@ -180,15 +182,16 @@ AreNoOpcodes text = IsNoListOf opcode text
 abbrev pub IsBoundary : List ℕ → List Entry → Type 0
 IsBoundary text = IsListOf entry text
 
--- the string is not a boundary register: it goes wrong at the entry with this number, from 1
+-- the string is not a boundary register, and goes wrong at entry `number`, counted from 1
 abbrev pub IsNoBoundary : List ℕ → ℕ → Type 0
 IsNoBoundary text = IsNoListOf entry text
 
--- pattern = code, and no blank: one or more of 0, 1 and X, and nothing else
+-- pattern = code, with no other characters: one or more of 0, 1 and X
 abbrev pub IsPattern : List ℕ → List Symbol → Type 0
 IsPattern text value = IsTrue (is_code text) × (value ≡ code_of text)
 
--- the string is not a pattern; `number` is the place, from 1, of the first character that is not 0, 1 or X, or 1 for an empty string
+-- The string is not a pattern. `number` is the place of the first character that is not 0, 1 or X, counted from 1, or 1 for an empty
+-- string.
 pub record IsNoPattern (text : List ℕ) (number : ℕ) : Type 0 where
   pub no_value : (value : List Symbol) → IsPattern text value → ⊥
   pub place : number ≡ length (take_while is_symbol text) + 1
@@ -201,7 +204,7 @@ IsCompliance text value = (production_of compliance).Whole (pieces text) value
 abbrev pub HasFirstParenthesis : List ℕ → Type 0
 HasFirstParenthesis text = Follows (production_of first_parenthesis) (λ ports rest. Unit {0}) (pieces text)
 
--- the string is not a compliance string; `number` is 2 if it begins with a whole first parenthesis, and otherwise 1
+-- The string is not a compliance string. `number` is 2 if the string begins with a whole first parenthesis, and otherwise 1.
 pub record IsNoCompliance (text : List ℕ) (number : ℕ) : Type 0 where
   pub no_value : (value : Compliance) → IsCompliance text value → ⊥
   pub place : ((number ≡ 1) × ¬ HasFirstParenthesis text) ⊎ ((number ≡ 2) × HasFirstParenthesis text)

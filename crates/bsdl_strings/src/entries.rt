@@ -17,7 +17,7 @@ use crate::values::{Entry, MapEntry, Opcode, PortWord};
 use board_defs::{Code, Control, Items, Name};
 use std::alloc::{AllocError, Global};
 
-/// Reads pins up to the closing parenthesis.
+/// Reads pins up to and including the closing parenthesis.
 fn pins(alloc: Global, text: &[u8]) -> Result<(Items<Name>, &[u8]), Stop<'_>>
     ensures { ReadsPieces (λ x. found x.0 (pieces x.1.now)) result (reader_of (list_of any_pin comma_or_close) (pieces text.now)) }
 {
@@ -34,7 +34,7 @@ fn pins(alloc: Global, text: &[u8]) -> Result<(Items<Name>, &[u8]), Stop<'_>>
     }
 }
 
-/// Reads codes up to the closing parenthesis.
+/// Reads codes up to and including the closing parenthesis.
 pub(crate) fn codes(alloc: Global, text: &[u8]) -> Result<(Items<Code>, &[u8]), Stop<'_>>
     ensures { ReadsPieces (λ x. found x.0 (pieces x.1.now)) result (reader_of (list_of any_code comma_or_close) (pieces text.now)) }
 {
@@ -62,7 +62,7 @@ pub(crate) fn map_entry(alloc: Global, text: &[u8]) -> Result<(MapEntry, &[u8]),
     Ok((MapEntry { port, pins }, rest))
 }
 
-/// Returns the one pin, or reads the pins of the group.
+/// Returns the pin `first`, or, if `first` is None, reads the pins of a group.
 fn pins_from(
     alloc: Global,
     first: Option<Name>,
@@ -94,7 +94,8 @@ pub(crate) fn opcode(alloc: Global, text: &[u8]) -> Result<(Opcode, &[u8]), Stop
     Ok((Opcode { name, codes }, rest))
 }
 
-/// Reads what follows the port name of a place and the mark after the name.
+/// Reads the rest of a place, after the port name and the mark that follows it. `opens` says whether this mark is an
+/// opening parenthesis.
 fn indexed(name: Name, opens: bool, text: &[u8]) -> Result<(PortWord, &[u8]), Stop<'_>>
     ensures { ReadsPieces (λ x. found x.0 (pieces x.1.now)) result (reader_of (index_after name opens) (pieces text.now)) }
 {
@@ -120,7 +121,7 @@ fn place_from(first: Option<Name>, text: &[u8]) -> Result<(PortWord, &[u8]), Sto
     }
 }
 
-/// Reads the place of an entry, and the comma after it.
+/// Reads the place of an entry and the comma after it.
 #[tactic(auto, unfolding(crate::specs::Strings::port_place))]
 fn port_place(alloc: Global, text: &[u8]) -> Result<(PortWord, &[u8]), Stop<'_>>
     ensures { ReadsPieces (λ x. found x.0 (pieces x.1.now)) result (reader_of any_port_place (pieces text.now)) }
@@ -145,7 +146,8 @@ fn control_from(comes: bool, text: &[u8]) -> Result<(Option<Control>, &[u8]), St
     }
 }
 
-/// Reads what comes after the safe value, up to the closing parenthesis of the entry.
+/// Reads the rest of an entry after the safe value, up to and including the closing parenthesis. Returns the control,
+/// if there is one.
 #[tactic(auto, unfolding(crate::specs::Strings::control))]
 fn control(text: &[u8]) -> Result<(Option<Control>, &[u8]), Stop<'_>>
     ensures { ReadsPieces (λ x. found x.0 (pieces x.1.now)) result (reader_of any_control (pieces text.now)) }
@@ -154,7 +156,8 @@ fn control(text: &[u8]) -> Result<(Option<Control>, &[u8]), Stop<'_>>
     control_from(comes, rest)
 }
 
-/// Reads a cell number and the name of the cell's kind, up to the comma after the name.
+/// Reads a cell number and the name of the cell's kind, up to and including the comma after the name. Returns the
+/// number.
 #[tactic(auto, unfolding(crate::specs::Strings::cell))]
 fn cell(text: &[u8]) -> Result<(u32, &[u8]), Stop<'_>>
     ensures { ReadsPieces (λ x. found x.0 (pieces x.1.now)) result (reader_of any_cell (pieces text.now)) }

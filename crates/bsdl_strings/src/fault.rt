@@ -1,16 +1,16 @@
-//! Why a string has no value.
+//! The reasons why a string has no value.
 ghost use Rattle.std.specs.Prelude.{◌≡◌, alloc_error};
 ghost use Rattle.bsdl_strings.specs.declared.fault.StringFault.TheVariants.{Memory};
 
 use std::alloc::{AllocError, AllocFailed};
 use thiserror::Error;
 
-/// The entry at which a string leaves its grammar, or a refusal of memory.
+/// The reason why a string has no value: the entry at which the string leaves its grammar, or a refusal of memory.
 #[derive(Clone, Copy, Debug, PartialEq, Eq, Error)]
 pub enum StringFault {
-    /// One more than the number of whole entries, each followed by its comma, at the front of the string. For a
-    /// pattern it is the place, from 1, of the first character that is not 0, 1 or X, or 1 if the pattern is
-    /// empty. For a compliance string it is 1 for the first parenthesis and 2 for the rest.
+    /// The number of the first wrong entry, counted from 1. Every entry before it is whole and is followed by a comma.
+    /// For a pattern, the number is the place of the first character that is not 0, 1 or X, counted from 1, or 1 if the
+    /// pattern is empty. For a compliance string, it is 1 for the first parenthesis and 2 for the rest.
     #[error("entry {0}: not in the grammar")]
     At(u32),
     #[error("out of memory")]

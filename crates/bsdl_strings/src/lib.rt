@@ -1,5 +1,5 @@
-//! The strings inside a BSDL text and their values: pin maps, opcodes, patterns, boundary
-//! registers and compliance patterns (IEEE 1149.1b-1994 and IEEE 1149.1-2001, Annex B).
+//! The strings inside a BSDL text and their values: pin maps, opcodes, patterns, boundary registers and compliance
+//! patterns (IEEE 1149.1b-1994 and IEEE 1149.1-2001, Annex B).
 #![tactic(auto)]
 
 mod compliance_string;

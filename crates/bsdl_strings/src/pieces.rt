@@ -1,4 +1,4 @@
-//! Reads the pieces of an inner string one at a time.
+//! Reading the pieces of an inner string one at a time.
 ghost use Rattle.std.specs.Prelude.{◌≡◌, [], ◌∷◌, length, MatchOption, IfSome, true, false, ◌≤◌};
 ghost use Rattle.std.specs.List.{take_while};
 ghost use Rattle.bsdl_strings.specs.Pieces.{is_blank, is_word_byte, starts_word, starts_blank, is_end, pieces};
@@ -37,7 +37,7 @@ fn past_blanks(text: &[u8]) -> &[u8]
     text.split_at(blanks(text)).1
 }
 
-/// Returns the run of letters, digits and `_` at the front, and the text after it.
+/// Returns the letters, digits and `_` at the front, and the text after them.
 fn word_piece(text: &[u8]) -> (&[u8], &[u8])
     requires { starts_word text.now ≡ true }
     ensures pieces { pieces text.now ≡ result.0.now ∷ pieces result.1.now }
@@ -46,7 +46,7 @@ fn word_piece(text: &[u8]) -> (&[u8], &[u8])
     text.split_at(word_bytes(text))
 }
 
-/// Returns the piece at the front and the text after it, or None at the end.
+/// Returns the piece at the front and the text after it. Returns None at the end of the text.
 #[tactic(auto, unfolding(crate::specs::Pieces::pieces))]
 pub(crate) fn next_piece(text: &[u8]) -> Option<(&[u8], &[u8])>
     ensures pieces { MatchOption result (pieces text.now ≡ [] ∷ []) (λ x. pieces text.now ≡ x.0.now ∷ pieces x.1.now) }
@@ -65,8 +65,8 @@ pub(crate) fn next_piece(text: &[u8]) -> Option<(&[u8], &[u8])>
     }
 }
 
-/// Returns the text after `mark` if that is the very first byte. None does not mean that the mark is missing:
-/// there may be blanks before it.
+/// Returns the text after `mark` if the first byte is `mark`. If the result is None, the mark may still be the next
+/// piece, after blanks.
 #[inline]
 #[tactic(auto, unfolding(crate::specs::Pieces::pieces))]
 pub(crate) fn after_mark(text: &[u8], mark: u8) -> Option<&[u8]>

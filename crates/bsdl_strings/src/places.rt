@@ -1,4 +1,4 @@
-//! Readers of one piece. Each returns the piece's value and the text after it.
+//! Functions that read one piece of a text. Each returns the value of the piece and the text after it.
 ghost use Rattle.std.specs.Prelude.{◌≡◌, ◌-◌, ◌*◌, ◌<◌, ◌≤◌, ◌^◌, [], length, IfOk};
 ghost use Rattle.std.specs.List.{list_all, take_while};
 ghost use Rattle.grammars.specs.inner.Reader.{found};
@@ -67,7 +67,7 @@ fn are_symbols(piece: &[u8]) -> bool
     piece.iter().all(|byte| fits_symbol(*byte))
 }
 
-/// Returns the number of characters 0, 1 and X at the front.
+/// Returns the number of characters at the front that are 0, 1 or X.
 pub(crate) fn leading_symbols(text: &[u8]) -> usize
     ensures count { result ≡ length (take_while is_symbol text.now) }
     ensures within { result ≤ length text.now }
@@ -87,7 +87,7 @@ fn symbols_from(alloc: Global, piece: &[u8]) -> Result<Vec<Symbol>, AllocError>
     piece.iter().rev().map(|byte| symbol(*byte)).collect(alloc)
 }
 
-/// Returns the code that these characters spell.
+/// Returns the code that the characters of the piece spell.
 pub(crate) fn code_from(alloc: Global, piece: &[u8]) -> Result<Code, AllocError>
     requires { length piece.now < 2 ^ 32 }
     ensures { IfOk result (λ code. code ≡ code_of piece.now) }
@@ -95,8 +95,8 @@ pub(crate) fn code_from(alloc: Global, piece: &[u8]) -> Result<Code, AllocError>
     Ok(Code::from_vec(symbols_from(alloc, piece)?))
 }
 
-/// Like `code_from`, but for a piece of any length: a piece that is too long for a code is refused like a lack
-/// of memory. A text of bounded length has no such piece.
+/// Like `code_from`, but for a piece of any length. A piece that is too long for a code is answered like a refusal of
+/// memory. No such piece occurs in a text of fewer than 2^32 bytes.
 fn short_code_from(alloc: Global, piece: &[u8]) -> Result<Code, AllocError>
     ensures { IfOk result (λ code. code ≡ code_of piece.now) }
 {
@@ -107,7 +107,7 @@ fn short_code_from(alloc: Global, piece: &[u8]) -> Result<Code, AllocError>
     }
 }
 
-/// Reads the mark `byte`.
+/// Reads the mark `byte`. Returns the text after it.
 pub(crate) fn mark(text: &[u8], byte: u8) -> Result<&[u8], Stop<'_>>
     ensures { ReadsPieces (λ rest. found tt (pieces rest.now)) result (reader_of (the_mark byte) (pieces text.now)) }
 {
@@ -120,7 +120,7 @@ pub(crate) fn mark(text: &[u8], byte: u8) -> Result<&[u8], Stop<'_>>
     }
 }
 
-/// Reads one of two marks, and returns whether it is the first.
+/// Reads one of two marks. Returns whether it is the first.
 pub(crate) fn either_mark(text: &[u8], first: u8, second: u8) -> Result<(bool, &[u8]), Stop<'_>>
     ensures { ReadsPieces (λ x. found x.0 (pieces x.1.now)) result (reader_of (either_of_marks first second) (pieces text.now)) }
 {
@@ -134,7 +134,7 @@ pub(crate) fn either_mark(text: &[u8], first: u8, second: u8) -> Result<(bool, &
     }
 }
 
-/// Reads a word: a letter, then letters, digits and `_`. Returns it in upper case.
+/// Reads a word, which is a letter followed by letters, digits and `_`. Returns it in upper case.
 pub(crate) fn word(alloc: Global, text: &[u8]) -> Result<(Name, &[u8]), Stop<'_>>
     ensures { ReadsPieces (λ x. found x.0 (pieces x.1.now)) result (reader_of any_word (pieces text.now)) }
 {
@@ -144,7 +144,7 @@ pub(crate) fn word(alloc: Global, text: &[u8]) -> Result<(Name, &[u8]), Stop<'_>
     }
 }
 
-/// Like `word`, but returns the letters unchanged and so takes no memory.
+/// Like `word`, but returns the letters unchanged, and so takes no memory.
 pub(crate) fn word_as_written(text: &[u8]) -> Result<(&[u8], &[u8]), Stop<'_>>
     ensures { ReadsPieces (λ x. found (upper x.0.now) (pieces x.1.now)) result (reader_of any_word (pieces text.now)) }
 {
@@ -154,7 +154,7 @@ pub(crate) fn word_as_written(text: &[u8]) -> Result<(&[u8], &[u8]), Stop<'_>>
     }
 }
 
-/// Reads a pin: one or more letters, digits and `_`. Returns it in upper case.
+/// Reads a pin, which is one or more letters, digits and `_`. Returns it in upper case.
 pub(crate) fn pin(alloc: Global, text: &[u8]) -> Result<(Name, &[u8]), Stop<'_>>
     ensures { ReadsPieces (λ x. found x.0 (pieces x.1.now)) result (reader_of any_pin (pieces text.now)) }
 {
@@ -174,7 +174,7 @@ pub(crate) fn index(text: &[u8]) -> Result<(u32, &[u8]), Stop<'_>>
     }
 }
 
-/// Reads a code: one or more of 0, 1 and X.
+/// Reads a code, which is one or more of 0, 1 and X.
 pub(crate) fn code(alloc: Global, text: &[u8]) -> Result<(Code, &[u8]), Stop<'_>>
     ensures { ReadsPieces (λ x. found x.0 (pieces x.1.now)) result (reader_of any_code (pieces text.now)) }
 {
@@ -195,7 +195,7 @@ pub(crate) fn comma(text: &[u8]) -> Result<Option<&[u8]>, Stop<'_>>
     }
 }
 
-/// Reads a pin, or an opening parenthesis, for which it returns None.
+/// Reads a pin or an opening parenthesis. Returns None for the parenthesis.
 pub(crate) fn pin_or_group(alloc: Global, text: &[u8]) -> Result<(Option<Name>, &[u8]), Stop<'_>>
     ensures { ReadsPieces (λ x. found x.0 (pieces x.1.now)) result (reader_of pin_or_open (pieces text.now)) }
 {
@@ -209,7 +209,7 @@ pub(crate) fn pin_or_group(alloc: Global, text: &[u8]) -> Result<(Option<Name>, 
     }
 }
 
-/// Reads a word, or `*`, for which it returns None.
+/// Reads a word or `*`. Returns None for `*`.
 pub(crate) fn word_unless_star(
     alloc: Global,
     text: &[u8],
@@ -288,7 +288,8 @@ fn names_result(piece: &[u8]) -> bool
         || spells(piece, b"KEEPER")
 }
 
-/// Reads the state of a disabled driver. In none of these states does it drive.
+/// Reads the state of a disabled driver. All states that the grammar allows are states in which the driver does not
+/// drive.
 pub(crate) fn result_of_disabling(text: &[u8]) -> Result<&[u8], Stop<'_>>
     ensures { ReadsPieces (λ rest. found tt (pieces rest.now)) result (reader_of result_word (pieces text.now)) }
 {
@@ -298,7 +299,7 @@ pub(crate) fn result_of_disabling(text: &[u8]) -> Result<&[u8], Stop<'_>>
     }
 }
 
-/// Reads the mark after the port name of a compliance bit. Returns None if an index follows, and otherwise whether
+/// Reads the mark after the port name of a compliance bit. Returns None if an index follows. Otherwise returns whether
 /// another bit follows.
 pub(crate) fn mark_after_bit(text: &[u8]) -> Result<(Option<bool>, &[u8]), Stop<'_>>
     ensures { ReadsPieces (λ x. found x.0 (pieces x.1.now)) result (reader_of after_bit (pieces text.now)) }
@@ -311,7 +312,7 @@ pub(crate) fn mark_after_bit(text: &[u8]) -> Result<(Option<bool>, &[u8]), Stop<
     }
 }
 
-/// Checks that the string ends here.
+/// Checks that no piece is left.
 pub(crate) fn end(text: &[u8]) -> Result<(), Stop<'_>>
     ensures { ReadsPieces (λ x. found tt []) result (reader_of the_end (pieces text.now)) }
 {

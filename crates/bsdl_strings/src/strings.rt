@@ -1,4 +1,4 @@
-//! Lists of entries, and patterns.
+//! Reading lists of entries, and patterns.
 ghost use Rattle.std.specs.Prelude.{◌≡◌, ◌<◌, ◌^◌, length, IfOk, IfErr};
 ghost use Rattle.bsdl_strings.specs.Faults.{fault_of, NamesEntry};
 ghost use Rattle.bsdl_strings.specs.Strings.{IsPinMap, IsNoPinMap, AreOpcodes, AreNoOpcodes, IsBoundary, IsNoBoundary, IsPattern, IsNoPattern};
@@ -11,7 +11,7 @@ use crate::values::{Entry, MapEntry, Opcode};
 use board_defs::Code;
 use std::alloc::Global;
 
-/// Returns the fault of a list that stopped after `entries` whole entries.
+/// Returns the fault of a list for which reading stopped after `entries` whole entries.
 pub(crate) fn fault(stop: Stop<'_>, entries: usize) -> StringFault
     requires { entries < 2 ^ 31 }
     ensures { result ≡ fault_of stop.entry entries }
@@ -22,10 +22,9 @@ pub(crate) fn fault(stop: Stop<'_>, entries: usize) -> StringFault
     }
 }
 
-/// Returns the entries of a pin map in order. Each is a port with its pins.
+/// Returns the entries of a pin map in order. Each entry is a port with its pins.
 ///
-/// Returns `StringFault::At` if the text is not a pin map, with one more than the number of whole entries, each with
-/// its comma, at its front.
+/// Returns `StringFault::At` with the number of the first wrong entry, counted from 1, if the text is not a pin map.
 pub fn pin_map(alloc: Global, text: &[u8]) -> Result<Vec<MapEntry>, StringFault>
     requires { length text.now < 2 ^ 32 }
     ensures value { IfOk result (λ maps. IsPinMap text.now maps.items) }
@@ -51,10 +50,10 @@ pub fn pin_map(alloc: Global, text: &[u8]) -> Result<Vec<MapEntry>, StringFault>
     }
 }
 
-/// Returns the entries of an opcode string in order. Each is an instruction with its codes.
+/// Returns the entries of an opcode string in order. Each entry is an instruction with its codes.
 ///
-/// Returns `StringFault::At` if the text is not an opcode string, with one more than the number of whole entries,
-/// each with its comma, at its front.
+/// Returns `StringFault::At` with the number of the first wrong entry, counted from 1, if the text is not an opcode
+/// string.
 pub fn opcodes(alloc: Global, text: &[u8]) -> Result<Vec<Opcode>, StringFault>
     requires { length text.now < 2 ^ 32 }
     ensures value { IfOk result (λ ops. AreOpcodes text.now ops.items) }
@@ -82,8 +81,8 @@ pub fn opcodes(alloc: Global, text: &[u8]) -> Result<Vec<Opcode>, StringFault>
 
 /// Returns the entries of a boundary register in order.
 ///
-/// Returns `StringFault::At` if the text is not a boundary register, with one more than the number of whole entries,
-/// each with its comma, at its front.
+/// Returns `StringFault::At` with the number of the first wrong entry, counted from 1, if the text is not a boundary
+/// register.
 pub fn boundary(alloc: Global, text: &[u8]) -> Result<Vec<Entry>, StringFault>
     requires { length text.now < 2 ^ 32 }
     ensures value { IfOk result (λ cells. IsBoundary text.now cells.items) }
@@ -109,11 +108,11 @@ pub fn boundary(alloc: Global, text: &[u8]) -> Result<Vec<Entry>, StringFault>
     }
 }
 
-/// Returns the code that a pattern spells. The pattern's rightmost character is the bit nearest TDO. A pattern has
+/// Returns the code that a pattern spells. The rightmost character of the pattern is the bit nearest TDO. A pattern has
 /// no blanks, not even at its ends.
 ///
-/// Returns `StringFault::At` if the text is not a pattern, with the place, from 1, of the first character that is not
-/// 0, 1 or X, or 1 for an empty text.
+/// Returns `StringFault::At` if the text is not a pattern. The number is the place of the first character that is not
+/// 0, 1 or X, counted from 1, or 1 for an empty text.
 pub fn pattern(alloc: Global, text: &[u8]) -> Result<Code, StringFault>
     requires { length text.now < 2 ^ 32 }
     ensures value { IfOk result (λ code. IsPattern text.now code) }

@@ -16,32 +16,32 @@ pub struct Opcode {
     pub codes: Items<Code>,
 }
 
-/// A port bit, as a string names it.
+/// A port bit as a string names it.
 #[derive(Debug, Drop)]
 pub enum PortWord {
-    /// `*`, which a cell without a port has in the place of one.
+    /// `*`, which stands in place of a port if the cell has none.
     Star,
     /// A port without an index.
     Plain(Name),
-    /// A port with an index, which has at most nine digits.
+    /// A port with an index of at most nine digits.
     Index(Name, u32),
 }
 
 /// An entry of a boundary register.
 #[derive(Debug, Drop)]
 pub struct Entry {
-    /// The number of the boundary cell, 0 nearest TDO.
+    /// The number of the boundary cell. Cell 0 is nearest TDO.
     pub num: u32,
     pub port: PortWord,
-    /// The function of the cell.
+    /// The function of the entry.
     pub role: Role,
-    /// The value that the designer wants in the cell while it is not used.
+    /// The value that the designer wants in the cell while no test uses the cell.
     pub safe: Symbol,
     /// The control cell and the disable value, if the entry has them.
     pub ctl: Option<Control>,
 }
 
-/// The compliance bits, and the patterns that they may have.
+/// The compliance bits, which are port bits, and the patterns that they may have.
 #[derive(Debug, Drop)]
 pub struct Compliance {
     pub ports: Items<PortWord>,

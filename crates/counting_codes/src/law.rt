@@ -1,8 +1,8 @@
-//! What the codes can tell apart, as the contract of a function that does nothing: a caller knows the law after the call.
+//! A law on the codes that can be told apart. It is the contract of a function that does nothing: a caller knows the law after calling it.
 ghost use Rattle.std.specs.Prelude.{◌≡◌, ◌≢◌, ℕ, ◌+◌, ◌^◌, ◌<◌, ◌≤◌};
 ghost use Rattle.std.specs.Int.{bit_at};
 
-/// Where 2 to the power of `width` is at least `n + 2`, each code from 1 to `n` has a 0 bit and a 1 bit, and two different codes differ in some bit.
+/// If `2 ^ width` is at least `n + 2`, each code from 1 to `n` has a 0 bit and a 1 bit, and every two of these codes differ in some bit.
 pub fn codes_tell()
     ensures zero { (n width : ℕ) → n + 2 ≤ 2 ^ width → (c : ℕ) → 1 ≤ c → c ≤ n → (j : ℕ) × (j < width) × (bit_at c j ≡ 0) }
     ensures one { (n width : ℕ) → n + 2 ≤ 2 ^ width → (c : ℕ) → 1 ≤ c → c ≤ n → (j : ℕ) × (j < width) × (bit_at c j ≡ 1) }

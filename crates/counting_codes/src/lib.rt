@@ -1,4 +1,5 @@
-//! Counting codes: each net has its number, from 1, as its code, in just enough bits that no code is all zeros or all ones.
+//! Counting codes: the code of a net is its number, counted from 1. Codes have the smallest number of bits for which no
+//! code has only zeros or only ones.
 #![tactic(auto)]
 
 ghost use Rattle.std.specs.Prelude.{◌≡◌, ◌==◌, ℕ, ◌+◌, ◌^◌, ◌<◌, ◌≤◌};
@@ -6,7 +7,8 @@ ghost use Rattle.std.specs.Int.{bit_at};
 
 pub mod law;
 
-/// Returns the number of bits of the codes from 1 to `n`: the smallest for which no code is all zeros or all ones.
+/// Returns the number of bits of the codes from 1 to `n`. This is the smallest number for which no code has only zeros or
+/// only ones.
 pub fn width(n: u32) -> u32
     requires { n ≤ 16382 }
     ensures enough { n + 2 ≤ 2 ^ result }
@@ -21,7 +23,7 @@ pub fn width(n: u32) -> u32
     width
 }
 
-/// Returns bit `j` of a code. Bit 0 is the least significant.
+/// Returns bit `j` of a code. Bit 0 is the lowest.
 pub fn bit(code: u32, j: u32) -> bool
     requires { j < 32 }
     ensures { result ≡ (bit_at code j == 1) }

@@ -1,4 +1,5 @@
--- The table has the entries of each port bit, and its facts about pins are those of the board's definitions.
+-- The table has the entries of each port bit, and facts that follow from the table are those of the board's
+-- definitions.
 use Rattle.std.proofs.Common.{◌≡◌, ℕ, suc, ◌<◌, ◌≤◌, ◌==◌, Bool, true, false, not, cond, ◌&&◌, ◌||◌, List, [], ◌∷◌, ◌++◌, length, get_or, replicate, Option, Some, None, unwrap_or, refl, sym, ap, ◌∙◌, arith, append_assoc, ◌⊎◌, inl, inr}
 use Rattle.std.specs.Prelude.{slice_get, option_and_then, option_map, find, All}
 use Rattle.std.specs.List.{list_any}
@@ -74,7 +75,7 @@ are_entries board rules at =
     by_part None e = refl
     by_part (Some part) e = by_kind part.kind (all_stands (λ (p : Part). IsPart p.kind) board.chain at.part part e rules.parts)
 
--- the entry that a test of roles finds among the entries on a port bit
+-- the entry that a test of functions finds among the entries of a port bit
 find_on : (roles : Cell → Bool) (k : ℕ) (cells : List Cell) → find roles (entries_on cells k) ≡ find (λ cell. is_on k cell.bit && roles cell) cells
 find_on roles k [] = refl
 find_on roles k (cell ∷ cells) = by_test (is_on k cell.bit) (find_on roles k cells)
@@ -111,7 +112,7 @@ module _ (board : RawBoard) (rows : List (List (List Cell))) (are : AreEntries b
       by_device None = refl
       by_device (Some device) = find_on (λ cell. is_driving cell.role) at.bit device.cells
 
-  -- whether a port bit is dark
+  -- a port bit is dark by the table if and only if it is dark
   pub dark_is : dark_by (bit_at board at) (entries_at rows at) ≡ is_dark_in (device_at board at.part) at.bit
   dark_is = ap (dark_by (bit_at board at)) (are at) ∙ by_device (device_at board at.part)
     where
@@ -125,7 +126,7 @@ module _ (board : RawBoard) (rows : List (List (List Cell))) (are : AreEntries b
       by_device None = refl
       by_device (Some device) = by_bit device (slice_get device.bits at.bit)
 
-  -- whether a port bit receives
+  -- a port bit is a receiver by the table if and only if it is a receiver
   pub receives_is : receives_by (bit_at board at) (entries_at rows at) ≡ receives_in (device_at board at.part) at.bit
   receives_is = ap (receives_by (bit_at board at)) (are at) ∙ by_device (device_at board at.part)
     where
@@ -137,7 +138,7 @@ module _ (board : RawBoard) (rows : List (List (List Cell))) (are : AreEntries b
       by_device None = refl
       by_device (Some device) = by_bit device (slice_get device.bits at.bit)
 
--- whether a pin is dark, and whether it guards its net
+-- a pin is dark, or guards its net, by the table if and only if it does so by the definitions
 dark_in_is : (board : RawBoard) (rows : List (List (List Cell))) → AreEntries board rows → (pin : NetPin) → dark_in rows board pin ≡ is_dark board pin
 dark_in_is board rows are pin = by_at pin.at
   where

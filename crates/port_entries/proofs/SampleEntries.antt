@@ -1,4 +1,4 @@
--- The entries of a small part, and the facts about its port bits, worked by hand.
+-- The entries of a small part, and the facts about its port bits, with values computed by hand.
 use Rattle.std.proofs.Common.{◌≡◌, ℕ, Bool, true, false, List, [], ◌∷◌, map, replicate, Option, Some, None, refl}
 use Rattle.std.specs.Prelude.{find, option_map}
 use Rattle.board_defs.specs.declared.device.Cell.{Cell}
@@ -18,7 +18,7 @@ cell num role bit = record { num = num; role = role; bit = bit; safe = Any; ctl 
 abbrev port_bit : Mode → Bool → PortBit
 port_bit mode tap = record { port = 0; index = None; mode = mode; pin = None; tap = tap; compliance = false }
 
--- a part with two port bits; the last entry is on neither
+-- a part with two port bits, whose last entry belongs to neither
 abbrev row : List (List Cell)
 row = all_noted (replicate 2 [])
     (cell 0 Input (Some 1) ∷ cell 1 Control None ∷ cell 2 Input (Some 0) ∷ cell 3 Output3 (Some 1) ∷ cell 4 Output2 (Some 7) ∷ [])
@@ -26,7 +26,7 @@ row = all_noted (replicate 2 [])
 abbrev numbers : ℕ → ℕ → List ℕ
 numbers part bit = map (λ entry. entry.num) (entries_at (row ∷ []) (record { part = part; bit = bit }))
 
--- the entries of each bit keep their order, and other places have no entries
+-- the entries of each port bit keep their order, and other places have no entries
 low : numbers 0 0 ≡ 2 ∷ []
 low = refl
 
@@ -39,7 +39,7 @@ no_bit = refl
 no_part : numbers 1 0 ≡ []
 no_part = refl
 
--- the driving entry
+-- the driving entries of the port bits
 abbrev driving : ℕ → Option ℕ
 driving bit = option_map (λ entry. entry.num) (find (λ entry. is_driving entry.role) (entries_at (row ∷ []) (record { part = 0; bit = bit })))
 
@@ -55,7 +55,7 @@ reads = cell 0 Input (Some 0) ∷ []
 abbrev drives : List Cell
 drives = cell 1 Output3 (Some 0) ∷ []
 
--- what makes a port bit dark
+-- port bits that are dark, and port bits that are not
 read_input : dark_by (Some (port_bit Inward false)) reads ≡ false
 read_input = refl
 
@@ -74,7 +74,7 @@ unread_input = refl
 test_port : dark_by (Some (port_bit Inward true)) [] ≡ false
 test_port = refl
 
--- a bit receives by its mode and its entries
+-- the mode of a port bit and its entries decide whether it is a receiver
 input_receives : receives_by (Some (port_bit Inward false)) reads ≡ true
 input_receives = refl
 

@@ -1,4 +1,4 @@
--- A table of the entries on each port bit of each part of a board.
+-- A table of the entries of each port bit of each part of a board.
 use Rattle.std.specs.Prelude.{◌≡◌, ℕ, List, [], filter, Option, Some, None, option_and_then, unwrap_or, slice_get}
 use Rattle.board_defs.specs.declared.device.Cell.{Cell}
 use Rattle.board_defs.specs.declared.device.RawDevice.{RawDevice}
@@ -7,16 +7,16 @@ use Rattle.board_defs.specs.declared.board.RawBoard.{RawBoard}
 use Rattle.board_defs.specs.DeviceRules.{is_on}
 use Rattle.board_defs.specs.Pins.{device_at}
 
--- the entries on a port bit, in order
+-- the entries of a port bit, in order
 abbrev pub entries_on : List Cell → ℕ → List Cell
 entries_on cells bit = filter (λ cell. is_on bit cell.bit) cells
 
--- like `entries_on`, for a device, if there is one
+-- like `entries_on`, but for a device that may be missing
 abbrev pub entries_of : Option RawDevice → ℕ → List Cell
 entries_of None bit = []
 entries_of (Some device) bit = entries_on device.cells bit
 
--- the entries in the table for a port bit of a part
+-- the entries that the table has for a port bit of a part
 abbrev pub entries_at : List (List (List Cell)) → PinAt → List Cell
 entries_at rows at = unwrap_or (option_and_then (λ row. slice_get row at.bit) (slice_get rows at.part)) []
 

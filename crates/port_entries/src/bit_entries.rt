@@ -1,5 +1,5 @@
-// The entries on one port bit. Most port bits have one entry, or one that reads and one that drives, and a board has
-// tens of thousands of port bits. A type for a few items stores these without memory of their own.
+// The entries of one port bit. A board has tens of thousands of port bits. Most of them have one entry, or one that
+// reads and one that drives. So a type is used that stores up to two items without memory of its own.
 ghost use Rattle.std.specs.Prelude.{◌≡◌, [], replicate, Some, IfOk, OnOk};
 ghost use Rattle.lists.specs.Rows.{noted};
 
@@ -7,10 +7,10 @@ use board_defs::Cell;
 use few_items::Few;
 use std::alloc::{AllocError, Global};
 
-/// The entries on a port bit, in order.
+/// The entries of a port bit, in order.
 pub type BitEntries = Few<Cell>;
 
-/// Returns a row of `count` port bits without entries.
+/// Returns a row with `count` port bits that have no entries.
 pub(crate) fn blank_row(alloc: Global, count: usize) -> Result<Vec<BitEntries>, AllocError>
     ensures { IfOk result (λ row. row.items ≡ replicate count []) }
 {
@@ -21,7 +21,7 @@ pub(crate) fn blank_row(alloc: Global, count: usize) -> Result<Vec<BitEntries>, 
     Ok(row)
 }
 
-/// Adds the entry to those of the port bit at `place`, if the row has that place.
+/// Adds the entry to the port bit at `place`. Does nothing past the end of the row.
 fn note(alloc: Global, row: &mut [BitEntries], place: usize, cell: Cell) -> Result<(), AllocError>
     ensures { OnOk result (row.new ≡ noted row.old (Some place) cell) }
 {
@@ -31,7 +31,7 @@ fn note(alloc: Global, row: &mut [BitEntries], place: usize, cell: Cell) -> Resu
     Ok(())
 }
 
-/// Adds the entry to those of its port bit, if it is on one.
+/// Adds the entry to its port bit, if it has one.
 pub(crate) fn note_cell(
     alloc: Global,
     row: &mut [BitEntries],

@@ -1,5 +1,5 @@
-//! A table of the entries on each port bit of a board's parts, and the facts about pins and nets that follow from
-//! it. With the table, no query about a pin goes through all cells of its part.
+//! A table of the entries of each port bit of a board's parts, and the facts about pins and nets that follow from it.
+//! With the table, no question about a pin needs a walk over all cells of its part.
 #![tactic(auto)]
 
 mod bit_entries;

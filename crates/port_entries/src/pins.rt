@@ -1,4 +1,5 @@
-// Facts about pins and nets, by the table of entries: driving entries, receivers, dark pins and guarded nets.
+// Facts about pins and nets that follow from the table of entries: driving entries, receivers, dark pins and guarded
+// nets.
 ghost use Rattle.std.specs.Prelude.{◌≡◌, ◌&&◌, ◌||◌, find, Some};
 ghost use Rattle.std.specs.List.{list_any};
 ghost use Rattle.board_defs.specs.DeviceRules.{is_driving, is_receiving, may_receive};
@@ -16,7 +17,7 @@ pub(crate) fn find_driving(entries: &[Cell]) -> Option<Cell>
     entries.iter().copied().find(|cell| cell.role.is_driving())
 }
 
-/// Returns the driving entry of a port bit of a part, if it has one.
+/// Returns the driving entry of the port bit at `at`, if there is one.
 pub fn driving_entry(rows: &[Items<BitEntries>], board: &RawBoard, at: PinAt) -> Option<Cell>
     requires { AreEntries board.now rows.now }
     ensures { result ≡ entry_at board.now at }
@@ -45,7 +46,7 @@ fn receives_there(rows: &[Items<BitEntries>], board: &RawBoard, at: PinAt) -> bo
     }
 }
 
-/// Returns whether the pin at this place of the chain is a receiver.
+/// Returns whether the pin at this place of the chain is a receiver. Returns false without a place.
 pub fn receives(rows: &[Items<BitEntries>], board: &RawBoard, at: Option<PinAt>) -> bool
     requires { AreEntries board.now rows.now }
     ensures { result ≡ receives_where board.now at }
@@ -92,7 +93,7 @@ fn any_dark(rows: &[Items<BitEntries>], board: &RawBoard, pins: &[NetPin]) -> bo
     pins.iter().any(|pin| is_dark(rows, board, pin))
 }
 
-/// Returns whether one of the pins is dark: something that no setting controls may drive it.
+/// Returns whether one of the pins is dark. Something that no setting controls may drive the net of a dark pin.
 pub fn has_dark_pin(rows: &[Items<BitEntries>], board: &RawBoard, pins: &[NetPin]) -> bool
     requires { AreEntries board.now rows.now }
     ensures { result ≡ list_any (is_dark board.now) pins.now }
@@ -112,8 +113,8 @@ fn guards_bit(bit: &PortBit, entries: &[Cell]) -> bool
     is_test_bit(bit) || is_dark_bit(bit, entries)
 }
 
-// Returns whether a pin guards its net. It looks up the port bit once for both questions, since this is asked of
-// each pin of each net.
+// Returns whether a pin guards its net. The port bit is looked up once for both questions, since this function is
+// called for each pin of each net.
 fn guards(rows: &[Items<BitEntries>], board: &RawBoard, pin: &NetPin) -> bool
     ensures { result ≡ guards_in rows.now board.now pin.now }
 {
@@ -132,7 +133,7 @@ fn any_guards(rows: &[Items<BitEntries>], board: &RawBoard, pins: &[NetPin]) -> 
     pins.iter().any(|pin| guards(rows, board, pin))
 }
 
-/// Returns whether the net is guarded: only drivers that are always on may be enabled on it.
+/// Returns whether the net is guarded. On a guarded net, only drivers that are always on may be enabled.
 pub fn is_guarded(rows: &[Items<BitEntries>], board: &RawBoard, net: &Net) -> bool
     requires { AreEntries board.now rows.now }
     ensures { result ≡ guarded board.now net.now }

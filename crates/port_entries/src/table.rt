@@ -1,4 +1,4 @@
-// The table of the entries: a row for each part, with the entries of each port bit.
+// The table of entries. It has a row for each part, and a row has the entries of each port bit.
 ghost use Rattle.std.specs.Prelude.{◌≡◌, [], length, slice_get, replicate, unwrap_or, IfOk, OnOk};
 ghost use Rattle.board_defs.specs.BoardRules.{IsBoard};
 ghost use Rattle.board_defs.specs.Pins.{described};
@@ -39,7 +39,7 @@ fn part_rows(alloc: Global, kind: &PartKind) -> Result<Items<BitEntries>, AllocE
     }
 }
 
-/// Returns the rows of these parts.
+/// Returns the rows of the table for these parts.
 pub(crate) fn entry_rows(
     alloc: Global,
     chain: &[Part],
@@ -53,7 +53,7 @@ pub(crate) fn entry_rows(
     Ok(Items::of(rows))
 }
 
-/// Returns the entries of each port bit of each part of a board.
+/// Returns the table of the entries of each port bit of each part of a board.
 pub fn port_entries(alloc: Global, board: &RawBoard) -> Result<Items<Items<BitEntries>>, AllocError>
     requires { IsBoard board.now }
     ensures { IfOk result (λ rows. AreEntries board.now rows) }
@@ -71,7 +71,7 @@ fn entries_there(row: &[BitEntries], bit: usize) -> &[Cell]
     }
 }
 
-/// Returns the entries on a port bit of a part, in order.
+/// Returns the entries of the port bit at `at`, in order. Returns no entries if the table has no such port bit.
 pub fn entries_at(rows: &[Items<BitEntries>], at: PinAt) -> &[Cell]
     ensures { result.now ≡ entries_at rows.now at }
 {

@@ -15,17 +15,17 @@ bad_byte first line = if first == quote then OpenString line else Byte line
 abbrev pub token_of : ℕ → ℕ → TokenKind × ℕ → Token
 token_of start line found = record { kind = found.0; start = start; «end» = start + found.1; line = line }
 
--- the step for what was found at place `start`, where the first byte is `first`
+-- the result of a step to place `start`, where the first byte is `first` and this token was found
 abbrev pub step_with : ℕ → ℕ → ℕ → Option (TokenKind × ℕ) → Result (Option Token) LexFault
 step_with start line first None = Err (bad_byte first line)
 step_with start line first (Some found) = Ok (Some (token_of start line found))
 
--- the token at the front of the bytes, which are at place `start` on line `line`
+-- the result of a step to these bytes, which begin at place `start` on line `line`
 abbrev pub step_at : ℕ → ℕ → List ℕ → Result (Option Token) LexFault
 step_at start line [] = Ok None
 step_at start line (first ∷ others) = step_with start line first (token_at (first ∷ others))
 
--- the step after `gap` bytes of blanks and comments, which begin at `place` on line `line`
+-- the result of a step after a gap of `gap` bytes, which begins at `place` on line `line`
 abbrev pub step_past : ℕ → List ℕ → ℕ → ℕ → Result (Option Token) LexFault
 step_past gap text place line = step_at (place + gap) (line + line_feeds (take gap (drop place text))) (drop (place + gap) text)
 

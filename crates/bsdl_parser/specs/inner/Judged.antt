@@ -1,4 +1,4 @@
--- The answer to a text, from the result of the reader of a file.
+-- The answer to a text, given the result of the reader of a file.
 use Rattle.std.specs.Prelude.{ℕ, List, [], ◌∷◌, length, Bool, ◌&&◌, ◌==◌, if◌then◌else◌, Option, Some, None, Result, Ok, Err, codes}
 use Rattle.grammars.specs.inner.Reader.{Outcome, found, refused}
 use Rattle.bsdl_parser.specs.declared.cursor.Front.{Front}
@@ -20,12 +20,12 @@ front_of (token ∷ after) = Some (record { is_package = is_package token; line 
 abbrev pub fault_at : Bool → ℕ → ParseFault
 fault_at starts_package line = if starts_package then Package line else Expected line
 
--- after a whole file every token is stray
+-- the answer after a whole file, where every further token is stray
 abbrev pub behind_file : Entity → Option Front → Result Entity ParseFault
 behind_file entity None = Ok entity
 behind_file entity (Some front) = Err (fault_at front.is_package front.line)
 
--- inside a file, the word `package` makes a package text only if it is the first token
+-- The answer inside a file. There, the word `package` is the fault of a package text only if it is the first token.
 abbrev pub inside_file : List ℕ → Bool → Option Front → Result Entity ParseFault
 inside_file text is_first None = Err (Expected (last_line text))
 inside_file text is_first (Some front) = Err (fault_at (front.is_package && is_first) front.line)

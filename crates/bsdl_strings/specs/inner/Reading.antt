@@ -1,4 +1,4 @@
--- A reading function returns what the grammar's reader finds.
+-- The contract of a reading function: it returns what the grammar's reader finds.
 use Rattle.std.specs.Prelude.{◌≡◌, ℕ, List, [], Bool, true, false, Option, Some, None, Result, Ok, Err}
 use Rattle.std.specs.Borrow.{Bor}
 use Rattle.grammars.specs.inner.Reader.{Outcome, found, refused}
@@ -6,17 +6,18 @@ use Rattle.bsdl_strings.specs.declared.stop.Stop.{Stop}
 use Rattle.bsdl_strings.specs.declared.stop.Stop.TheVariants.{Memory, At}
 use Rattle.bsdl_strings.specs.Pieces.{pieces}
 
--- unless memory was refused, the reader refuses the text from the piece that does not fit
+-- the reader refuses the text from the piece that does not fit, unless memory was refused
 abbrev pub StopsOn : {A : Type 0} → Stop → Outcome (List ℕ) A → Type 0
 StopsOn (Memory error) outcome = Unit {0}
 StopsOn (At rest) outcome = outcome ≡ refused (pieces rest.now)
 
--- the value and the text after it, as `view` sees them, are what the reader finds; or the function stopped where the reader stops
+-- The outcome of the reader is what `view` makes of the function's value. If the function stopped, the reader refuses the same
+-- text.
 abbrev pub ReadsPieces : {X A : Type 0} → (X → Outcome (List ℕ) A) → Result X Stop → Outcome (List ℕ) A → Type 0
 ReadsPieces view (Ok x) outcome = outcome ≡ view x
 ReadsPieces view (Err stop) outcome = StopsOn stop outcome
 
--- the result of reading a comma or the end: the text after a comma, or nothing at the end
+-- the outcome of reading a comma or the end: true and the text after a comma, or false and no text at the end
 abbrev pub more_of : Option (Bor (List ℕ)) → Outcome (List ℕ) Bool
 more_of (Some rest) = found true (pieces rest.now)
 more_of None = found false []

@@ -4,7 +4,7 @@ use Rattle.bsdl_strings.specs.Pieces.{pieces}
 use Rattle.bsdl_strings.specs.Strings.{bit_turn, bits}
 use Rattle.bsdl_strings.proofs.compliance_string.bits.Given as goal
 
--- reading the rest gives what reading the whole gives
+-- reading the rest after the bits so far gives what reading the whole gives
 abbrev pub invariant-bits : goal.invariant-bits
 invariant-bits l = reader_of (turns bit_turn l.bits.items) (pieces l.rest) ≡ reader_of bits (pieces l.text)
 
