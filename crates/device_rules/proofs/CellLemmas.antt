@@ -1,4 +1,4 @@
--- Cell numbers that are below the length of the register.
+-- Cell numbers below the length of the register.
 use Rattle.std.proofs.Common.{◌≡◌, ◌≢◌, ℕ, ◌<◌, ◌≤◌, ◌==◌, Bool, true, false, ◌&&◌, cond, List, [], ◌∷◌, Option, Some, None, refl, sym, ◌∙◌, ap, arith, nat_le, find, inl, inr}
 use Rattle.std.specs.Prelude.{option_map, All, slice_index_or}
 use Rattle.std.proofs.lemmas.List.{get_or_past}
@@ -18,12 +18,13 @@ use Rattle.device_rules.specs.Cells.{is_entry_of, is_control_of, has_control_ent
 another_cell : (cell boundary : ℕ) (entry : Entry) → boundary ≤ cell → entry.num < boundary → is_control_of cell entry ≡ false
 another_cell cell boundary entry le lt = ap (λ b. b && is_controlling entry.role) (lt-eqb entry.num cell (omega arith))
 
--- a number that is too large has no entry
+-- a cell number that is too large has no entry
 no_control_there : (cell boundary : ℕ) (entries : List Entry) → boundary ≤ cell → All (λ entry. entry.num < boundary) entries → false ≡ has_control_entry entries cell
 no_control_there cell boundary entries le below = sym (list_any_none (is_control_of cell) entries
     (All-weaker (λ entry. entry.num < boundary) (λ entry. is_control_of cell entry ≡ false) (λ entry lt. another_cell cell boundary entry le lt) entries below))
 
--- flags for the cells below the length tell, for every cell, whether it has a CONTROL or CONTROLR entry
+-- flags for the cells below the length of the register decide for every cell number whether it has a CONTROL or
+-- CONTROLR entry
 pub controls_known : (boundary : ℕ) (entries : List Entry) (flags : List Bool) → All (λ entry. entry.num < boundary) entries → Marks is_control_of entries boundary flags → (cell : ℕ) → slice_index_or flags cell false ≡ has_control_entry entries cell
 controls_known boundary entries flags below marks cell = elim (cases_lt cell boundary) [
   | inl less ↦ marks.each cell less
@@ -51,7 +52,7 @@ pub all_below : (boundary : ℕ) (entries : List Entry) → v8 boundary entries 
 unfolding v8
 all_below boundary entries e = none_too_large boundary entries (first_none (too_large boundary entries) _ e)
 
--- what an entry counts for
+-- an entry is counted for its own cell, and for no other
 apart : (m n : ℕ) → n ≢ m → (m == n) ≡ false
 apart m n h = grind (arith, nat_tests)
 

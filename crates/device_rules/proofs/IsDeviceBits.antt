@@ -22,7 +22,7 @@ use Rattle.device_rules.proofs.IsDeviceLists.{all_alike, made_at}
 use Rattle.device_rules.proofs.IsDevicePorts.{PortsStand, IsBitOf, is_bit_of, is_of_port}
 use Rattle.device_rules.proofs.IsDevicePins.{is_mapped}
 
--- filters
+-- lemmas on filters
 filter_made : {X Y : Type 0} (f : X → Y) (p : Y → Bool) (q : X → Bool) → ((x : X) → p (f x) ≡ q x) → (xs : List X) → filter p (map f xs) ≡ map f (filter q xs)
 filter_made f p q same [] = refl
 filter_made {X} {Y} f p q same (x ∷ xs) = ap (λ b. cond b (f x ∷ filter p (map f xs)) (filter p (map f xs))) (same x) ∙ by_test (q x) (filter_made f p q same xs)
@@ -57,7 +57,7 @@ bits_kept k first (suc m) (p ∷ ports) port here at =
     filter-append (is_of k) (bits_of_port first p) (bits_from (first + 1) ports) ∙ (ap (λ v. v ++ filter (is_of k) (bits_from (first + 1) ports)) none
     ∙ bits_kept k (first + 1) m ports port (omega arith) at)
 
--- numbers that do not fall and begin at a low one or above
+-- numbers that do not fall, the first of which is at least `low`
 abbrev Rises : ℕ → List ℕ → Type 0
 Rises low [] = Unit {0}
 Rises low (x ∷ xs) = (low ≤ x) × Rises x xs
@@ -103,7 +103,7 @@ module _ (entries : List MapEntry) (taps : TapPorts) (compliance : Option Compli
       by_range None e = inl e
       by_range (Some range) e = inr (range.left, range.right, e)
 
-  -- the bits of the port with this number
+  -- the device's bits of the port with this number
   kept_bits : (ports : List Port) (k : ℕ) (port : Port) → slice_get ports k ≡ Some port → filter (λ bit. bit.port == k) (map (port_bit entries taps compliance) (port_bits ports)) ≡ map (port_bit entries taps compliance) (bits_of_port k port)
   kept_bits ports k port at =
       filter_made (port_bit entries taps compliance) (λ bit. bit.port == k) (is_of k) (λ bit. refl) (port_bits ports) ∙ ap (map (port_bit entries taps compliance)) (bits_kept k 0 k ports port (omega arith) at)
@@ -111,7 +111,7 @@ module _ (entries : List MapEntry) (taps : TapPorts) (compliance : Option Compli
   mode_of : (k : ℕ) (port : Port) (bit : PortBit) → Has (map (port_bit entries taps compliance) (bits_of_port k port)) bit → bit.mode ≡ port.mode
   mode_of k port bit h = let r = map_has (port_bit entries taps compliance) (bits_of_port k port) bit h in sym (ap (λ (b : PortBit). b.mode) r.2) ∙ (is_of_port k port r.0 r.1).of_mode
 
--- each bit of a port is a bit of the device
+-- each bit of a port is one of the device's bits
 of_port_has : (k first m : ℕ) (ports : List Port) (port : Port) → k ≡ first + m → slice_get ports m ≡ Some port → (bit : Bit) → Has (bits_of_port k port) bit → Has (bits_from first ports) bit
 of_port_has k first m ports port here at bit h = (filter_has (is_of k) (bits_from first ports) bit (let P : List Bit → Type 0 = λ v. Has v bit in subst P (sym (bits_kept k first m ports port here at)) h)).0
 

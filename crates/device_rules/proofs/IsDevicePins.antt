@@ -1,4 +1,5 @@
--- The pins of a text that keeps the rules: no pin is at two port bits, and the map gives all bits of a port a pin or none of them.
+-- The pins of a text that keeps the rules: no two port bits have the same pin, and the map assigns pins to all bits of a port or
+-- to none.
 use Rattle.std.proofs.Common.{◌≡◌, ℕ, ◌<◌, true, false, not, List, [], ◌∷◌, ◌++◌, map, length, take, Option, Some, None, refl, sym, ◌∙◌, ap, subst, arith, ◌⊎◌, inl, inr}
 use Rattle.std.specs.Prelude.{slice_get, find, is_some, option_and_then}
 use Rattle.std.specs.List.{list_any}
@@ -22,7 +23,7 @@ use Rattle.device_rules.proofs.IsDeviceLists.{same_name, name_same, earlier, hol
 use Rattle.device_rules.proofs.RangeLemmas.{length_indexes}
 use Rattle.device_rules.proofs.IsDevicePorts.{PortsStand, IsBitOf, is_bit_of, spot, spots_once}
 
--- the port of a name is the one port that has it
+-- the port with a name is the only one that has it
 pub port_is : (ports : List Port) → Once (λ port. port.name) ports → (name : List ℕ) (port : Port) → Has ports port → port.name ≡ name → port_of ports name ≡ Some port
 port_is ports once name port has same = by_found (port_of ports name) refl
   where
@@ -32,7 +33,7 @@ port_is ports once name port has same = by_found (port_of ports name) refl
         let r = find_has (port_named name) ports other e in
         e ∙ ap Some (once_item (λ p. p.name) ports once other port r.0 has (same_name other.name name r.1 ∙ sym same))
 
--- the pins of the entries that keep the rule
+-- the facts about an entry that keeps the rule
 record KeptEntry (ports : List Port) (before : List MapEntry) (entry : MapEntry) : Type 0 where
   new : list_any (maps_port entry.port) before ≡ false
   wide : has_width (port_of ports entry.port) (length entry.pins) ≡ true
@@ -44,7 +45,7 @@ kept_entry ports before entry e =
     let b = or_parts (not (has_width (port_of ports entry.port) (length entry.pins))) (some_repeats (pins_of before) entry.pins) a.1 in
     record { new = a.0; wide = not-false (has_width (port_of ports entry.port) (length entry.pins)) b.0; apart = b.1 }
 
--- none of these pins was seen
+-- none of these pins is among those that were seen
 none_seen : (seen pins : List (List ℕ)) (pin : List ℕ) → some_repeats seen pins ≡ false → Has seen pin → Has pins pin → ⊥
 none_seen seen [] pin e h k = absurd k
 none_seen seen (p ∷ pins) pin e h (inl same) = clash (is_among seen p) (has_any (bytes_eq p) seen pin h (name_same p pin same)) (or_parts (is_among seen p) (some_repeats (seen ++ p ∷ []) pins) e).0
@@ -53,14 +54,14 @@ none_seen seen (p ∷ pins) pin e h (inr k) = none_seen (seen ++ p ∷ []) pins 
 abbrev itself : List ℕ → List ℕ
 itself pin = pin
 
--- nor is one of them there twice
+-- none of these pins occurs twice
 pins_once : (seen pins : List (List ℕ)) → some_repeats seen pins ≡ false → Once itself pins
 pins_once seen [] e = once_nil itself
 pins_once seen (pin ∷ pins) e =
     let rest : some_repeats (seen ++ pin ∷ []) pins ≡ false = (or_parts (is_among seen pin) (some_repeats (seen ++ pin ∷ []) pins) e).1 in
     once_cons itself pin pins (pins_once (seen ++ pin ∷ []) pins rest) (λ p h same. none_seen (seen ++ pin ∷ []) pins p rest (has_right seen (pin ∷ []) p (inl same)) h)
 
--- two entries with the same pin are the same, and so are the places of the pin
+-- two entries with the same pin are the same entry, and the pin has the same place in both
 pub record SamePin (e d : MapEntry) (k l : ℕ) : Type 0 where
   pub port : e.port ≡ d.port
   pub place : k ≡ l
@@ -87,7 +88,7 @@ same_pin ports entries h e d has_e has_d k l pin at_e at_d = by_order (has_place
         by_case (inr (inl less)) = absurd (ordered m n e d k l less at_m at_n at_e at_d)
         by_case (inr (inr less)) = absurd (ordered n m d e l k less at_n at_m at_d at_e)
 
--- the entry that gives a bit its pin
+-- the entry that assigns a pin to the bit
 record PinFrom (entries : List MapEntry) (bit : Bit) (pin : List ℕ) : Type 0 where
   entry : MapEntry
   has : Has entries entry
@@ -103,7 +104,7 @@ pin_from entries bit pin e = by_found (find (maps_port bit.name) entries) refl e
         let r = find_has (maps_port bit.name) entries entry found in
         record { entry = entry; has = r.0; named = same_name entry.port bit.name r.1; at = is }
 
--- no pin is at two bits
+-- no two port bits have the same pin
 pub pins_apart : (ports : List Port) (entries : List MapEntry) (taps : TapPorts) (compliance : Option Compliance) → PortsStand ports → v4 ports entries ≡ None
     → (i j : ℕ) (a b : PortBit) (pin : List ℕ) → slice_get (map (port_bit entries taps compliance) (port_bits ports)) i ≡ Some a → slice_get (map (port_bit entries taps compliance) (port_bits ports)) j ≡ Some b → a.pin ≡ Some pin → b.pin ≡ Some pin → i ≡ j
 unfolding v4

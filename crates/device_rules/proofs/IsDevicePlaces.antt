@@ -1,4 +1,4 @@
--- The port bits of the entries: which entries have one, which drive one, and of which mode its port is.
+-- The port bits of entries: which entries have one, which drive one, and the modes of their ports.
 use Rattle.std.proofs.Common.{◌≡◌, ℕ, ◌<◌, Bool, true, false, not, ◌&&◌, List, map, length, take, Option, Some, None, refl, sym, ◌∙◌, ap, subst, ◌⊎◌, inl, inr}
 use Rattle.std.specs.Prelude.{slice_get, All, is_none, if◌then◌else◌}
 use Rattle.std.specs.Str.{bytes_eq}
@@ -28,7 +28,7 @@ use Rattle.device_rules.proofs.IsDeviceLists.{same_name, earlier, holds_at, none
 use Rattle.device_rules.proofs.IsDevicePorts.{PortsStand, IsBitOf, is_bit_of}
 use Rattle.device_rules.proofs.IsDevicePins.{port_is}
 
--- an entry is on a port bit if and only if it is not CONTROL, CONTROLR or INTERNAL
+-- an entry has a port bit if and only if its function is not CONTROL, CONTROLR or INTERNAL
 star_is : (word : PortWord) → is_star word ≡ true → word ≡ Star
 star_is Star e = refl
 star_is (Plain name) e = cc e
@@ -93,7 +93,7 @@ one_driver draft none i j bit e d at_i at_j drives_e drives_d =
     by_order x y at_x at_y drives_x drives_y (inr (inl less)) = absurd (driven_before draft.ports draft.entries none bit i j x y less at_x at_y drives_x drives_y)
     by_order x y at_x at_y drives_x drives_y (inr (inr less)) = absurd (driven_before draft.ports draft.entries none bit j i y x less at_y at_x drives_y drives_x)
 
--- the port of an entry's place
+-- the port that an entry names
 named_is : (ports : List Port) → PortsStand ports → (bit : Bit) (of : IsBitOf ports 0 bit) (word : PortWord) → is_named word bit ≡ true → named_port ports word ≡ Some of.port
 named_is ports stand bit of Star e = cc e
 named_is ports stand bit of (Plain name) e =
@@ -107,7 +107,7 @@ mode_kept ports taps entries e entry has =
     let r = has_place entries entry has in
     holds_at (λ before entry. breaks_mode ports taps entry) entries (holds (λ before entry. breaks_mode ports taps entry) entries e) r.0 entry r.1
 
--- a bit on which an entry is
+-- a port bit on which an entry with this function may be
 record Fits (taps : TapPorts) (role : Role) (bit : Bit) : Type 0 where
   no_tap : is_among (tap_names taps) bit.name ≡ false
   driven : is_driving role ≡ true → may_drive bit.mode ≡ true

@@ -1,4 +1,4 @@
--- The ports of a text that keeps the rules, and the bits of the device's ports.
+-- The ports of a text that keeps the rules, and their bits.
 use Rattle.std.proofs.Common.{◌≡◌, ℕ, suc, ◌+◌, ◌≤◌, true, false, not, List, [], ◌∷◌, ◌++◌, length, Option, Some, None, refl, sym, ◌∙◌, ap, subst, arith, ◌⊎◌, inl, inr, length-append}
 use Rattle.std.specs.Prelude.{slice_get, nat_lt}
 use Rattle.std.specs.List.{list_any}
@@ -70,11 +70,11 @@ length_all number (port ∷ ports) h =
     let sum : bits_of (port ∷ ports) ≡ width port.range + bits_of ports = sum_by-cons (λ (p : Port). width p.range) port ports in
     omega (arith, here, rest, all, sum)
 
--- at most 65,535 bits
+-- there are at most 65,535 port bits
 pub bits_few : (ports : List Port) → PortsStand ports → length (port_bits ports) ≤ most_bits
 bits_few ports stand = let all : length (port_bits ports) ≡ bits_of ports = length_all 0 ports stand.ordered in omega (arith, all, stand.few)
 
--- a bit of these ports, which are numbered from `first` on
+-- a bit of these ports, the first of which has the number `first`
 pub record IsBitOf (ports : List Port) (first : ℕ) (bit : Bit) : Type 0 where
   pub number : ℕ
   pub port : Port
@@ -106,7 +106,7 @@ is_along number port place (ix ∷ ixs) bit (inr h) =
     let r : IsAlong number port (place + 1) ixs bit = is_along number port (place + 1) ixs bit h in
     record { step = suc r.step; placed = omega (arith, r.placed); numbered = r.numbered; named = r.named; of_mode = r.of_mode; indexed = r.indexed }
 
--- each bit of a port
+-- a bit of the port with this number
 pub record IsOfPort (number : ℕ) (port : Port) (bit : Bit) : Type 0 where
   pub numbered : bit.port ≡ number
   pub named : bit.name ≡ port.name
@@ -131,7 +131,7 @@ is_bit_of first (port ∷ ports) bit h = by_part (is_bit_of (first + 1) ports bi
         let r : IsBitOf ports (first + 1) bit = rest k in
         record { number = suc r.number; port = r.port; at = r.at; numbered = omega (arith, r.numbered); named = r.named; of_mode = r.of_mode; indexed = r.indexed }
 
--- a bit is determined by the name of its port and its place
+-- the name of its port and its place determine a bit
 abbrev pub spot : Bit → List ℕ × ℕ
 spot bit = (bit.name, bit.place)
 

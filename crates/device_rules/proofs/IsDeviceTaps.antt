@@ -1,4 +1,4 @@
--- The TAP ports of the device: plain, one of mode out, and three or four of mode in.
+-- The TAP ports of the device are plain. One has mode out, and three or four have mode in.
 use Rattle.std.proofs.Common.{◌≡◌, ◌≢◌, ℕ, zero, suc, ◌+◌, Bool, true, false, not, ◌&&◌, ◌||◌, cond, List, [], ◌∷◌, ◌++◌, map, Option, Some, None, refl, sym, ◌∙◌, ap, subst, arith, ◌⊎◌, inl, inr}
 use Rattle.std.specs.Prelude.{slice_get, count_by, is_none, IsTrue}
 use Rattle.std.specs.List.{list_all}
@@ -23,7 +23,7 @@ use Rattle.device_rules.specs.Raw.{port_bit, raw_bits, raw_device}
 use Rattle.device_rules.proofs.IsDeviceLists.{same_name, name_same, Once, once_tail, once_head, once_item}
 use Rattle.device_rules.proofs.IsDevicePorts.{PortsStand, IsBitOf, is_bit_of, is_of_port}
 
--- a name is that of a plain port of this mode
+-- the name is that of a plain port with this mode
 record IsTap (ports : List Port) (name : List ℕ) (mode : Mode) : Type 0 where
   port : Port
   has : Has ports port
@@ -31,7 +31,7 @@ record IsTap (ports : List Port) (name : List ℕ) (mode : Mode) : Type 0 where
   plain : port.range ≡ None
   of_mode : port.mode ≡ mode
 
--- names that differ, and the modes of their ports
+-- the names differ, and each is that of a plain port with the mode in the second list
 abbrev AreTaps : List Port → List (List ℕ) → List Mode → Type 0
 AreTaps ports [] [] = Unit {0}
 AreTaps ports [] (mode ∷ modes) = ⊥
@@ -117,7 +117,7 @@ are_taps ports taps compliance e =
     by_reset None four r = four
     by_reset (Some name) four r = next_tap ports (four_taps taps) (Inward ∷ Outward ∷ Inward ∷ Inward ∷ []) name is_inward Inward inward four r
 
--- counts
+-- counts of items that pass a test
 none_counted : {X : Type 0} (p : X → Bool) (xs : List X) → ((x : X) → Has xs x → p x ≡ false) → count_by p xs ≡ 0
 none_counted p [] h = refl
 none_counted p (x ∷ xs) h =
@@ -181,7 +181,7 @@ split_test false true false h = refl
 split_test false false true h = refl
 split_test false false false h = refl
 
--- for each test of modes, as many bits with these names pass as modes in the list
+-- for each test of modes, the number of bits with these names that pass is the number of modes that pass
 taps_counted : (ports : List Port) → PortsStand ports → (names : List (List ℕ)) (modes : List Mode) → AreTaps ports names modes → (mode : Mode → Bool) → count_by (tapped names mode) (port_bits ports) ≡ count_by mode modes
 taps_counted ports stand [] [] h mode = none_counted (tapped [] mode) (port_bits ports) (λ bit k. refl)
 taps_counted ports stand [] (m ∷ modes) h mode = absurd h
@@ -197,7 +197,7 @@ taps_counted ports stand (name ∷ names) (m ∷ modes) h mode =
     h.1 r.0 r.1 (sym (same_name bit.name name is) ∙ same_name bit.name r.0 r.2))) in
     omega (arith, sum_by-cons (λ v. cond (mode v) 1 0) m modes, here, rest, both)
 
--- the name of a tap has its mode
+-- the name of a TAP port has one of these modes
 record HasMode (ports : List Port) (name : List ℕ) (modes : List Mode) : Type 0 where
   mode : Mode
   has : Has modes mode

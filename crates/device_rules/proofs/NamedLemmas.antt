@@ -15,7 +15,7 @@ use Rattle.device_rules.specs.Raw.{in_compliance}
 use Rattle.device_rules.proofs.NameLemmas.{bytes_turned}
 use Rattle.device_rules.proofs.PinLemmas.{one_more}
 
--- one word more, which names a bit
+-- one more word, which names a bit
 pub marked_more : (words : List PortWord) (i : ℕ) (word : PortWord) (key : List ℕ × Option ℕ) (name : List ℕ) (index : Option ℕ) (new old : Bool) → i < length words → get_or words i word ≡ word → key_of word ≡ Some key
     → new ≡ cond (bytes_eq key.0 name && option_eq nat_eq key.1 index) true old → old ≡ list_any (names_bit name index) (take i words) → new ≡ list_any (names_bit name index) (take (i + 1) words)
 marked_more words i word key name index new old less is same e f =
@@ -23,7 +23,7 @@ marked_more words i word key name index new old less is same e f =
     ∙ ap (λ k. list_any (names_bit name index) (take i words) || is_key k name index) (sym same)
     ∙ ap (λ x. list_any (names_bit name index) (take i words) || names_bit name index x) (sym is) ∙ sym (list_any_more (names_bit name index) words i word less)
 
--- one word more, which names none
+-- one more word, which names no bit
 pub marked_none : (words : List PortWord) (i : ℕ) (word : PortWord) (name : List ℕ) (index : Option ℕ) (old : Bool) → i < length words → get_or words i word ≡ word → key_of word ≡ None
     → old ≡ list_any (names_bit name index) (take i words) → old ≡ list_any (names_bit name index) (take (i + 1) words)
 marked_none words i word name index old less is same f =
@@ -42,7 +42,7 @@ same_index (Some n) (Some i) = turned n i
 both : (a b c d : Bool) → a ≡ b → c ≡ d → (a && c) ≡ (b && d)
 both a b c d e f = ap (λ x. x && c) e ∙ ap (λ x. b && x) f
 
--- a word names a bit by its name and index
+-- a word names a bit if and only if it gives the bit's name and index
 names_is : (bit : Bit) (word : PortWord) → names_bit bit.name bit.index word ≡ is_named word bit
 names_is bit Star = refl
 names_is bit (Plain name) = both _ _ _ _ (bytes_turned name bit.name) (sym (same_index None bit.index))

@@ -1,4 +1,4 @@
--- The place of an index within a range.
+-- The place of an index in a range.
 use Rattle.std.proofs.Common.{◌≡◌, ℕ, zero, suc, ◌+◌, ◌-◌, ◌<◌, ◌≤◌, ◌==◌, Bool, true, false, ◌&&◌, cond, ◌⊎◌, inl, inr, List, [], ◌∷◌, length, map, get_or, reverse, Option, Some, None, refl, sym, ap, subst, ◌∙◌, arith, nat_le}
 use Rattle.std.specs.Prelude.{is_none, option_map, if◌then◌else◌}
 use Rattle.std.specs.List.{position_from, range_with_len}
@@ -14,7 +14,7 @@ use Rattle.bsdl_parser.specs.declared.entity.Range.{Range}
 use Rattle.device_rules.specs.Ports.{in_order, width, indexes, has_index}
 use Rattle.device_rules.specs.inner.Index.{place_in, index_at}
 
--- the first place of an index
+-- the first place of an index in a list of indexes
 abbrev place_of : ℕ → ℕ → List ℕ → Option ℕ
 place_of i n indexes = position_from (is_on i) n (map Some indexes)
 
@@ -27,7 +27,7 @@ miss i n a indexes e = ap (λ b. cond b (Some n) (place_of i (n + 1) indexes)) e
 here_or_above : (i a : ℕ) → a ≤ i → (a ≡ i) ⊎ (a + 1 ≤ i)
 here_or_above i a le = grind arith
 
--- the indexes of a range upwards
+-- the indexes of a range that counts up
 up_step : (i n a count : ℕ) → (a + 1 ≤ i → place_of i (n + 1) (range_with_len (a + 1) count) ≡ Some ((n + 1) + (i - (a + 1)))) → (a ≡ i) ⊎ (a + 1 ≤ i) → place_of i n (range_with_len a (suc count)) ≡ Some (n + (i - a))
 up_step i n a count later (inl e) =
     let here : n ≡ n + (i - a) = omega (arith, e) in
@@ -51,7 +51,7 @@ up_below i n a (suc count) le =
     let less : a < i = omega arith in
     miss i n a (range_with_len (a + 1) count) (lt-eqb a i less) ∙ up_below i (n + 1) (a + 1) count (omega arith)
 
--- the indexes of a range downwards
+-- the indexes of a range that counts down
 abbrev down : ℕ → ℕ → List ℕ
 down a zero = []
 down a (suc count) = (a + count) ∷ down a count
@@ -87,7 +87,7 @@ down_below i n a (suc count) le =
     let over : a + count < i = omega arith in
     miss i n (a + count) (down a count) (lt-eqb (a + count) i over) ∙ down_below i (n + 1) a count (omega arith)
 
--- no index of a vector is left out
+-- each bit of a vector has an index
 none_at : (n : ℕ) (indexes : List ℕ) → position_from is_none n (map Some indexes) ≡ None
 none_at n [] = refl
 none_at n (i ∷ indexes) = none_at (n + 1) indexes
@@ -194,7 +194,7 @@ length_by : (left right : ℕ) (up : Bool) → (if up then nat_le left right els
 length_by left right true e = length_up left right (le_of left right e)
 length_by left right false e = length_down left right (le_of right left e)
 
--- a range has as many indexes as bits
+-- a range has as many indexes as the port has bits
 pub length_indexes : (range : Option Range) → in_order range ≡ true → length (indexes range) ≡ width range
 length_indexes None e = refl
 length_indexes (Some range) e = length-map (range_indexes range.left range.right) Some ∙ length_by range.left range.right range.up e

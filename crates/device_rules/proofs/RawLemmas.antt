@@ -21,7 +21,7 @@ use Rattle.device_rules.specs.inner.Index.{index_at, bit_of_port, names_bit, wor
 use Rattle.device_rules.proofs.RangeLemmas.{index_found, length_indexes}
 use Rattle.device_rules.proofs.BitLemmas.{Apart, apart, length_bits}
 
--- a bit of its fields
+-- a port bit, made from its fields
 abbrev pub made : ℕ → Mode → Option ℕ → Option (List ℕ) → Bool → Bool → PortBit
 made number mode index pin tap named = record { port = number; index = index; mode = mode; pin = pin; tap = tap; compliance = named }
 
@@ -41,7 +41,7 @@ get_bit number port k d e less =
     let within : k < length (indexes port.range) = omega (arith, less, length_indexes port.range e) in
     get_along number port 0 (indexes port.range) k d within ∙ ap (λ p. bit_with number port (get_or (indexes port.range) k None) p) (omega arith) ∙ ap (λ i. bit_with number port i k) (index_found port.range k e less)
 
--- the bits of a port, one more
+-- the bits of a port so far, and one more
 pub bits_step : {B : Type 0} (f : Bit → B) (number : ℕ) (port : Port) (k : ℕ) (before : List B) → in_order port.range ≡ true → k < width port.range
     → (before ++ map f (take k (bits_of_port number port))) ++ f (bit_of_port number port k) ∷ [] ≡ before ++ map f (take (k + 1) (bits_of_port number port))
 bits_step f number port k before e less =
@@ -50,7 +50,7 @@ bits_step f number port k before e less =
     let more : take (k + 1) bits ≡ take k bits ++ bit_of_port number port k ∷ [] = take_more bits k (bit_of_port number port k) within ∙ ap (λ b. take k bits ++ b ∷ []) (get_bit number port k (bit_of_port number port k) e less) in
     append_assoc before (map f (take k bits)) (f (bit_of_port number port k) ∷ []) ∙ ap (λ bs. before ++ bs) (sym (map-append f (take k bits) (bit_of_port number port k ∷ [])) ∙ sym (ap (map f) more))
 
--- the bits of the ports that are left
+-- the bits of the ports so far, and those of the ports that are left
 pub ports_step : {B : Type 0} (f : Bit → B) (ports : List Port) (i : ℕ) (port : Port) (before all new : List B) → i < length ports → get_or ports i port ≡ port → all ≡ before ++ map f (bits_from i (drop i ports))
     → new ≡ before ++ map f (bits_of_port i port) → all ≡ new ++ map f (bits_from (i + 1) (drop (i + 1) ports))
 ports_step f ports i port before all new less is so_far added =
@@ -70,7 +70,7 @@ ordered_at ports i port e less is = ordered_in ports i port (apart ports e) less
 pub map_place_is : (names : List (List ℕ)) (entries : List MapEntry) (q : List ℕ) → names ≡ map (λ entry. entry.port) entries → first_place bytes_eq names q ≡ position_from (maps_port q) 0 entries
 map_place_is names entries q e = ap (λ ns. first_place bytes_eq ns q) e ∙ sym (position_from-map (λ entry. entry.port) (λ n. bytes_eq n q) 0 entries)
 
--- the bit at a place of a port, by its fields
+-- the bit at a place of a port, made from its fields
 pub bit_is : (entries : List MapEntry) (taps : TapPorts) (compliance : Option Compliance) (number : ℕ) (port : Port) (place : ℕ) (name : List ℕ) (index : Option ℕ) (pin : Option (List ℕ)) (tap named : Bool)
     → name ≡ port.name → index ≡ index_at port.range place → pin ≡ option_and_then (λ entry. slice_get entry.pins place) (find (maps_port port.name) entries) → tap ≡ is_among (tap_names taps) port.name
     → named ≡ list_any (names_bit name index) (words_of compliance)

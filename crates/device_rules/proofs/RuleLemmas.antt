@@ -1,4 +1,4 @@
--- If a draft breaks no rule, each rule finds nothing and so holds.
+-- If a draft breaks no rule, the function of each rule returns None, so each rule holds.
 use Rattle.std.proofs.Common.{◌≡◌, ℕ, List, Option, Some, None, Bool, refl, subst}
 use Rattle.device_rules.specs.declared.draft.Draft.{Draft}
 use Rattle.device_rules.specs.declared.broken.Broken.{Broken}
@@ -16,7 +16,7 @@ use Rattle.device_rules.proofs.LeastLemmas.{is_least}
 abbrev BothNone : Option ℕ → Option Broken → Type 0
 BothNone item after = (item ≡ None) × (after ≡ None)
 
--- the rule finds nothing, and neither do the rules after it
+-- if neither a rule nor a later one is broken, the function of the rule returns None, and so does `after`
 none_found : (number : ℕ) (item : Option ℕ) (after : Option Broken) → rule number item after ≡ None → BothNone item after
 none_found number None after e = (refl, e)
 none_found number (Some item) after e = cc e
@@ -60,7 +60,7 @@ from_2_none : (draft : Draft) → first_rule draft ≡ None → (v2 draft.ports 
 unfolding first_rule
 from_2_none draft e = none_found 2 _ _ e
 
--- if no rule is broken, each rule finds nothing
+-- if a draft breaks no rule, the function of each rule returns None
 pub keeps_rules : (draft : Draft) → first_rule draft ≡ None → KeepsRules draft
 keeps_rules draft e =
     let p = from_2_none draft e in
@@ -85,10 +85,10 @@ keeps_rules draft e =
       v14 = d.3;
     }
 
--- if nothing is found, no item breaks the rule
+-- if the result is None, no item breaks the rule
 pub holds : {A : Type 0} (breaks : List A → A → Bool) (items : List A) → first_break breaks items ≡ None → Holds breaks items
 holds breaks items e = subst (IsFound breaks items) e (first_is_found breaks items)
 
--- if nothing is found, no number below the bound has the property
+-- if the result is None, no number below the bound has the property
 pub none_below : (is : ℕ → Bool) (bound : ℕ) → least_below is bound ≡ None → IsLeast is bound None
 none_below is bound e = subst (IsLeast is bound) e (is_least is bound)

@@ -1,4 +1,4 @@
--- The numbers of port bits, worked by hand.
+-- Samples of the numbers of port bits, with values computed by hand.
 use Rattle.std.proofs.Common.{◌≡◌, ℕ, zero, suc, ◌≤◌, true, false, List, [], ◌∷◌, Option, Some, None, map, take, refl, arith}
 use Rattle.std.specs.Prelude.{codes, slice_index}
 use Rattle.board_defs.specs.declared.device.Mode.TheVariants.{Inward}
@@ -11,18 +11,18 @@ use Rattle.device_rules.specs.inner.Index.{AreStarts, place_in}
 abbrev port : List ℕ → Option Range → Port
 port name range = record { name = name; mode = Inward; range = range }
 
--- 7 downto 0, and 2 to 4
+-- the ranges 7 downto 0 and 2 to 4
 abbrev falling : Option Range
 falling = Some (record { left = 7; right = 0; up = false })
 
 abbrev rising : Option Range
 rising = Some (record { left = 2; right = 4; up = true })
 
--- 8 bits, 1 bit and 3 bits
+-- ports with 8 bits, 1 bit and 3 bits
 abbrev ports : List Port
 ports = port (codes "D") falling ∷ port (codes "C") None ∷ port (codes "Q") rising ∷ []
 
--- the first bits of the ports are 0, 8 and 9, and there are 12
+-- the first bits of the ports have the numbers 0, 8 and 9, and there are 12 bits
 abbrev firsts : List ℕ
 firsts = 0 ∷ 8 ∷ 9 ∷ 12 ∷ []
 
@@ -39,11 +39,11 @@ starts = record {
     each (suc (suc (suc zero))) within = refl
     each (suc (suc (suc (suc n)))) within = absurd (omega (arith, within))
 
--- the last entry may not be left out
+-- the number of all bits must be the last item
 no_last : AreStarts ports (0 ∷ 8 ∷ 9 ∷ []) → ⊥
 no_last are = absurd (omega (arith, are.size))
 
--- without ports, there is only the last entry
+-- without ports, the number of all bits is the only item
 no_ports : AreStarts [] (0 ∷ [])
 no_ports = record {
   size = refl;
@@ -54,7 +54,8 @@ no_ports = record {
     each zero within = refl
     each (suc n) within = absurd (omega (arith, within))
 
--- indexes at both ends of a range, and past them; a plain port has no index, and a vector no bit without one
+-- Places of indexes at both ends of a range, and past them. A plain port has no bit with an index, and a vector has no
+-- bit without one.
 places : place_in falling (Some 7) ∷ place_in falling (Some 0) ∷ place_in falling (Some 8) ∷ place_in rising (Some 2) ∷ place_in rising (Some 4) ∷ place_in rising (Some 1) ∷ place_in rising (Some 5) ∷ []
     ≡ Some 0 ∷ Some 7 ∷ None ∷ Some 0 ∷ Some 2 ∷ None ∷ None ∷ []
 places = refl
@@ -62,7 +63,7 @@ places = refl
 plain_places : place_in None None ∷ place_in None (Some 0) ∷ place_in rising None ∷ [] ≡ Some 0 ∷ None ∷ None ∷ []
 plain_places = refl
 
--- the number of a word's bit is its place within its port plus the number of the port's first bit
+-- the number of the bit that a word names is its place in its port plus the number of bits before the port
 numbers : map (bit_number ports) (Index (codes "D") 7 ∷ Index (codes "D") 0 ∷ Plain (codes "C") ∷ Index (codes "Q") 2 ∷ Index (codes "Q") 4 ∷ [])
     ≡ Some 0 ∷ Some 7 ∷ Some 8 ∷ Some 9 ∷ Some 11 ∷ []
 numbers = refl

@@ -12,18 +12,18 @@ use Rattle.instruction_rules.specs.Instructions.{same_bit}
 abbrev pub is_entry_of : ℕ → Entry → Bool
 is_entry_of cell entry = entry.num == cell
 
--- the cell number of the first entry whose number is too large
+-- the cell number of the first entry whose cell number is too large
 abbrev pub too_large : ℕ → List Entry → Option ℕ
 too_large boundary entries = option_map (λ entry. entry.num) (find (λ entry. nat_le boundary entry.num) entries)
 
 abbrev pub is_missing : List Entry → ℕ → Bool
 is_missing entries cell = not (list_any (is_entry_of cell) entries)
 
--- V8: each cell number is below the length of the register, and each number below it has an entry
+-- V8: each entry's cell number is below the length of the register, and each number below this length has an entry
 unfoldable pub v8 : ℕ → List Entry → Option ℕ
 v8 boundary entries = or_else (too_large boundary entries) (least_below (is_missing entries) boundary)
 
--- OUTPUT3 and BIDIR need a control
+-- an entry with the function OUTPUT3 or BIDIR needs a control
 abbrev pub needs_control : Role → Bool
 needs_control Output3 = true
 needs_control Bidir = true
@@ -42,7 +42,8 @@ is_control_of cell entry = (entry.num == cell) && is_controlling entry.role
 abbrev pub has_control_entry : List Entry → ℕ → Bool
 has_control_entry entries cell = list_any (is_control_of cell) entries
 
--- an entry with this control breaks rule V10: it lacks one that it needs, or does not drive and has one, or has one that is not allowed
+-- An entry with this control breaks rule V10: it lacks a control that it needs, it has one although it does not drive, or its control is
+-- a cell that may not be a control.
 abbrev pub breaks_control_of : List Entry → Entry → Option Control → Bool
 breaks_control_of entries entry None = needs_control entry.role
 breaks_control_of entries entry (Some control) = if is_driving entry.role then not ((control.cell == entry.num) || has_control_entry entries control.cell) else true
@@ -50,8 +51,8 @@ breaks_control_of entries entry (Some control) = if is_driving entry.role then n
 abbrev pub breaks_control : List Entry → Entry → Bool
 breaks_control entries entry = breaks_control_of entries entry entry.ctl
 
--- V10: OUTPUT3 and BIDIR have a control, OUTPUT2 may have one, and the others have none. A control is the entry's own cell or a cell with
--- a CONTROL or CONTROLR entry.
+-- V10: an OUTPUT3 or BIDIR entry has a control, an OUTPUT2 entry may have one, and no other entry has one. A control is the entry's own
+-- cell, or a cell with a CONTROL or CONTROLR entry.
 unfoldable pub v10 : List Entry → Option ℕ
 v10 entries = first_break (λ before entry. breaks_control entries entry) entries
 
@@ -66,15 +67,15 @@ controls_entry value cell entry = is_disabled_by value cell entry.ctl
 abbrev pub has_two_values : List Entry → ℕ → Bool
 has_two_values entries cell = list_any (controls_entry true cell) entries && list_any (controls_entry false cell) entries
 
--- V11: all entries with the same control cell have the same disable value
+-- V11: all entries with the same control have the same disable value
 unfoldable pub v11 : ℕ → List Entry → Option ℕ
 v11 boundary entries = least_below (has_two_values entries) boundary
 
--- an entry of the cell that defines what it captures: INPUT, CLOCK, OBSERVE_ONLY, BIDIR or INTERNAL
+-- the entry belongs to the cell and defines what it captures: INPUT, CLOCK, OBSERVE_ONLY, BIDIR or INTERNAL
 abbrev pub loads_cell : ℕ → Entry → Bool
 loads_cell cell entry = is_entry_of cell entry && is_loading entry.role
 
--- an entry of the cell for its update latch: OUTPUT2, OUTPUT3, CONTROL, CONTROLR, BIDIR or INTERNAL
+-- the entry belongs to the cell and is for its update latch: OUTPUT2, OUTPUT3, CONTROL, CONTROLR, BIDIR or INTERNAL
 abbrev pub writes_cell : ℕ → Entry → Bool
 writes_cell cell entry = is_entry_of cell entry && is_writing entry.role
 

@@ -17,16 +17,16 @@ is_star Star = true
 is_star (Plain name) = false
 is_star (Index name index) = false
 
--- the entry is at a wrong place: CONTROL, CONTROLR and INTERNAL belong at `*`, and the others on a port bit
+-- the entry is at a wrong place: a CONTROL, CONTROLR or INTERNAL entry must be at `*`, and any other entry on a port bit
 abbrev pub breaks_place : List Port → Entry → Bool
 breaks_place ports entry = if is_inner entry.role then not (is_star entry.port) else is_none (bit_number ports entry.port)
 
--- V9: CONTROL, CONTROLR and INTERNAL are at `*`. All other entries are on port bits, which have an index if and only if the port is a
--- vector.
+-- V9: each CONTROL, CONTROLR and INTERNAL entry is at `*`. Each other entry is on a port bit, which it names with an index if and
+-- only if the port is a vector.
 unfoldable pub v9 : List Port → List Entry → Option ℕ
 v9 ports entries = first_break (λ before entry. breaks_place ports entry) entries
 
--- the number of the port bit that an entry drives, if it drives one
+-- the number of the port bit that the entry drives, if the entry drives one
 abbrev pub driven_bit : List Port → Entry → Option ℕ
 driven_bit ports entry = if is_driving entry.role then bit_number ports entry.port else None
 

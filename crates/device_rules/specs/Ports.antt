@@ -1,4 +1,4 @@
--- The ports and their bits.
+-- The ports of a device, and their bits.
 use Rattle.std.specs.Prelude.{ℕ, ◌+◌, ◌-◌, List, [], ◌∷◌, ◌++◌, map, Bool, true, false, ◌&&◌, ◌||◌, not, if◌then◌else◌, Option, Some, None, is_none, nat_lt, nat_le, sum_by, find, option_and_then}
 use Rattle.std.specs.List.{list_any, position_from}
 use Rattle.std.specs.Str.{bytes_eq}
@@ -11,7 +11,7 @@ use Rattle.bsdl_strings.specs.declared.values.PortWord.{PortWord}
 use Rattle.bsdl_strings.specs.declared.values.PortWord.TheVariants.{Star, Plain, Index}
 use Rattle.first_places.specs.Items.{first_break}
 
--- a `to` range does not fall, and a `downto` range does not rise
+-- the range is in order: `to` with bounds that do not fall, or `downto` with bounds that do not rise
 abbrev pub in_order : Option Range → Bool
 in_order None = true
 in_order (Some range) = if range.up then nat_le range.left range.right else nat_le range.right range.left
@@ -30,11 +30,11 @@ port_named name port = bytes_eq port.name name
 abbrev pub breaks_port : List Port → Port → Bool
 breaks_port before port = list_any (port_named port.name) before || (not (in_order port.range) || nat_lt most_bits (bits_of before + width port.range))
 
--- V2: names differ, ranges are in order, and there are at most 65,535 port bits
+-- V2: port names differ, ranges are in order, and there are at most 65,535 port bits
 unfoldable pub v2 : List Port → Option ℕ
 v2 ports = first_break breaks_port ports
 
--- the port with this name; `port_number` is its number, from 0
+-- The port with this name, if there is one. `port_number` is its number, counted from 0.
 abbrev pub port_of : List Port → List ℕ → Option Port
 port_of ports name = find (port_named name) ports
 
@@ -50,12 +50,12 @@ pub record Bit : Type 0 where
   pub place : ℕ
   pub mode : Mode
 
--- a plain port has one bit, without an index; the bits of a vector are in order from left to right of its range
+-- The indexes of a port's bits. A plain port has one bit, without an index. The bits of a vector are in order from left to right.
 abbrev pub indexes : Option Range → List (Option ℕ)
 indexes None = None ∷ []
 indexes (Some range) = map Some (range_indexes range.left range.right)
 
--- the bits of a port with these indexes, whose places begin at `place`
+-- the bits of a port that have these indexes, with places from `place` on
 abbrev pub bits_along : ℕ → Port → ℕ → List (Option ℕ) → List Bit
 bits_along number port place [] = []
 bits_along number port place (index ∷ indexes) = record { port = number; name = port.name; index = index; place = place; mode = port.mode } ∷ bits_along number port (place + 1) indexes
@@ -71,7 +71,7 @@ bits_from number (port ∷ ports) = bits_of_port number port ++ bits_from (numbe
 abbrev pub port_bits : List Port → List Bit
 port_bits ports = bits_from 0 ports
 
--- the index of a bit that a word with this index names: none for a plain port, this one for a bit of a vector
+-- A word with the index `index` can name a bit whose index is the second argument: both are None, or both are the same number.
 abbrev pub has_index : Option ℕ → Option ℕ → Bool
 has_index None index = is_none index
 has_index (Some number) index = is_on number index
@@ -79,13 +79,13 @@ has_index (Some number) index = is_on number index
 abbrev pub is_bit : List ℕ → Option ℕ → Bit → Bool
 is_bit name index bit = bytes_eq bit.name name && has_index index bit.index
 
--- the word names the bit: without an index the bit of a plain port, with an index a bit of a vector
+-- the word names the bit: the bit of a plain port without an index, or a bit of a vector with its index
 abbrev pub is_named : PortWord → Bit → Bool
 is_named Star bit = false
 is_named (Plain name) bit = is_bit name None bit
 is_named (Index name index) bit = is_bit name (Some index) bit
 
--- the number, from 0, of the port bit that a word names
+-- the number of the port bit that the word names, counted from 0
 abbrev pub bit_number : List Port → PortWord → Option ℕ
 bit_number ports word = position_from (is_named word) 0 (port_bits ports)
 
@@ -94,6 +94,6 @@ name_in Star = None
 name_in (Plain name) = Some name
 name_in (Index name index) = Some name
 
--- the port that a word names
+-- the port that the word names, if there is such a port
 abbrev pub named_port : List Port → PortWord → Option Port
 named_port ports word = option_and_then (port_of ports) (name_in word)

@@ -16,7 +16,8 @@ use Rattle.device_rules.specs.Taps.{is_among, tap_names}
 use Rattle.device_rules.specs.PinMap.{maps_port}
 use Rattle.instruction_rules.specs.Instructions.{preload, extest}
 
--- The pin of a bit. The pins of a port follow its range from left to right. A port that the map does not name has no pins.
+-- The pin of a bit, if it has one. The pins of a port are in the order of its bits from left to right. A port that the map
+-- does not name has no pins.
 abbrev pub pin_of : List MapEntry → Bit → Option (List ℕ)
 pin_of entries bit = option_and_then (λ entry. slice_get entry.pins bit.place) (find (maps_port bit.name) entries)
 
@@ -35,7 +36,7 @@ port_bit entries taps compliance bit = record {
   compliance = in_compliance compliance bit;
 }
 
--- the bits of the ports in order; the bits of a vector are in order from left to right of its range
+-- the bits of the ports, in the order of the ports; the bits of a vector are in order from left to right
 unfoldable pub raw_bits : List Port → List MapEntry → TapPorts → Option Compliance → List PortBit
 raw_bits ports entries taps compliance = map (port_bit entries taps compliance) (port_bits ports)
 

@@ -1,4 +1,4 @@
--- The first broken rule.
+-- The first rule that a draft breaks.
 use Rattle.std.specs.Prelude.{◌≡◌, ℕ, ◌^◌, ◌<◌, length, Option, Some, None}
 use Rattle.device_rules.specs.declared.draft.Draft.{Draft}
 use Rattle.device_rules.specs.declared.broken.Broken.{Broken}
@@ -9,12 +9,12 @@ use Rattle.instruction_rules.specs.Instructions.{v5, v6, v7}
 use Rattle.device_rules.specs.Cells.{v8, v10, v11, v12}
 use Rattle.device_rules.specs.Places.{v9, v13, v14}
 
--- the rule with the first item that breaks it, if there is one, and otherwise the result for the rules after it
+-- the rule with the first item that breaks it, or the result `after` for the later rules if no item breaks it
 abbrev pub rule : ℕ → Option ℕ → Option Broken → Option Broken
 rule number None after = after
 rule number (Some item) after = Some (record { rule = number; item = item })
 
--- the first broken rule from V11 on
+-- the first of the rules V11 to V14 that the draft breaks
 unfoldable pub from_11 : Draft → Option Broken
 from_11 draft =
     rule 11 (v11 draft.boundary draft.entries) (
@@ -22,18 +22,18 @@ from_11 draft =
     rule 13 (v13 draft.ports draft.entries) (
     rule 14 (v14 draft.ports draft.taps draft.entries) None)))
 
--- the first broken rule from V9 on
+-- the first of the rules V9 to V14 that the draft breaks
 unfoldable pub from_9 : Draft → Option Broken
 from_9 draft =
     rule 9 (v9 draft.ports draft.entries) (
     rule 10 (v10 draft.entries) (
     from_11 draft))
 
--- the first broken rule from V8 on
+-- the first of the rules V8 to V14 that the draft breaks
 unfoldable pub from_8 : Draft → Option Broken
 from_8 draft = rule 8 (v8 draft.boundary draft.entries) (from_9 draft)
 
--- the first broken rule from V5 on
+-- the first of the rules V5 to V14 that the draft breaks
 unfoldable pub from_5 : Draft → Option Broken
 from_5 draft =
     rule 5 (v5 draft.ir draft.opcodes) (
@@ -41,18 +41,18 @@ from_5 draft =
     rule 7 (v7 draft.ir draft.capture draft.idcode) (
     from_8 draft)))
 
--- the first broken rule from V3 on
+-- the first of the rules V3 to V14 that the draft breaks
 unfoldable pub from_3 : Draft → Option Broken
 from_3 draft =
     rule 3 (v3 draft.ports draft.taps draft.compliance) (
     rule 4 (v4 draft.ports draft.map) (
     from_5 draft))
 
--- the first broken rule of V2 to V14, with the first item that breaks it
+-- the first of the rules V2 to V14 that the draft breaks, with the first item that breaks it
 unfoldable pub first_rule : Draft → Option Broken
 first_rule draft = rule 2 (v2 draft.ports) (from_3 draft)
 
--- no rule is broken
+-- the draft breaks no rule
 pub record KeepsRules (draft : Draft) : Type 0 where
   pub v2 : v2 draft.ports ≡ None
   pub v3 : v3 draft.ports draft.taps draft.compliance ≡ None
@@ -68,7 +68,7 @@ pub record KeepsRules (draft : Draft) : Type 0 where
   pub v13 : v13 draft.ports draft.entries ≡ None
   pub v14 : v14 draft.ports draft.taps draft.entries ≡ None
 
--- each list whose items are numbered has fewer than 2^32 items
+-- each list whose items have numbers has fewer than 2^32 items
 pub record HasShortLists (draft : Draft) : Type 0 where
   pub ports : length draft.ports < 2 ^ 32
   pub map : length draft.map < 2 ^ 32

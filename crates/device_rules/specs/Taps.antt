@@ -24,7 +24,7 @@ is_outward Both = false
 is_outward Buffer = false
 is_outward Linkage = false
 
--- there is a port, and it is of type bit and of such a mode
+-- there is a port, it has type bit, and `mode` is true of its mode
 abbrev pub is_plain : (Mode → Bool) → Option Port → Bool
 is_plain mode None = false
 is_plain mode (Some port) = is_none port.range && mode port.mode
@@ -32,11 +32,12 @@ is_plain mode (Some port) = is_none port.range && mode port.mode
 abbrev pub is_among : List (List ℕ) → List ℕ → Bool
 is_among names name = list_any (bytes_eq name) names
 
--- a TAP attribute breaks the rule: its port is one of `before`, or is not of type bit and of such a mode
+-- a TAP attribute breaks the rule: its port is one of `before`, or it does not have type bit and a mode of which `mode` is
+-- true
 abbrev pub breaks_tap : (Mode → Bool) → List Port → List (List ℕ) → List ℕ → Bool
 breaks_tap mode ports before name = is_among before name || not (is_plain mode (port_of ports name))
 
--- like `breaks_tap`, for TRST*, which is optional
+-- like `breaks_tap`, but for TRST*, which a device need not have
 abbrev pub reset_breaks : List Port → List (List ℕ) → Option (List ℕ) → Bool
 reset_breaks ports before None = false
 reset_breaks ports before (Some name) = breaks_tap is_inward ports before name
@@ -53,7 +54,8 @@ listed (Some name) = name ∷ []
 abbrev pub tap_names : TapPorts → List (List ℕ)
 tap_names taps = four_taps taps ++ listed taps.reset
 
--- the number of the first of TAP_SCAN_IN, TAP_SCAN_OUT, TAP_SCAN_MODE, TAP_SCAN_CLOCK and TAP_SCAN_RESET that breaks the rule
+-- the number of the first TAP attribute that breaks the rule: TAP_SCAN_IN, TAP_SCAN_OUT, TAP_SCAN_MODE, TAP_SCAN_CLOCK or
+-- TAP_SCAN_RESET
 abbrev pub wrong_tap : List Port → TapPorts → Option ℕ
 wrong_tap ports taps =
     or_else (broken_by 2 (breaks_tap is_inward ports [] taps.scan_in))
@@ -62,11 +64,12 @@ wrong_tap ports taps =
     (or_else (broken_by 5 (breaks_tap is_inward ports (taps.scan_in ∷ taps.scan_out ∷ taps.mode ∷ []) taps.clock))
     (broken_by 11 (reset_breaks ports (four_taps taps) taps.reset)))))
 
--- compliance bits are port bits, and each pattern has a character for each of them
+-- the compliance patterns name port bits only, and each pattern has a symbol for each of these bits
 abbrev pub complies : List Port → Option Compliance → Bool
 complies ports None = true
 complies ports (Some compliance) = list_all (λ word. is_some (bit_number ports word)) compliance.ports && list_all (λ pattern. length pattern == length compliance.ports) compliance.patterns
 
--- V3: the number of the first TAP attribute that breaks the rule, or otherwise that of COMPLIANCE_PATTERNS if it does
+-- V3: the number of the first TAP attribute that breaks the rule; if there is none, the number of COMPLIANCE_PATTERNS if this
+-- attribute breaks the rule
 unfoldable pub v3 : List Port → TapPorts → Option Compliance → Option ℕ
 v3 ports taps compliance = or_else (wrong_tap ports taps) (broken_by 13 (not (complies ports compliance)))

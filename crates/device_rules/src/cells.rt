@@ -10,7 +10,7 @@ use bsdl_strings::Entry;
 use lists::is_set;
 use std::alloc::{AllocError, Global};
 
-/// Returns, for each cell, whether it has an entry.
+/// Returns a flag for each cell, which says whether the cell has an entry.
 fn cells_with_entry(
     alloc: Global,
     boundary: u32,
@@ -27,7 +27,7 @@ fn cells_with_entry(
     Ok(table)
 }
 
-/// Returns, for each cell, whether it controls an entry with this disable value.
+/// Returns a flag for each cell, which says whether the cell controls an entry with this disable value.
 fn cells_disabling_by(
     alloc: Global,
     value: bool,
@@ -50,7 +50,7 @@ fn cells_disabling_by(
     Ok(table)
 }
 
-/// Returns the least cell whose flag is not set.
+/// Returns the lowest cell whose flag is not set.
 fn least_clear(boundary: u32, flags: &[bool]) -> Option<u32>
     ensures { result ≡ least_below (λ cell. not (slice_index_or flags.now cell false)) boundary }
 {
@@ -62,7 +62,7 @@ fn least_clear(boundary: u32, flags: &[bool]) -> Option<u32>
     None
 }
 
-/// Returns the cell number of the first entry whose number is not below `boundary`.
+/// Returns the cell number of the first entry whose cell number is not below `boundary`.
 fn too_large_cell(boundary: u32, entries: &[Entry]) -> Option<u32>
     ensures { result ≡ too_large boundary entries.now }
 {
@@ -72,7 +72,8 @@ fn too_large_cell(boundary: u32, entries: &[Entry]) -> Option<u32>
         .map(|entry| entry.num)
 }
 
-/// Checks rule V8: returns the first cell number that is too large, or otherwise the least one that is missing.
+/// Checks rule V8. Returns the first cell number that is too large. If there is none, returns the lowest cell number
+/// that is missing.
 #[tactic(auto, unfolding(crate::specs::Cells::v8))]
 pub(crate) fn wrong_cell(
     alloc: Global,
@@ -97,7 +98,7 @@ fn are_set(on: &[bool], off: &[bool], place: usize) -> bool
     is_set(on, place) && is_set(off, place)
 }
 
-/// Returns the least cell with a flag in both tables.
+/// Returns the lowest cell whose flag is set in both tables.
 fn least_with_both(boundary: u32, on: &[bool], off: &[bool]) -> Option<u32>
     ensures { result ≡ least_below (λ cell.
         slice_index_or on.now cell false && slice_index_or off.now cell false) boundary }
@@ -110,7 +111,7 @@ fn least_with_both(boundary: u32, on: &[bool], off: &[bool]) -> Option<u32>
     None
 }
 
-/// Checks rule V11: returns the least control cell with two disable values.
+/// Checks rule V11. Returns the lowest control cell that has two disable values.
 #[tactic(auto, unfolding(crate::specs::Cells::v11))]
 pub(crate) fn two_valued_control(
     alloc: Global,
@@ -124,14 +125,14 @@ pub(crate) fn two_valued_control(
     Ok(least_with_both(boundary, &on, &off))
 }
 
-/// The two parts of a boundary cell: the flip-flop that captures a value, and the update latch, which drives one.
+/// The two stages of a boundary cell: the flip-flop that captures a value, and the update latch.
 #[derive(Clone, Copy, Debug, PartialEq, Eq)]
 pub enum Stage {
     Capture,
     Update,
 }
 
-/// Returns whether an entry of this function is for the stage.
+/// Returns whether an entry with this function is for the stage.
 fn is_for(stage: Stage, role: Role) -> bool
     ensures { result ≡ is_for stage role }
 {
@@ -150,7 +151,7 @@ fn count_one(table: &mut Vec<u32>, cell: u32)
     table[cell as usize] += 1;
 }
 
-/// Returns, for each cell, the number of its entries for the stage.
+/// Returns a number for each cell: how many of the cell's entries are for the stage.
 fn counts_of(
     alloc: Global,
     stage: Stage,
@@ -171,7 +172,7 @@ fn counts_of(
     Ok(table)
 }
 
-/// Returns whether the number at `place` is more than 1. There is no number past the end.
+/// Returns whether the number at `place` is more than 1. Returns false past the end.
 fn is_several(counts: &[u32], place: usize) -> bool
     ensures { result ≡ nat_lt 1 (slice_index counts.now place) }
 {
@@ -181,7 +182,7 @@ fn is_several(counts: &[u32], place: usize) -> bool
     }
 }
 
-/// Returns the least cell for which one of the two numbers is more than 1.
+/// Returns the lowest cell for which one of the two numbers is more than 1.
 fn least_several(boundary: u32, loaders: &[u32], writers: &[u32]) -> Option<u32>
     ensures { result ≡ least_below (λ cell.
         nat_lt 1 (slice_index loaders.now cell) || nat_lt 1 (slice_index writers.now cell)) boundary }
@@ -194,7 +195,7 @@ fn least_several(boundary: u32, loaders: &[u32], writers: &[u32]) -> Option<u32>
     None
 }
 
-/// Checks rule V12: returns the least cell with two entries for its capture or two for its update latch.
+/// Checks rule V12. Returns the lowest cell that has two entries for its capture stage or two for its update latch.
 #[tactic(auto, unfolding(crate::specs::Cells::v12))]
 pub(crate) fn crowded_cell(
     alloc: Global,

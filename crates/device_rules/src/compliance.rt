@@ -8,10 +8,10 @@ use std::alloc::{AllocError, Global};
 use std::collections::HashSet;
 use std::marker::Model;
 
-/// The name of a port and the index of a bit.
+/// A bit that compliance patterns name: the name of its port and its index.
 type Key<'a> = (&'a [u8], Option<u32>);
 
-/// Returns the name and the index in a word; `*` has none.
+/// Returns the name and the index that the word gives, or None for `*`.
 fn key_of(word: &PortWord) -> Option<Key>
     ensures { option_map (λ key. (key.0.now, key.1)) result ≡ key_of word.now }
 {
@@ -32,7 +32,7 @@ fn words_of(compliance: &Option<Compliance>) -> &[PortWord]
     }
 }
 
-/// Returns the set of the bits that these words name.
+/// Returns the set of bits that these words name.
 fn bits_of<'a>(alloc: Global, words: &'a [PortWord]) -> Result<HashSet<Key<'a>>, AllocError>
     ensures { IfOk result (λ bits. HasBits bits words.now) }
 {
@@ -51,7 +51,7 @@ fn has_key(bits: &HashSet<Key>, name: &[u8], index: Option<u32>) -> bool
     bits.contains(&(name, index))
 }
 
-/// The compliance patterns, with the set of the bits that they name. Contracts see it as the patterns.
+/// Compliance patterns, and the set of bits that they name. The value in contracts is the patterns.
 #[derive(Drop)]
 pub struct NamedBits<'a> {
     compliance: &'a Option<Compliance>,
@@ -71,7 +71,7 @@ impl<'a> Model for NamedBits<'a> {
 }
 
 impl<'a> NamedBits<'a> {
-    /// Collects the bits that these patterns name.
+    /// Returns these patterns with the set of bits that they name.
     pub fn of(
         alloc: Global,
         compliance: &'a Option<Compliance>,

@@ -1,4 +1,4 @@
-//! The rule on the controls of the boundary register's entries.
+//! The rule on the controls of boundary entries.
 ghost use Rattle.std.specs.Prelude.{◌≡◌, ◌<◌, ◌^◌, length, All, IfOk};
 ghost use Rattle.device_rules.specs.Cells.{needs_control, is_control_of, has_control_entry, breaks_control, v10};
 ghost use Rattle.device_rules.specs.inner.Tables.{Marks};
@@ -15,7 +15,7 @@ fn wants_control(role: Role) -> bool
     matches!(role, Role::Output3 | Role::Bidir)
 }
 
-/// Returns, for each cell, whether it has a CONTROL or CONTROLR entry.
+/// Returns a flag for each cell, which says whether the cell has a CONTROL or CONTROLR entry.
 fn control_cells(alloc: Global, boundary: u32, entries: &[Entry]) -> Result<Vec<bool>, AllocError>
     ensures { IfOk result (λ table. Marks is_control_of entries.now boundary table.items) }
 {
@@ -30,12 +30,11 @@ fn control_cells(alloc: Global, boundary: u32, entries: &[Entry]) -> Result<Vec<
     Ok(table)
 }
 
-/// The entries of a boundary register, with the cells that have a CONTROL or CONTROLR entry. Contracts see it as the
-/// list of the entries.
+/// The entries of a boundary register, and a flag for each cell. The value in contracts is the list of the entries.
 #[derive(Drop)]
 struct Controls<'a> {
     entries: &'a [Entry],
-    /// For each cell, whether it has such an entry.
+    /// The flag of a cell says whether the cell has a CONTROL or CONTROLR entry.
     flags: Vec<bool>,
 }
 
@@ -53,7 +52,8 @@ impl<'a> Model for Controls<'a> {
 }
 
 impl<'a> Controls<'a> {
-    /// Collects the control cells of a register of length `boundary`. The cell number of each entry must be below it.
+    /// Returns these entries with the flags of the cells of a register of length `boundary`. The cell number of each
+    /// entry must be below `boundary`.
     fn of(alloc: Global, boundary: u32, entries: &'a [Entry]) -> Result<Controls<'a>, AllocError>
         requires { All (λ entry. entry.num < boundary) entries.now }
         ensures { IfOk result (λ controls. controls ≡ entries.now) }
@@ -75,7 +75,7 @@ impl<'a> Controls<'a> {
         is_set(&self.flags, cell as usize)
     }
 
-    /// Returns whether the entry has a control that is not allowed, or lacks one that it needs.
+    /// Returns whether the entry has a control that it may not have, or lacks a control that it needs.
     fn breaks(&self, entry: &Entry) -> bool
         ensures { result ≡ breaks_control self.now entry.now }
     {
@@ -106,8 +106,8 @@ impl<'a> Controls<'a> {
     }
 }
 
-/// Checks rule V10: returns the number, from 1, of the first entry with a control that is not allowed, or without
-/// one that it needs.
+/// Checks rule V10. Returns the number of the first entry, counted from 1, that has a control that it may not have or
+/// lacks a control that it needs.
 pub(crate) fn wrong_control(
     alloc: Global,
     boundary: u32,

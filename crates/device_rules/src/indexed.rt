@@ -1,4 +1,4 @@
-//! A device in a BSDL text, with an index of its ports.
+//! A device as a BSDL text states it, with an index of its ports.
 ghost use Rattle.std.specs.Prelude.{◌≡◌, None, IfOk};
 ghost use Rattle.device_rules.specs.Ports.{v2};
 ghost use Rattle.device_rules.specs.Rules.{HasShortLists};
@@ -8,7 +8,7 @@ use crate::port_index::PortIndex;
 use std::alloc::{AllocError, Global};
 use std::marker::Model;
 
-/// A draft whose ports keep rule V2, with an index of the ports. Contracts see it as the draft.
+/// A draft whose ports keep rule V2, with an index of the ports. The value in contracts is the draft.
 #[derive(Drop)]
 pub struct IndexedDraft<'a> {
     text: &'a Draft,
@@ -28,7 +28,7 @@ impl<'a> Model for IndexedDraft<'a> {
 }
 
 impl<'a> IndexedDraft<'a> {
-    /// Makes the index of the ports of `text`.
+    /// Returns the draft with an index of its ports.
     pub fn of(alloc: Global, text: &'a Draft) -> Result<IndexedDraft<'a>, AllocError>
         requires short { HasShortLists text.now }
         requires rule { v2 text.now.ports ≡ None }

@@ -1,4 +1,4 @@
-//! Laws of the definitions. Each is the contract of a function that does nothing.
+//! Laws of the definitions. Each law is the contract of a function that does nothing.
 ghost use Rattle.std.specs.Prelude.{◌≡◌, ℕ, List, None};
 ghost use Rattle.bsdl_parser.specs.declared.entity.Port.{Port};
 ghost use Rattle.bsdl_strings.specs.declared.values.Entry.{Entry};
@@ -16,13 +16,13 @@ ghost use Rattle.device_rules.specs.Raw.{raw_device, HasLengths};
 ghost use Rattle.device_rules.specs.Rules.{first_rule, KeepsRules};
 ghost use Rattle.board_defs.specs.DeviceRules.{IsDevice};
 
-/// If `first_rule` finds no broken rule, then each rule alone finds nothing.
+/// If `first_rule` finds no broken rule, none of the rules is broken.
 pub fn all_rules_hold()
     ensures { (draft : Draft) → first_rule draft ≡ None → KeepsRules draft }
 {}
 
-/// If a rule finds nothing, no item and no cell breaks it. Otherwise it finds the first item, or the least
-/// cell, that does.
+/// The function of a rule returns the first item that breaks the rule, or the lowest cell that does. It returns None
+/// only if no item and no cell breaks the rule.
 pub fn finds_the_first()
     ensures v2 { (ports : List Port) → IsFound breaks_port ports (v2 ports) }
     ensures v4 { (ports : List Port) (entries : List MapEntry) → IsFound (breaks_map ports) entries (v4 ports entries) }
@@ -35,7 +35,8 @@ pub fn finds_the_first()
     ensures v14 { (ports : List Port) (taps : TapPorts) (entries : List Entry) → IsFound (λ before entry. breaks_mode ports taps entry) entries (v14 ports taps entries) }
 {}
 
-/// A draft with lengths in their ranges that breaks no rule describes a record that keeps the rules of a device.
+/// If a draft breaks no rule and its lengths are in their ranges, the record that it describes keeps the rules of
+/// devices.
 pub fn devices_keep_rules()
     ensures { (draft : Draft) → HasLengths draft → first_rule draft ≡ None → IsDevice (raw_device draft) }
 {}

@@ -1,5 +1,5 @@
-//! The rules that a device in a BSDL text keeps (IEEE 1149.1b-1994 and IEEE 1149.1-2001, Annex B, as far as an
-//! interconnect test needs them), and the record of the device that the text then describes.
+//! The rules for a device in a BSDL text, as far as an interconnect test needs them (IEEE 1149.1b-1994 and IEEE
+//! 1149.1-2001, Annex B), and the record of the device that a text without a broken rule describes.
 #![tactic(auto)]
 
 mod broken;

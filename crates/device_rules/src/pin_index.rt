@@ -23,7 +23,7 @@ fn names_of<'a>(alloc: Global, entries: &'a [MapEntry]) -> Result<Vec<&'a [u8]>,
     Ok(names)
 }
 
-/// Returns, for each port name, the place of its first entry in the pin map.
+/// Returns a map from each port name to the place of its first entry in the pin map.
 fn places_of<'a>(
     alloc: Global,
     entries: &'a [MapEntry],
@@ -35,7 +35,7 @@ fn places_of<'a>(
     first_places_of(alloc, &names)
 }
 
-/// The pin map of a package, in which the entry of a port can be looked up. Contracts see it as the list of the
+/// The pin map of a package, with an index that finds the entry of a port. The value in contracts is the list of the
 /// entries.
 #[derive(Drop)]
 pub struct PinIndex<'a> {
@@ -56,7 +56,7 @@ impl<'a> Model for PinIndex<'a> {
 }
 
 impl<'a> PinIndex<'a> {
-    /// Makes the index of these entries.
+    /// Returns these entries with their index.
     pub fn of(alloc: Global, entries: &'a [MapEntry]) -> Result<PinIndex<'a>, AllocError>
         requires { length entries.now < 2 ^ 32 }
         ensures { IfOk result (λ index. index ≡ entries.now) }
@@ -77,7 +77,7 @@ impl<'a> PinIndex<'a> {
         self.entries
     }
 
-    /// Returns the entry of the port with this name.
+    /// Returns the first entry for the port with this name, or None if the pin map does not name the port.
     pub fn entry_of(&self, name: &[u8]) -> Option<&MapEntry>
         ensures { option_copied result ≡ find (maps_port name.now) self.now }
     {

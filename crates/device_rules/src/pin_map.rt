@@ -23,7 +23,7 @@ fn has_width(port: Option<&Port>, count: usize) -> bool
     }
 }
 
-/// Returns whether the entry names a port and has as many pins as the port has bits.
+/// Returns whether the entry names a port and has as many pins as that port has bits.
 fn fits_port(ports: &PortIndex, entry: &MapEntry) -> bool
     ensures { result ≡ has_width (port_of ports.now entry.now.port) (length entry.now.pins) }
 {
@@ -33,14 +33,16 @@ fn fits_port(ports: &PortIndex, entry: &MapEntry) -> bool
     )
 }
 
-/// Returns whether an entry breaks the rule: its port came before, it does not fit its port, or it repeats a pin.
+/// Returns whether an entry breaks the rule. `known` says whether an earlier entry names its port, `fits` whether it
+/// fits its port, and `repeats` whether it repeats a pin.
 fn is_broken(known: bool, fits: bool, repeats: bool) -> bool
     ensures { result ≡ (known || (not fits || repeats)) }
 {
     known || !fits || repeats
 }
 
-/// Returns whether one of the pins was seen before, or is twice among `pins`. If not, adds all of them to `seen`.
+/// Returns whether one of the pins is in `seen` or occurs twice in `pins`. If the result is false, `seen` then has all
+/// of the pins.
 fn some_repeats<'a>(seen: &mut HashSet<&'a [u8]>, pins: &'a [Name]) -> Result<bool, AllocError>
     ensures answer { IfOk result (λ repeats. (before : List (List ℕ))
         → HasNames seen.old before → repeats ≡ some_repeats before pins.now) }
@@ -56,8 +58,9 @@ fn some_repeats<'a>(seen: &mut HashSet<&'a [u8]>, pins: &'a [Name]) -> Result<bo
     Ok(false)
 }
 
-/// Checks rule V4: returns the number, from 1, of the first wrong entry: it names no port or a port that came
-/// before, its number of pins is not the port's number of bits, or it has a pin that came before.
+/// Checks rule V4. Returns the number of the first wrong entry, counted from 1. An entry is wrong if it names no port,
+/// if an earlier entry names its port, if it does not have as many pins as its port has bits, or if one of its pins
+/// occurs twice in the map.
 #[tactic(auto, unfolding(crate::specs::PinMap::v4))]
 pub(crate) fn wrong_map_entry(
     alloc: Global,

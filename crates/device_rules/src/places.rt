@@ -19,8 +19,8 @@ fn is_star(word: &PortWord) -> bool
     matches!(word, PortWord::Star)
 }
 
-/// Returns whether the entry is at a wrong place: CONTROL, CONTROLR and INTERNAL belong at `*`, all others on a port
-/// bit.
+/// Returns whether the entry is at a wrong place. A CONTROL, CONTROLR or INTERNAL entry must be at `*`, and any other
+/// entry on a port bit.
 fn breaks_place(ports: &PortIndex, near: &mut Near, entry: &Entry) -> bool
     ensures { result ≡ breaks_place ports.now entry.now }
 {
@@ -31,8 +31,8 @@ fn breaks_place(ports: &PortIndex, near: &mut Near, entry: &Entry) -> bool
     }
 }
 
-/// Checks rule V9: returns the number, from 1, of the first entry at a wrong place. CONTROL, CONTROLR and INTERNAL
-/// belong at `*`, all others on a port bit.
+/// Checks rule V9. Returns the number of the first entry at a wrong place, counted from 1. A CONTROL, CONTROLR or
+/// INTERNAL entry must be at `*`, and any other entry on a port bit.
 #[tactic(auto, unfolding(crate::specs::Places::v9))]
 pub(crate) fn wrong_place(ports: &PortIndex, entries: &[Entry]) -> Option<u32>
     requires { length entries.now < 2 ^ 32 }
@@ -47,7 +47,7 @@ pub(crate) fn wrong_place(ports: &PortIndex, entries: &[Entry]) -> Option<u32>
     None
 }
 
-/// Returns the number of the port bit that the entry drives, if it drives one.
+/// Returns the number of the port bit that the entry drives, or None if the entry drives no port bit.
 fn driven_bit(ports: &PortIndex, near: &mut Near, entry: &Entry) -> Option<u32>
     ensures number { result ≡ driven_bit ports.now entry.now }
     ensures few { IfSome result (λ bit. bit < bits_of ports.now) }
@@ -59,7 +59,8 @@ fn driven_bit(ports: &PortIndex, near: &mut Near, entry: &Entry) -> Option<u32>
     }
 }
 
-/// Checks rule V13: returns the number, from 1, of the first entry that drives a port bit that an earlier one drives.
+/// Checks rule V13. Returns the number of the first entry, counted from 1, that drives the same port bit as an earlier
+/// entry.
 #[tactic(auto, unfolding(crate::specs::Places::v13))]
 pub(crate) fn second_driver(
     alloc: Global,
@@ -82,7 +83,7 @@ pub(crate) fn second_driver(
     Ok(None)
 }
 
-/// Returns the port that a word names.
+/// Returns the port that the word names, if there is such a port.
 fn named_port<'a>(ports: &'a PortIndex, near: &mut Near, word: &PortWord) -> Option<&'a Port>
     ensures { option_copied result ≡ named_port ports.now word.now }
 {
@@ -93,7 +94,7 @@ fn named_port<'a>(ports: &'a PortIndex, near: &mut Near, word: &PortWord) -> Opt
     }
 }
 
-/// Returns whether an entry of this function drives and a port of this mode may not be driven.
+/// Returns whether an entry with this function drives its port although the mode of the port does not allow this.
 fn drives_wrongly(role: Role, mode: Mode) -> bool
     ensures { result ≡ (is_driving role && not (may_drive mode)) }
 {
@@ -110,8 +111,8 @@ fn is_misfit(ports: &PortIndex, near: &mut Near, taps: &TapPorts, entry: &Entry)
     }
 }
 
-/// Checks rule V14: returns the number, from 1, of the first entry that is on a TAP port or drives a port of mode in
-/// or linkage.
+/// Checks rule V14. Returns the number of the first entry, counted from 1, that is on a TAP port or drives a port of
+/// mode in or linkage.
 #[tactic(auto, unfolding(crate::specs::Places::v14))]
 pub(crate) fn misfit(ports: &PortIndex, taps: &TapPorts, entries: &[Entry]) -> Option<u32>
     requires { length entries.now < 2 ^ 32 }

@@ -1,4 +1,4 @@
-//! An index of ports by name, with the numbers of their bits.
+//! An index that finds ports by their names and the numbers of their bits.
 ghost use Rattle.std.specs.Prelude.{◌≡◌, ◌<◌, ◌^◌, Some, None, true, length, map, take, vec_len, IfOk, IfSome};
 ghost use Rattle.std.specs.Option.{option_copied};
 ghost use Rattle.std.specs.Str.{bytes_eq};
@@ -28,7 +28,7 @@ fn names_of<'a>(alloc: Global, ports: &'a [Port]) -> Result<Vec<&'a [u8]>, Alloc
     Ok(names)
 }
 
-/// Returns the first place of each name.
+/// Returns a map from each name to its first place in the list.
 pub(crate) fn first_places_of<'a>(
     alloc: Global,
     names: &[&'a [u8]],
@@ -40,7 +40,7 @@ pub(crate) fn first_places_of<'a>(
     first_places(alloc, names)
 }
 
-/// Returns the number of each port by its name.
+/// Returns a map from the name of each port to the port's number.
 fn places_of<'a>(alloc: Global, ports: &'a [Port]) -> Result<IndexMap<&'a [u8], u32>, AllocError>
     requires { length ports.now < 2 ^ 32 }
     ensures { IfOk result (λ places. Finds places (port_number ports.now)) }
@@ -49,7 +49,7 @@ fn places_of<'a>(alloc: Global, ports: &'a [Port]) -> Result<IndexMap<&'a [u8], 
     first_places_of(alloc, &names)
 }
 
-/// Returns the number of bits before each port, and at the end the number of all bits.
+/// Returns the number of bits before each port, followed by the number of all bits.
 fn starts_of(alloc: Global, ports: &[Port]) -> Result<Vec<u32>, AllocError>
     requires { v2 ports.now ≡ None }
     ensures { IfOk result (λ starts. AreStarts ports.now starts.items) }
@@ -64,14 +64,15 @@ fn starts_of(alloc: Global, ports: &[Port]) -> Result<Vec<u32>, AllocError>
     Ok(starts)
 }
 
-/// Returns the number that the map has for a name.
+/// Returns the number that the map has for the name, if it has one.
 pub(crate) fn place_of(places: &IndexMap<&[u8], u32>, name: &[u8]) -> Option<u32>
     ensures { result ≡ get_by (λ n. bytes_eq name.now n.now) places.now }
 {
     places.get(&name).copied()
 }
 
-/// Returns the place of index `number` in the range, from left to right and from 0.
+/// Returns the place of index `number` in the range, or None if the range does not have the index. Places count from 0,
+/// from left to right.
 fn place_in(range: Option<Range>, number: Option<u32>) -> Option<u32>
     ensures { result ≡ place_in range number }
 {
@@ -94,8 +95,8 @@ fn place_in(range: Option<Range>, number: Option<u32>) -> Option<u32>
     }
 }
 
-/// The numbers of the last two ports that were looked up in the map. Successive names often belong to one port, or
-/// to two ports in turn, so these are tried first. The numbers may be any: they never change the answer.
+/// The numbers of the two ports that were looked up last. Entries in a row often name one port, or two ports in turn,
+/// so these ports are tried first. The numbers never change a result, only the time that it takes.
 #[derive(Clone, Copy, Debug, PartialEq, Eq)]
 pub struct Near {
     last: u32,
@@ -103,14 +104,14 @@ pub struct Near {
 }
 
 impl Near {
-    /// Returns the numbers to begin with, before any look-up.
+    /// Returns the numbers with which a series of look-ups begins.
     pub fn new() -> Near {
         Near { last: 0, before: 0 }
     }
 }
 
-/// The ports of a device, which keep rule V2, with the place of each name, the number of bits before each port,
-/// and the number of all bits. Contracts see it as the list of the ports.
+/// The ports of a device, which keep rule V2, with an index: the place of each name, and the number of bits before each
+/// port and of all bits. The value in contracts is the list of the ports.
 #[derive(Drop)]
 pub struct PortIndex<'a> {
     ports: &'a [Port],
@@ -131,7 +132,7 @@ impl<'a> Model for PortIndex<'a> {
 }
 
 impl<'a> PortIndex<'a> {
-    /// Makes the index of these ports.
+    /// Returns these ports with their index.
     pub fn of(alloc: Global, ports: &'a [Port]) -> Result<PortIndex<'a>, AllocError>
         requires short { length ports.now < 2 ^ 32 }
         requires rule { v2 ports.now ≡ None }
@@ -155,8 +156,8 @@ impl<'a> PortIndex<'a> {
         self.ports
     }
 
-    /// Returns whether the port at `place` has this name. Port names differ, so no other port has it then. The
-    /// contract says nothing about `false`: a wrong `false` would only cost time.
+    /// Returns whether the port at `place` has this name. Since port names differ, no other port then has the name. The
+    /// contract says nothing about the result false, since a wrong false would only cost time.
     fn has_name(&self, place: u32, name: &[u8]) -> bool
         ensures { result ≡ true → port_number self.now name.now ≡ Some place }
     {
@@ -166,14 +167,14 @@ impl<'a> PortIndex<'a> {
         }
     }
 
-    /// Looks up the number of the port with this name in the map.
+    /// Returns the number of the port with this name, from the map.
     fn mapped_number(&self, name: &[u8]) -> Option<u32>
         ensures { result ≡ port_number self.now name.now }
     {
         place_of(&self.places, name)
     }
 
-    /// Returns the number of the port with this name.
+    /// Returns the number of the port with this name, if there is one.
     fn number_of(&self, near: &mut Near, name: &[u8]) -> Option<u32>
         ensures { result ≡ port_number self.now name.now }
     {
@@ -189,7 +190,7 @@ impl<'a> PortIndex<'a> {
         Some(number)
     }
 
-    /// Returns the port with this name.
+    /// Returns the port with this name, if there is one.
     pub fn port_at(&self, near: &mut Near, name: &[u8]) -> Option<&Port>
         ensures { option_copied result ≡ port_of self.now name.now }
     {
@@ -208,14 +209,14 @@ impl<'a> PortIndex<'a> {
         self.starts[number as usize]
     }
 
-    /// Returns the number of bits of all ports.
+    /// Returns the number of bits of all ports together.
     pub fn total_bits(&self) -> u32
         ensures { result ≡ bits_of self.now }
     {
         self.starts[self.ports.len()]
     }
 
-    /// Returns the number of the port bit with this name and index.
+    /// Returns the number of the port bit with this name and index, if there is one.
     fn bit_in(&self, near: &mut Near, name: &[u8], index: Option<u32>) -> Option<u32>
         ensures number { result ≡ position_from (is_bit name.now index) 0 (port_bits self.now) }
         ensures few { IfSome result (λ bit. bit < bits_of self.now) }
@@ -230,7 +231,7 @@ impl<'a> PortIndex<'a> {
         }
     }
 
-    /// Returns the number of the port bit that a word names.
+    /// Returns the number of the port bit that the word names, if there is one.
     pub fn bit_at(&self, near: &mut Near, word: &PortWord) -> Option<u32>
         ensures number { result ≡ bit_number self.now word.now }
         ensures few { IfSome result (λ bit. bit < bits_of self.now) }

@@ -7,7 +7,7 @@ use bsdl_parser::{Port, Range};
 use std::alloc::{AllocError, Global};
 use std::collections::HashSet;
 
-/// Returns whether a `to` range does not fall and a `downto` range does not rise.
+/// Returns whether the range is in order: `to` with bounds that do not fall, or `downto` with bounds that do not rise.
 fn is_in_order(range: Option<Range>) -> bool
     ensures { result ≡ in_order range }
 {
@@ -40,8 +40,8 @@ pub(crate) fn bit_count(range: Option<Range>) -> u64
     }
 }
 
-/// Checks rule V2: returns the number, from 1, of the first port whose name came before, whose range is out of order,
-/// or with which there are more than `MOST_BITS` port bits.
+/// Checks rule V2. Returns the number of the first wrong port, counted from 1. A port is wrong if an earlier port has
+/// its name, if its range is out of order, or if the ports up to this one have more than `MOST_BITS` bits.
 #[tactic(auto, unfolding(crate::specs::Ports::v2))]
 pub(crate) fn wrong_port(alloc: Global, ports: &[Port]) -> Result<Option<u32>, AllocError>
     requires { length ports.now < 2 ^ 32 }

@@ -38,7 +38,7 @@ fn port_names(alloc: Global, ports: &[Port]) -> Result<Vec<Name>, AllocError>
     Ok(names)
 }
 
-/// Returns the pin at `place` in the entry of the pin map, if there is an entry and it has that place.
+/// Returns the pin at `place` of the pin map's entry, if there is an entry and it has that place.
 fn pin_of(alloc: Global, entry: Option<&MapEntry>, place: u32) -> Result<Option<Name>, AllocError>
     ensures { IfOk result (λ pin. pin
         ≡ option_and_then (λ entry. slice_get entry.pins place) (option_copied entry.entry)) }
@@ -52,7 +52,7 @@ fn pin_of(alloc: Global, entry: Option<&MapEntry>, place: u32) -> Result<Option<
     }
 }
 
-/// Returns the index at `place` in the range, from left to right.
+/// Returns the index at `place` in the range, where places count from left to right. Returns None without a range.
 fn index_at(range: Option<Range>, place: u32) -> Option<u32>
     requires { place < width range }
     ensures { result ≡ index_at range place }
@@ -69,7 +69,7 @@ fn index_at(range: Option<Range>, place: u32) -> Option<u32>
     }
 }
 
-/// Appends the bits of a port, from left to right.
+/// Appends the bits of a port, in order from left to right.
 fn push_bits(
     alloc: Global,
     pins: &PinIndex,
@@ -102,7 +102,7 @@ fn push_bits(
     Ok(())
 }
 
-/// Returns the bits of all ports, port by port.
+/// Returns the bits of all ports, in the order of the ports.
 #[tactic(auto, unfolding(crate::specs::Raw::raw_bits))]
 fn all_bits(
     alloc: Global,
@@ -132,7 +132,7 @@ fn described_bits(alloc: Global, draft: &IndexedDraft) -> Result<Vec<PortBit>, A
     all_bits(alloc, draft.ports(), &pins, &text.taps, &named)
 }
 
-/// Returns the entry with the number of its port bit.
+/// Returns the entry, with the number of its port bit.
 fn cell_of(ports: &PortIndex, near: &mut Near, entry: &Entry) -> Cell
     ensures { result ≡ cell_of ports.now entry.now }
 {
@@ -212,8 +212,9 @@ fn described(alloc: Global, draft: &IndexedDraft) -> Result<RawDevice, AllocErro
     })
 }
 
-/// Returns the record of the device that the draft describes. The draft must break no rule, and its registers must
-/// have lengths in their ranges: 2 to 255 for the instruction register, 1 to 65,535 for the boundary register.
+/// Returns the record of the device that the draft describes. The draft must break no rule, and the lengths of its
+/// registers must be in their ranges. These are 2 to 255 bits for the instruction register and 1 to 65,535 cells for
+/// the boundary register.
 pub fn raw_device(alloc: Global, draft: &Draft) -> Result<RawDevice, AllocError>
     requires short { HasShortLists draft.now }
     requires rules { first_rule draft.now ≡ None }

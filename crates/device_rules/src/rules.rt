@@ -1,4 +1,4 @@
-//! The rules in order.
+//! The rules, in the order in which they are checked.
 ghost use Rattle.std.specs.Prelude.{◌≡◌, ◌<◌, All, IfOk};
 ghost use Rattle.device_rules.specs.Rules.{HasShortLists, from_3, from_5, from_8, from_9, from_11, first_rule};
 
@@ -14,7 +14,7 @@ use crate::taps::wrong_attribute;
 use instruction_rules::{wrong_instruction, wrong_opcode, wrong_pattern};
 use std::alloc::{AllocError, Global};
 
-/// Returns the first broken rule of V11 to V14.
+/// Returns the first of the rules V11 to V14 that the draft breaks.
 #[tactic(auto, unfolding(crate::specs::Rules::from_11))]
 fn first_from_11(alloc: Global, draft: &IndexedDraft) -> Result<Option<Broken>, AllocError>
     ensures { IfOk result (λ broken. broken ≡ from_11 draft.now) }
@@ -36,8 +36,8 @@ fn first_from_11(alloc: Global, draft: &IndexedDraft) -> Result<Option<Broken>, 
     }
 }
 
-/// Returns the first broken rule of V9 to V14. The cell number of each entry must be below the length of the
-/// register.
+/// Returns the first of the rules V9 to V14 that the draft breaks. The cell number of each entry must be below the
+/// length of the boundary register.
 #[tactic(auto, unfolding(crate::specs::Rules::from_9))]
 fn first_from_9(alloc: Global, draft: &IndexedDraft) -> Result<Option<Broken>, AllocError>
     requires { All (λ entry. entry.num < draft.now.boundary) draft.now.entries }
@@ -54,7 +54,7 @@ fn first_from_9(alloc: Global, draft: &IndexedDraft) -> Result<Option<Broken>, A
     first_from_11(alloc, draft)
 }
 
-/// Returns the first broken rule of V8 to V14.
+/// Returns the first of the rules V8 to V14 that the draft breaks.
 #[tactic(auto, unfolding(crate::specs::Rules::from_8))]
 fn first_from_8(alloc: Global, draft: &IndexedDraft) -> Result<Option<Broken>, AllocError>
     ensures { IfOk result (λ broken. broken ≡ from_8 draft.now) }
@@ -66,7 +66,7 @@ fn first_from_8(alloc: Global, draft: &IndexedDraft) -> Result<Option<Broken>, A
     }
 }
 
-/// Returns the first broken rule of V5 to V14.
+/// Returns the first of the rules V5 to V14 that the draft breaks.
 #[tactic(auto, unfolding(crate::specs::Rules::from_5))]
 fn first_from_5(alloc: Global, draft: &IndexedDraft) -> Result<Option<Broken>, AllocError>
     ensures { IfOk result (λ broken. broken ≡ from_5 draft.now) }
@@ -85,7 +85,7 @@ fn first_from_5(alloc: Global, draft: &IndexedDraft) -> Result<Option<Broken>, A
     first_from_8(alloc, draft)
 }
 
-/// Returns the first broken rule of V3 to V14.
+/// Returns the first of the rules V3 to V14 that the draft breaks.
 #[tactic(auto, unfolding(crate::specs::Rules::from_3))]
 fn first_from_3(alloc: Global, draft: &IndexedDraft) -> Result<Option<Broken>, AllocError>
     ensures { IfOk result (λ broken. broken ≡ from_3 draft.now) }
@@ -100,7 +100,8 @@ fn first_from_3(alloc: Global, draft: &IndexedDraft) -> Result<Option<Broken>, A
     first_from_5(alloc, draft)
 }
 
-/// Returns the first broken rule of V2 to V14 with the first item that breaks it, or None if no rule is broken.
+/// Returns the first of the rules V2 to V14 that the draft breaks, with the first item that breaks it. Returns None if
+/// the draft breaks no rule.
 #[tactic(auto, unfolding(crate::specs::Rules::first_rule))]
 pub fn first_rule(alloc: Global, draft: &Draft) -> Result<Option<Broken>, AllocError>
     requires { HasShortLists draft.now }

@@ -12,7 +12,7 @@ use board_defs::{Code, Mode, Name};
 use bsdl_parser::Port;
 use bsdl_strings::{Compliance, PortWord};
 
-/// Returns whether there is a port and it is of type bit and mode in.
+/// Returns whether there is a port, and it has type bit and mode in.
 fn is_plain_in(port: Option<&Port>) -> bool
     ensures { result ≡ is_plain is_inward (option_copied port.entry) }
 {
@@ -22,7 +22,7 @@ fn is_plain_in(port: Option<&Port>) -> bool
     }
 }
 
-/// Returns whether there is a port and it is of type bit and mode out.
+/// Returns whether there is a port, and it has type bit and mode out.
 fn is_plain_out(port: Option<&Port>) -> bool
     ensures { result ≡ is_plain is_outward (option_copied port.entry) }
 {
@@ -44,21 +44,21 @@ fn is_in(names: &[&[u8]], name: &[u8]) -> bool
     is_lent(names, name)
 }
 
-/// Returns whether the port of a TAP attribute is one of `before`, or is not of type bit and mode in.
+/// Returns whether the port of a TAP attribute is one of `before`, or does not have type bit and mode in.
 fn breaks_inward(ports: &PortIndex, before: &[&[u8]], name: &[u8]) -> bool
     ensures { result ≡ breaks_tap is_inward ports.now (map (λ n. n.now) before.now) name.now }
 {
     is_in(before, name) || !is_plain_in(ports.port_at(&mut Near::new(), name))
 }
 
-/// Like `breaks_inward`, for mode out.
+/// Like `breaks_inward`, but for mode out.
 fn breaks_outward(ports: &PortIndex, before: &[&[u8]], name: &[u8]) -> bool
     ensures { result ≡ breaks_tap is_outward ports.now (map (λ n. n.now) before.now) name.now }
 {
     is_in(before, name) || !is_plain_out(ports.port_at(&mut Near::new(), name))
 }
 
-/// Like `breaks_inward`, for TRST*, which is optional.
+/// Like `breaks_inward`, but for TRST*, which a device need not have.
 fn breaks_reset(ports: &PortIndex, before: &[&[u8]], reset: &Option<Name>) -> bool
     ensures { result ≡ reset_breaks ports.now (map (λ n. n.now) before.now) reset.now }
 {
@@ -68,8 +68,8 @@ fn breaks_reset(ports: &PortIndex, before: &[&[u8]], reset: &Option<Name>) -> bo
     }
 }
 
-/// Returns the number of the first TAP attribute that does not name a port of its own with type bit and the right
-/// mode.
+/// Returns the number of the first wrong TAP attribute. A TAP attribute must name a port that no earlier one names,
+/// with type bit and the right mode.
 fn wrong_tap(ports: &PortIndex, taps: &TapPorts) -> Option<u32>
     ensures { result ≡ wrong_tap ports.now taps.now }
 {
@@ -127,7 +127,7 @@ fn are_bits(ports: &PortIndex, words: &[PortWord]) -> bool
     true
 }
 
-/// Returns whether each pattern has `count` characters.
+/// Returns whether each pattern has `count` symbols.
 fn have_length(count: usize, patterns: &[Code]) -> bool
     ensures { result ≡ list_all (λ pattern. length pattern == count) patterns.now }
 {
@@ -136,7 +136,7 @@ fn have_length(count: usize, patterns: &[Code]) -> bool
         .all(|pattern| pattern.symbols().len() == count)
 }
 
-/// Returns whether the compliance patterns name port bits, and each pattern has a character for each of them.
+/// Returns whether the compliance patterns name port bits only, and each pattern has a symbol for each of these bits.
 fn complies(ports: &PortIndex, compliance: &Option<Compliance>) -> bool
     ensures { result ≡ complies ports.now compliance.now }
 {
@@ -149,8 +149,8 @@ fn complies(ports: &PortIndex, compliance: &Option<Compliance>) -> bool
     }
 }
 
-/// Checks rule V3: returns the number of the first TAP attribute that breaks it, or otherwise that of
-/// COMPLIANCE_PATTERNS if it does.
+/// Checks rule V3. Returns the number of the first TAP attribute that breaks the rule. If there is none, returns the
+/// number of COMPLIANCE_PATTERNS if this attribute breaks the rule.
 #[tactic(auto, unfolding(crate::specs::Taps::v3))]
 pub(crate) fn wrong_attribute(
     ports: &PortIndex,

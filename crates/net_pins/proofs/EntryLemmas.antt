@@ -1,4 +1,5 @@
--- The entries on a port bit that read it are the compared cells there, and all belong to cells of its part.
+-- The entries of a port bit that read it belong to the compared cells. All entries of the port bit belong to cells of
+-- its part.
 use Rattle.std.proofs.Common.{◌≡◌, ℕ, ◌<◌, Bool, true, false, cond, ◌&&◌, ◌||◌, List, [], ◌∷◌, map, Option, Some, None, refl, ap, ◌∙◌, arith}
 use Rattle.std.specs.Prelude.{slice_get, option_and_then, filter, All}
 use Rattle.std.specs.List.{list_any}
@@ -16,7 +17,7 @@ use Rattle.port_entries.specs.Entries.{entries_on, entries_of}
 use Rattle.net_pins.specs.NetCells.{reader_of, readers_in, readers_at}
 use Rattle.net_pins.specs.inner.Receiving.{receives_by}
 
--- the entries on a port bit that a test of roles chooses
+-- the entries of a port bit that a test of functions chooses
 filter_on : (roles : Cell → Bool) (k : ℕ) (cells : List Cell) → filter roles (entries_on cells k) ≡ filter (λ cell. is_on k cell.bit && roles cell) cells
 filter_on roles k [] = refl
 filter_on roles k (cell ∷ cells) = by_test (is_on k cell.bit) (filter_on roles k cells)
@@ -63,7 +64,7 @@ module _ (board : RawBoard) (at : PinAt) where
           ap (λ (l : List Cell). cond (receives_by (slice_get device.bits at.bit)) (map (reader_of board at.part place) l) []) (filter_on (λ cell. is_receiving cell.role) at.bit device.cells)
           ∙ by_bit device (slice_get device.bits at.bit)
 
-  -- the entries belong to cells of the part
+  -- the entries of a port bit belong to cells of the part
   pub entries_below : IsBoard board → All (λ cell. cell.num < cell_count (device_at board at.part)) (entries_of (device_at board at.part) at.bit)
   entries_below rules = by_device (device_at board at.part) refl
     where

@@ -17,7 +17,7 @@ abbrev pub gathered : {X Y : Type 0} → (ℕ → X → List Y) → ℕ → List
 gathered f place [] = []
 gathered f place (x ∷ xs) = f place x ++ gathered f (suc place) xs
 
--- a list of the one item, if there is one
+-- the list that has the item, or the empty list
 abbrev pub optional : {X : Type 0} → Option X → List X
 optional None = []
 optional (Some x) = x ∷ []
@@ -35,7 +35,7 @@ driver_of board place (Some at) = option_map (net_driver board at.part place) (e
 abbrev pub drivers_of_pins : RawBoard → List NetPin → List NetDriver
 drivers_of_pins board pins = gathered (λ place pin. optional (driver_of board place pin.at)) 0 pins
 
--- the drivers of a net that may be enabled; a guarded net has none
+-- The drivers of a net that a setting may enable, in pin order. A guarded net has none.
 abbrev pub drivers_of : RawBoard → Net → List NetDriver
 drivers_of board net = cond (guarded board net) [] (drivers_of_pins board net.pins)
 
@@ -43,7 +43,7 @@ drivers_of board net = cond (guarded board net) [] (drivers_of_pins board net.pi
 abbrev pub reader_of : RawBoard → ℕ → ℕ → Cell → ReaderCell
 reader_of board part place cell = record { place = place; position = first_position board part + cell.num }
 
--- the compared cells of a port bit
+-- the compared cells at a port bit
 abbrev pub readers_in : RawBoard → ℕ → PinAt → Option RawDevice → List ReaderCell
 readers_in board place at None = []
 readers_in board place at (Some device) = map (reader_of board at.part place) (filter (reads_bit at.bit) device.cells)
@@ -57,10 +57,10 @@ readers_at board place (Some at) = cond (receives_where board (Some at)) (reader
 abbrev pub readers_of : RawBoard → List NetPin → List ReaderCell
 readers_of board pins = gathered (λ place pin. readers_at board place pin.at) 0 pins
 
--- the drivers of each net that may be enabled
+-- for each net, its drivers that a setting may enable
 abbrev pub all_drivers : RawBoard → List (List NetDriver)
 all_drivers board = map (drivers_of board) board.nets
 
--- the compared cells of each net
+-- for each net, its compared cells
 abbrev pub all_readers : RawBoard → List (List ReaderCell)
 all_readers board = map (λ net. readers_of board net.pins) board.nets

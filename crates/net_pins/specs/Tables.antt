@@ -8,13 +8,13 @@ use Rattle.net_pins.specs.declared.pins.NetPins.{NetPins}
 use Rattle.net_pins.specs.Positions.{AreFirsts}
 use Rattle.net_pins.specs.NetCells.{all_drivers, all_readers}
 
--- the tables have the first position and the entries of each part, and which nets are guarded
+-- the tables have the first position and the entries of each part, and say for each net whether it is guarded
 pub record ArePinTables (board : RawBoard) (tables : PinTables) : Type 0 where
   pub firsts : AreFirsts board.chain tables.firsts
   pub entries : AreEntries board tables.entries
   pub guards : tables.guarded ≡ map (guarded board) board.nets
 
--- the tables of a board, the drivers of each net that may be enabled, and the compared cells of each net
+-- the tables of the board, the drivers of each net that a setting may enable, and the compared cells of each net
 pub record AreNetPins (board : RawBoard) (pins : NetPins) : Type 0 where
   pub finding : ArePinTables board pins.tables
   pub drivers_are : pins.drivers ≡ all_drivers board

@@ -1,4 +1,4 @@
-// A board with its pin tables, and queries about its pins.
+// A board with its pin tables, and questions about its pins.
 ghost use Rattle.std.specs.Prelude.{◌≡◌, ◌+◌, ◌<◌};
 ghost use Rattle.std.specs.List.{list_any};
 ghost use Rattle.board_defs.specs.BoardRules.{IsBoard};
@@ -14,8 +14,8 @@ use lists::is_set;
 use port_entries::{driving_entry, entries_at, has_dark_pin, receives};
 use std::marker::Model;
 
-/// A board with its pin tables. Contracts see it as the board. No query about a pin goes through all cells of
-/// its part.
+/// A board with its pin tables. The value in contracts is the board. No question about a pin needs a walk over all
+/// cells of its part.
 #[derive(Drop)]
 pub struct BoardPins<'a> {
     board: &'a Board,
@@ -34,7 +34,7 @@ impl<'a> Model for BoardPins<'a> {
 }
 
 impl<'a> BoardPins<'a> {
-    /// Returns the board with these tables, which must be its own.
+    /// Returns the board with these tables, which must be the tables of this board.
     pub fn of(board: &'a Board, tables: &'a PinTables) -> BoardPins<'a>
         requires { ArePinTables board.now tables.now }
         ensures { result ≡ board.now }
@@ -42,7 +42,7 @@ impl<'a> BoardPins<'a> {
         BoardPins { board, tables }
     }
 
-    /// Returns the record of the board, which keeps the rules of a board.
+    /// Returns the record of the board, which keeps the rules of boards.
     pub fn raw(&self) -> &'a RawBoard
         ensures value { result.now ≡ self.now }
         ensures rules { IsBoard self.now }
@@ -50,42 +50,42 @@ impl<'a> BoardPins<'a> {
         self.board.raw()
     }
 
-    /// Returns whether the net with this number is guarded, or false if there is no such net.
+    /// Returns whether the net with this number is guarded. Returns false if there is no such net.
     pub fn is_guarded(&self, net: usize) -> bool
         ensures { result ≡ guarded_at self.now net }
     {
         is_set(self.tables.guarded.as_slice(), net)
     }
 
-    /// Returns the entries on a port bit of a part, in order.
+    /// Returns the entries of the port bit at `at`, in order.
     pub fn entries(&self, at: PinAt) -> &'a [Cell]
         ensures { result.now ≡ entries_of (device_at self.now at.part) at.bit }
     {
         entries_at(self.tables.entries.as_slice(), at)
     }
 
-    /// Returns the driving entry of a port bit of a part, if it has one.
+    /// Returns the driving entry of the port bit at `at`, if there is one.
     pub fn driving_entry(&self, at: PinAt) -> Option<Cell>
         ensures { result ≡ entry_at self.now at }
     {
         driving_entry(self.tables.entries.as_slice(), self.board.raw(), at)
     }
 
-    /// Returns whether the pin at this place of the chain is a receiver.
+    /// Returns whether the pin at this place of the chain is a receiver. Returns false without a place.
     pub fn receives(&self, at: Option<PinAt>) -> bool
         ensures { result ≡ receives_where self.now at }
     {
         receives(self.tables.entries.as_slice(), self.board.raw(), at)
     }
 
-    /// Returns whether one of the pins is dark: something that no setting controls may drive it.
+    /// Returns whether one of the pins is dark. Something that no setting controls may drive the net of a dark pin.
     pub fn has_dark_pin(&self, pins: &[NetPin]) -> bool
         ensures { result ≡ list_any (is_dark self.now) pins.now }
     {
         has_dark_pin(self.tables.entries.as_slice(), self.board.raw(), pins)
     }
 
-    /// Returns the position of a cell of a described part in scans of data.
+    /// Returns the position of a described part's cell in data scans.
     pub fn position(&self, part: u32, cell: u32) -> u32
         requires { cell < cell_count (device_at self.now part) }
         ensures { result ≡ first_position self.now part + cell }

@@ -1,4 +1,4 @@
-// The drivers of each net that may be enabled.
+// The drivers of all nets that a setting may enable.
 ghost use Rattle.std.specs.Prelude.{◌≡◌, ◌≤◌, length, map, IfOk, All};
 ghost use Rattle.board_defs.specs.Limits.{most_pins};
 ghost use Rattle.net_pins.specs.NetCells.{all_drivers, drivers_of};
@@ -25,7 +25,7 @@ fn drivers_of_nets(
     Ok(Items::of(drivers))
 }
 
-/// Returns the drivers of each net that may be enabled, net by net.
+/// Returns, for each net, the drivers that a setting may enable.
 pub fn all_drivers(
     alloc: Global,
     board: &BoardPins<'_>,

@@ -1,4 +1,4 @@
-// The guarded nets, by the entries on their pins.
+// The guarded nets, found from the entries of their pins.
 ghost use Rattle.std.specs.Prelude.{◌≡◌, map, IfOk};
 ghost use Rattle.board_defs.specs.Pins.{guarded};
 ghost use Rattle.port_entries.specs.Entries.{AreEntries};
@@ -23,7 +23,8 @@ fn guarded_of(
     Ok(flags)
 }
 
-/// Returns, for each net, whether it is guarded: no controlled and no one-sided driver of it may be enabled.
+/// Returns a flag for each net, which says whether the net is guarded. On a guarded net, no setting may enable a
+/// controlled or a one-sided driver.
 pub fn guarded_nets(
     alloc: Global,
     board: &Board,

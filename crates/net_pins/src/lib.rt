@@ -1,8 +1,8 @@
 //! The cells on the nets of a board, collected once for its classes and its plan.
 //!
-//! [`PinTables`] has the entries on each port bit, the position of each part in scans of data, and which nets are
-//! guarded. [`BoardPins`] is a board with these tables, and answers queries about it. [`NetPins`] adds, net by
-//! net, the drivers that may be enabled and the compared cells.
+//! [`PinTables`] has the entries of each port bit, the position of each part in data scans, and the guarded nets.
+//! [`BoardPins`] is a board with these tables, and answers questions about its pins. [`NetPins`] adds, for each net,
+//! the drivers that a setting may enable and the compared cells.
 #![tactic(auto)]
 
 mod board_pins;

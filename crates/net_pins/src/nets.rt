@@ -10,8 +10,8 @@ use crate::board_pins::BoardPins;
 use board_defs::{Cell, Ctl, Items, Net, NetPin, PinAt, RawBoard};
 use std::alloc::{AllocError, Global};
 
-/// A driver of a net: the place of its pin in the net, its control, if it has one, its own cell, and the position
-/// of that cell in scans of data.
+/// A driver of a net: the place of its pin in the net, its control if it has one, its own cell, and the position of
+/// this cell in data scans.
 #[derive(Clone, Copy)]
 pub struct NetDriver {
     pub place: u32,
@@ -20,7 +20,7 @@ pub struct NetDriver {
     pub position: u32,
 }
 
-/// A cell that reads a net: the place of its pin in the net, and the cell's position.
+/// A cell that reads a net: the place of its pin in the net, and the position of the cell in data scans.
 #[derive(Clone, Copy)]
 pub struct ReaderCell {
     pub place: u32,
@@ -69,7 +69,7 @@ fn push_some(drivers: &mut Vec<NetDriver>, driver: Option<NetDriver>) -> Result<
     Ok(())
 }
 
-// Returns the drivers among these pins of a net, in pin order.
+// Returns the drivers of a net with these pins, in pin order.
 fn drivers_of_pins(
     alloc: Global,
     board: &BoardPins<'_>,
@@ -85,7 +85,7 @@ fn drivers_of_pins(
     Ok(Items::of(drivers))
 }
 
-/// Returns the drivers of a net that may be enabled in a test. A guarded net has none.
+/// Returns the drivers of a net that a setting may enable, in pin order. A guarded net has none.
 pub fn drivers_of(
     alloc: Global,
     board: &BoardPins<'_>,
@@ -102,7 +102,7 @@ pub fn drivers_of(
     drivers_of_pins(alloc, board, net.pins.as_slice())
 }
 
-// Appends the compared cells among these entries on a port bit.
+// Appends the compared cells of these entries of a port bit.
 fn push_readers(
     board: &BoardPins<'_>,
     part: u32,
@@ -122,7 +122,7 @@ fn push_readers(
     Ok(())
 }
 
-// Returns whether the part may receive from the port bit.
+// Returns whether the mode of the port bit lets the part receive from it.
 fn may_receive(raw: &RawBoard, at: PinAt) -> bool
     ensures { result ≡ receives_by (bit_at raw.now at) }
 {
@@ -132,7 +132,7 @@ fn may_receive(raw: &RawBoard, at: PinAt) -> bool
     }
 }
 
-// Appends the compared cells of the pin at place `at` of the chain, if the pin is a receiver.
+// Appends the compared cells of the pin at `at`, if the pin is a receiver.
 fn push_at(
     board: &BoardPins<'_>,
     place: u32,
@@ -163,7 +163,7 @@ fn push_pin(
     }
 }
 
-/// Returns the compared cells of these pins of a net, in pin order.
+/// Returns the compared cells of a net with these pins, in pin order.
 pub fn readers_of(
     alloc: Global,
     board: &BoardPins<'_>,

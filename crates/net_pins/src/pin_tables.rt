@@ -1,4 +1,4 @@
-// Tables by which no query about a pin goes through all cells of its part, and the guarded nets.
+// Tables with which no question about a pin needs a walk over all cells of its part, and the guarded nets.
 ghost use Rattle.std.specs.Prelude.{IfOk};
 ghost use Rattle.net_pins.specs.Tables.{ArePinTables};
 
@@ -8,20 +8,21 @@ use board_defs::{Board, Items};
 use port_entries::{BitEntries, port_entries};
 use std::alloc::{AllocError, Global};
 
-/// Tables for looking up the cells of a board's pins, and which of its nets are guarded.
+/// Tables that find the cells of a board's pins, and the guarded nets of the board.
 #[derive(Drop)]
 pub struct PinTables {
-    /// The position of each part's first bit in a scan of data.
+    /// The position of each part's first bit in data scans.
     pub firsts: Items<u32>,
     /// The entries of each port bit of each part.
     pub entries: Items<Items<BitEntries>>,
-    /// Whether each net is guarded: no controlled and no one-sided driver of it may be enabled. No setting
-    /// observes such a net, so no driver of it is kept, not even one that is always on.
+    /// A flag for each net, which says whether the net is guarded. On a guarded net, no setting may enable a controlled
+    /// or a one-sided driver. No setting observes such a net, so none of its drivers is kept, not even one that is
+    /// always on.
     pub guarded: Items<bool>,
 }
 
 impl PinTables {
-    /// Makes the tables of a board.
+    /// Returns the tables of a board.
     pub fn new(alloc: Global, board: &Board) -> Result<PinTables, AllocError>
         ensures { IfOk result (λ tables. ArePinTables board.now tables) }
     {

@@ -13,16 +13,16 @@ use std::alloc::{AllocError, Global};
 /// The pin tables of a board, and the cells on each of its nets.
 #[derive(Drop)]
 pub struct NetPins {
-    /// The positions of the parts, their entries, and which nets are guarded.
+    /// The positions of the parts, the entries of the port bits, and the guarded nets.
     pub tables: PinTables,
-    /// The drivers of each net that may be enabled, in pin order. A guarded net has none.
+    /// For each net, the drivers that a setting may enable, in pin order. A guarded net has none.
     pub drivers: Items<Items<NetDriver>>,
-    /// The compared cells of each net, in pin order.
+    /// For each net, the compared cells, in pin order.
     pub readers: Items<Items<ReaderCell>>,
 }
 
 impl NetPins {
-    /// Collects the cells on a board's nets.
+    /// Returns the cells on the nets of a board.
     pub fn new(alloc: Global, board: &Board) -> Result<NetPins, AllocError>
         ensures { IfOk result (λ pins. AreNetPins board.now pins) }
     {
@@ -30,7 +30,7 @@ impl NetPins {
         NetPins::of(alloc, board, tables)
     }
 
-    /// Like `new`, but takes over the tables of the board.
+    /// Like `new`, but takes ownership of the board's tables.
     pub fn of(alloc: Global, board: &Board, tables: PinTables) -> Result<NetPins, AllocError>
         requires { ArePinTables board.now tables }
         ensures { IfOk result (λ pins. AreNetPins board.now pins) }

@@ -1,4 +1,4 @@
-// Positions in scans of data.
+// Positions in data scans.
 ghost use Rattle.std.specs.Prelude.{◌≡◌, ◌+◌, ◌<◌, sum_by, IfOk};
 ghost use Rattle.board_defs.specs.Pins.{data_length, device_at, cell_count};
 ghost use Rattle.net_pins.specs.Positions.{first_position, AreFirsts};
@@ -19,14 +19,14 @@ fn firsts_of(alloc: Global, chain: &[Part], bits: u32) -> Result<Vec<u32>, Alloc
     Ok(firsts)
 }
 
-/// Returns the position of each part's first bit in a scan of data. The bits of all later parts come before it.
+/// Returns the position of each part's first bit in data scans. The bits of all later parts have lower positions.
 pub fn first_positions(alloc: Global, board: &Board) -> Result<Vec<u32>, AllocError>
     ensures { IfOk result (λ firsts. AreFirsts board.now.chain firsts.items) }
 {
     firsts_of(alloc, board.raw().chain.as_slice(), board.dr_bits())
 }
 
-/// Returns the position of a cell of a described part in scans of data.
+/// Returns the position of a described part's cell in data scans.
 pub fn cell_position(board: &Board, firsts: &[u32], part: u32, cell: u32) -> u32
     requires firsts { AreFirsts board.now.chain firsts.now }
     requires cell { cell < cell_count (device_at board.now part) }

@@ -1,4 +1,4 @@
-// The compared cells of each net.
+// The compared cells of all nets.
 ghost use Rattle.std.specs.Prelude.{◌≡◌, ◌≤◌, length, map, IfOk, All};
 ghost use Rattle.board_defs.specs.Limits.{most_pins};
 ghost use Rattle.net_pins.specs.NetCells.{all_readers, readers_of};
@@ -23,7 +23,7 @@ fn readers_of_nets(
     Ok(Items::of(readers))
 }
 
-/// Returns the compared cells of each net, net by net.
+/// Returns, for each net, the compared cells.
 pub fn all_readers(
     alloc: Global,
     board: &BoardPins<'_>,

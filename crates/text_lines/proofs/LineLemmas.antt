@@ -9,17 +9,17 @@ use Rattle.std.proofs.lemmas.List.Splits.{slice_split-cons_yes, slice_split-cons
 use Rattle.std.proofs.lemmas.List.{take_rest, length-take-le}
 use Rattle.std.proofs.lemmas.Bool.{false≢true, not_from_false, false_from_ne_true}
 
--- a byte that has no place passes nowhere
+-- if no byte passes, the position is the length of the list
 pub no_place : (p : ℕ → Bool) (xs : List ℕ) → Nowhere (Passes p xs) 0 (length xs) → position_or_len p xs ≡ length xs
 no_place p xs nowhere =
     prefix_len_is (λ x. not (p x)) xs (length xs) 0 (omega arith) (λ k within. not_from_false (p (get_or xs k 0)) (false_from_ne_true (p (get_or xs k 0)) (nowhere k (omega arith) within))) (λ within. absurd (omega arith))
 
--- the first byte that passes
+-- the position of the first byte that passes
 pub first_place : (p : ℕ → Bool) (xs : List ℕ) (k : ℕ) → NoneBefore (Passes p xs) 0 (length xs) k → Passes p xs k → position_or_len p xs ≡ k
 first_place p xs k before passes =
     prefix_len_is (λ x. not (p x)) xs k 0 (omega (arith, before.high)) (λ j within. not_from_false (p (get_or xs j 0)) (false_from_ne_true (p (get_or xs j 0)) (before.before j (omega arith) within))) (λ within. ap not passes)
 
--- what stands before and behind it
+-- the parts before and after that byte
 pub cut_there : (p : ℕ → Bool) (xs : List ℕ) (k : ℕ) → (NoneBefore (Passes p xs) 0 (length xs) k × Passes p xs k) → IsCut p xs (Some (take k xs, take (length xs - (k + 1)) (drop (k + 1) xs)))
 cut_there p xs k (before, passes) =
     let place = first_place p xs k before passes in (
@@ -28,7 +28,7 @@ cut_there p xs k (before, passes) =
       take_rest xs (k + 1) ∙ sym (ap (λ n. drop (n + 1) xs) place),
     )
 
--- the two parts are no longer than the text
+-- the two parts together are no longer than the text
 pub cut_within : (p : ℕ → Bool) (text before behind : List ℕ) → IsCut p text (Some (before, behind)) → length before + length behind ≤ length text
 cut_within p text before behind (place, first, rest) =
     omega (arith, place, ap length first, ap length rest, length-take-le (position_or_len p text) text (omega arith), length-drop (position_or_len p text + 1) text)
@@ -37,7 +37,7 @@ split_behind : (p : ℕ → Bool) (x : ℕ) (xs : List ℕ) (b : Bool) → cond 
 split_behind p x xs true e ih = absurd (omega arith)
 split_behind p x xs false e ih = let same : position_or_len p xs ≡ length xs = omega arith in ap (onto_first x) (ih same)
 
--- where no element passes, the list is the one part
+-- if no byte passes, the list is the only part
 pub split_whole : (p : ℕ → Bool) (xs : List ℕ) → position_or_len p xs ≡ length xs → slice_split p xs ≡ xs ∷ []
 split_whole p [] h = refl
 split_whole p (x ∷ xs) h = split_behind p x xs (p x) (h ∙ omega arith) (split_whole p xs)
@@ -48,7 +48,7 @@ unfolding words_of
 words_of_empty [] h = refl
 words_of_empty (b ∷ bs) h = absurd (omega arith)
 
--- the text that is left, as a measure
+-- a measure of the text that is left
 abbrev pub text_left : Option (List ℕ) → ℕ
 text_left None = 0
 text_left (Some text) = 1 + length text
@@ -66,7 +66,7 @@ has_bytes view words (b ∷ bs) e h = omega arith
 pub at_some : {A : Type 0} (P : A → Type 0) (o : Option A) (x : A) → o ≡ Some x → IfSome o P → P x
 at_some P o x e h = subst (λ v. IfSome v P) e h
 
--- the line after has its number too
+-- the line number stays within its bound at the next line
 pub next_place : {A : Type 0} (view : A → List ℕ) (r : Option A) (line text : List ℕ) (n b : ℕ) → IfSome r (λ rest. length line + length (view rest) + 1 ≡ length text) → n + length text ≤ 1 + b → IfSome r (λ rest. n + 1 + length (view rest) ≤ 1 + b)
 next_place view None line text n b h place = tt
 next_place view (Some rest) line text n b h place = omega arith
@@ -80,7 +80,7 @@ abbrev pub bytes_left : Option (List ℕ) → ℕ
 bytes_left None = 0
 bytes_left (Some text) = length text
 
--- a line that counts has bytes, so no more lines count than bytes were read
+-- A line that counts has at least one byte. So no more lines count than bytes were read.
 pub count_at : (left : Option (List ℕ)) (text : List ℕ) (count b : ℕ) → left ≡ Some text → count + bytes_left left ≤ b → count + length text ≤ b
 count_at left text count b is within = subst (λ (o : Option (List ℕ)). count + bytes_left o ≤ b) is within
 
@@ -93,7 +93,7 @@ pub count_same : {A : Type 0} (view : A → List ℕ) (r : Option A) (line text 
 count_same view None line text count b shorter within = omega arith
 count_same view (Some rest) line text count b shorter within = omega arith
 
--- a blank before a line changes none of its words
+-- a blank at the front of a line changes none of its words
 pub words_of-blank : (b : ℕ) (bs : List ℕ) → is_blank b ≡ true → words_of (b ∷ bs) ≡ words_of bs
 unfolding words_of
 words_of-blank b bs blank =
@@ -103,7 +103,7 @@ taken_first : (b : ℕ) (bs : List ℕ) (pieces : List (List ℕ)) → not (b ==
 taken_first b bs pieces word =
     take_while-cons begins_no_comment (b ∷ bs) pieces ∙ ap (λ t. cond t ((b ∷ bs) ∷ take_while begins_no_comment pieces) []) word
 
--- a word, and what stands behind it
+-- the first word of a line, and the text after it
 pub words_of-cons : (line before behind : List ℕ) → slice_split is_blank line ≡ before ∷ slice_split is_blank behind → begins_word before ≡ true → words_of line ≡ before ∷ words_of behind
 unfolding words_of
 words_of-cons line [] behind split word = absurd (false≢true word)
@@ -111,7 +111,7 @@ words_of-cons line (b ∷ bs) behind split word =
     ap (λ pieces. take_while begins_no_comment (filter is_filled pieces)) split
     ∙ taken_first b bs (filter is_filled (slice_split is_blank behind)) word
 
--- the part before the first blank begins as the text does
+-- the part before the first blank begins with the same byte as the text
 pub begins_word-before : (text : List ℕ) → begins_blank text ≡ false → begins_word text ≡ true → begins_word (before_first is_blank text) ≡ true
 begins_word-before [] blank word = absurd (false≢true word)
 begins_word-before (b ∷ bs) blank word =
@@ -132,7 +132,7 @@ words_of-comment [] blank word = refl
 words_of-comment (b ∷ bs) blank word =
     ap (λ pieces. take_while begins_no_comment (filter is_filled pieces)) (slice_split-cons_no is_blank b bs blank) ∙ comment_first b (slice_split is_blank bs) word
 
--- a text that is a word
+-- a text without blanks is one word
 pub words_of-whole : (text : List ℕ) → position_or_len is_blank text ≡ length text → begins_word text ≡ true → words_of text ≡ text ∷ words_of []
 unfolding words_of
 words_of-whole [] whole word = absurd (false≢true word)

@@ -9,7 +9,7 @@ Word = List ℕ
 abbrev pub is_newline : ℕ → Bool
 is_newline b = b == 10
 
--- a carriage return, a tab and a space
+-- a carriage return, a tab or a space
 abbrev pub is_blank : ℕ → Bool
 is_blank b = (b == 13) || (b == 9) || (b == 32)
 
@@ -21,24 +21,24 @@ abbrev pub begins_no_comment : Word → Bool
 begins_no_comment [] = true
 begins_no_comment (b ∷ bs) = not (b == 35)
 
--- the nonempty pieces between blanks, up to the first that begins with `#`
+-- the nonempty pieces between blanks, before the first piece that begins with `#`
 unfoldable pub words_of : List ℕ → List Word
 words_of line = take_while begins_no_comment (filter is_filled (slice_split is_blank line))
 
--- the most bytes of a word
+-- the largest number of bytes of a word
 abbrev pub most_word_bytes : ℕ
 most_word_bytes = 255
 
--- the word rule: 1 to 255 bytes, each from 33 to 126
+-- the word has 1 to 255 bytes, each from 33 to 126
 abbrev pub is_word : Word → Bool
 is_word word = is_filled word && nat_le (length word) most_word_bytes && list_all is_ascii_graphic word
 
--- the lines of a text, if there is a text
+-- the lines of the text that is left, if any is left
 abbrev pub lines_of : Option (List ℕ) → List (List ℕ)
 lines_of None = []
 lines_of (Some text) = slice_split is_newline text
 
--- what is before and after the first byte that passes the test, or None if no byte passes
+-- the parts before and after the first byte that passes the test, or None if no byte passes
 abbrev pub IsCut : (ℕ → Bool) → List ℕ → Option (List ℕ × List ℕ) → Type 0
 IsCut p text None = position_or_len p text ≡ length text
 IsCut p text (Some (before, behind)) = (position_or_len p text < length text) × (before ≡ before_first p text) × (behind ≡ after_first p text)

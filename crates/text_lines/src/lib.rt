@@ -1,7 +1,7 @@
 //! The lines of a text and the words of a line.
 //!
-//! A text is cut into lines at byte 10. Words are separated by carriage returns, tabs and spaces. A word that begins
-//! with `#` begins a comment, which ends with its line.
+//! Byte 10 separates lines. Carriage returns, tabs and spaces separate words. A word that begins with `#` begins a
+//! comment, which ends with its line.
 #![tactic(auto)]
 
 ghost use Rattle.std.specs.Prelude.{◌≡◌, ◌==◌, [], ◌∷◌, true, false, MatchOption, map, IfOk, IfSome, IfNone, option_map, option_copied, length, drop, ◌+◌, ◌≤◌};
@@ -20,7 +20,7 @@ pub fn is_blank(b: u8) -> bool
     b == b'\r' || b == b'\t' || b == b' '
 }
 
-/// Returns whether the word has a byte.
+/// Returns whether the word has at least one byte.
 pub fn is_filled(word: &[u8]) -> bool
     ensures { result ≡ is_filled word.now }
 {
@@ -37,7 +37,7 @@ pub fn begins_no_comment(word: &[u8]) -> bool
     }
 }
 
-/// Returns the words of a line, up to a comment.
+/// Returns the words of a line, up to its comment if it has one.
 #[tactic(auto, unfolding(crate::specs::Words::words_of))]
 pub fn words(alloc: Global, line: &[u8]) -> Result<Vec<&[u8]>, AllocError>
     ensures { IfOk result (λ words. map (λ w. w.now) words.items ≡ words_of line.now) }
@@ -54,18 +54,18 @@ fn is_graphic(word: &[u8]) -> bool
     word.iter().all(|b| b.is_ascii_graphic())
 }
 
-/// The most bytes that a word may have.
+/// The largest number of bytes of a word.
 const MOST_WORD_BYTES: usize = 255;
 
-/// Returns whether the word keeps the word rule: 1 to 255 bytes, each from 33 to 126.
+/// Returns whether the word has 1 to 255 bytes, each from 33 to 126.
 pub fn is_word(word: &[u8]) -> bool
     ensures { result ≡ is_word word.now }
 {
     is_filled(word) && word.len() <= MOST_WORD_BYTES && is_graphic(word)
 }
 
-// Returns the first place of the byte. A text may have millions of empty lines, so the first byte is compared before a
-// search begins.
+// Returns the place of the first such byte. A text may have millions of empty lines, so the first byte is compared
+// before the search begins.
 fn place_of(text: &[u8], byte: u8) -> Option<usize>
     ensures { IsFirstByte (is_byte byte) text.now result }
 {
@@ -75,7 +75,7 @@ fn place_of(text: &[u8], byte: u8) -> Option<usize>
     }
 }
 
-/// Returns what is before and after the first such byte, or None if there is none.
+/// Returns the parts before and after the first such byte, or None if there is no such byte.
 pub fn cut_at(text: &[u8], byte: u8) -> Option<(&[u8], &[u8])>
     ensures { IsCut (λ b. b == byte) text.now (option_map (λ cut. (cut.0.now, cut.1.now)) result) }
 {
@@ -98,7 +98,7 @@ pub fn first_line(text: &[u8]) -> (&[u8], Option<&[u8]>)
     }
 }
 
-// Returns the line from its first byte that is not a blank.
+// Returns the line without the blanks at its front.
 fn behind_blanks(line: &[u8]) -> &[u8]
     ensures words { words_of result.now ≡ words_of line.now }
     ensures first { begins_blank result.now ≡ false }
@@ -118,7 +118,7 @@ fn begins_word(line: &[u8]) -> bool
     is_filled(line) && begins_no_comment(line)
 }
 
-// Returns what is before and after the first blank, or None if there is none.
+// Returns the parts before and after the first blank, or None if there is no blank.
 fn cut_at_blank(text: &[u8]) -> Option<(&[u8], &[u8])>
     ensures { IsCut is_blank text.now (option_map (λ cut. (cut.0.now, cut.1.now)) result) }
 {
@@ -128,7 +128,7 @@ fn cut_at_blank(text: &[u8]) -> Option<(&[u8], &[u8])>
     }
 }
 
-// Returns the word at the start of the text, and what comes after it.
+// Returns the word at the front of the text, and the text after it.
 fn cut_word(text: &[u8]) -> (&[u8], &[u8])
     requires first { begins_blank text.now ≡ false }
     requires word { begins_word text.now ≡ true }

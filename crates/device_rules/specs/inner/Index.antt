@@ -1,4 +1,4 @@
--- The index of ports by name, and the numbers of their bits.
+-- An index that finds ports by their names, and the numbers of their bits.
 use Rattle.std.specs.Prelude.{◌≡◌, ℕ, ◌+◌, ◌-◌, ◌^◌, ◌<◌, ◌≤◌, List, [], length, map, take, nat_eq, Bool, false, ◌&&◌, if◌then◌else◌, Option, Some, None, nat_le, slice_index}
 use Rattle.std.specs.Borrow.{Bor}
 use Rattle.std.specs.Str.{bytes_eq}
@@ -15,31 +15,32 @@ use Rattle.bsdl_strings.specs.declared.values.PortWord.TheVariants.{Star, Plain,
 use Rattle.device_rules.specs.PinMap.{maps_port}
 use Rattle.device_rules.specs.Ports.{Bit, bits_of, port_number, v2}
 
--- the lent names are `names`
+-- the borrowed names are `names`
 abbrev pub AreLent : List (Bor (List ℕ)) → List (List ℕ) → Type 0
 AreLent lent names = map (λ n. n.now) lent ≡ names
 
--- for each name the map has the result of `place`
+-- the map has the result of `place` for each name
 abbrev pub Finds : {S : Type 0} → IndexMap (Bor (List ℕ)) ℕ S → (List ℕ → Option ℕ) → Type 0
 Finds places place = (q : Bor (List ℕ)) → get_by (λ n. bytes_eq q.now n.now) places ≡ place q.now
 
--- the number of bits before each port, and at the end the number of all bits
+-- the number of bits before each port, followed by the number of all bits
 pub record AreStarts (ports : List Port) (starts : List ℕ) : Type 0 where
   pub size : length starts ≡ length ports + 1
   pub each : (n : ℕ) → n ≤ length ports → slice_index starts n ≡ bits_of (take n ports)
 
--- there are fewer than 2^32 ports, they keep rule V2, the map has their numbers by name, and `starts` has the numbers of bits before them
+-- There are fewer than 2^32 ports, and they keep rule V2. The map has the number of each port by its name, and `starts` has the number of
+-- bits before each port.
 pub record IsIndex {S : Type 0} (ports : List Port) (places : IndexMap (Bor (List ℕ)) ℕ S) (starts : List ℕ) : Type 0 where
   pub short : length ports < 2 ^ 32
   pub rule : v2 ports ≡ None
   pub found : Finds places (port_number ports)
   pub counted : AreStarts ports starts
 
--- the place of the first entry of the pin map with this port name
+-- the place of the first entry of the pin map for this port name
 abbrev pub map_place : List MapEntry → List ℕ → Option ℕ
 map_place entries name = position_from (maps_port name) 0 entries
 
--- the place of an index in a range, from left to right and from 0
+-- the place of an index in a range, counted from 0 and from left to right
 abbrev pub place_in : Option Range → Option ℕ → Option ℕ
 place_in None None = Some 0
 place_in None (Some number) = None
@@ -48,12 +49,12 @@ place_in (Some range) (Some number) =
     if range.up then (if nat_le range.left number && nat_le number range.right then Some (number - range.left) else None) else
     if nat_le range.right number && nat_le number range.left then Some (range.left - number) else None
 
--- the index at a place of a range, from left to right
+-- the index at a place of a range, where places count from left to right
 abbrev pub index_at : Option Range → ℕ → Option ℕ
 index_at None place = None
 index_at (Some range) place = Some (if range.up then range.left + place else range.left - place)
 
--- the bit at `place` of a port
+-- the bit at `place` of the port
 abbrev pub bit_of_port : ℕ → Port → ℕ → Bit
 bit_of_port number port place = record { port = number; name = port.name; index = index_at port.range place; place = place; mode = port.mode }
 
@@ -67,7 +68,7 @@ abbrev pub is_key : Option (List ℕ × Option ℕ) → List ℕ → Option ℕ 
 is_key None name index = false
 is_key (Some key) name index = bytes_eq key.0 name && option_eq nat_eq key.1 index
 
--- a word names the bit with this name and index
+-- the word names the bit with this name and index
 abbrev pub names_bit : List ℕ → Option ℕ → PortWord → Bool
 names_bit name index word = is_key (key_of word) name index
 

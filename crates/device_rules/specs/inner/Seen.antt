@@ -1,4 +1,4 @@
--- The contents of a set of names that were seen.
+-- Sets of names that were seen.
 use Rattle.std.specs.Prelude.{◌≡◌, ℕ, List}
 use Rattle.std.specs.Borrow.{Bor}
 use Rattle.std.specs.Str.{bytes_eq}

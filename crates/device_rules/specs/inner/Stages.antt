@@ -7,7 +7,7 @@ use Rattle.device_rules.specs.declared.cells.Stage.{Stage}
 use Rattle.device_rules.specs.declared.cells.Stage.TheVariants.{Capture, Update}
 use Rattle.device_rules.specs.Cells.{is_entry_of}
 
--- an entry of this function is for the stage
+-- an entry with this function is for the stage
 abbrev pub is_for : Stage → Role → Bool
 is_for Capture role = is_loading role
 is_for Update role = is_writing role

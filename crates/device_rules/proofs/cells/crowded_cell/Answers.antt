@@ -1,4 +1,4 @@
--- The tables say how many entries of each cell are for each stage.
+-- The tables have the number of entries of each cell for each stage.
 use Rattle.std.proofs.Common.{◌||◌, ap, count_by, ◌∙◌}
 use Rattle.std.specs.Prelude.{nat_lt, slice_index}
 use Rattle.device_rules.specs.Cells.{loads_cell, is_crowded, v12}

@@ -1,4 +1,4 @@
--- The tables say which cells have entries with each disable value.
+-- The tables have the cells that control entries with each disable value.
 use Rattle.std.proofs.Common.{◌&&◌, true, false, ap, ◌∙◌}
 use Rattle.std.specs.Prelude.{slice_index_or}
 use Rattle.std.specs.List.{list_any}

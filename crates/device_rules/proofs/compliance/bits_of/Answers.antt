@@ -1,4 +1,4 @@
--- The bit of a word is added if the word names one.
+-- If the word names a bit, that bit is added.
 use Rattle.std.proofs.Common.{sym, ap, subst, ◌∙◌, ◌+◌, take}
 use Rattle.std.specs.Prelude.{option_map}
 use Rattle.std.specs.List.{list_any}

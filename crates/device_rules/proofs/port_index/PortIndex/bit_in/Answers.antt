@@ -1,4 +1,4 @@
--- The port's number gives the bit's, with the bits before the port.
+-- The number of the bit is the number of bits before its port plus its place in the port.
 use Rattle.std.proofs.Common.{get_or, sym, ap, ◌∙◌, arith}
 use Rattle.device_rules.specs.Ports.{port_named, port_number, v2}
 use Rattle.device_rules.specs.inner.Index.{place_in}
