@@ -1,4 +1,4 @@
--- The contents of the finished table of the controls.
+-- The contents of the table of the controls once it is filled.
 use Rattle.std.proofs.Common.{◌≡◌, ℕ, zero, suc, ◌<◌, ◌≤◌, ◌==◌, Bool, true, false, not, ◌&&◌, ◌||◌, List, [], ◌∷◌, ◌++◌, map, length, Option, Some, None, refl, sym, ◌∙◌, ap, subst, arith, cond}
 use Rattle.std.specs.Prelude.{slice_get, option_map, option_and_then, filter}
 use Rattle.std.specs.List.{list_any, list_all, range_with_len}
@@ -30,7 +30,7 @@ use Rattle.net_facts.specs.inner.Rows.{unsafe_too, ends_with, note_net, note_net
 use Rattle.net_facts.proofs.RowLemmas.{copies_get}
 use Rattle.net_facts.proofs.Notes.{at_same, at_other, by_pin, run, pins_row, run_first, ends_other}
 
--- a fresh table
+-- the item of a control in a table that is not filled yet
 fresh_at : (board : RawBoard) (c : Ctl) → IsCell board c → item_of (fresh_rows board.chain) c ≡ Some fresh
 fresh_at board c h = ap (option_and_then (λ r. slice_get r c.cell)) (slice_get-map (λ (part : Part). copies fresh (cell_count (described part.kind))) board.chain c.part) ∙ by_part (slice_get board.chain c.part) h
   where
@@ -38,8 +38,7 @@ fresh_at board c h = ap (option_and_then (λ r. slice_get r c.cell)) (slice_get-
     by_part None g = absurd (omega arith)
     by_part (Some part) g = copies_get fresh (cell_count (described part.kind)) c.cell g
 
--- net by net
--- the driven nets below k
+-- the numbers of the nets below `k` that have a driver of this control
 abbrev pub driven : RawBoard → Ctl → ℕ → List ℕ
 driven board c k = filter (λ n. drives_there board c (slice_get board.nets n)) (range_with_len 0 k)
 
@@ -73,7 +72,7 @@ none_is_one test (x ∷ xs) h = by_head (test x) h (none_is_one test xs)
     by_head true g rest = cc g
     by_head false g rest = rest g
 
--- one more net
+-- one more net is noted
 abbrev pub refuses : RawBoard → Ctl → Option Net → Bool
 refuses board c None = false
 refuses board c (Some net) = not (admits board c net)
@@ -123,7 +122,7 @@ nets_row board c (suc k) h =
     net_row board c k (slice_get board.nets k) (note_nets (map (net_facts_of board) board.nets) k (fresh_rows board.chain)) (nets_row board c k h) ∙
     ap (λ xs. Some (let r : ControlClass = record { nets = xs; safe = not (refuses board c (slice_get board.nets k) || refused board c k); useful = false } in r)) (sym (driven_more board c k))
 
--- the one-sided drivers
+-- the one-sided drivers are noted
 abbrev block_if : Bool → ControlClass → ControlClass
 block_if b row = record { nets = row.nets; safe = not b && row.safe; useful = row.useful }
 
@@ -253,7 +252,7 @@ safe_alone_is board c = ap (λ t. not (enables_one_sided board c) && not t) all 
             by_refused true k = refl
             by_refused false k = absurd (clash (list_all (admits board c) board.nets) (all_from (admits board c) board.nets (λ i net g. true_from_ne_false (admits board c net) (λ w. clash (refused board c (length board.nets)) (below_at (length board.nets) (λ m. refuses board c (slice_get board.nets m)) i (slice_get_within board.nets i net g) (ap (refuses board c) g ∙ not_from_false (admits board c net) w)) k))) (not-true (list_all (admits board c) board.nets) e))
 
--- the table's item for a control before the useful ones are marked
+-- the item of a control before the useful controls are marked
 abbrev pub row_before : RawBoard → Ctl → ControlClass
 row_before board c = record { nets = driven_nets board c; safe = is_safe_alone board c; useful = false }
 

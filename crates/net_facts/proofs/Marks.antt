@@ -1,4 +1,4 @@
--- The contents of the table of the controls after the useful ones are marked.
+-- The contents of the table of the controls once the useful controls are marked.
 use Rattle.std.proofs.Common.{◌≡◌, Bool, true, false, ◌||◌, List, [], ◌∷◌, map, length, Option, Some, None, refl, sym, ◌∙◌, ap}
 use Rattle.std.specs.Prelude.{option_map, filter, fold}
 use Rattle.std.specs.List.{list_any}
@@ -81,7 +81,7 @@ marks_row (net ∷ nets) rows c =
     ap (option_map (mark_if (list_any (by_net c) nets))) (drivers_row net.drivers rows c) ∙
     mark_join (by_net c net) (list_any (by_net c) nets) (item_of rows c)
 
--- the control controls a tested driver if and only if it is useful, since it is then safe alone
+-- A control enables a tested driver if and only if it is useful, since such a control is safe alone.
 pub useful_is : (board : RawBoard) (c : Ctl) → list_any (λ net. list_any (by_drive c) (tested_drivers board net)) board.nets ≡ is_useful board c
 useful_is board c = same_truth (list_any some board.nets) (is_useful board c) there back
   where

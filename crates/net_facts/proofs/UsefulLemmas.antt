@@ -24,7 +24,7 @@ pub cells_are : (part : ℕ) (kind : PartKind) → map (cell_in part) (range_wit
 cells_are part (Described device) = refl
 cells_are part (Bypass n) = refl
 
--- the cells of the first k parts
+-- the cells of the first `k` parts, as controls
 abbrev pub cells_upto : List Part → ℕ → List Ctl
 cells_upto chain k = flat_map (λ part. cells_of part.0 part.1.kind) (enumerate_from 0 (take k chain))
 
@@ -58,7 +58,7 @@ cell_more p part cell initial before after t e f g =
 pub cells_whole : (board : RawBoard) (k : ℕ) → length board.chain ≤ k → cells_upto board.chain k ≡ all_cells board
 cells_whole board k h = ap (λ xs. flat_map (λ (part : ℕ × Part). cells_of part.0 part.1.kind) (enumerate_from 0 xs)) (take_all k board.chain h)
 
--- each item of the list of all cells is a cell
+-- each item in the list of all cells is a boundary cell of a described part
 pub has_cell : (board : RawBoard) (c : Ctl) → Has (all_cells board) c → IsCell board c
 has_cell board c h =
     let f : ℕ × Part → List Ctl = λ q. cells_of q.0 q.1.kind in

@@ -1,9 +1,9 @@
--- Tables with one item for each cell of each part.
+-- Tables with one item for each boundary cell of each part.
 use Rattle.std.specs.Prelude.{ℕ, zero, suc, Bool, false, List, [], ◌∷◌, map, Vec, Option, Some, None, slice_get, option_and_then}
 use Rattle.std.specs.declared.alloc.Global.{Global}
 use Rattle.board_defs.specs.declared.board.Ctl.{Ctl}
 
--- the table as a list of rows, one for each part of the chain
+-- the table as a list of rows, with one row for each part of the chain
 abbrev pub table : {X : Type 0} → List (Vec X Global) → List (List X)
 table rows = map (λ row. row.items) rows
 
@@ -11,12 +11,12 @@ table rows = map (λ row. row.items) rows
 abbrev pub item_of : {X : Type 0} → List (List X) → Ctl → Option X
 item_of rows c = option_and_then (λ row. slice_get row c.cell) (slice_get rows c.part)
 
--- there is a mark, and it is set
+-- there is a flag, and it is set
 abbrev pub holds_there : Option Bool → Bool
 holds_there None = false
 holds_there (Some b) = b
 
--- the list with the item at this place changed by `f`; past the end nothing changes
+-- the list with the item at place `i` changed by `f`, or the list itself if `i` is past its end
 abbrev pub update_at : {X : Type 0} → ℕ → (X → X) → List X → List X
 update_at i f [] = []
 update_at zero f (x ∷ xs) = f x ∷ xs
@@ -30,6 +30,6 @@ at_control c f rows = update_at c.part (update_at c.cell f) rows
 abbrev pub put : {X : Type 0} → X → X → X
 put item before = item
 
--- a table of the same shape, with one item everywhere
+-- a table with rows of the same lengths, in which every item is `item`
 abbrev pub filled : {X Y : Type 0} → Y → List (List X) → List (List Y)
 filled item rows = map (λ row. map (λ before. item) row) rows

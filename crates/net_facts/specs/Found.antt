@@ -1,4 +1,4 @@
--- Numbers that two ascending lists have in common.
+-- Numbers that occur in two ascending lists.
 use Rattle.std.specs.Prelude.{◌≡◌, ℕ, ◌<◌, List, length, slice_index}
 
 abbrev pub IsAscending : List ℕ → Type 0

@@ -1,4 +1,5 @@
--- The facts about nets, pins and controls, each by the test that decides it for all safe settings.
+-- The facts about nets, pins and controls. Each fact that depends on safe settings is given by the test that decides
+-- it.
 use Rattle.std.specs.Prelude.{◌≡◌, ℕ, Bool, false, not, ◌&&◌, List, map, filter, length, Option, Some, None, slice_get, is_some}
 use Rattle.std.specs.List.{list_any, range_with_len}
 use Rattle.board_defs.specs.declared.board.Ctl.{Ctl}
@@ -17,7 +18,7 @@ use Rattle.net_facts.specs.declared.classes.BoardFacts.{BoardFacts}
 use Rattle.net_facts.specs.Cells.{item_of, table}
 use Rattle.net_facts.specs.Facts.{net_facts_of}
 
--- the control controls a driver of the net, if there is a net
+-- there is a net, and the control enables a driver of it
 abbrev pub drives_there : RawBoard → Ctl → Option Net → Bool
 drives_there board c None = false
 drives_there board c (Some net) = drives_net board c net
@@ -26,39 +27,39 @@ drives_there board c (Some net) = drives_net board c net
 abbrev pub driven_nets : RawBoard → Ctl → List ℕ
 driven_nets board c = filter (λ n. drives_there board c (slice_get board.nets n)) (range_with_len 0 (length board.nets))
 
--- the driver is controlled by a control other than `c`
+-- the driver has a control other than `c`
 abbrev pub is_by_other : Ctl → Option Drive → Bool
 is_by_other c None = false
 is_by_other c (Some AlwaysOn) = false
 is_by_other c (Some OneSided) = false
 is_by_other c (Some (By d)) = not (same_ctl d c)
 
--- the net has a driver of this control and a driver of another one
+-- the net has a driver of this control and a driver of another control
 abbrev pub is_contended : RawBoard → Ctl → Net → Bool
 is_contended board c net = drives_net board c net && list_any (λ p. is_by_other c (drive board net p)) net.pins
 
--- like `is_contended`, for a net that may not be there
+-- like `is_contended`, but for a net that may be missing
 abbrev pub contends_there : RawBoard → Ctl → Option Net → Bool
 contends_there board c None = false
 contends_there board c (Some net) = is_contended board c net
 
--- the numbers of the nets with a driver of this control and a driver of another one, in net order
+-- the numbers of the nets that this control shares with another control, in net order
 abbrev pub shared_nets : RawBoard → Ctl → List ℕ
 shared_nets board c = filter (λ n. contends_there board c (slice_get board.nets n)) (range_with_len 0 (length board.nets))
 
--- the facts about the pin at `place` of a net
+-- the class of the pin at `place` of a net
 abbrev pub pin_class_of : RawBoard → Net → ℕ → PinClass
 pin_class_of board net place = record { driver_tested = is_tested_driver board net place; receiver_tested = is_tested_receiver board net place; drives = is_some (place_drive board net place); receives = receives_of board (slice_get net.pins place) }
 
--- the facts about a net
+-- the class of a net
 abbrev pub net_class_of : RawBoard → Net → NetClass
 net_class_of board net = record { reason = reason_of board net; drivers = tested_drivers board net; pins = map (pin_class_of board net) (range_with_len 0 (length net.pins)) }
 
--- the facts about a control
+-- the class of a control
 abbrev pub control_class_of : RawBoard → Ctl → ControlClass
 control_class_of board c = record { nets = driven_nets board c; safe = is_safe_alone board c; useful = is_useful board c }
 
--- these are the facts about the board
+-- `known` has the facts about the board
 pub record AreBoardFacts (board : RawBoard) (known : BoardFacts) : Type 0 where
   pub facts_are : known.facts.items ≡ map (net_facts_of board) board.nets
   pub nets_are : known.nets.items ≡ map (net_class_of board) board.nets

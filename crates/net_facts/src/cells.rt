@@ -1,11 +1,11 @@
-// Tables with one item for each cell of each part.
+// Tables with one item for each boundary cell of each part.
 ghost use Rattle.std.specs.Prelude.{◌≡◌, map, IfOk};
 ghost use Rattle.net_facts.specs.Cells.{item_of, table, filled, put, at_control, update_at};
 
 use board_defs::Ctl;
 use std::alloc::{AllocError, Global};
 
-/// Returns the item of the cell, if the table has one.
+/// Returns the item of the cell, or None if the table has no such cell.
 pub fn item_at<T: Copy>(rows: &[Vec<T>], c: Ctl) -> Option<T>
     ensures { result ≡ item_of (table rows.now) c }
 {
@@ -23,7 +23,7 @@ fn put_in<T: Copy>(row: &mut Vec<T>, cell: u32, item: T)
     }
 }
 
-/// Writes the item of the cell, if the table has one.
+/// Replaces the item of the cell. Does nothing if the table has no such cell.
 pub fn put_at<T: Copy>(rows: &mut [Vec<T>], c: Ctl, item: T)
     ensures { table rows.new ≡ at_control c (put item) (table rows.old) }
 {
@@ -40,7 +40,7 @@ fn filled_row<S, T: Copy>(alloc: Global, row: &[S], item: T) -> Result<Vec<T>, A
     Ok(items)
 }
 
-/// Returns a table of the same shape, with `item` everywhere.
+/// Returns a table with rows of the same lengths, in which every item is `item`.
 pub fn filled_table<S, T: Copy>(
     alloc: Global,
     rows: &[Vec<S>],

@@ -14,7 +14,7 @@ use few_items::Few;
 use net_pins::BoardPins;
 use std::alloc::{AllocError, Global};
 
-/// What a pin is on its net, and whether some safe setting tests it.
+/// Whether a pin is a driver or a receiver, and whether it is tested as one.
 #[derive(Clone, Copy)]
 pub struct PinClass {
     /// Whether the pin is a tested driver.
@@ -27,41 +27,42 @@ pub struct PinClass {
     pub receives: bool,
 }
 
-/// What safe settings can do with a net.
+/// The facts about a net that depend on safe settings.
 #[derive(Drop)]
 pub struct NetClass {
-    /// Why the net is not covered, or None if it is covered.
+    /// The reason why the net is not covered, or None if it is covered.
     pub reason: Option<Reason>,
-    /// How the tested drivers are enabled, in pin order.
+    /// The ways in which the net's tested drivers are enabled, in pin order.
     pub drivers: Few<Drive>,
-    /// The pins in order.
+    /// The classes of the pins, in pin order.
     pub pins: Few<PinClass>,
 }
 
 /// The facts about a control.
 #[derive(Drop)]
 pub struct ControlClass {
-    /// The nets with a driver of this control, in net order.
+    /// The numbers of the nets with a driver of this control, in net order.
     pub nets: NetNumbers,
-    /// Whether the setting of the control alone is safe.
+    /// Whether the setting with this control alone is safe.
     pub safe: bool,
-    /// Whether the control is safe alone and controls a tested driver.
+    /// Whether the control is safe alone and enables a tested driver.
     pub useful: bool,
 }
 
-/// The facts about the nets, the pins and the controls of a board. A table of controls has a row for each part of
-/// the chain and an item for each of its cells.
+/// The facts about the nets, the pins and the controls of a board. A table of controls has a row for each part of the
+/// chain, and a row has an item for each boundary cell of its part.
 #[derive(Drop)]
 pub struct BoardFacts {
     /// The facts about the nets that do not depend on settings, in net order.
     pub facts: Vec<NetFacts>,
-    /// What safe settings can do with the nets, in net order.
+    /// The facts about the nets that depend on safe settings, in net order.
     pub nets: Vec<NetClass>,
-    /// The facts about the parts' cells as controls.
+    /// The facts about each cell as a control.
     pub controls: Vec<Vec<ControlClass>>,
     /// The useful controls, in control order.
     pub useful: Vec<Ctl>,
-    /// For each control, the nets with a driver of it and a driver of another control, in net order.
+    /// For each control, the numbers of the nets that it shares with another control, in net order. Such a net has a
+    /// driver of each of the two controls.
     pub shared: Vec<Vec<NetNumbers>>,
 }
 
@@ -89,7 +90,7 @@ fn facts_by(
     })
 }
 
-/// Collects the facts about the nets, the pins and the controls of the board.
+/// Returns the facts about the nets, the pins and the controls of the board.
 pub fn board_facts(alloc: Global, board: &BoardPins<'_>) -> Result<BoardFacts, AllocError>
     ensures { IfOk result (λ known. AreBoardFacts board.now known) }
 {

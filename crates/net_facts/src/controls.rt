@@ -1,4 +1,4 @@
-// The table of the controls: the nets that each drives, and whether it may be enabled.
+// The table of the controls: the nets whose drivers each control enables, and whether the control is safe alone.
 ghost use Rattle.std.specs.Prelude.{◌≡◌, ◌<◌, ◌≤◌, length, fold, map, OnOk, IfOk};
 ghost use Rattle.board_defs.specs.Limits.{most_bits, most_nets};
 ghost use Rattle.board_defs.specs.Pins.{cell_count, described};
@@ -23,7 +23,8 @@ fn is_last(nets: &[u32], net: u32) -> bool
     }
 }
 
-/// Notes one more driver of the control, on net `net`.
+/// Notes that the control has one more driver, on net number `net`. `closed` says that no control may enable a driver
+/// of this net.
 fn add(row: &mut ControlClass, net: u32, closed: bool) -> Result<(), AllocError>
     ensures { OnOk result (row.new ≡ added net closed row.old) }
 {
@@ -89,7 +90,7 @@ fn note_net(
     Ok(())
 }
 
-/// Notes, for each control, the nets that it drives, and whether one of them makes the control unsafe.
+/// Notes for each control the nets with its drivers, and whether one of these nets makes the control unsafe.
 fn note_all(rows: &mut [Vec<ControlClass>], nets: &[NetFacts]) -> Result<(), AllocError>
     requires { length nets.now ≤ most_nets }
     ensures { OnOk result (table rows.new ≡ note_nets nets.now (length nets.now) (table rows.old)) }
@@ -158,7 +159,8 @@ pub fn mark_useful(rows: &mut [Vec<ControlClass>], nets: &[NetClass])
     }
 }
 
-/// Returns the number of cells of a part, each of which is a control. A part without a description has none.
+/// Returns the number of the part's boundary cells, each of which has an entry in the table of controls. A part without
+/// a description has none.
 pub fn cells_of(kind: &PartKind) -> u32
     ensures { result ≡ cell_count (described kind.now) }
 {
@@ -193,7 +195,7 @@ fn fresh_table(alloc: Global, chain: &[Part]) -> Result<Vec<Vec<ControlClass>>, 
     Ok(rows)
 }
 
-/// Marks the control of a one-sided driver as unsafe.
+/// If the driver of the port bit is one-sided, marks its control as unsafe.
 fn block_pin(rows: &mut [Vec<ControlClass>], board: &PulledBoard<'_, '_>, at: PinAt)
     requires { at.bit < port_bits board.now at.part }
     ensures { table rows.new ≡ block_where board.now at (own_control board.now at) (table rows.old) }
@@ -237,7 +239,7 @@ fn block_all(rows: &mut [Vec<ControlClass>], board: &PulledBoard<'_, '_>)
     }
 }
 
-/// Makes the table of the controls from the facts of the nets.
+/// Returns the table of the controls, made from the facts about the nets. No control is marked as useful yet.
 pub fn control_rows(
     alloc: Global,
     board: &BoardPins<'_>,

@@ -11,12 +11,12 @@ use few_items::Few;
 use net_pins::BoardPins;
 use std::alloc::{AllocError, Global};
 
-/// The place of a pin in the chain, how its driver is enabled, and whether it is a receiver.
+/// The facts about a pin that do not depend on settings.
 #[derive(Clone, Copy)]
 pub struct PinFacts {
-    /// The place of the pin's port bit, if the pin belongs to a described part of the chain.
+    /// The place of the pin in the chain. Only pins of described parts have one.
     pub at: Option<PinAt>,
-    /// How the pin's driver is enabled, if the pin is a driver.
+    /// The way in which the pin's driver is enabled, or None if the pin is not a driver.
     pub drive: Option<Drive>,
     /// Whether the pin is a receiver.
     pub receives: bool,
@@ -25,19 +25,20 @@ pub struct PinFacts {
 /// The facts about a net that do not depend on settings.
 #[derive(Drop)]
 pub struct NetFacts {
-    /// Whether the net is a supply.
+    /// Whether the net carries a supply.
     pub supply: bool,
-    /// The value to which the net is pulled, if it is pulled.
+    /// The value to which the net is pulled, or None if it is not pulled.
     pub pull: Option<bool>,
-    /// Whether a pin of the net is a TAP pin or is named in the compliance patterns.
+    /// Whether some pin of the net belongs to a test access port or is named by compliance patterns.
     pub test_port: bool,
-    /// Whether a pin of the net is dark: something that no setting controls may drive it.
+    /// Whether some pin of the net is dark, so that something that no setting controls may drive the net.
     pub dark: bool,
-    /// Whether the net is a supply, or has a TAP pin, a pin that the compliance patterns name, or a dark pin.
+    /// Whether the net is guarded: it carries a supply, or it has a pin of a test access port, a pin that compliance
+    /// patterns name, or a dark pin.
     pub guarded: bool,
-    /// Whether no control may enable a driver of the net.
+    /// Whether no control may enable a driver of the net, because the net is guarded or has a driver that is always on.
     pub closed: bool,
-    /// The pins in order.
+    /// The facts about the pins, in pin order.
     pub pins: Few<PinFacts>,
 }
 
@@ -47,14 +48,15 @@ fn any_test_pin(board: &RawBoard, pins: &[NetPin]) -> bool
     pins.iter().any(|pin| board.is_test_pin(pin))
 }
 
-// A net that is not guarded has no TAP or compliance pin, so only the pins of guarded nets are looked up.
+// Returns whether the net has a pin of a test access port or of compliance patterns. An unguarded net has no such pin,
+// so only the pins of guarded nets are looked up.
 fn has_test_pin(board: &BoardPins<'_>, guarded: bool, pins: &[NetPin]) -> bool
     ensures { result ≡ (guarded && list_any (is_test_pin board.now) pins.now) }
 {
     guarded && any_test_pin(board.raw(), pins)
 }
 
-// Like `has_test_pin`, for dark pins.
+// Like `has_test_pin`, but for dark pins.
 fn has_dark_pin(board: &BoardPins<'_>, guarded: bool, pins: &[NetPin]) -> bool
     ensures { result ≡ (guarded && list_any (is_dark board.now) pins.now) }
 {
@@ -153,7 +155,8 @@ fn has_always_on(pins: &[PinFacts]) -> bool
     pins.iter().any(|pin| is_always_on(pin.drive))
 }
 
-/// Returns whether the net is guarded or has a driver that is always on.
+/// Returns whether no control may enable a driver of the net, because the net is guarded or has a driver that is always
+/// on.
 fn is_closed(guarded: bool, pins: &[PinFacts]) -> bool
     ensures { result ≡ (guarded || list_any (λ pin. is_always_on pin.drive) pins.now) }
 {
@@ -183,7 +186,7 @@ fn net_facts(
     })
 }
 
-/// Returns the facts of the nets of a board, in net order.
+/// Returns the facts about the nets of a board that do not depend on settings, in net order.
 pub fn all_net_facts(alloc: Global, board: &BoardPins<'_>) -> Result<Vec<NetFacts>, AllocError>
     ensures { IfOk result (λ facts. facts.items ≡ map (net_facts_of board.now) board.now.nets) }
 {

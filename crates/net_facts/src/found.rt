@@ -1,4 +1,4 @@
-// The places of the items of a list that pass a test: none, one, or several.
+// The places of the items of a list that pass a test, of which at most one is remembered.
 ghost use Rattle.std.specs.Prelude.{◌≡◌, ◌↔◌, IsTrue, if◌then◌else◌};
 ghost use Rattle.net_facts.specs.Found.{IsAscending, Meet};
 ghost use Rattle.net_facts.specs.inner.Found.{is_elsewhere_of, with_place};
@@ -21,14 +21,14 @@ impl Found {
         }
     }
 
-    /// Adds the place if `passes`.
+    /// Returns these places with `place` added if `passes` is true.
     pub fn with_if(self, place: usize, passes: bool) -> Found
         ensures { result ≡ (if passes then with_place self place else self) }
     {
         if passes { self.with(place) } else { self }
     }
 
-    /// Returns whether one of the places is not `place`.
+    /// Returns whether one of the places differs from `place`.
     pub fn is_elsewhere(self, place: usize) -> bool
         ensures { result ≡ is_elsewhere_of self place }
     {

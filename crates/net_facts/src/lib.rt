@@ -1,10 +1,13 @@
 //! The facts about each net, pin and control of a board by itself.
 //!
-//! [`board_facts`] collects them for a board: which nets are covered, and why the others are not; how the tested
-//! drivers of each net are enabled; which pins are tested drivers and tested receivers; which nets each control
-//! drives, whether its setting alone is safe, and whether it is useful; and which nets it drives together with
-//! another control. Only on these can two controls conflict. The crate above answers what two nets or two
-//! controls do in one setting.
+//! [`board_facts`] returns these facts for a board:
+//!
+//! - of each net: whether it is covered, the reason if it is not, and the ways in which its tested drivers are enabled;
+//! - of each pin: whether it is a tested driver or a tested receiver;
+//! - of each control: the nets with its drivers, whether it is safe alone, and whether it is useful;
+//! - of each control: the nets that it shares with another control. Only on such a net can two controls conflict.
+//!
+//! The crate above answers what one setting can do with two nets or two controls.
 #![tactic(auto)]
 
 mod cells;

@@ -1,13 +1,13 @@
-// The numbers of nets.
+// Lists of net numbers.
 ghost use Rattle.std.specs.Prelude.{◌≡◌, ◌++◌, ◌∷◌, [], if◌then◌else◌, IfOk, OnOk};
 
 use lists::Items;
 use std::alloc::{AllocError, Global};
 
-/// Numbers of nets.
+/// A list of net numbers.
 pub type NetNumbers = Items<u32>;
 
-/// Copies the numbers.
+/// Returns a copy of the numbers.
 pub fn copy_of(alloc: Global, nets: &[u32]) -> Result<NetNumbers, AllocError>
     ensures { IfOk result (λ numbers. numbers ≡ nets.now) }
 {
@@ -16,7 +16,7 @@ pub fn copy_of(alloc: Global, nets: &[u32]) -> Result<NetNumbers, AllocError>
     Ok(Items::of(numbers))
 }
 
-/// Appends the net if `passes`.
+/// Appends the net if `passes` is true.
 pub fn push_if(numbers: &mut NetNumbers, net: u32, passes: bool) -> Result<(), AllocError>
     ensures { OnOk result (numbers.new ≡ numbers.old ++ (if passes then net ∷ [] else [])) }
 {

@@ -1,4 +1,4 @@
-// A board with the port bits on pulled nets, by which the controls of one-sided drivers are found.
+// A board with the port bits on pulled nets, which decide which drivers are one-sided.
 ghost use Rattle.std.specs.Prelude.{◌≡◌, ◌<◌, length, map, option_and_then, IfOk};
 ghost use Rattle.board_defs.specs.BoardRules.{IsBoard};
 ghost use Rattle.board_defs.specs.Decided.{is_switching, own_control, own_where, port_bits};
@@ -12,13 +12,13 @@ use net_pins::BoardPins;
 use std::alloc::{AllocError, Global};
 use std::marker::Model;
 
-/// A board with the port bits whose pin is on an unguarded net with a pull. Contracts see it as the board.
+/// A board with the port bits whose pins are on unguarded nets with a pull. The value in contracts is the board.
 #[derive(Drop)]
 pub struct PulledBoard<'a, 'b> {
     board: &'a BoardPins<'b>,
-    /// The port bits with a pin on an unguarded net that is pulled to 0.
+    /// A flag for each port bit of each part, which is set if the pin is on an unguarded net that is pulled to 0.
     low: Vec<Vec<bool>>,
-    /// The port bits with a pin on an unguarded net that is pulled to 1.
+    /// A flag for each port bit of each part, which is set if the pin is on an unguarded net that is pulled to 1.
     high: Vec<Vec<bool>>,
 }
 
@@ -61,7 +61,7 @@ fn own_control(entry: Option<Cell>) -> Option<Control>
 }
 
 impl<'a, 'b> PulledBoard<'a, 'b> {
-    /// Makes the tables of port bits from the facts of the nets.
+    /// Returns the board with the tables of port bits, made from the facts about the nets.
     pub fn of(
         alloc: Global,
         board: &'a BoardPins<'b>,
@@ -76,7 +76,7 @@ impl<'a, 'b> PulledBoard<'a, 'b> {
         Ok(PulledBoard { board, low, high })
     }
 
-    /// Returns the record of the board, which keeps the rules of a board.
+    /// Returns the record of the board, which keeps the rules of boards.
     pub fn raw(&self) -> &'b RawBoard
         ensures value { result.now ≡ self.now }
         ensures rules { IsBoard self.now }
@@ -91,7 +91,7 @@ impl<'a, 'b> PulledBoard<'a, 'b> {
         self.board.raw().chain.len()
     }
 
-    /// Returns the number of port bits of the part.
+    /// Returns the number of port bits of the part. A part without a description has none.
     pub fn port_bits(&self, part: u32) -> usize
         ensures { result ≡ port_bits self.now part }
     {
@@ -101,21 +101,21 @@ impl<'a, 'b> PulledBoard<'a, 'b> {
         }
     }
 
-    /// Returns whether the chosen pin map gives the port bit a pin.
+    /// Returns whether the chosen pin map assigns a pin to the port bit.
     pub fn is_pinned(&self, at: PinAt) -> bool
         ensures { result ≡ is_pinned self.now at }
     {
         self.board.raw().is_pinned(at)
     }
 
-    /// Returns the control of the port bit's driving entry, if it is the entry's own cell.
+    /// Returns the control of the port bit's driving entry, if the control is the entry's own cell.
     pub fn own_control(&self, at: PinAt) -> Option<Control>
         ensures { result ≡ own_control self.now at }
     {
         own_control(self.board.driving_entry(at))
     }
 
-    /// Returns whether the pin is on an unguarded net that is pulled to `value`.
+    /// Returns whether the pin at `at` is on an unguarded net that is pulled to `value`.
     pub fn is_switching(&self, at: PinAt, value: bool) -> bool
         requires { at.bit < port_bits self.now at.part }
         ensures { result ≡ is_switching self.now at value }

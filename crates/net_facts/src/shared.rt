@@ -1,4 +1,4 @@
-// The nets with drivers of two or more controls. Only on these can two controls conflict.
+// The nets with drivers of two or more controls. Only on such a net can two controls conflict.
 ghost use Rattle.std.specs.Prelude.{◌≡◌, false, filter, map, slice_index_or, IfOk};
 ghost use Rattle.board_defs.specs.Settings.{same_ctl};
 ghost use Rattle.net_facts.specs.Cells.{table};
@@ -11,7 +11,7 @@ use board_defs::{Ctl, Drive};
 use lists::{Items, is_set};
 use std::alloc::{AllocError, Global};
 
-/// The controls of the drivers seen so far: none, one, or several.
+/// The controls of the drivers so far, of which at most one is remembered.
 #[derive(Clone, Copy)]
 pub enum Controls {
     Nobody,
@@ -62,7 +62,7 @@ fn controls_of(pins: &[PinFacts]) -> Controls
     controls
 }
 
-/// Returns whether two different controls control drivers of the net.
+/// Returns whether the net has drivers of two different controls.
 fn is_contended(pins: &[PinFacts]) -> bool
     ensures { result ≡ contended_in pins.now }
 {
@@ -73,7 +73,7 @@ fn is_contended(pins: &[PinFacts]) -> bool
     }
 }
 
-/// Returns, for each net, whether two different controls control drivers of it.
+/// Returns a flag for each net, which says whether the net has drivers of two different controls.
 pub fn contended_nets(alloc: Global, nets: &[NetFacts]) -> Result<Vec<bool>, AllocError>
     ensures { IfOk result (λ flags. flags.items ≡ flags_of nets.now) }
 {
@@ -108,7 +108,7 @@ fn shared_row(
     Ok(shared)
 }
 
-/// Returns, for each control, the nets that it shares with another one.
+/// Returns, for each control, the numbers of the nets that it shares with another control.
 pub fn shared_table(
     alloc: Global,
     flags: &[bool],

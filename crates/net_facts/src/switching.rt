@@ -1,4 +1,4 @@
-// The port bits whose pin is on an unguarded net that is pulled to a value.
+// The port bits whose pins are on unguarded nets that are pulled to one value.
 ghost use Rattle.std.specs.Prelude.{◌≡◌, false, fold, replicate, IfOk};
 ghost use Rattle.board_defs.specs.Pins.{described};
 ghost use Rattle.board_defs.specs.Decided.{bit_count};
@@ -76,7 +76,8 @@ fn blank_table(alloc: Global, chain: &[Part]) -> Result<Vec<Vec<bool>>, AllocErr
     Ok(rows)
 }
 
-/// Returns, for each port bit of each part, whether its pin is on an unguarded net that is pulled to `value`.
+/// Returns a flag for each port bit of each part, which says whether the pin is on an unguarded net that is pulled to
+/// `value`.
 pub fn pulled_bits(
     alloc: Global,
     chain: &[Part],
@@ -90,7 +91,7 @@ pub fn pulled_bits(
     Ok(rows)
 }
 
-/// Returns whether the port bit is marked.
+/// Returns whether the flag of the port bit is set.
 pub fn is_marked(rows: &[Vec<bool>], at: PinAt) -> bool
     ensures { result ≡ is_marked (table rows.now) at }
 {

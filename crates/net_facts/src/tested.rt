@@ -1,4 +1,5 @@
-// What safe settings can do with the nets, by the facts of the nets and the table of the controls.
+// The facts about nets that depend on safe settings. They follow from the facts that do not, and from the table of the
+// controls.
 ghost use Rattle.std.specs.Prelude.{◌≡◌, ◌++◌, [], None, if◌then◌else◌, length, map, option_copied, is_some, IfOk, OnOk};
 ghost use Rattle.std.specs.List.{cons_option, list_any, range_with_len};
 ghost use Rattle.net_facts.specs.Cells.{item_of, table};
@@ -20,7 +21,7 @@ fn row_of(rows: &[Vec<ControlClass>], c: Ctl) -> Option<&ControlClass>
     }
 }
 
-/// Returns whether the control is in the table and safe alone.
+/// Returns whether the table has the control and it is safe alone.
 pub fn is_safe(rows: &[Vec<ControlClass>], c: Ctl) -> bool
     ensures { result ≡ safe_in (table rows.now) c }
 {
@@ -30,7 +31,7 @@ pub fn is_safe(rows: &[Vec<ControlClass>], c: Ctl) -> bool
     }
 }
 
-/// Returns whether the control is in the table and marked as useful.
+/// Returns whether the table has the control and it is marked as useful.
 pub fn is_useful(rows: &[Vec<ControlClass>], c: Ctl) -> bool
     ensures { result ≡ useful_in (table rows.now) c }
 {
@@ -40,7 +41,7 @@ pub fn is_useful(rows: &[Vec<ControlClass>], c: Ctl) -> bool
     }
 }
 
-/// Returns whether there is a driver and some safe setting enables it.
+/// Returns whether there is a driver, and some safe setting enables it.
 pub fn can_enable(rows: &[Vec<ControlClass>], drive: Option<Drive>) -> bool
     ensures { result ≡ enabled_in (table rows.now) drive }
 {
@@ -87,7 +88,7 @@ fn readers(pins: &[PinFacts]) -> Found
     found
 }
 
-/// Returns the places of the drivers of a net that some safe setting enables.
+/// Returns the places of the net's drivers that some safe setting enables.
 fn enablers(rows: &[Vec<ControlClass>], pins: &[PinFacts]) -> Found
     ensures { result ≡ enablers_of (table rows.now) pins.now }
 {
@@ -157,7 +158,7 @@ fn push_some(
     Ok(())
 }
 
-/// The classes of the pins of a net, and how its tested drivers are enabled.
+/// The classes of a net's pins, and the ways in which its tested drivers are enabled.
 struct TestedPins {
     classes: Few<PinClass>,
     drivers: Few<Drive>,

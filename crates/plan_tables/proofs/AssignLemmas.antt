@@ -1,4 +1,4 @@
--- Bits that are set in turn.
+-- Bits that are set one after another.
 use Rattle.std.proofs.Common.{◌≡◌, ℕ, ◌<◌, ◌≤◌, Bool, true, false, List, [], ◌∷◌, fold, length, get_or, set, refl, sym, ap, ◌∙◌, arith, length-set, ◌⊎◌, inl, inr}
 use Rattle.std.proofs.lemmas.Bool.{cases_eq, cases_lt}
 use Rattle.std.proofs.lemmas.List.{ext_get_or, get_or-set_same, get_or-set_other, get_or_past, set_comm}
@@ -11,7 +11,8 @@ pub length-assigned : {X : Type 0} (place : X → ℕ) (bit : X → Bool) (start
 length-assigned place bit start [] = refl
 length-assigned place bit start (x ∷ xs) = length-assigned place bit (set start (place x) (bit x)) xs ∙ length-set start (place x) (bit x)
 
--- if each item sets a right bit, and the items set each bit that is not right yet, all bits are right afterwards
+-- If each item sets a correct bit, and the items cover each bit that is not correct at the start, all bits are correct
+-- at the end.
 pub assigned_is : {X : Type 0} (place : X → ℕ) (bit : X → Bool) (xs : List X) (start target : List Bool) → length start ≡ length target →
     ((x : X) → Has xs x → (place x < length target) × (get_or target (place x) false ≡ bit x)) →
     ((i : ℕ) → i < length target → (get_or start i false ≡ get_or target i false) ⊎ ((x : X) × Has xs x × (place x ≡ i))) →
@@ -58,7 +59,7 @@ assigned_apart place bit spot value start xs (y ∷ ys) apart =
     assigned_apart place bit spot value (set start (spot y) (value y)) xs ys (λ x z h k. apart x z h (inr k))
     ∙ ap (λ (l : List Bool). assigned spot value l ys) (set_apart place bit xs start (spot y) (value y) (λ x h. apart x y h (inl refl)))
 
--- items in groups, taken group by group
+-- items in groups, set group by group
 pub fold_groups : {X G S : Type 0} (step : S → X → S) (items : G → List X) (groups : List G) (start : S) → fold (λ done g. fold step done (items g)) start groups ≡ fold step start (flat_map items groups)
 fold_groups step items [] start = refl
 fold_groups step items (g ∷ groups) start = fold_groups step items groups (fold step start (items g)) ∙ sym (fold-append step start (items g) (flat_map items groups))

@@ -1,4 +1,4 @@
--- Steps of the loop that makes the rows of a scan of instructions.
+-- Steps of the loop that makes the rows of an instruction scan.
 use Rattle.std.proofs.Common.{◌≡◌, ℕ, suc, ◌+◌, ◌-◌, ◌<◌, ◌≤◌, Bool, true, false, List, [], ◌∷◌, ◌++◌, length, map, drop, get_or, replicate, is_some, unwrap_or, refl, ap, ◌∙◌, arith}
 use Rattle.std.proofs.lemmas.List.{map-append, drop_more, length-map, length-replicate}
 use Rattle.board_defs.specs.Limits.{most_bits}
@@ -37,11 +37,11 @@ code_mask (a ∷ b ∷ code) n e long =
     let rest : length code ≡ n - 2 = omega (arith, e) in
     ap (λ t. true ∷ true ∷ t) (sent_mask code) ∙ ap (λ k. true ∷ true ∷ replicate k false) rest
 
--- the bits of these parts
+-- the bits of these parts in an instruction scan
 abbrev pub bits_of : Instruction → List Part → List ScanBit
 bits_of instruction parts = (instructs (map (λ part. code_for instruction part.kind) parts)).bits
 
--- the bits of all parts are few
+-- the bits of the remaining parts are no more than those of all parts
 pub few_left : (instruction : Instruction) (chain : List Part) → length (bits_of instruction chain) ≤ most_bits → (i : ℕ) → i ≡ 0 → (row : ScanBit → Bool) →
     length (map row (bits_of instruction (drop i chain))) ≤ most_bits
 few_left instruction chain few i none row =

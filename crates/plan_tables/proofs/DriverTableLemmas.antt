@@ -1,4 +1,4 @@
--- The entries of the table of driver cells for the controls of a pass.
+-- The cells that the table of driver cells has for the controls of a pass.
 use Rattle.std.proofs.Common.{◌≡◌, ℕ, ◌<◌, ◌≤◌, true, List, [], ◌∷◌, ◌++◌, length, get_or, set, replicate, Option, Some, None, refl, sym, ap, ◌∙◌, subst, arith, length-set, ◌⊎◌, inl, inr}
 use Rattle.std.specs.Prelude.{filter, is_none}
 use Rattle.std.specs.List.{flat_map}
@@ -13,14 +13,14 @@ use Rattle.plan_tables.specs.declared.observers.Observer.{Observer}
 use Rattle.plan_tables.specs.Tables.{cells_on}
 use Rattle.plan_tables.specs.inner.Building.{always_on, all_noted, table_of}
 
--- one of these drivers with this control and this cell
+-- an observer with this control and this cell
 pub record Noted (observers : List Observer) (control : ℕ) (cell : DriverCell) : Type 0 where
   pub observer : Observer
   pub is_in : Has observers observer
   pub control_is : observer.control ≡ Some control
   pub cell_is : observer.cell ≡ cell
 
--- a row after one cell was added
+-- the items of a row after one cell was added
 row_has : (rows : List (List DriverCell)) (q : ℕ) (cell : DriverCell) (p : ℕ) (d : DriverCell) → Has (get_or (noted rows (Some q) cell) p []) d → Has (get_or rows p []) d ⊎ ((q ≡ p) × (cell ≡ d))
 row_has rows q cell p d h = by_there (cases_lt p (length rows))
   where
@@ -94,11 +94,11 @@ has_noted (x ∷ observers) rows p d less h = has_noted observers (noted rows x.
     by_case (inl k) = inl (added x.control (inl k))
     by_case (inr n) = by_in n n.is_in
 
--- there is no control, or its cell is held
+-- if there is a control, one of the held cells is its cell
 abbrev pub IsOn : List HeldCell → Option ℕ → Type 0
 IsOn held control = (p : ℕ) → control ≡ Some p → (h : HeldCell) × Has held h × (h.position ≡ p)
 
--- one of these drivers, which is always on or has a control whose cell is held
+-- an observer with this cell that is always on or has a control whose cell is held
 pub record OnBy (observers : List Observer) (held : List HeldCell) (cell : DriverCell) : Type 0 where
   pub observer : Observer
   pub is_in : Has observers observer

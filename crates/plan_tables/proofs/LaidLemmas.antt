@@ -1,4 +1,4 @@
--- A row of data, made from a bit for each boundary cell of each described part at the cell's position.
+-- A data row, made from a bit for each boundary cell of each described part at the position of the cell.
 use Rattle.std.proofs.Common.{◌≡◌, ℕ, zero, suc, ◌+◌, ◌-◌, ◌<◌, ◌≤◌, Bool, false, List, [], ◌∷◌, ◌++◌, length, map, drop, get_or, replicate, Option, Some, None, is_some, unwrap_or, refl, sym, ap, ◌∙◌, arith, length-append, ◌⊎◌, inl, inr}
 use Rattle.std.specs.Prelude.{slice_get, option_and_then, sum_by}
 use Rattle.std.proofs.lemmas.Bool.{cases_lt}
@@ -22,7 +22,7 @@ use Rattle.plan_tables.specs.inner.Laid.{CellBits, part_laid, parts_laid, laid}
 use Rattle.plan_tables.specs.Assigned.{assigned}
 use Rattle.plan_tables.proofs.AssignLemmas.{assigned_is}
 
--- a bit of each bit of a scan
+-- the row that is made from one bit of each scan bit
 map_laid : (f : ScanBit → Bool) → f (record { tdi = false; expect = None }) ≡ false → (board : RawBoard) (scan : RowScan) (part : ℕ) (parts : List Part) →
     map f (joined (bits_by_part board scan part parts))
     ≡ joined (parts_laid (λ part device cell. f (record { tdi = row_bit board scan.now part device cell; expect = expect_bit board scan.before part device cell })) part parts)
@@ -37,7 +37,7 @@ map_laid f none board scan part (p ∷ parts) =
     by_kind (Described device) = map-filled f device.boundary (λ cell. record { tdi = row_bit board scan.now part device cell; expect = expect_bit board scan.before part device cell })
     by_kind (Bypass n) = cons_path none refl
 
--- the rows of a scan of data
+-- the rows of a data scan
 pub tdi_laid : (board : RawBoard) (scan : RowScan) → tdi_bits (joined (row_bits board scan)) ≡ laid (λ part device cell. row_bit board scan.now part device cell) board
 tdi_laid board scan = map_laid (λ b. b.tdi) refl board scan 0 board.chain
 
@@ -104,7 +104,7 @@ laid_at g board part device cell e below =
     let z : 0 + part ≡ part = omega arith in
     (r.0, r.1 ∙ ap (λ (m : ℕ). g m device cell) z)
 
--- what is at a position: a cell of a described part, or the bit of another part
+-- the site of a position: a cell of a described part, or the only bit of another part
 data Site (parts : List Part) (k i : ℕ) : Type 0 where
   cell_site : (n : ℕ) (p : Part) (device : RawDevice) (cell : ℕ) → slice_get parts n ≡ Some p → p.kind ≡ Described device → cell < device.boundary →
       i ≡ bits_of (drop (suc n) parts) + cell → Site parts k i
@@ -145,7 +145,7 @@ pub record CellOf (board : RawBoard) (part : ℕ) (device : RawDevice) (cell : �
   pub is_device : device_at board part ≡ Some device
   pub below : cell < device.boundary
 
--- an item sets the right bit of a cell
+-- the item sets the correct bit of some cell
 pub record Sets (board : RawBoard) (g : CellBits) (place : ℕ) (bit : Bool) : Type 0 where
   pub part : ℕ
   pub device : RawDevice
@@ -154,7 +154,7 @@ pub record Sets (board : RawBoard) (g : CellBits) (place : ℕ) (bit : Bool) : T
   pub place_is : place ≡ first_position board part + cell
   pub bit_is : g part device cell ≡ bit
 
--- if each item sets a right bit, and some item sets each cell whose bit differs, the result is the wanted row
+-- If each item sets a correct bit, and the items cover each cell whose bit differs, the result is the wanted row.
 pub assigned_laid : {X : Type 0} (place : X → ℕ) (bit : X → Bool) (xs : List X) (board : RawBoard) (g h : CellBits) →
     ((x : X) → Has xs x → Sets board h (place x) (bit x)) →
     ((part : ℕ) (device : RawDevice) (cell : ℕ) → CellOf board part device cell → (g part device cell ≡ h part device cell) ⊎ ((x : X) × Has xs x × (place x ≡ first_position board part + cell))) →
@@ -183,7 +183,7 @@ assigned_laid {X} place bit xs board g h right cover =
         at_cell i n device cell c at (cover n device cell c)
     by_site i (other_site none) = inl (none g ∙ sym (none h))
 
--- rows whose bits agree
+-- rows with equal bits are equal
 pub laid_same : (board : RawBoard) (g h : CellBits) → ((part : ℕ) (device : RawDevice) (cell : ℕ) → g part device cell ≡ h part device cell) → laid g board ≡ laid h board
 laid_same board g h same = assigned_laid {X = ℕ} (λ x. x) (λ x. false) [] board g h (λ x none. absurd none) (λ part device cell c. inl (same part device cell))
 

@@ -1,4 +1,4 @@
--- The drivers by which a pass observes nets are those that it enables among the observers.
+-- The drivers by which a pass observes nets are the observers that it enables.
 use Rattle.std.proofs.Common.{◌≡◌, ℕ, ◌+◌, ◌<◌, Bool, true, false, cond, List, [], length, map, get_or, Option, Some, None, refl, sym, ap, ◌∙◌, subst, arith, ◌⊎◌, inl, inr}
 use Rattle.std.specs.Prelude.{slice_get, option_map, option_and_then, filter, find, All}
 use Rattle.std.proofs.lemmas.Option.{slice_get-get_or, slice_get_within}
@@ -34,7 +34,7 @@ use Rattle.plan_tables.proofs.PinLemmas.{wired_at, drives_by, entry_on}
 use Rattle.plan_tables.proofs.TableLemmas.{has_gathered, gathered_has, Observed, observed, observing_of, on_by}
 use Rattle.plan_tables.proofs.DriverTableLemmas.{IsOn, OnBy}
 
--- a driver of a net that may be enabled
+-- the driver is on this pin of the net, which is not guarded
 pub record DriverOn (board : RawBoard) (net : Net) (d : NetDriver) : Type 0 where
   pub pin : NetPin
   pub is_pin : slice_get net.pins d.place ≡ Some pin
@@ -117,7 +117,7 @@ controls_there board rules net drivers e k d less =
     let has : Has drivers (get_or drivers k d) = has_at drivers k (get_or drivers k d) (slice_get-get_or drivers k d less) in
     control_there board rules net (get_or drivers k d) (subst (λ (l : List NetDriver). Has l (get_or drivers k d)) e has)
 
--- the pin of an enabled driver is enabled
+-- if the setting enables a driver, it enables the driver's pin
 pin_enabled : (board : RawBoard) (s : Enabling) (net : Net) (d : NetDriver) (k : DriverOn board net d) → is_on s d.ctl ≡ true → enables board s k.pin ≡ true
 pin_enabled board s net d k on =
     ap (λ (o : Option PinAt). enables_where board s o) k.is_at
@@ -152,7 +152,7 @@ one_driver board s safe n net is_net d e hd he on_d on_e = by_place (cases_eq d.
         ∙ b.driver_is
     by_place (inr differ) = absurd (safe.one n net d.place e.place a.pin b.pin is_net a.is_pin b.is_pin differ (pin_enabled board s net d a on_d) (pin_enabled board s net e b on_e))
 
--- if another pin has a compared cell, the setting observes the net by this driver
+-- if another pin has a compared cell, the setting observes the net by the driver that it enables
 observing_is : (board : RawBoard) (s : Enabling) → IsSafe board s → (n : ℕ) (net : Net) → slice_get board.nets n ≡ Some net → (d : NetDriver) → Has (drivers_of board net) d → is_on s d.ctl ≡ true →
     is_read_beside (readers_of board net.pins) d ≡ true → observing_of s (drivers_of board net) (readers_of board net.pins) ≡ Some d
 observing_is board s safe n net is_net d h on beside = by_found (find (λ x. is_on s x.ctl) (drivers_of board net)) refl
@@ -167,7 +167,7 @@ observing_is board s safe n net is_net d h on beside = by_found (find (λ x. is_
         let same : e ≡ d = one_driver board s safe n net is_net e d k.0 h k.1 on in
         ap (λ (x : NetDriver). cond (is_read_beside readers x) (Some x) None) same ∙ ap (λ (t : Bool). cond t (Some d) None) beside
 
--- conversely, the driver by which a setting observes a net is a driver of it that is enabled, with a compared cell on another pin
+-- Conversely, if a setting observes a net by a driver, it enables the driver, and another pin has a compared cell.
 pub record Enabled (s : Enabling) (drivers : List NetDriver) (readers : List ReaderCell) (d : NetDriver) : Type 0 where
   pub is_in : Has drivers d
   pub on : is_on s d.ctl ≡ true
@@ -186,7 +186,7 @@ enabled_by s drivers readers d e = by_found (find (λ x. is_on s x.ctl) drivers)
         let k = find_has (λ (y : NetDriver). is_on s y.ctl) drivers x f in
         by_test x k.0 k.1 (is_read_beside readers x) refl e
 
--- the meaning of an observer of a board
+-- the net and the driver of an observer of the board
 pub record ObserverOf (board : RawBoard) (x : Observer) : Type 0 where
   pub number : ℕ
   pub net : Net
@@ -212,7 +212,7 @@ has_observer board n net d is_net h beside =
     (subst (λ (m : ℕ). Has (observers_at board m net) (observer board n d)) z
     (has_map (observer board n) (filter (is_read_beside (readers_of board net.pins)) (drivers_of board net)) d (has_filter (is_read_beside (readers_of board net.pins)) (drivers_of board net) d h beside)))
 
--- the observer's control is within a row of data
+-- the cell of an observer's control has a position in data scans
 pub observer_below : (board : RawBoard) → IsBoard board → (x : Observer) (p : ℕ) → Has (observers board board.nets) x → x.control ≡ Some p → p < data_bits board
 observer_below board rules x p h e = by_control s.driver.ctl refl
   where
@@ -229,7 +229,7 @@ observer_below board rules x p h e = by_control s.driver.ctl refl
         let same : control_position board c ≡ p = cc two in
         subst (λ (n : ℕ). n < data_bits board) same (position_within board c.part c.cell (control_there board rules s.net s.driver s.is_in c k))
 
--- the observer's net and cell are within the board's nets and a row of data
+-- the net of an observer is a net of the board, and its cell has a position in data scans
 pub observer_stands : (board : RawBoard) → IsBoard board → (x : Observer) → Has (observers board board.nets) x → (x.cell.net < length board.nets) × (x.cell.position < data_bits board)
 observer_stands board rules x h =
     let s = observer_of board x h in
@@ -240,14 +240,14 @@ observer_stands board rules x h =
       omega (arith, position_within board k.at.part k.entry.num (entry_below board rules k.at k.entry k.is_entry), position),
     )
 
--- the controls of a pass, by their positions
+-- the controls of a pass, found by their positions
 pub holds_has : (pass : List Ctl) (c : Ctl) → holds pass c ≡ true → Has pass c
 holds_has pass c h = let f = any_place (same_ctl c) pass h in has_at pass f.place c (f.stands ∙ ap (λ (x : Ctl). Some x) (sym (same_equal c f.item f.passes)))
 
 pub has_holds : (pass : List Ctl) (c : Ctl) → Has pass c → holds pass c ≡ true
 has_holds pass c h = let p = has_place pass c h in any_at (same_ctl c) pass p.0 c p.1 (same_refl c)
 
--- two controls with the same position are the same
+-- two controls with the same position are equal
 position_once : (board : RawBoard) (c e : Ctl) → c.cell < cell_count (device_at board c.part) → e.cell < cell_count (device_at board e.part) → control_position board e ≡ control_position board c → e ≡ c
 position_once board c e below_c below_e same =
     let g : ℕ → RawDevice → ℕ → Bool = λ part device cell. same_ctl (record { part = part; cell = cell }) c in

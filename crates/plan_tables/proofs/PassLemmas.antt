@@ -1,4 +1,4 @@
--- The driver cells that a pass has because of its controls, control by control.
+-- The driver cells of a pass, collected control by control.
 use Rattle.std.proofs.Common.{◌≡◌, Bool, List, [], ◌++◌, fold, get_or, sym, ap, ◌∙◌}
 use Rattle.std.specs.List.{flat_map}
 use Rattle.std.proofs.lemmas.List.Folds.{flat_map-map}

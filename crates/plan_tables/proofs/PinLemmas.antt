@@ -1,4 +1,4 @@
--- The places of the pins of nets and of the entries of cells on a board.
+-- The places of the pins of nets, and of the entries of cells.
 use Rattle.std.proofs.Common.{◌≡◌, ℕ, ◌==◌, Bool, true, ◌&&◌, Option, Some, None, refl, sym, ap, ◌∙◌, subst}
 use Rattle.std.specs.Prelude.{slice_get, option_and_then}
 use Rattle.std.proofs.lemmas.Bool.{and_parts, eq-eqb, eqb-true}
@@ -21,7 +21,7 @@ use Rattle.tap_defs.proofs.board.NetRuleLemmas.{all_read, board_rules}
 use Rattle.tap_defs.proofs.board.QuietLemmas.{device_of}
 use Rattle.tap_defs.proofs.board.ReadingLemmas.{IsRead}
 
--- the device of a pin of a net, and the one place of the pin in the nets
+-- the device of a net's pin, and its only place in the nets
 pub record Standing (board : RawBoard) (n : ℕ) (net : Net) (place : ℕ) (at : PinAt) : Type 0 where
   pub device : RawDevice
   pub is_device : device_at board at.part ≡ Some device
@@ -95,7 +95,7 @@ driving_entry_is device wired cell entry bit e b =
     let same : y.0 ≡ entry = wired.one_driver f.1.0 g.1.0 entry y.0 bit f.1.1 here g.1.1 g.0 in
     (y.1 ∙ ap (λ (c : Cell). Some c) same, eqb-true entry.num cell p.0)
 
--- the entry of a receiver is the reading entry of its cell
+-- the entry that makes a pin a receiver is the reading entry of its cell
 pub reading_entry_is : (device : RawDevice) → IsRead device → (index : ℕ) (entry : Cell) → slice_get device.cells index ≡ Some entry → is_receiving entry.role ≡ true →
     reading_entry device entry.num ≡ Some entry
 reading_entry_is device read index entry stands receiving =
@@ -108,7 +108,7 @@ reading_entry_is device read index entry stands receiving =
     let same : y.0 ≡ entry = read.one_reader index f.1.0 entry y.0 stands reading f.1.1 p.1 (eqb-true y.0.num entry.num p.0) in
     y.1 ∙ ap (λ (c : Cell). Some c) same
 
--- a reading entry of a cell is among the entries
+-- the reading entry of a cell is one of the device's entries
 pub record Reads (device : RawDevice) (cell : ℕ) (entry : Cell) : Type 0 where
   pub index : ℕ
   pub stands : slice_get device.cells index ≡ Some entry

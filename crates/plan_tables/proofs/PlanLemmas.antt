@@ -1,4 +1,4 @@
--- The tables that are made are the tables of a plan.
+-- The tables that the code makes are the tables of a plan.
 use Rattle.std.proofs.Common.{◌≡◌, ℕ, zero, suc, ◌+◌, ◌^◌, ◌<◌, ◌≤◌, Bool, true, false, not, cond, List, [], ◌∷◌, length, map, take, drop, get_or, Option, Some, None, unwrap_or, refl, sym, ap, ◌∙◌, subst, arith, ◌⊎◌, inl, inr}
 use Rattle.std.specs.Prelude.{slice_get, option_map, count_by}
 use Rattle.std.proofs.lemmas.Bool.{cases_lt}
@@ -112,7 +112,7 @@ module _ (board : RawBoard) (rules : IsBoard board) where
           ap (λ (b : Bool). let x : HeldCell = record { position = first_position board s.control.part + s.control.cell; bit = b } in x) bit
           ∙ ap (λ (m : ℕ). let x : HeldCell = record { position = m; bit = h.bit } in x) (sym s.position_is)
 
--- codes
+-- the codes of the nets
 count_map : {X : Type 0} (p : X → Bool) (xs : List X) (n : ℕ) → count_by (λ b. b) (take n (map p xs)) ≡ count_by p (take n xs)
 count_map p xs zero = refl
 count_map p [] (suc n) = refl
@@ -136,13 +136,13 @@ width_most n width few least = by_order (cases_lt 14 width)
     by_order (inl more) = let h : 16384 < n + 2 = least 14 more in absurd (omega (arith, h, few))
     by_order (inr most) = most
 
--- the pins of a net
+-- a net has at most as many pins as a board may have
 pub pins_most : (board : RawBoard) → IsBoard board → (k : ℕ) (d : Net) → k < length board.nets → length (get_or board.nets k d).pins ≤ most_pins
 pins_most board rules k d less =
     let f : Net → ℕ = λ net. length net.pins in
     omega (arith, rules.pins_most, sum_by-take-drop f board.nets k, sum_by-drop_more f board.nets k d less)
 
--- the plan
+-- the tables are a plan for the board
 pub is_plan : (board : RawBoard) → IsBoard board → (plan : PlanTables) → ArePlannable board plan.passes → plan.quiet.bits ≡ laid (quiet_bits board) board →
     plan.readers ≡ all_readers board → plan.drivers ≡ all_drivers board → AreFirsts board.chain plan.firsts → ArePassTables board plan.passes plan.steady (pass_cells_of board plan.quiet.bits plan.by_control) →
     (seen : List Bool) → seen ≡ seen_in board (length board.nets) plan.steady plan.by_control plan.passes → (codes : NetCodes) → AreCodes seen codes → plan.codes ≡ codes.codes →
@@ -195,7 +195,7 @@ is_plan board rules plan plannable quiet readers_are drivers_are firsts tables s
         ∙ ap (λ (b : Bool). cond b (suc (count_by (λ b. b) (take n seen))) 0) here
         ∙ ap (λ (k : ℕ). cond (p net) (suc k) 0) before
 
--- the codes are few
+-- there are at most as many codes as a board may have nets
 pub count_most : (board : RawBoard) → IsBoard board → (steady : List DriverCell) (table : DriverTable) (passes : List (List Ctl)) (codes : NetCodes) →
     AreCodes (seen_in board (length board.nets) steady table passes) codes → codes.count ≤ most_nets
 count_most board rules steady table passes codes are =

@@ -1,4 +1,4 @@
--- Three walks over the entries of a device give its bits of the quiet row.
+-- Three walks over the entries of a device give the device's bits of the quiet row.
 use Rattle.std.proofs.Common.{◌≡◌, ℕ, zero, suc, ◌<◌, ◌==◌, Bool, true, false, cond, ◌&&◌, List, [], ◌∷◌, length, get_or, set, replicate, Option, Some, None, unwrap_or, refl, sym, ap, ◌∙◌, arith, ◌⊎◌, inl, inr}
 use Rattle.std.specs.Prelude.{slice_get, option_and_then, option_map, filter_map}
 use Rattle.std.specs.List.{list_any, cons_option}
@@ -38,7 +38,7 @@ set_by_is gives bits (e ∷ entries) = by_head (gives e) (λ done. set_by_is giv
     by_head None rest = rest bits
     by_head (Some c) rest = rest (set bits c.cell c.bit)
 
--- an entry gives this bit
+-- some entry gives a bit for the cell
 record Gives (gives : Cell → Option CellBit) (entries : List Cell) (cell : ℕ) : Type 0 where
   index : ℕ
   entry : Cell
@@ -47,7 +47,7 @@ record Gives (gives : Cell → Option CellBit) (entries : List Cell) (cell : ℕ
   is_value : gives entry ≡ Some value
   cell_is : value.cell ≡ cell
 
--- each entry sets a right bit, and some entry sets each bit that was not right before
+-- if each entry sets a correct bit, and the entries cover each bit that was not correct, a walk gives the correct bits
 walk_is : (gives : Cell → Option CellBit) (entries : List Cell) (n : ℕ) (g h : ℕ → Bool) →
     ((i : ℕ) (e : Cell) (c : CellBit) → slice_get entries i ≡ Some e → gives e ≡ Some c → (c.cell < n) × (h c.cell ≡ c.bit)) →
     ((cell : ℕ) → cell < n → (g cell ≡ h cell) ⊎ Gives gives entries cell) → set_by gives (filled n g) entries ≡ filled n h
@@ -70,7 +70,7 @@ walk_is gives entries n g h right cover =
     covered i below (inl same) = inl (filled_bit g i below ∙ same ∙ sym (filled_bit h i below))
     covered i below (inr s) = inr (s.value, has_filter_map gives entries s.entry s.value (has_at entries s.index s.entry s.stands) s.is_value, s.cell_is)
 
--- the cell and bit of an entry with one of these roles
+-- the cell and the safe value of an entry whose function is one of `roles`
 record Safe (roles : Role → Bool) (e : Cell) (c : CellBit) : Type 0 where
   role : roles e.role ≡ true
   cell_is : c.cell ≡ e.num
@@ -86,7 +86,7 @@ safe_is roles e c k = by_role (roles e.role) refl k
     by_role true r k = let same : value ≡ c = cc k in record { role = r; cell_is = ap (λ (x : CellBit). x.cell) (sym same); bit_is = ap (λ (x : CellBit). x.bit) (sym same) }
     by_role false r k = cc k
 
--- a cell has at most one entry with these roles
+-- a cell has at most one entry whose function is one of `roles`
 abbrev HasOne : (Role → Bool) → RawDevice → Type 0
 HasOne roles device =
     (i j : ℕ) (e d : Cell) → slice_get device.cells i ≡ Some e → roles e.role ≡ true → slice_get device.cells j ≡ Some d → roles d.role ≡ true → d.num ≡ e.num → d ≡ e
@@ -97,7 +97,7 @@ one_writing device one i j e d ei re dj rd num =
     let there : Some d ≡ Some e = sym dj ∙ ap (λ (k : ℕ). slice_get device.cells k) (sym same) ∙ ei in
     cc there
 
--- so the entry is the first of its cell
+-- such an entry is the first of its cell
 entry_is : (roles : Role → Bool) (device : RawDevice) → HasOne roles device → (i : ℕ) (e : Cell) →
     slice_get device.cells i ≡ Some e → roles e.role ≡ true → entry_of roles device e.num ≡ Some e
 entry_is roles device one i e stands role =
@@ -108,7 +108,7 @@ entry_is roles device one i e stands role =
     let p = and_parts (y.0.num == e.num) (roles y.0.role) f.0 in
     y.1 ∙ ap (λ (x : Cell). Some x) (one i f.1.0 e y.0 stands role f.1.1 p.1 (eqb-true y.0.num e.num p.0))
 
--- a walk over the entries with these roles
+-- a walk over the entries whose functions are among `roles`
 safe_walk : (roles : Role → Bool) (device : RawDevice) → IsDevice device → HasOne roles device → (g h : ℕ → Bool) →
     ((cell : ℕ) (e : Cell) → entry_of roles device cell ≡ Some e → h cell ≡ bit_of e.safe) → ((cell : ℕ) → entry_of roles device cell ≡ None → g cell ≡ h cell) →
     set_by (safe_value_in roles) (filled device.boundary g) device.cells ≡ filled device.boundary h
@@ -128,7 +128,7 @@ safe_walk roles device is one g h right rest = walk_is (safe_value_in roles) dev
         let value : CellBit = record { cell = e.num; bit = bit_of e.safe } in
         inr (record { index = f.1.0; entry = e; stands = f.1.1; value = value; is_value = ap (λ (b : Bool). cond b (Some value) None) p.1; cell_is = eqb-true e.num cell p.0 })
 
--- the safe values of the entries of a cell, or 0 if there are none
+-- the safe value of the reading entry of a cell, or 0 if there is none
 abbrev read_value : RawDevice → ℕ → Bool
 read_value device cell = unwrap_or (option_map (λ (e : Cell). bit_of e.safe) (reading_entry device cell)) false
 
@@ -161,7 +161,7 @@ writing_walk device is =
     (λ cell e k. ap (λ (o : Option Cell). unwrap_or (option_map (λ (x : Cell). bit_of x.safe) (or_entry o (reading_entry device cell))) false) k)
     (λ cell k. sym (ap (λ (o : Option Cell). unwrap_or (option_map (λ (x : Cell). bit_of x.safe) (or_entry o (reading_entry device cell))) false) k))
 
--- the control cell and disable value of a driver's entry
+-- the control cell and the disable value of a driver's entry
 record Disables (board : RawBoard) (part : ℕ) (e : Cell) (c : CellBit) : Type 0 where
   driver : is_driver board part e ≡ true
   control : Control
@@ -186,7 +186,7 @@ module _ (board : RawBoard) (part : ℕ) (device : RawDevice) (is : IsDevice dev
   device_wired : IsWired device
   device_wired = wired device is
 
-  -- the entry of a driver is one that its control controls
+  -- the control of a driver's entry controls a driver
   controlled : (i : ℕ) (e : Cell) (control : Control) → slice_get device.cells i ≡ Some e → is_driver board part e ≡ true → e.ctl ≡ Some control →
       list_any (controls_driver board part control.cell) device.cells ≡ true
   controlled i e control stands driver ctl =

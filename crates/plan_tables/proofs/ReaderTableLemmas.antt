@@ -14,12 +14,12 @@ use Rattle.plan_tables.specs.inner.Laid.{steady}
 use Rattle.plan_tables.proofs.LaidLemmas.{laid_at}
 use Rattle.plan_tables.proofs.PinLemmas.{read_at}
 
--- tables of readers
+-- the table has the compared cells of each net
 abbrev pub ReadersOf : RawBoard → List (List ReaderCell) → Type 0
 ReadersOf board readers =
     (n : ℕ) (net : Net) → slice_get board.nets n ≡ Some net → ((r : ReaderCell) → Has (get_or readers n []) r → IsReaderCell board net r) × ((r : ReaderCell) → IsReaderCell board net r → Has (get_or readers n []) r)
 
--- the cells that read nets are within a row of data
+-- the position of a compared cell is in data scans
 reader_within : (board : RawBoard) → IsBoard board → (net : Net) (r : ReaderCell) → IsReaderCell board net r → r.position < data_bits board
 reader_within board rules net r s =
     let place = has_place s.device.cells s.entry (contains_has s.device.cells s.entry s.is_entry) in

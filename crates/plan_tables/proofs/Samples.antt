@@ -1,4 +1,5 @@
--- Rows of a bus with two drivers and a receiver, codes, and the cells of controls, worked by hand.
+-- Samples of the rows of a bus with two drivers and a receiver, of codes, and of the cells of controls. The values are
+-- computed by hand.
 use Rattle.std.proofs.Common.{◌≡◌, ℕ, zero, suc, ◌<◌, Bool, true, false, List, [], ◌∷◌, map, take, replicate, Option, Some, None, refl, arith}
 use Rattle.std.specs.Prelude.{cond, count_by, slice_index_or, slice_set}
 use Rattle.std.specs.List.{list_any}
@@ -11,18 +12,19 @@ use Rattle.plan_tables.specs.inner.Building.{table_of}
 use Rattle.plan_tables.specs.inner.Codes.{AreCodes}
 use Rattle.plan_tables.specs.inner.Steady.{steady_cells, moving}
 
--- the quiet row: both drivers of the bus are off at 1
+-- the quiet row, in which both drivers of the bus are disabled at 1
 abbrev quiet : List Bool
 quiet = false ∷ false ∷ true ∷ false ∷ true ∷ []
 
--- the cell of the driver that a pass enables by 0 at position 4, its own pin's reader, and that of another pin
+-- the cell of the driver that a pass enables by 0 at position 4, the reader on the driver's own pin, and the reader on
+-- another pin
 abbrev enabled : DriverCell
 enabled = record { net = 0; place = 0; position = 3 }
 
 abbrev readers : List ReaderCell
 readers = record { place = 0; position = 3 } ∷ record { place = 2; position = 0 } ∷ []
 
--- the enabled driver holds the code
+-- the cell of the enabled driver has the bit of the code
 driven : assigned (λ d. d.position) (driver_bit (1 ∷ []) 0) (slice_set quiet 4 false) (enabled ∷ []) ≡ false ∷ false ∷ true ∷ true ∷ false ∷ []
 driven = refl
 
@@ -39,7 +41,7 @@ mask = refl
 have_one : map (list_any (λ bit. bit)) (replicate 5 false ∷ compared (λ d. true) ∷ []) ≡ false ∷ true ∷ []
 have_one = refl
 
--- codes number the nets that are observed
+-- only the nets that are observed have codes
 abbrev seen : List Bool
 seen = true ∷ false ∷ true ∷ true ∷ false ∷ []
 
@@ -58,26 +60,27 @@ codes = record {
     each (suc (suc (suc (suc zero)))) less = refl
     each (suc (suc (suc (suc (suc n))))) less = absurd (omega (arith, less))
 
--- the driver of a net, at a position of its own, with this control
+-- an observer of a net with this control; its cell has the number of the net as its position
 abbrev driver : ℕ → Option ℕ → Observer
 driver net control = record { control = control; cell = record { net = net; place = 0; position = net } }
 
 abbrev cell : ℕ → DriverCell
 cell net = record { net = net; place = 0; position = net }
 
--- each control has the cells of its drivers
+-- the row of each control has the cells of its drivers
 table : table_of (driver 0 (Some 4) ∷ driver 1 None ∷ driver 2 (Some 5) ∷ driver 3 (Some 4) ∷ []) 6
     ≡ record { always = cell 1 ∷ []; rows = [] ∷ [] ∷ [] ∷ [] ∷ (cell 0 ∷ cell 3 ∷ []) ∷ (cell 2 ∷ []) ∷ [] }
 table = refl
 
--- two passes hold position 4, one of them position 5, and one position 1, which is also the cell of a driver
+-- Both of two passes hold position 4. One of them holds position 5, and one holds position 1, which is also the cell of
+-- a driver.
 abbrev uses : Uses
 uses = record { held = false ∷ true ∷ false ∷ false ∷ true ∷ true ∷ []; runs = 0 ∷ 1 ∷ 0 ∷ 0 ∷ 2 ∷ 0 ∷ [] }
 
 abbrev drivers : List Observer
 drivers = driver 0 (Some 4) ∷ driver 1 (Some 4) ∷ driver 2 (Some 5) ∷ driver 3 None ∷ []
 
--- the drivers that both passes enable are steady, except the one at position 1
+-- the drivers that both passes enable are steady, except the driver with its cell at position 1
 steady : steady_cells uses 2 drivers ≡ cell 0 ∷ cell 3 ∷ []
 steady = refl
 

@@ -1,4 +1,4 @@
--- The nets that have a driver cell in some pass are those that some pass observes.
+-- The nets with a driver cell in some pass are the nets that some pass observes.
 use Rattle.std.proofs.Common.{◌≡◌, ℕ, ◌+◌, ◌<◌, Bool, true, false, List, [], ◌∷◌, ◌++◌, fold, set, length, map, get_or, replicate, Option, Some, None, is_some, refl, sym, ap, ◌∙◌, arith, ◌⊎◌, inl, inr}
 use Rattle.std.specs.Prelude.{slice_get, option_map}
 use Rattle.std.specs.Cmp.{both_ways}
@@ -27,7 +27,7 @@ use Rattle.board_defs.specs.declared.board.PinAt.{PinAt}
 use Rattle.board_defs.specs.Pins.{entry_at}
 use Rattle.tap_defs.proofs.board.FeedingLemmas.{Observing, observing_at}
 
--- the cell of the driver by which a net is observed
+-- if a pass observes a net by a driver, the pass has the cell of that driver
 pub driver_cell : (board : RawBoard) (pass : List Ctl) (n : ℕ) (net : Net) (place : ℕ) → slice_get board.nets n ≡ Some net → observing_driver board (holds pass) net ≡ Some place →
     (d : DriverCell) × IsDriverCell board pass d × (d.net ≡ n) × (d.place ≡ place)
 driver_cell board pass n net place is_net observing = by_at o.pin.at refl o.enabled
@@ -51,11 +51,11 @@ driver_cell board pass n net place is_net observing = by_at o.pin.at refl o.enab
     by_at None is_at on = cc on
     by_at (Some at) is_at on = by_entry at is_at (entry_at board at) refl on
 
--- all driver cells of passes
+-- the driver cells of all passes
 abbrev all_cells : RawBoard → List Bool → List (List Ctl) → List DriverCell → DriverTable → List DriverCell
 all_cells board quiet passes steady table = steady ++ flat_map (λ pass. (pass_cells_of board quiet table pass).drivers) passes
 
--- the nets of passes, pass after pass
+-- the flags of the nets, set pass by pass
 marked_passes : (board : RawBoard) (quiet : List Bool) (table : DriverTable) (passes : List (List Ctl)) (flags : List Bool) →
     fold (marked_on board table) flags passes ≡ marked flags (flat_map (λ pass. (pass_cells_of board quiet table pass).drivers) passes)
 marked_passes board quiet table [] flags = refl
@@ -92,7 +92,7 @@ module _ (board : RawBoard) (quiet : List Bool) (passes : List (List Ctl)) (stea
   is_marked : seen ≡ assigned (λ d. d.net) (λ d. true) (replicate (length board.nets) false) all
   is_marked = marked_all board quiet (length board.nets) passes steady table
 
-  -- each of them belongs to some pass
+  -- a driver cell that belongs to some pass
   pub record InPass (d : DriverCell) : Type 0 where
     pub number : ℕ
     pub pass : List Ctl
@@ -114,7 +114,7 @@ module _ (board : RawBoard) (quiet : List Bool) (passes : List (List Ctl)) (stea
           let place = has_place passes (m.0) m.1 in
           of (place.0) (m.0) place.1 (has_right steady (own_cells (m.0)) d m.2)
 
-  -- and those of each pass are among them
+  -- each driver cell of a pass is one of the driver cells of all passes
   of_pass : (x : ℕ) (pass : List Ctl) → slice_get passes x ≡ Some pass → (d : DriverCell) → IsDriverCell board pass d → Has all d
   of_pass x pass e d is = by_part (has_append steady (own_cells pass) d (contains_has (steady ++ own_cells pass) d (((are.each x pass e).drivers d).1 is)))
     where

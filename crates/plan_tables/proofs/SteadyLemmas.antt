@@ -1,4 +1,4 @@
--- The driver cells that are the same in all passes, and the cells of each pass.
+-- The steady driver cells, and the cells of each pass.
 use Rattle.std.proofs.Common.{◌≡◌, ℕ, suc, ◌<◌, ◌≤◌, ◌==◌, nat_lt, Bool, true, false, not, cond, ◌&&◌, List, [], ◌∷◌, ◌++◌, length, map, get_or, set, replicate, Option, Some, None, refl, sym, ap, ◌∙◌, subst, arith, length-set, ◌⊎◌, inl, inr}
 use Rattle.std.specs.Prelude.{slice_get, filter, Contains}
 use Rattle.std.specs.List.{flat_map}
@@ -27,7 +27,7 @@ use Rattle.plan_tables.proofs.ObserverLemmas.{observer_below, observer_stands, i
 use Rattle.plan_tables.proofs.PlanLemmas.{held_only, is_held_cell}
 use Rattle.plan_tables.proofs.HeldLemmas.{control_cells}
 
--- runs that get longer
+-- runs that get longer by one pass
 run_goes_on : (passes : List (List HeldCell)) (runs : List ℕ) (k : ℕ) (h : HeldCell) → Has (get_or passes k []) h → AreRuns passes runs → AreRuns passes (run_at k runs h.position)
 run_goes_on passes runs k h has are position x less = by_test (get_or runs h.position 0 == k) refl less
   where
@@ -60,7 +60,7 @@ runs_go_on passes k (h ∷ held) runs of_pass are =
 pub held_at : (board : RawBoard) (quiet : List Bool) (passes : List (List Ctl)) (x : ℕ) (d : List Ctl) → x < length passes → get_or (held_by board quiet passes) x [] ≡ map (held_cell board quiet) (get_or passes x d)
 held_at board quiet passes x d less = get_or-map (λ (pass : List Ctl). map (held_cell board quiet) pass) passes x d [] less
 
--- each cell that a pass holds is flagged
+-- each cell that a pass holds has a flag
 pub flagged : (board : RawBoard) (quiet : List Bool) (passes : List (List Ctl)) (uses : Uses) → AreUses board quiet passes uses → (x : ℕ) (pass : List Ctl) → slice_get passes x ≡ Some pass → (h : HeldCell) →
     Has (map (held_cell board quiet) pass) h → h.position < length quiet → get_or uses.held h.position false ≡ true
 flagged board quiet passes uses are x pass e h own within =
@@ -69,7 +69,7 @@ flagged board quiet passes uses are x pass e h own within =
     ∙ has_mark (λ (c : HeldCell). c.position) (flat_map cells passes) (replicate (length quiet) false) h (has_flat_map cells passes pass h (has_at passes x pass e) own)
     (omega (arith, within, length-replicate (length quiet) false))
 
--- a steady driver
+-- the conditions for a steady observer
 pub record Steady (uses : Uses) (passes : ℕ) (x : Observer) : Type 0 where
   pub some : 0 < passes
   pub free : get_or uses.held x.cell.position false ≡ false
@@ -93,7 +93,7 @@ steady_of uses passes observers d h =
     let f = filter_has (is_steady uses passes) observers (m.0) m.1 in
     record { observer = m.0; is_in = f.0; steady = steady_parts uses passes (m.0) f.1; cell_is = m.2 }
 
--- each pass holds a control that is common
+-- if a control is common, each pass has a control with its cell at that position
 common_on : (passes : List (List HeldCell)) (n : ℕ) (uses : Uses) → AreRuns passes uses.runs → (control : Option ℕ) → is_common uses n control ≡ true → (x : ℕ) → x < n → IsOn (get_or passes x []) control
 common_on passes n uses are None e x less p c = let bad : None ≡ Some p = c in cc bad
 common_on passes n uses are (Some q) e x less p c =
@@ -159,7 +159,7 @@ module _ (board : RawBoard) (rules : IsBoard board) (quiet : List Bool) (quiet_i
     on_all d (inl h) = steady_on d (steady_of uses (length passes) all d h)
     on_all d (inr h) = own_on d (cells_has others bits held d h)
 
-    -- each enabled driver is steady or has its cell among those of the pass
+    -- the cell of each enabled driver is steady, or is among the cells of the pass
     all_on : (d : DriverCell) → OnBy all held d → Has (steady ++ own) d
     all_on d o = by_test (is_steady uses (length passes) o.observer) refl
       where
@@ -182,7 +182,7 @@ module _ (board : RawBoard) (rules : IsBoard board) (quiet : List Bool) (quiet_i
               cell_is = o.cell_is;
             }))
 
-    -- no cell of a control of the pass is steady
+    -- the cell of a control of the pass is not steady
     apart : (h : HeldCell) (d : DriverCell) → Has held h → SteadyOf uses (length passes) all d → h.position ≡ d.position → ⊥
     apart h d has s same =
         let at : h.position ≡ s.observer.cell.position = same ∙ ap (λ (c : DriverCell). c.position) (sym s.cell_is) in

@@ -1,4 +1,4 @@
--- The tables, as they are made, are the tables of the plan.
+-- The tables that the code makes are those of the definitions.
 use Rattle.std.proofs.Common.{◌≡◌, ℕ, zero, suc, ◌+◌, ◌==◌, Bool, true, false, not, cond, ◌&&◌, ◌||◌, List, [], ◌∷◌, ◌++◌, map, Option, Some, None, refl, sym, ap, ◌∙◌, subst, arith, ◌⊎◌, inl, inr}
 use Rattle.std.specs.Prelude.{slice_get, option_and_then, option_map, filter}
 use Rattle.std.specs.List.{list_any}
@@ -24,7 +24,7 @@ use Rattle.net_pins.specs.declared.nets.ReaderCell.{ReaderCell}
 use Rattle.plan_tables.specs.Tables.{first_position, IsReaderCell}
 use Rattle.plan_tables.specs.Building.{is_on, enabled_in, gathered, optional, net_driver, driver_of, drivers_of_pins, drivers_of, reader_of, readers_in, readers_at, readers_of, is_read_beside}
 
--- an item of a gathered list comes from one of its items
+-- an item of a gathered list comes from an item of the list from which it was gathered
 pub has_gathered : {X Y : Type 0} (f : ℕ → X → List Y) (k : ℕ) (xs : List X) (y : Y) → Has (gathered f k xs) y → (n : ℕ) × (x : X) × (slice_get xs n ≡ Some x) × Has (f (k + n) x) y
 has_gathered f k [] y h = absurd h
 has_gathered {X} {Y} f k (x ∷ xs) y h = by_part (has_gathered f (suc k) xs y) (has_append (f k x) (gathered f (suc k) xs) y h)
@@ -101,7 +101,7 @@ is_reader board net r s =
         ap (λ (m : ℕ). let x : ReaderCell = record { place = m; position = first_position board s.at.part + s.entry.num } in x) z
         ∙ ap (λ (m : ℕ). let x : ReaderCell = record { place = r.place; position = m } in x) (sym s.position_is)
 
--- the driver that a setting enables
+-- a driver of these pins, with its place
 pub record DriverAt (board : RawBoard) (k : ℕ) (pins : List NetPin) (d : NetDriver) : Type 0 where
   pub index : ℕ
   pub pin : NetPin
@@ -121,7 +121,7 @@ pub on_by : (s : Enabling) (part : ℕ) (o : Option Control) → is_on s (option
 on_by s part None = refl
 on_by s part (Some control) = refl
 
--- the driver by which a setting observes a net with these compared cells: the first one that it enables, if another pin has one of them
+-- the driver by which a setting observes a net: the first driver that it enables, if another pin has a compared cell
 abbrev pub observing_of : Enabling → List NetDriver → List ReaderCell → Option NetDriver
 observing_of setting drivers readers = option_and_then (λ d. cond (is_read_beside readers d) (Some d) None) (enabled_in setting drivers)
 

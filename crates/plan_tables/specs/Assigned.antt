@@ -1,21 +1,21 @@
--- Bits that are set in turn.
+-- Bits that are set one after another.
 use Rattle.std.specs.Prelude.{ℕ, ◌==◌, Bool, cond, List, [], fold, slice_index_or, slice_set}
 use Rattle.tap_defs.specs.board.TestRows.{code_bit}
 use Rattle.plan_tables.specs.declared.tables.DriverCell.{DriverCell}
 use Rattle.net_pins.specs.declared.nets.ReaderCell.{ReaderCell}
 
--- the bits after each item has set its bit in turn
+-- the bits after each item in turn has set its bit
 abbrev pub assigned : {X : Type 0} → (X → ℕ) → (X → Bool) → List Bool → List X → List Bool
 assigned place bit start xs = fold (λ bits x. slice_set bits (place x) (bit x)) start xs
 
--- bit j of the code of a driver's net
+-- bit `j` of the code of the driver's net
 abbrev pub driver_bit : List ℕ → ℕ → DriverCell → Bool
 driver_bit codes j d = code_bit (slice_index_or codes d.net 0) j
 
--- the bits after `bit` is set at those cells of a net that read it on a pin other than the driver's
+-- the bits after `bit` is set at each cell of a net that reads the net on a pin other than the driver's
 abbrev pub set_readers : ℕ → Bool → List Bool → List ReaderCell → List Bool
 set_readers place bit bits readers = fold (λ done r. cond (r.place == place) done (slice_set done r.position bit)) bits readers
 
--- the bits after the bit of each driver is set at those cells of its net that read it on another pin
+-- the bits after, for each driver, its bit is set at each cell of its net that reads the net on another pin
 abbrev pub set_compared : (DriverCell → Bool) → List (List ReaderCell) → List Bool → List DriverCell → List Bool
 set_compared bit readers bits drivers = fold (λ done d. set_readers d.place (bit d) done (slice_index_or readers d.net [])) bits drivers

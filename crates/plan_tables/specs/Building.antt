@@ -1,4 +1,4 @@
--- How the drivers and the compared cells of a net relate to each other and to a setting.
+-- Relations between the drivers of a net, its compared cells and a setting.
 use Rattle.std.specs.Prelude.{◌==◌, Bool, true, not, find, List, Option, Some, None}
 use Rattle.std.specs.List.{list_any}
 use Rattle.board_defs.specs.declared.board.Ctl.{Ctl}
@@ -11,11 +11,11 @@ pub use Rattle.net_pins.specs.NetCells.{gathered, optional, net_driver, driver_o
 abbrev pub is_read_beside : List ReaderCell → NetDriver → Bool
 is_read_beside readers d = list_any (λ r. not (r.place == d.place)) readers
 
--- the setting enables a driver with this control
+-- a driver with this control is enabled in the setting
 abbrev pub is_on : Enabling → Option Ctl → Bool
 is_on setting None = true
 is_on setting (Some c) = setting c
 
--- the first driver of a net that a setting enables; a safe setting enables no other
+-- the first driver of a net that the setting enables; a safe setting enables no other driver of the net
 abbrev pub enabled_in : Enabling → List NetDriver → Option NetDriver
 enabled_in setting drivers = find (λ d. is_on setting d.ctl) drivers

@@ -1,4 +1,4 @@
--- What a plan is.
+-- The definition of a plan for a board.
 use Rattle.std.specs.Prelude.{◌≡◌, ℕ, Bool, true, false, cond, List, length, Option, Some, None, slice_get, slice_index_or}
 use Rattle.std.specs.List.{list_any}
 use Rattle.board_defs.specs.declared.device.RawDevice.{RawDevice}
@@ -22,12 +22,12 @@ controls_in board c (Some device) = list_any (controls_driver board c.part c.cel
 abbrev pub controls_some : RawBoard → Ctl → Bool
 controls_some board c = controls_in board c (device_at board c.part)
 
--- passes from which a plan can be made: each is safe, and each of its controls controls a driver of the board
+-- A plan can be made from these passes: each is safe, and each of their controls enables a driver of the board.
 pub record ArePlannable (board : RawBoard) (passes : List (List Ctl)) : Type 0 where
   pub safe : (x : ℕ) (pass : List Ctl) → slice_get passes x ≡ Some pass → IsSafe board (holds pass)
   pub controls : (x : ℕ) (pass : List Ctl) (c : Ctl) → slice_get passes x ≡ Some pass → holds pass c ≡ true → controls_some board c ≡ true
 
--- the code of a net: its number, from 1, among the nets that some pass observes, and 0 for every other net
+-- the code of a net: its number among the nets that some pass observes, counted from 1, or 0 if no pass observes it
 abbrev pub code_or_zero : RawBoard → List (List Ctl) → ℕ → Net → ℕ
 code_or_zero board passes n net = cond (is_observed board passes net) (code_of_net board passes n) 0
 

@@ -1,4 +1,4 @@
--- The tables of a plan: rows that all passes share, and the positions at which the rows of a pass differ from the quiet row.
+-- The tables of a plan: the rows that all passes share, and the positions at which the rows of a pass differ from the quiet row.
 use Rattle.std.specs.Prelude.{◌≡◌, ◌≢◌, ◌↔◌, ℕ, ◌+◌, Bool, true, false, not, List, [], ◌++◌, length, map, Some, slice_get, slice_index_or, unwrap_or, Contains}
 use Rattle.std.specs.List.{flat_map}
 use Rattle.board_defs.specs.declared.device.Cell.{Cell}
@@ -23,11 +23,11 @@ use Rattle.plan_tables.specs.declared.controls.DriverTable.{DriverTable}
 use Rattle.plan_tables.specs.declared.tables.PlanTables.{PlanTables}
 pub use Rattle.net_pins.specs.Positions.{first_position, AreFirsts}
 
--- the position of a control's cell
+-- the position of the control's cell in data scans
 abbrev pub control_position : RawBoard → Ctl → ℕ
 control_position board c = first_position board c.part + c.cell
 
--- the cell of a control of the pass, with the opposite of its disable value
+-- `h` is the cell of a control of the pass, with the opposite of its disable value
 pub record IsHeldCell (board : RawBoard) (pass : List Ctl) (h : HeldCell) : Type 0 where
   pub control : Ctl
   pub is_held : holds pass control ≡ true
@@ -36,7 +36,7 @@ pub record IsHeldCell (board : RawBoard) (pass : List Ctl) (h : HeldCell) : Type
   pub position_is : h.position ≡ first_position board control.part + control.cell
   pub bit_is : h.bit ≡ not (unwrap_or (disable_of device control.cell) false)
 
--- the cell of the driver by which the pass observes a net
+-- `d` is the cell of the driver by which the pass observes a net
 pub record IsDriverCell (board : RawBoard) (pass : List Ctl) (d : DriverCell) : Type 0 where
   pub net : Net
   pub is_net : slice_get board.nets d.net ≡ Some net
@@ -49,7 +49,7 @@ pub record IsDriverCell (board : RawBoard) (pass : List Ctl) (d : DriverCell) : 
   pub is_entry : entry_at board at ≡ Some entry
   pub position_is : d.position ≡ first_position board at.part + entry.num
 
--- a compared cell of a receiver on the net: INPUT, CLOCK or BIDIR
+-- `r` is a compared cell (INPUT, CLOCK or BIDIR) of a receiver on the net
 pub record IsReaderCell (board : RawBoard) (net : Net) (r : ReaderCell) : Type 0 where
   pub pin : NetPin
   pub is_pin : slice_get net.pins r.place ≡ Some pin
@@ -76,7 +76,7 @@ held_cell board quiet c = record { position = control_position board c; bit = no
 abbrev pub controlled : RawBoard → List (List DriverCell) → Ctl → List DriverCell
 controlled board rows c = slice_index_or rows (control_position board c) []
 
--- the driver cells of a pass whose controls have these cells
+-- the driver cells in the table for a pass whose controls have these cells
 abbrev pub cells_on : DriverTable → List HeldCell → List DriverCell
 cells_on table held = table.always ++ flat_map (λ h. slice_index_or table.rows h.position []) held
 
@@ -84,18 +84,18 @@ cells_on table held = table.always ++ flat_map (λ h. slice_index_or table.rows 
 abbrev pub pass_cells_of : RawBoard → List Bool → DriverTable → List Ctl → PassCells
 pass_cells_of board quiet table pass = let held : List HeldCell = map (held_cell board quiet) pass in record { held = held; drivers = cells_on table held }
 
--- The cells of a pass, in any order. `held` has those of its controls. `drivers` and the steady cells together have those of its
--- drivers. No cell of a control is steady.
+-- `cells` has the cells of a pass, in any order. `held` has those of its controls. `drivers` and the steady cells together have
+-- those of its drivers. No steady cell is the cell of a control.
 pub record ArePassCells (board : RawBoard) (steady : List DriverCell) (pass : List Ctl) (cells : PassCells) : Type 0 where
   pub held : (h : HeldCell) → Contains cells.held h ↔ IsHeldCell board pass h
   pub drivers : (d : DriverCell) → Contains (steady ++ cells.drivers) d ↔ IsDriverCell board pass d
   pub apart : (h : HeldCell) (d : DriverCell) → Contains cells.held h → Contains steady d → h.position ≢ d.position
 
--- the compared cells of a net, in any order
+-- the list has exactly the compared cells of the net, in any order
 abbrev pub AreReaders : RawBoard → Net → List ReaderCell → Type 0
 AreReaders board net readers = (r : ReaderCell) → Contains readers r ↔ IsReaderCell board net r
 
--- the tables of a plan for the board
+-- these are the tables of a plan for the board
 pub record ArePlanTables (board : RawBoard) (plan : PlanTables) : Type 0 where
   pub preload : AreRowsOf ((instructs (map (λ part. preload_code part.kind) board.chain)).bits) plan.preload
   pub extest : AreRowsOf ((instructs (map (λ part. extest_code part.kind) board.chain)).bits) plan.extest

@@ -23,21 +23,21 @@ use counting_codes::width;
 use net_pins::NetPins;
 use std::alloc::{AllocError, Global};
 
-// The driver cells of all passes of a plan, and the codes of the nets.
+// The driver cells of the passes of a plan, and the codes of the nets.
 #[derive(Drop)]
 struct PassParts {
     cells: PassTables,
     codes: NetCodes,
 }
 
-// What a plan has beside the pins and the passes that it takes over.
+// The parts of a plan that are made here. The others are the pins and the passes, which the plan takes from the caller.
 #[derive(Drop)]
 struct PlanParts {
     rows: BoardRows,
     passes: PassParts,
 }
 
-// Makes the rows that all passes share.
+// Returns the rows that all passes share.
 fn board_rows(alloc: Global, board: &Board) -> Result<BoardRows, AllocError>
     ensures { IfOk result (λ rows. AreBoardRows board.now rows) }
 {
@@ -51,7 +51,7 @@ fn board_rows(alloc: Global, board: &Board) -> Result<BoardRows, AllocError>
     })
 }
 
-// Makes the driver table of the observers that are not the same in all passes.
+// Returns the driver table of the observers that are not steady.
 fn moving_table(
     alloc: Global,
     uses: &Uses,
@@ -65,7 +65,7 @@ fn moving_table(
     driver_table(alloc, others.as_slice(), bits)
 }
 
-// Splits the observers into the cells that all passes share and a table of the others.
+// Splits the observers: returns the steady cells, which all passes share, and the table of the other observers.
 fn cells_by(
     alloc: Global,
     uses: &Uses,
@@ -80,7 +80,7 @@ fn cells_by(
     Ok(PassTables { steady, by_control })
 }
 
-// Makes the driver cells of the passes.
+// Returns the driver cells of the passes.
 fn pass_tables(
     alloc: Global,
     placed: &PlacedBoard,
@@ -107,7 +107,7 @@ fn pass_tables(
     )
 }
 
-// Makes the driver cells of the passes, and numbers the nets that they observe.
+// Returns the driver cells of the passes, and the codes of the nets that the passes observe.
 fn pass_parts(
     alloc: Global,
     board: &Board,
@@ -132,7 +132,7 @@ fn pass_parts(
     Ok(PassParts { cells, codes })
 }
 
-// Makes the parts of a plan. The pins and the passes are lent, so no exit of this function drops them.
+// Returns the parts of a plan. The pins and the passes are borrowed, so this function never drops them.
 fn plan_parts(
     alloc: Global,
     board: &Board,
@@ -151,7 +151,7 @@ fn plan_parts(
     Ok(PlanParts { rows, passes })
 }
 
-/// Makes the tables of the plan of these passes from the pins of the board's nets.
+/// Returns the tables of the plan for these passes. `pins` must be the pins of the board's nets.
 pub fn tables_of(
     alloc: Global,
     board: &Board,

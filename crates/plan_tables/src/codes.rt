@@ -13,7 +13,7 @@ use board_defs::{Items, Setting};
 use lists::mark;
 use std::alloc::{AllocError, Global};
 
-/// The codes of nets, net by net, and the number of codes that are not 0.
+/// The codes of the nets, in net order, and the number of codes that are not 0.
 #[derive(Drop)]
 pub struct NetCodes {
     pub codes: Items<u32>,
@@ -50,7 +50,8 @@ fn mark_passes(placed: &PlacedBoard, table: &DriverTable, passes: &[Setting], fl
     }
 }
 
-// Returns, for each of the first `nets` nets, whether a driver cell of it is steady or belongs to a pass.
+// Returns a flag for each of the first `nets` nets. The flag says whether the net has a driver cell that is steady or
+// belongs to a pass.
 fn seen_nets(
     alloc: Global,
     placed: &PlacedBoard,
@@ -67,7 +68,7 @@ fn seen_nets(
     Ok(seen)
 }
 
-// Numbers the nets that are observed, from 1 in net order. Every other net has code 0.
+// Returns the codes of the nets. The observed nets are numbered from 1 in net order. Every other net has code 0.
 fn number_nets(alloc: Global, seen: &[bool]) -> Result<NetCodes, AllocError>
     requires { length seen.now ≤ most_nets }
     ensures { IfOk result (λ codes. AreCodes seen.now codes) }
@@ -86,7 +87,8 @@ fn number_nets(alloc: Global, seen: &[bool]) -> Result<NetCodes, AllocError>
     })
 }
 
-/// Numbers the nets that some pass observes, from 1 in net order. Every other net has code 0. The board has `nets` nets.
+/// Returns the codes of a board's nets, of which there are `nets`. The nets that some pass observes are numbered from 1
+/// in net order. Every other net has code 0.
 pub fn net_codes(
     alloc: Global,
     placed: &PlacedBoard,

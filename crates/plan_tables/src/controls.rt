@@ -1,4 +1,4 @@
-// The driver cells of each control, by which the driver cells of a pass are found from its controls.
+// The driver cells of each control. The driver cells of a pass are found from its controls.
 ghost use Rattle.std.specs.Prelude.{◌≡◌, ◌<◌, [], slice_index_or, IfOk, OnOk};
 ghost use Rattle.board_defs.specs.Pins.{device_at, cell_count};
 ghost use Rattle.plan_tables.specs.Tables.{AreFirsts, controlled};
@@ -11,11 +11,11 @@ use lists::{blank, note_where};
 use net_pins::cell_position;
 use std::alloc::{AllocError, Global};
 
-/// The driver cells of one control.
+/// The cells of the drivers that one control enables.
 pub type ControlCells = Items<DriverCell>;
 
-/// The driver cells by which passes observe nets. `always` has those of the drivers that are always on. `rows` has
-/// those of each control's drivers, at the position of the control's cell.
+/// The cells of the drivers by which passes observe nets. `always` has the cells of the drivers that are always on.
+/// `rows` has, at the position of each control's cell, the cells of the drivers of that control.
 #[derive(Drop)]
 pub struct DriverTable {
     pub always: Items<DriverCell>,
@@ -43,7 +43,7 @@ fn always_on(alloc: Global, observers: &[Observer]) -> Result<Vec<DriverCell>, A
     Ok(cells)
 }
 
-/// Makes the table of these drivers, for scans of data of `bits` bits.
+/// Returns the table of these drivers, for data scans of `bits` bits.
 pub fn driver_table(
     alloc: Global,
     observers: &[Observer],
@@ -60,7 +60,7 @@ pub fn driver_table(
     })
 }
 
-/// Returns the driver cells of the control whose cell is at position `control`, or none past the last row.
+/// Returns the driver cells of the control whose cell has position `control`. Returns no cells past the last row.
 fn cells_at(rows: &[ControlCells], control: usize) -> &[DriverCell]
     ensures { result.now ≡ slice_index_or rows.now control [] }
 {
@@ -70,7 +70,7 @@ fn cells_at(rows: &[ControlCells], control: usize) -> &[DriverCell]
     }
 }
 
-/// Returns the driver cells of a control.
+/// Returns the driver cells of control `c`.
 pub fn controlled<'a>(
     board: &Board,
     firsts: &[u32],

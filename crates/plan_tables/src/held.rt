@@ -1,4 +1,4 @@
-// The cells of a pass's controls.
+// The cells of the controls of a pass.
 ghost use Rattle.std.specs.Prelude.{◌≡◌, ◌<◌, true, length, map, IfOk};
 ghost use Rattle.board_defs.specs.declared.board.Ctl.{Ctl as ControlRecord};
 ghost use Rattle.board_defs.specs.Pins.{device_at, cell_count, data_bits};
@@ -28,7 +28,7 @@ pub fn held_cell(board: &Board, firsts: &[u32], quiet: &Row, c: Ctl) -> HeldCell
     }
 }
 
-/// Returns the cells of a pass's controls.
+/// Returns the cells of the controls of a pass, in control order.
 pub fn held_cells(
     alloc: Global,
     placed: &PlacedBoard,

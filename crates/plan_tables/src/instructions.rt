@@ -1,4 +1,4 @@
-// The rows of the two scans of instructions.
+// The rows of the two instruction scans.
 ghost use Rattle.std.specs.Prelude.{◌≡◌, ◌+◌, ◌<◌, ◌≤◌, ◌++◌, List, Bool, map, length, replicate, drop, IfOk, OnOk};
 ghost use Rattle.board_defs.specs.Limits.{most_bits};
 ghost use Rattle.board_defs.specs.declared.board.PartKind.TheVariants.{Described};
@@ -15,7 +15,7 @@ use board_defs::{Board, Device, Part, PartKind, Symbol};
 use std::alloc::{AllocError, Global};
 use tap_defs::StoredRows;
 
-/// The instruction of a scan: the one that preloads the boundary register, or EXTEST.
+/// The instruction that a scan loads into described parts: the one that preloads the boundary register, or EXTEST.
 #[derive(Clone, Copy)]
 pub enum Instruction {
     Preload,
@@ -54,7 +54,7 @@ fn push_device(
     }
 }
 
-// Appends the code of a part.
+// Appends the code of the part. A part without a description gets a code of ones, which means BYPASS.
 fn push_code(
     instruction: Instruction,
     kind: &PartKind,
@@ -68,7 +68,7 @@ fn push_code(
     }
 }
 
-// Appends the captured bits of a part and their mask. Only the two bits nearest TDO, 01, are compared.
+// Appends the captured bits of a part, and their mask. Only the two bits nearest TDO, which are 01, are compared.
 fn push_capture(length: u32, tdo: &mut Vec<bool>, mask: &mut Vec<bool>) -> Result<(), AllocError>
     requires { 2 ≤ length }
     ensures tdo { OnOk result (tdo.new.items ≡ tdo.old.items ++ captured_bits length) }
@@ -80,7 +80,7 @@ fn push_capture(length: u32, tdo: &mut Vec<bool>, mask: &mut Vec<bool>) -> Resul
     push_same(length - 2, false, mask)
 }
 
-// Stores the bits of a scan.
+// Returns stored rows with these bits.
 fn stored(
     alloc: Global,
     tdi: &[bool],
@@ -118,7 +118,8 @@ fn rows_of(
     stored(alloc, &tdi, &tdo, &mask)
 }
 
-/// Returns the rows of a scan that loads this instruction into each described part, and BYPASS into the others.
+/// Returns the rows of an instruction scan. It loads this instruction into each described part, and BYPASS into the
+/// other parts.
 pub fn instruction_rows(
     alloc: Global,
     instruction: Instruction,

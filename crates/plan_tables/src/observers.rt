@@ -14,8 +14,8 @@ use board_defs::{Board, Ctl, Items, Net};
 use net_pins::{NetDriver, NetPins, ReaderCell, cell_position};
 use std::alloc::{AllocError, Global};
 
-/// A driver whose net has a compared cell on another pin: the position of its control's cell, if it has a control,
-/// and its own cell.
+/// A driver by which its net can be observed, since another pin of the net has a compared cell. `control` is the
+/// position of its control's cell, if it has a control, and `cell` is its own cell.
 #[derive(Clone, Copy)]
 pub struct Observer {
     pub control: Option<u32>,
@@ -52,7 +52,7 @@ fn is_read_beside(readers: &[ReaderCell], place: u32) -> bool
     readers.iter().any(|r| r.place != place)
 }
 
-// Appends those drivers of a net that have a compared cell on another pin.
+// Appends the drivers of a net for which another pin has a compared cell.
 fn push_observers(
     placed: &PlacedBoard,
     net: u32,
@@ -71,7 +71,7 @@ fn push_observers(
     Ok(())
 }
 
-// Returns the items of a net in a list with a row for each net. There are none past its end.
+// Returns the items of a net in a list that has a row for each net. Returns no items past the end of the list.
 fn items_at<T>(rows: &[Items<T>], net: usize) -> &[T]
     ensures { result.now ≡ slice_index_or rows.now net [] }
 {
@@ -81,7 +81,7 @@ fn items_at<T>(rows: &[Items<T>], net: usize) -> &[T]
     }
 }
 
-// Returns the drivers by which these nets can be observed, given their drivers and compared cells.
+// Returns the drivers by which these nets can be observed, given the drivers and the compared cells of each net.
 fn observers_of_nets(
     alloc: Global,
     placed: &PlacedBoard,

@@ -1,4 +1,4 @@
-// The quiet row.
+// Makes the quiet row.
 ghost use Rattle.std.specs.Prelude.{◌≡◌, ◌≤◌, ◌++◌, false, length, option_map, unwrap_or, IfOk, OnOk};
 ghost use Rattle.board_defs.specs.Limits.{most_parts};
 ghost use Rattle.board_defs.specs.DeviceRules.{is_reading, is_writing, IsDevice};
@@ -19,7 +19,7 @@ pub struct CellBit {
     pub bit: bool,
 }
 
-// Returns the safe value of a reading entry, with 0 for X.
+// Returns the cell of a reading entry and its safe value, with 0 for X. Returns None for any other entry.
 fn reading_value(entry: Cell) -> Option<CellBit>
     ensures { result ≡ safe_value_in is_reading entry }
 {
@@ -33,7 +33,7 @@ fn reading_value(entry: Cell) -> Option<CellBit>
     }
 }
 
-// Returns the safe value of an entry for the update latch, with 0 for X.
+// Returns the cell of an entry for an update latch and its safe value, with 0 for X. Returns None for any other entry.
 fn writing_value(entry: Cell) -> Option<CellBit>
     ensures { result ≡ safe_value_in is_writing entry }
 {
@@ -62,7 +62,8 @@ fn is_driver(raw: &RawBoard, part: u32, entry: Cell) -> bool
     entry.role.is_driving() && is_pinned(raw, part, entry.bit)
 }
 
-// Returns the control cell of a driver's entry and its disable value, if it has a control.
+// Returns the control cell of a driver's entry, with its disable value. Returns None if the entry is no driver's or has
+// no control.
 fn disable_value(raw: &RawBoard, part: u32, entry: Cell) -> Option<CellBit>
     ensures { result ≡ disable_value_in raw.now part entry }
 {
@@ -111,7 +112,7 @@ fn set_disabled(raw: &RawBoard, part: u32, entries: &[Cell], row: &mut [bool])
     }
 }
 
-// Returns the bits of a device, in three walks over its entries.
+// Returns the bits of a device in the quiet row, after three walks over its entries.
 fn device_row(
     alloc: Global,
     raw: &RawBoard,
@@ -173,7 +174,8 @@ fn board_bits(alloc: Global, raw: &RawBoard, chain: &[Part]) -> Result<Vec<bool>
     Ok(quiet)
 }
 
-/// Makes the quiet row: each cell that controls a driver holds the disable value, and every other cell its safe value.
+/// Returns the quiet row. In it, each cell that controls a driver has the disable value, and every other cell has its
+/// safe value, with 0 for X.
 pub fn quiet_row(alloc: Global, board: &Board) -> Result<Row, AllocError>
     ensures { IfOk result (λ quiet. quiet.bits ≡ laid (quiet_bits board.now) board.now) }
 {

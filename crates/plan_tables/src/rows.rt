@@ -1,11 +1,11 @@
-// Rows of bits.
+// Making rows of bits.
 ghost use Rattle.std.specs.Prelude.{◌≡◌, ◌≤◌, length, IfOk};
 ghost use Rattle.board_defs.specs.Limits.{most_bits};
 
 use bt_bits::Row;
 use std::alloc::{AllocError, Global};
 
-/// Returns a row of these bits.
+/// Returns a row with these bits.
 pub fn row_of(alloc: Global, bits: &[bool]) -> Result<Row, AllocError>
     requires { length bits.now ≤ most_bits }
     ensures { IfOk result (λ row. row.bits ≡ bits.now) }

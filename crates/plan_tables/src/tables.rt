@@ -1,19 +1,19 @@
-// The contents of a plan: positions and bits, from which each scan is made.
+// The contents of a plan: the positions and bits from which each scan is made.
 use crate::controls::DriverTable;
 use board_defs::{Items, Setting};
 use bt_bits::Row;
 use net_pins::{NetDriver, ReaderCell};
 use tap_defs::StoredRows;
 
-/// The cell of a setting's control: its position, and the bit that enables the drivers of the control.
+/// The cell of a control that a pass has: its position in data scans, and the bit that enables the control's drivers.
 #[derive(Clone, Copy)]
 pub struct HeldCell {
     pub position: u32,
     pub bit: bool,
 }
 
-/// The cell of the driver by which a pass observes a net: the net, the place of the driver's pin in it, and the
-/// cell's position.
+/// The cell of the driver by which a pass observes a net: the number of the net, the place of the driver's pin in it,
+/// and the position of the cell in data scans.
 #[derive(Clone, Copy)]
 pub struct DriverCell {
     pub net: u32,
@@ -29,16 +29,17 @@ pub struct BoardRows {
     pub extest: StoredRows,
 }
 
-/// The driver cells that are the same in all passes, and those that a pass has because of its controls.
+/// The driver cells that are the same in all passes (the steady cells), and the driver cells of each control.
 #[derive(Drop)]
 pub struct PassTables {
     pub steady: Items<DriverCell>,
     pub by_control: DriverTable,
 }
 
-/// The tables of a plan. They have the scans of instructions, the quiet row, and the driver cells that are the same
-/// in all passes. The other cells of a pass are found from its controls, by the position of each part's first bit and
-/// the driver cells of each control. `codes`, `readers` and `drivers` have an item for each net.
+/// The tables of a plan. The instruction scans, the quiet row and the steady driver cells are the same in all passes.
+/// The other cells of a pass are found from its controls. This needs the position of each part's first bit, and the
+/// driver cells of each control. `codes`, `readers` and `drivers` have an item for each net. `width` is the number of
+/// bits of a code.
 #[derive(Drop)]
 pub struct PlanTables {
     pub passes: Items<Setting>,

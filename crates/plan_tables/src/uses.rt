@@ -1,4 +1,4 @@
-// The cells of the passes' controls, and the driver cells that are the same in all passes.
+// The cells of the controls of all passes, and the driver cells that are the same in all passes.
 ghost use Rattle.std.specs.Prelude.{◌≡◌, ◌+◌, ◌<◌, ◌^◌, true, false, length, slice_index_or, IfOk, OnOk, All};
 ghost use Rattle.board_defs.specs.declared.board.Ctl.{Ctl as ControlRecord};
 ghost use Rattle.board_defs.specs.Pins.{device_at, cell_count, data_bits};
@@ -14,8 +14,8 @@ use bt_bits::Row;
 use lists::{is_set, mark};
 use std::alloc::{AllocError, Global};
 
-/// For each position, whether some pass has a control with its cell there, and the number of passes, from the first
-/// one on, that all have one.
+/// For each position, `held` says whether some pass has a control with its cell there. `runs` has the number of first
+/// passes that all have such a control.
 #[derive(Drop)]
 pub struct Uses {
     pub held: Items<bool>,
@@ -30,7 +30,8 @@ fn mark_held(flags: &mut [bool], held: &[HeldCell])
     }
 }
 
-// Notes that pass `k` also has a control with its cell at the position.
+// Notes that pass `k` has a control with its cell at the position. If all earlier passes have one, the run gets longer
+// by one.
 fn run(runs: &mut [u32], k: u32, position: usize)
     requires { k + 1 < 2 ^ 32 }
     ensures { runs.new ≡ run_at k runs.old position }
@@ -51,7 +52,7 @@ fn run_all(runs: &mut [u32], k: u32, held: &[HeldCell])
     }
 }
 
-// Notes the cells of these passes' controls.
+// Notes the cells of the controls of these passes.
 fn note_passes(
     alloc: Global,
     placed: &PlacedBoard,
@@ -75,7 +76,7 @@ fn note_passes(
     Ok(())
 }
 
-/// Collects the cells of these passes' controls.
+/// Returns the positions of the cells of these passes' controls, with the runs of passes that have them.
 pub fn uses_of(
     alloc: Global,
     placed: &PlacedBoard,
@@ -115,7 +116,8 @@ fn is_common(uses: &Uses, passes: u32, control: Option<u32>) -> bool
     }
 }
 
-// Returns whether all of the first `passes` passes enable the driver, and no pass has a control with its cell.
+// Returns whether each of the first `passes` passes enables the driver, and no pass has a control with the driver's
+// cell.
 fn is_steady(uses: &Uses, passes: u32, observer: Observer) -> bool
     ensures { result ≡ is_steady uses.now passes observer }
 {
@@ -125,7 +127,8 @@ fn is_steady(uses: &Uses, passes: u32, observer: Observer) -> bool
     is_common(uses, passes, observer.control)
 }
 
-/// Returns the driver cells that are the same in all of `passes` passes.
+/// Returns the cells of the observers that are steady: those that each of the first `passes` passes enables and whose
+/// cell is no control's.
 pub fn steady_cells(
     alloc: Global,
     uses: &Uses,
@@ -143,7 +146,7 @@ pub fn steady_cells(
     Ok(Items::of(cells))
 }
 
-/// Returns the other drivers by which nets can be observed.
+/// Returns the observers that are not steady.
 pub fn moving(
     alloc: Global,
     uses: &Uses,

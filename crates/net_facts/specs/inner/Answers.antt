@@ -1,4 +1,4 @@
--- The class of a net, by its facts and the table of the controls.
+-- The class of a net, found from its facts and the table of the controls.
 use Rattle.std.specs.Prelude.{ℕ, ◌==◌, Bool, true, false, not, ◌&&◌, List, map, filter_map, length, Option, Some, None, slice_get, is_some, cond}
 use Rattle.std.specs.List.{list_any, range_with_len}
 use Rattle.board_defs.specs.declared.board.Ctl.{Ctl}
@@ -52,7 +52,7 @@ reads_at pins place = reads_in (slice_get pins place)
 abbrev pub enables_at_place : List (List ControlClass) → List PinFacts → ℕ → Bool
 enables_at_place rows pins place = enabled_in rows (drive_of pins place)
 
--- the places of the receivers of a net; `enablers_of` has those of the drivers that can be enabled
+-- The places of a net's receivers. `enablers_of` gives the places of the drivers that some safe setting enables.
 abbrev pub readers_of : List PinFacts → Found
 readers_of pins = found_below (reads_at pins) (length pins)
 

@@ -1,4 +1,4 @@
--- The facts about nets and pins, as they are made one by one.
+-- The facts about nets and pins, as the code computes them.
 use Rattle.std.specs.Prelude.{ℕ, ◌==◌, Bool, not, ◌&&◌, ◌||◌, map, Option, Some, None, option_map, if◌then◌else◌, List}
 use Rattle.std.specs.List.{list_any}
 use Rattle.board_defs.specs.declared.device.Cell.{Cell}
@@ -14,7 +14,8 @@ use Rattle.board_defs.specs.Decided.{is_always_on}
 use Rattle.net_facts.specs.declared.facts.PinFacts.{PinFacts}
 use Rattle.net_facts.specs.declared.facts.NetFacts.{NetFacts}
 
--- how a driver with this entry and this control is enabled, on a net that is guarded or not and has this pull
+-- the way in which a driver with this entry and this control is enabled, on a net with this pull; `guarded` says
+-- whether the net is guarded
 abbrev pub drive_from : Bool → Option Bool → ℕ → Cell → Option Control → Drive
 drive_from guarded pull part cell None = AlwaysOn
 drive_from guarded pull part cell (Some control) =
@@ -29,11 +30,11 @@ drive_where_in board guarded pull (Some at) = option_map (λ cell. drive_from gu
 abbrev pub pin_facts_in : RawBoard → Bool → Option Bool → NetPin → PinFacts
 pin_facts_in board guarded pull pin = record { at = pin.at; drive = drive_where_in board guarded pull pin.at; receives = receives board pin }
 
--- the facts about the pins of a net; `guarded` is whether the net is guarded
+-- the facts about the pins of a net; `guarded` says whether the net is guarded
 abbrev pub pins_in : RawBoard → Bool → Net → List PinFacts
 pins_in board guarded net = map (pin_facts_in board guarded net.pull) net.pins
 
--- the facts about a net; `guarded` is whether the net is guarded
+-- the facts about a net; `guarded` says whether the net is guarded
 abbrev pub net_facts_in : RawBoard → Bool → Net → NetFacts
 net_facts_in board guarded net = record {
   supply = net.supply;

@@ -1,4 +1,4 @@
--- The table of the controls, while it is filled in.
+-- The table of the controls while it is filled.
 use Rattle.std.specs.Prelude.{ℕ, zero, suc, ◌==◌, ◌-◌, length, Bool, true, false, not, ◌&&◌, List, [], ◌∷◌, ◌++◌, map, Option, Some, None, slice_get, cond, fold}
 use Rattle.board_defs.specs.declared.board.Part.{Part}
 use Rattle.board_defs.specs.declared.board.PinAt.{PinAt}
@@ -21,20 +21,20 @@ is_number n (Some x) = x == n
 abbrev pub ends_with : List ℕ → ℕ → Bool
 ends_with nets n = is_number n (slice_get nets (length nets - 1))
 
--- The control with one more driver, on net `n`. A second driver on one net makes the control unsafe, and so does a driver on a net that
--- lets no control enable a driver.
+-- The control with one more driver, on net `n`. A second driver on the same net makes the control unsafe. A driver on a net on which no
+-- control may enable a driver makes it unsafe too.
 abbrev pub added : ℕ → Bool → ControlClass → ControlClass
 added n closed row = cond (ends_with row.nets n) (record row { safe = false }) (record row { nets = row.nets ++ n ∷ []; safe = row.safe && not closed })
 
--- the control enables a one-sided driver, so it is unsafe
+-- the control, marked as unsafe because it enables a one-sided driver
 abbrev pub unsafe_too : ControlClass → ControlClass
 unsafe_too row = record row { safe = false }
 
--- the control enables a tested driver, so it is useful
+-- the control, marked as useful because it enables a tested driver
 abbrev pub useful_too : ControlClass → ControlClass
 useful_too row = record row { useful = true }
 
--- the table with a pin's driver noted at its control
+-- the table after the driver of a pin of net `n` is noted at its control
 abbrev pub note_drive : ℕ → Bool → Option Drive → List (List ControlClass) → List (List ControlClass)
 note_drive n closed None rows = rows
 note_drive n closed (Some AlwaysOn) rows = rows
@@ -48,7 +48,7 @@ abbrev pub note_net : ℕ → Option NetFacts → List (List ControlClass) → L
 note_net n None rows = rows
 note_net n (Some net) rows = note_pins n net.closed rows net.pins
 
--- the table with the first `k` nets noted
+-- the table after the first `k` nets are noted
 abbrev pub note_nets : List NetFacts → ℕ → List (List ControlClass) → List (List ControlClass)
 note_nets nets zero rows = rows
 note_nets nets (suc k) rows = note_net k (slice_get nets k) (note_nets nets k rows)
@@ -65,7 +65,7 @@ copies x (suc n) = copies x n ++ x ∷ []
 abbrev pub fresh_rows : List Part → List (List ControlClass)
 fresh_rows chain = map (λ part. copies fresh (cell_count (described part.kind))) chain
 
--- the table with the control of the driver at `at` marked as unsafe, if that driver is one-sided
+-- the table after the control of the driver at `at` is marked as unsafe, if that driver is one-sided
 abbrev pub block_where : RawBoard → PinAt → Option Control → List (List ControlClass) → List (List ControlClass)
 block_where board at None rows = rows
 block_where board at (Some control) rows = cond (is_pinned board at && not (is_switching board at control.disable)) (at_control (record { part = at.part; cell = control.cell }) unsafe_too rows) rows
@@ -85,7 +85,7 @@ block_parts board (suc k) rows = block_bits board k (port_bits board k) (block_p
 abbrev pub made_rows : RawBoard → List NetFacts → List (List ControlClass)
 made_rows board nets = block_parts board (length board.chain) (note_nets nets (length nets) (fresh_rows board.chain))
 
--- the table with the control of a tested driver marked as useful
+-- the table after the control of a tested driver is marked as useful
 abbrev pub mark_drive : List (List ControlClass) → Drive → List (List ControlClass)
 mark_drive rows AlwaysOn = rows
 mark_drive rows OneSided = rows

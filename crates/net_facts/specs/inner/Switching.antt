@@ -1,4 +1,4 @@
--- The port bits whose pin is on an unguarded net that is pulled to a value, in a table with a row for each part.
+-- The port bits whose pins are on unguarded nets that are pulled to one value, in a table with a row for each part.
 use Rattle.std.specs.Prelude.{◌≡◌, ◌<◌, Bool, true, false, not, ◌&&◌, List, map, fold, replicate, Option, Some, None, cond}
 use Rattle.board_defs.specs.declared.board.Part.{Part}
 use Rattle.board_defs.specs.declared.board.PinAt.{PinAt}
@@ -28,6 +28,6 @@ pulled_bits chain nets value = fold (mark_pulled value) (blank_bits chain) nets
 abbrev pub is_marked : List (List Bool) → PinAt → Bool
 is_marked rows at = holds_there (item_of rows (record { part = at.part; cell = at.bit }))
 
--- the table says which port bits have a pin on an unguarded net that is pulled to the value
+-- the table has the port bits whose pins are on unguarded nets that are pulled to `value`
 abbrev pub SaysPulled : RawBoard → List (List Bool) → Bool → Type 0
 SaysPulled board rows value = (at : PinAt) → at.bit < port_bits board at.part → is_marked rows at ≡ is_switching board at value

@@ -17,33 +17,33 @@ use Rattle.plan_tables.specs.Building.{gathered, drivers_of, readers_of, is_read
 abbrev pub driver_cell : ℕ → NetDriver → DriverCell
 driver_cell net d = record { net = net; place = d.place; position = d.position }
 
--- the control's cell is a cell of its part
+-- if there is a control, its cell is a cell of its part
 abbrev pub IsControlThere : RawBoard → Option Ctl → Type 0
 IsControlThere board ctl = (c : Ctl) → ctl ≡ Some c → c.cell < cell_count (device_at board c.part)
 
--- the driver, as one by which its net can be observed
+-- the driver as an observer of its net
 abbrev pub observer : RawBoard → ℕ → NetDriver → Observer
 observer board net d = record { control = option_map (control_position board) d.ctl; cell = driver_cell net d }
 
--- the drivers by which a net with these drivers and compared cells can be observed
+-- the observers of a net with these drivers and compared cells
 abbrev pub observers_of : RawBoard → ℕ → List NetDriver → List ReaderCell → List Observer
 observers_of board net drivers readers = map (observer board net) (filter (is_read_beside readers) drivers)
 
 abbrev pub observers_at : RawBoard → ℕ → Net → List Observer
 observers_at board n net = observers_of board n (drivers_of board net) (readers_of board net.pins)
 
--- the drivers by which these nets can be observed, in net order
+-- the observers of these nets, in net order
 abbrev pub observers : RawBoard → List Net → List Observer
 observers board nets = gathered (observers_at board) 0 nets
 
--- the cells of the drivers that are always on
+-- the cells of the observers that are always on
 abbrev pub always_on : List Observer → List DriverCell
 always_on observers = map (λ x. x.cell) (filter (λ x. is_none x.control) observers)
 
--- the rows of controls after the cells of these drivers are added
+-- the rows of controls after the cells of these observers are added
 abbrev pub all_noted : List (List DriverCell) → List Observer → List (List DriverCell)
 all_noted rows observers = fold (λ done x. noted done x.control x.cell) rows observers
 
--- the table of these drivers, for scans of data of `bits` bits
+-- the table of these observers, for data scans of `bits` bits
 abbrev pub table_of : List Observer → ℕ → DriverTable
 table_of observers bits = record { always = always_on observers; rows = all_noted (replicate bits []) observers }

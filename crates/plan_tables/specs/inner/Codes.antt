@@ -1,4 +1,4 @@
--- The codes of nets, and the codes in the scans of instructions.
+-- The codes of nets, and the instruction codes in scans.
 use Rattle.std.specs.Prelude.{◌≡◌, ℕ, suc, ◌-◌, ◌<◌, ◌≤◌, Bool, true, false, cond, List, ◌∷◌, All, length, fold, replicate, take, count_by, slice_index_or}
 use Rattle.board_defs.specs.declared.board.PartKind.{PartKind}
 use Rattle.board_defs.specs.declared.board.Part.{Part}
@@ -14,7 +14,7 @@ use Rattle.plan_tables.specs.Tables.{controlled}
 use Rattle.plan_tables.specs.declared.instructions.Instruction.{Instruction}
 use Rattle.plan_tables.specs.declared.instructions.Instruction.TheVariants.{Preload, Extest}
 
--- the code of a part
+-- the code of the instruction for a part
 abbrev pub code_for : Instruction → PartKind → List Bool
 code_for Preload kind = preload_code kind
 code_for Extest kind = extest_code kind
@@ -27,26 +27,27 @@ pub record IsCoded (instruction : Instruction) (kind : PartKind) : Type 0 where
 abbrev pub AreCoded : Instruction → List Part → Type 0
 AreCoded instruction chain = All (λ part. IsCoded instruction part.kind) chain
 
--- the bits that an instruction register of this length captures, as far as they are compared, and the mask of the compared bits
+-- the bits that an instruction register of this length captures, with 0 for bits that are not compared; `compared_bits` is the
+-- mask
 abbrev pub captured_bits : ℕ → List Bool
 captured_bits length = true ∷ replicate (length - 1) false
 
 abbrev pub compared_bits : ℕ → List Bool
 compared_bits length = true ∷ true ∷ replicate (length - 2) false
 
--- the flags after those of the nets of these cells are set
+-- the flags after the flag of each cell's net is set
 abbrev pub marked : List Bool → List DriverCell → List Bool
 marked flags cells = assigned (λ d. d.net) (λ d. true) flags cells
 
--- the flags after those of the nets of a pass's cells are set
+-- the flags after the flags of the nets of a pass's driver cells are set
 abbrev pub marked_on : RawBoard → DriverTable → List Bool → List Ctl → List Bool
 marked_on board table flags pass = fold (λ done c. marked done (controlled board table.rows c)) (marked flags table.always) pass
 
--- for each of the first `nets` nets, whether a driver cell of it is steady or belongs to a pass
+-- for each of the first `nets` nets, a flag that says whether the net has a driver cell that is steady or belongs to a pass
 abbrev pub seen_in : RawBoard → ℕ → List DriverCell → DriverTable → List (List Ctl) → List Bool
 seen_in board nets steady table passes = fold (marked_on board table) (marked (replicate nets false) steady) passes
 
--- the nets that are observed have the codes 1, 2 and so on in net order, and the others 0
+-- the nets with a flag have the codes 1, 2 and so on in net order, and the other nets have the code 0
 pub record AreCodes (seen : List Bool) (codes : NetCodes) : Type 0 where
   pub count_is : codes.count ≡ count_by (λ b. b) seen
   pub length_is : length codes.codes ≡ length seen

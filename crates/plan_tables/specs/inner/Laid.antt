@@ -1,4 +1,4 @@
--- A row of data, made from a bit for each boundary cell of each described part.
+-- A data row that is made from a bit for each boundary cell of each described part.
 use Rattle.std.specs.Prelude.{ℕ, suc, Bool, false, List, [], ◌∷◌}
 use Rattle.board_defs.specs.declared.device.RawDevice.{RawDevice}
 use Rattle.board_defs.specs.declared.board.PartKind.{PartKind}
@@ -14,7 +14,7 @@ use Rattle.tap_defs.specs.board.TestRows.{steady_bit}
 abbrev pub CellBits : Type 0
 CellBits = ℕ → RawDevice → ℕ → Bool
 
--- the bits of a part: those of its cells, and a 0 for a part without a description
+-- the bits of a part: those of its cells, or a single 0 for a part without a description
 abbrev pub part_laid : CellBits → ℕ → PartKind → List Bool
 part_laid g part (Described device) = filled device.boundary (λ cell. g part device cell)
 part_laid g part (Bypass n) = false ∷ []
@@ -23,11 +23,11 @@ abbrev pub parts_laid : CellBits → ℕ → List Part → List (List Bool)
 parts_laid g part [] = []
 parts_laid g part (p ∷ parts) = part_laid g part p.kind ∷ parts_laid g (suc part) parts
 
--- the bits of all parts in the order in which they are shifted
+-- the bits of all parts, in the order in which they are shifted
 abbrev pub laid : CellBits → RawBoard → List Bool
 laid g board = joined (parts_laid g 0 board.chain)
 
--- the bits of cells that carry no net's bit, under a setting
+-- the bits of cells that carry no net's bit, for this setting
 abbrev pub steady : RawBoard → (Ctl → Bool) → ℕ → RawDevice → ℕ → Bool
 steady board setting part device cell = steady_bit board setting part device cell
 

@@ -1,4 +1,4 @@
--- The bits of cells, by the single entries of a device.
+-- The bits of cells, found from the single entries of a device.
 use Rattle.std.specs.Prelude.{ℕ, Bool, false, ◌&&◌, cond, List, fold, Option, Some, None, option_map, unwrap_or, replicate, slice_set}
 use Rattle.board_defs.specs.declared.device.Role.{Role}
 use Rattle.board_defs.specs.declared.device.Cell.{Cell}
@@ -8,28 +8,29 @@ use Rattle.board_defs.specs.DeviceRules.{is_driving, is_reading, is_writing, bit
 use Rattle.board_defs.specs.Pins.{is_pinned}
 use Rattle.plan_tables.specs.declared.quiet.CellBit.{CellBit}
 
--- the cell and safe value of an entry with one of these roles, with 0 for X
+-- the cell and the safe value of an entry whose function is one of `roles`, with 0 for X
 abbrev pub safe_value_in : (Role → Bool) → Cell → Option CellBit
 safe_value_in roles entry = cond (roles entry.role) (Some (record { cell = entry.num; bit = bit_of entry.safe })) None
 
--- the entry belongs to a driver: it drives a pin of the chosen pin map
+-- the entry belongs to a driver: it is a driving entry, and its port bit has a pin
 abbrev pub is_driver : RawBoard → ℕ → Cell → Bool
 is_driver board part entry = is_driving entry.role && unwrap_or (option_map (λ bit. is_pinned board (record { part = part; bit = bit })) entry.bit) false
 
--- the control cell and disable value of a driver's entry, if it has a control
+-- the control cell and the disable value of a driver's entry, if the entry has a control
 abbrev pub disable_value_in : RawBoard → ℕ → Cell → Option CellBit
 disable_value_in board part entry = cond (is_driver board part entry) (option_map (λ control. record { cell = control.cell; bit = control.disable }) entry.ctl) None
 
--- the bits after the bit of a cell is set, if there is one
+-- the bits after the bit of a cell is set, if there is a cell
 abbrev pub set_some : List Bool → Option CellBit → List Bool
 set_some bits None = bits
 set_some bits (Some c) = slice_set bits c.cell c.bit
 
--- the bits after each entry has set the bit that `gives` has for it
+-- the bits after each entry has set the bit that `gives` gives for it
 abbrev pub set_by : (Cell → Option CellBit) → List Bool → List Cell → List Bool
 set_by gives bits entries = fold (λ done entry. set_some done (gives entry)) bits entries
 
--- the safe values of reading entries, replaced by those of entries for update latches, and these by the disable values of controls
+-- The safe values of reading entries, overwritten by those of entries for update latches, and then by the disable values of
+-- controls.
 abbrev pub quiet_values : RawBoard → ℕ → RawDevice → List Bool
 quiet_values board part device =
     set_by (disable_value_in board part) (set_by (safe_value_in is_writing) (set_by (safe_value_in is_reading) (replicate device.boundary false) device.cells) device.cells) device.cells

@@ -10,11 +10,11 @@ use Rattle.plan_tables.specs.declared.uses.Uses.{Uses}
 use Rattle.plan_tables.specs.Assigned.{assigned}
 use Rattle.plan_tables.specs.Tables.{PassCells, held_cell, ArePassCells}
 
--- the flags of these cells set
+-- the flags after those of these cells are set
 abbrev pub marked_held : List Bool → List HeldCell → List Bool
 marked_held flags held = assigned (λ h. h.position) (λ h. true) flags held
 
--- pass `k` also has a control with its cell at the position; if all passes before it have one, the run is one longer
+-- the runs after pass `k` has a control with its cell at the position; if all earlier passes have one, the run gets longer by one
 abbrev pub run_at : ℕ → List ℕ → ℕ → List ℕ
 run_at k runs position = cond (slice_index_or runs position 0 == k) (slice_set runs position (suc k)) runs
 
@@ -25,41 +25,40 @@ all_run k runs held = fold (λ done h. run_at k done h.position) runs held
 abbrev pub HoldsAt : List HeldCell → ℕ → Type 0
 HoldsAt held position = (h : HeldCell) × Contains held h × (h.position ≡ position)
 
--- the cells of each pass's controls
+-- the cells of the controls of each pass
 abbrev pub held_by : RawBoard → List Bool → List (List Ctl) → List (List HeldCell)
 held_by board quiet passes = map (λ pass. map (held_cell board quiet) pass) passes
 
--- the flags after those of all these cells are set
+-- the flags after those of the cells of all passes' controls are set
 abbrev pub all_marked : RawBoard → List Bool → List Bool → List (List Ctl) → List Bool
 all_marked board quiet flags passes = fold (λ done pass. marked_held done (map (held_cell board quiet) pass)) flags passes
 
--- each pass in the run of a position has a control with its cell there
+-- each pass in the run of a position has a control with its cell at that position
 abbrev pub AreRuns : List (List HeldCell) → List ℕ → Type 0
 AreRuns passes runs = (position x : ℕ) → x < slice_index_or runs position 0 → HoldsAt (slice_index_or passes x []) position
 
--- the cells of all controls of the passes are flagged, and each pass in the run of a position has a control with its cell there
+-- the cells of all controls of the passes have flags, and each pass in the run of a position has a control with its cell there
 pub record AreUses (board : RawBoard) (quiet : List Bool) (passes : List (List Ctl)) (uses : Uses) : Type 0 where
   pub flags : uses.held ≡ all_marked board quiet (replicate (length quiet) false) passes
   pub runs : AreRuns (held_by board quiet passes) uses.runs
 
--- there is no control, or each of the first `passes` passes has it
+-- there is no control, or each of the first `passes` passes has a control with its cell at this position
 abbrev pub is_common : Uses → ℕ → Option ℕ → Bool
 is_common uses passes None = true
 is_common uses passes (Some control) = slice_index_or uses.runs control 0 == passes
 
--- each pass enables the driver, and none has a control with its cell
+-- the observer is steady: each pass enables it, and no pass has a control with the observer's cell
 abbrev pub is_steady : Uses → ℕ → Observer → Bool
 is_steady uses passes x = nat_lt 0 passes && (not (slice_index_or uses.held x.cell.position false) && is_common uses passes x.control)
 
 abbrev pub steady_cells : Uses → ℕ → List Observer → List DriverCell
 steady_cells uses passes observers = map (λ x. x.cell) (filter (is_steady uses passes) observers)
 
--- the other drivers
+-- the observers that are not steady
 abbrev pub moving : Uses → ℕ → List Observer → List Observer
 moving uses passes observers = filter (λ x. not (is_steady uses passes x)) observers
 
--- The cells of the passes: those of each pass, and steady cells within the nets and the rows of the board. Without a pass no cell is
--- steady.
+-- `cells` gives the cells of each pass. The steady cells belong to nets and rows of the board. Without passes no cell is steady.
 pub record ArePassTables (board : RawBoard) (passes : List (List Ctl)) (steady : List DriverCell) (cells : List Ctl → PassCells) : Type 0 where
   pub each : (x : ℕ) (pass : List Ctl) → slice_get passes x ≡ Some pass → ArePassCells board steady pass (cells pass)
   pub some : (d : DriverCell) → Contains steady d → 0 < length passes
