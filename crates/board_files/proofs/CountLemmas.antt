@@ -1,4 +1,4 @@
--- The numbers of lines and words that a text can have.
+-- Limits on the numbers of lines and words of a text.
 use Rattle.std.proofs.Common.{◌≡◌, ℕ, ◌+◌, ◌<◌, ◌≤◌, ◌^◌, Bool, true, false, cond, List, [], ◌∷◌, length, Result, Ok, Err, refl, sym, ap, ◌∙◌, subst, arith, min}
 use Rattle.std.specs.Prelude.{IfOk, filter, take_while, if◌then◌else◌, codes}
 use Rattle.std.specs.List.{AllByRecursion, slice_split, onto_first, prefix_len}
@@ -12,7 +12,7 @@ use Rattle.board_files.specs.Files.{HasFewPins, IsNetFile}
 use Rattle.board_files.specs.Reading.{◌>>=◌, line_then, lines_from}
 use Rattle.board_files.specs.NetLines.{pin_of, pins_of, net_of, net_line, net_lines}
 
--- at most as many pieces as bytes have something in them
+-- a text has at most as many nonempty pieces as bytes
 filled : List (List ℕ) → ℕ
 filled pieces = length (filter is_filled pieces)
 
@@ -46,7 +46,7 @@ few_words line =
     let taken = few_words_taken (filter is_filled (slice_split is_blank line)) in
     omega (arith, taken, few_filled is_blank line)
 
--- no piece is longer than the whole
+-- no piece is longer than the text
 AllWithin : ℕ → List (List ℕ) → Type 0
 AllWithin n pieces = AllByRecursion (λ piece. length piece ≤ n) pieces
 
@@ -74,7 +74,7 @@ unfolding AllWithin
 pieces_within p [] = (omega arith, tt)
 pieces_within p (x ∷ xs) = wider (1 + length xs) (length (x ∷ xs)) (slice_split p (x ∷ xs)) (omega arith) (within_by p x xs (p x) (pieces_within p xs))
 
--- a net line has two more words than pins
+-- a net line has two words more than pins
 more_pins : (n : ℕ) (word : Word) (words : List Word) (pin : Result PinWord LineFault) (rest : Result (List PinWord) LineFault) (pins : List PinWord) → (pin >>= (λ p. rest >>= (λ ps. Ok (p ∷ ps)))) ≡ Ok pins → ((ps : List PinWord) → rest ≡ Ok ps → length ps ≡ length words) → length pins ≡ length (word ∷ words)
 more_pins n word words (Ok p) (Ok ps) pins is same =
     let here : p ∷ ps ≡ pins = cc in
@@ -112,7 +112,7 @@ statement_pins n (keyword ∷ words) line is = by_test (bytes_eq keyword (codes 
     by_test true found = omega (arith, net_pins n words line found)
     by_test false found = absurd cc
 
--- a fact about each line's value, and the number of values
+-- a limit on the number of pins of each line, and a limit on the number of lines
 pub record HasCounts (n : ℕ) (count : ℕ) (lines : List NetLine) : Type 0 where
   pub lines_few : length lines ≤ count
   pub pins_few : AllByRecursion (λ line. length line.pins + 2 ≤ n) lines
@@ -155,7 +155,7 @@ counts_from n number (line ∷ lines) all values is =
     subst (λ (count : ℕ). HasCounts n count values) (sym (filled_cons line lines))
     (counts_more n number line (words_of line) (lines_from net_line (number + 1) lines) (filled lines) all.0 refl (counts_from n (number + 1) lines all.1) values is)
 
--- a text has at most as many net lines as bytes, and each has at most as many words
+-- a text has at most as many net lines as bytes, and each of them has at most as many words
 pub net_counts : (text : List ℕ) (values : List NetLine) → net_lines text ≡ Ok values → HasCounts (length text) (length text) values
 net_counts text values is =
     let counts = counts_from (length text) 1 (slice_split is_newline text) (pieces_within is_newline text) values is in
@@ -167,7 +167,7 @@ few_pins n few (line ∷ lines) pins =
     let narrow : length line.pins + 2 ≤ n = pins.0 in
     (omega (arith, few, narrow), few_pins n few lines pins.1)
 
--- so the lines are a net file
+-- so the lines of a text are a net file
 pub is_net_file : (text : List ℕ) (values : List NetLine) → length text < 2 ^ 32 → net_lines text ≡ Ok values → IsNetFile values
 is_net_file text values few is =
     let counts = net_counts text values is in

@@ -1,4 +1,4 @@
--- What the files of a board keep: the numbers of their lines and words are below 2^32, and the lengths of instruction registers are in
+-- Properties of the files of a board. The numbers of lines and words are below 2^32, and the lengths of instruction registers are in
 -- their range.
 use Rattle.std.specs.Prelude.{◌<◌, ◌≤◌, ◌-◌, ◌^◌, List, length}
 use Rattle.std.specs.List.{AllByRecursion}
@@ -6,16 +6,16 @@ use Rattle.board_files.specs.declared.chain_file.ChainLine.{ChainLine}
 use Rattle.board_files.specs.declared.net_file.NetLine.{NetLine}
 use Rattle.board_files.specs.ChainLines.{HasLength}
 
--- the numbers of the words of a line are below 2^32
+-- the number of each word of the line is below 2^32
 abbrev pub HasFewPins : NetLine → Type 0
 HasFewPins line = length line.pins ≤ 2 ^ 32 - 3
 
--- the lines of a chain file
+-- these are the lines of a chain file
 pub record IsChainFile (lines : List ChainLine) : Type 0 where
   pub few : length lines < 2 ^ 32
   pub lengths : AllByRecursion (λ line. HasLength line.statement) lines
 
--- the lines of a net file
+-- these are the lines of a net file
 pub record IsNetFile (lines : List NetLine) : Type 0 where
   pub few : length lines < 2 ^ 32
   pub pins : AllByRecursion HasFewPins lines

@@ -7,21 +7,21 @@ use Rattle.text_lines.specs.Words.{Word, is_word}
 abbrev pub is_dot : ℕ → Bool
 is_dot b = b == 46
 
--- a word without `.`
+-- the name of a part: an allowed word without `.`
 abbrev pub is_part : Word → Bool
 is_part word = is_word word && not (list_any is_dot word)
 
 abbrev pub is_symbol_byte : ℕ → Bool
 is_symbol_byte b = is_ascii_alphanumeric b || (b == 95)
 
--- a word of letters, digits and `_`
+-- an allowed word of letters, digits and `_`
 abbrev pub is_symbol : Word → Bool
 is_symbol word = is_word word && list_all is_symbol_byte word
 
 abbrev pub upper : Word → Word
 upper word = map to_ascii_uppercase word
 
--- the word, if there is exactly one; `two_of` and `three_of` are like `one_of`, for two and three words
+-- The word, if there is exactly one. `two_of` and `three_of` do the same for two and three words.
 abbrev pub one_of : List Word → Option Word
 one_of (a ∷ []) = Some a
 one_of [] = None

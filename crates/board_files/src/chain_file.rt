@@ -1,4 +1,4 @@
-// The chain file.
+// Reading the chain file.
 ghost use Rattle.std.specs.Prelude.{◌≡◌, ◌<◌, ◌≤◌, ◌^◌, List, map, length, vec_len, IfOk, IsTrue, Some, None, option_map, option_copied, codes, if◌then◌else◌};
 ghost use Rattle.std.specs.Str.{bytes_eq};
 ghost use Rattle.std.specs.List.{AllByRecursion};
@@ -16,18 +16,18 @@ use text_lines::{first_line, is_word, words};
 /// A statement of a chain file. Entity, package and pin names are in upper case.
 #[derive(Drop)]
 pub enum ChainStatement {
-    /// A part with a description. Without a package, the default of the description is used.
+    /// A part with a description. If no package is given, the default of the description is used.
     Device {
         part: Name,
         entity: Name,
         package: Option<Name>,
     },
-    /// A part of which only the length of its instruction register is known, from 2 to 255 bits.
+    /// A part of which only the length of the instruction register is known. The length is from 2 to 255 bits.
     Bypass {
         part: Name,
         length: u32,
     },
-    /// A part whose pins neither drive nor connect anything.
+    /// A part whose pins drive no net and connect no two nets.
     Inert {
         part: Name,
     },
@@ -35,12 +35,12 @@ pub enum ChainStatement {
     Supply {
         net: Name,
     },
-    /// A net that a resistor pulls to a value.
+    /// A net that a resistor pulls to this value.
     Pull {
         net: Name,
         value: bool,
     },
-    /// A series part, which joins the nets of two of its pins.
+    /// A series part, which joins the nets of these two pins.
     Link {
         part: Name,
         first: Name,
@@ -48,15 +48,15 @@ pub enum ChainStatement {
     },
 }
 
-/// A statement with the number of its line, from 1.
+/// A statement, with the number of its line, counted from 1.
 #[derive(Drop)]
 pub struct ChainLine {
     pub line: u32,
     pub statement: ChainStatement,
 }
 
-/// A chain file. Contracts see it as the list of its lines. It has fewer than 2^32 lines, and the lengths in its
-/// BYPASS lines are in their range.
+/// A chain file. The value in contracts is the list of its lines. There are fewer than 2^32 lines, and the length in
+/// each BYPASS line is from 2 to 255 bits.
 #[derive(Drop)]
 pub struct ChainFile {
     lines: Vec<ChainLine>,
@@ -75,7 +75,7 @@ impl Model for ChainFile {
 }
 
 impl ChainFile {
-    /// Returns the file with these lines.
+    /// Returns the file with these lines, which must be the lines of a chain file.
     pub fn of(lines: Vec<ChainLine>) -> ChainFile
         requires { IsChainFile lines.items }
         ensures { result ≡ lines.items }
@@ -92,8 +92,8 @@ impl ChainFile {
     }
 }
 
-/// Reads a chain file. Returns its lines with their numbers, or the fault of the first line that is not a
-/// statement: the first of Statement, Word and Number that applies. The text may have any bytes.
+/// Reads a chain file, which may have any bytes. Returns its lines, or the fault of the first line that is not a
+/// statement. If several faults apply to that line, the first of `Statement`, `Word` and `Number` is returned.
 pub fn chain(alloc: Global, bytes: &[u8]) -> Result<ChainFile, LineFault>
     requires { length bytes.now < 2 ^ 32 }
     ensures read { Reads (λ file. file) result (chain_lines bytes.now) }
@@ -196,7 +196,7 @@ fn device(
     }
 }
 
-/// Returns the number that at most three digits spell.
+/// Returns the number that at most three digits spell, or None if a byte is no digit. No digits spell 0.
 fn decimal(word: &[u8]) -> Option<u32>
     requires { length word.now ≤ 3 }
     ensures { result ≡ decimal_from 0 word.now }

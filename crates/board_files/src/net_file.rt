@@ -1,4 +1,4 @@
-// The net file.
+// Reading the net file.
 ghost use Rattle.std.specs.Prelude.{◌≡◌, ◌+◌, ◌<◌, ◌≤◌, ◌^◌, ◌∷◌, List, map, length, vec_len, IfOk, Option, Some, None};
 ghost use Rattle.std.specs.List.{AllByRecursion, before_first, after_first};
 ghost use Rattle.board_files.specs.Words.{is_dot};
@@ -13,14 +13,14 @@ use std::alloc::{AllocError, Global};
 use std::marker::Model;
 use text_lines::{cut_at, first_line, is_filled, is_word, words};
 
-/// A pin of a net: its part, and its name in upper case.
+/// A pin of a net: the name of its part, and the name of the pin in upper case.
 #[derive(Drop)]
 pub struct PinWord {
     pub part: Name,
     pub pin: Name,
 }
 
-/// A line of a net file with its number, from 1. Its first pin is word 3 of the line.
+/// A line of a net file, with its number, counted from 1. The first pin is word 3 of the line.
 #[derive(Drop)]
 pub struct NetLine {
     pub line: u32,
@@ -28,8 +28,8 @@ pub struct NetLine {
     pub pins: Items<PinWord>,
 }
 
-/// A net file. Contracts see it as the list of its lines. It has fewer than 2^32 lines, and each line has fewer than
-/// 2^32 words.
+/// A net file. The value in contracts is the list of its lines. There are fewer than 2^32 lines, and each line has
+/// fewer than 2^32 words.
 #[derive(Drop)]
 pub struct NetFile {
     lines: Vec<NetLine>,
@@ -48,7 +48,7 @@ impl Model for NetFile {
 }
 
 impl NetFile {
-    /// Returns the file with these lines.
+    /// Returns the file with these lines, which must be the lines of a net file.
     pub fn of(lines: Vec<NetLine>) -> NetFile
         requires { IsNetFile lines.items }
         ensures { result ≡ lines.items }
@@ -65,7 +65,7 @@ impl NetFile {
     }
 }
 
-/// Returns the names on the lines, in order.
+/// Returns the names of the nets on the lines, in order.
 pub fn line_names<'a>(alloc: Global, lines: &'a [NetLine]) -> Result<Vec<&'a [u8]>, AllocError>
     ensures names { IfOk result (λ names. map (λ n. n.now) names.items ≡ line_names lines.now) }
     ensures count { IfOk result (λ names. vec_len names ≡ length lines.now) }
@@ -77,8 +77,8 @@ pub fn line_names<'a>(alloc: Global, lines: &'a [NetLine]) -> Result<Vec<&'a [u8
     Ok(names)
 }
 
-/// Reads a net file. Returns its lines, or the fault of its first faulty line. A text has at most as many lines
-/// with words as bytes, and each line has at most as many words.
+/// Reads a net file. Returns its lines, or the fault of its first faulty line. The file has at most as many lines as
+/// the text has bytes, and each line has at most as many words.
 pub fn nets(alloc: Global, bytes: &[u8]) -> Result<NetFile, LineFault>
     requires { length bytes.now < 2 ^ 32 }
     ensures read { Reads (λ file. file) result (net_lines bytes.now) }
@@ -166,7 +166,7 @@ fn pin(alloc: Global, line: u32, word: &[u8]) -> Result<PinWord, LineFault>
     }
 }
 
-/// Returns the bytes before and after the first `.`, or the whole word and no bytes if there is none.
+/// Returns the bytes before and after the first `.`. If there is no `.`, returns the whole word and no bytes.
 fn cut(word: &[u8]) -> (&[u8], &[u8])
     ensures before { result.0.now ≡ before_first is_dot word.now }
     ensures after { result.1.now ≡ after_first is_dot word.now }

@@ -11,7 +11,7 @@ fn has_dot(word: &[u8]) -> bool
     word.iter().any(|b| *b == b'.')
 }
 
-/// Returns whether this is an allowed word without `.`, as the name of a part must be.
+/// Returns whether the word may be the name of a part: an allowed word without `.`.
 pub fn is_part(word: &[u8]) -> bool
     ensures { result ≡ is_part word.now }
 {
@@ -30,7 +30,7 @@ fn has_symbol_bytes(word: &[u8]) -> bool
     word.iter().all(|b| is_symbol_byte(*b))
 }
 
-/// Returns whether this is an allowed word with only letters, digits and `_`.
+/// Returns whether the word is an allowed word of letters, digits and `_`.
 pub fn is_symbol(word: &[u8]) -> bool
     ensures { result ≡ is_symbol word.now }
 {

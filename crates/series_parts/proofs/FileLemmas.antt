@@ -1,4 +1,4 @@
--- Joined files are files.
+-- Joined files keep the properties of files.
 use Rattle.std.proofs.Common.{List, [], ◌∷◌, map}
 use Rattle.std.specs.List.{AllByRecursion}
 use Rattle.std.proofs.lemmas.List.{length-map}

@@ -1,4 +1,4 @@
--- Joined points, and the labels that reflect one more edge.
+-- Joined points, and labels that take one more edge into account.
 use Rattle.std.proofs.Common.{◌≡◌, ◌≢◌, ◌⊎◌, ℕ, ◌+◌, ◌<◌, ◌≤◌, min, List, [], ◌∷◌, ◌++◌, Result, length, get_or, Some, refl, sym, ap, ◌∙◌, arith, subst, inl, inr}
 use Rattle.std.specs.Prelude.{slice_get, All, IfOk, Ok, Err}
 use Rattle.std.proofs.lemmas.Option.{slice_get_within, get_or_from_slice_get}
@@ -29,12 +29,12 @@ min_is : (a b : ℕ) → (min a b ≡ a) ⊎ (min a b ≡ a → ⊥) → (min a 
 min_is a b (inl e) = inl e
 min_is a b (inr ne) = inr (omega arith)
 
--- the lower of two joined points is joined with each of them
+-- a point that is joined with two points is joined with the lower of them
 joined_min : (edges : Edges) (x a b : ℕ) → Joined edges x a → Joined edges x b → (min a b ≡ a) ⊎ (min a b ≡ b) → Joined edges x (min a b)
 joined_min edges x a b p q (inl e) = subst (λ (y : ℕ). Joined edges x y) (sym e) p
 joined_min edges x a b p q (inr e) = subst (λ (y : ℕ). Joined edges x y) (sym e) q
 
--- a point is joined with its label after one more edge, whose ends have the labels a and b
+-- a point is joined with its label after one more edge between points with the labels `a` and `b`
 lowered_joined : (edges : Edges) (x a b v : ℕ) → Joined edges x v → Joined edges a b → (v ≡ a) ⊎ (v ≡ a → ⊥) → (v ≡ b) ⊎ (v ≡ b → ⊥) → Joined edges x (lowered a b v)
 lowered_joined edges x a b v p edge (inl e) other =
     let first : Joined edges x a = subst (λ (y : ℕ). Joined edges x y) e p in
@@ -53,7 +53,7 @@ ends_more edges i a b k c d label edge old lt e (inl same) =
     ap (merged label a b) ca ∙ lowered_at (label a) (label b) (label a) (inl refl) ∙ sym (lowered_at (label a) (label b) (label b) (inr refl)) ∙ ap (merged label a b) (sym db)
 ends_more edges i a b k c d label edge old lt e (inr ne) = ap (lowered (label a) (label b)) (old k c d (omega arith) e)
 
--- one more edge
+-- the labels take one more edge into account
 pub reflects_more : (edges : Edges) (i a b : ℕ) (old new : List ℕ) (label : ℕ → ℕ) → slice_get edges i ≡ Some (a, b) → Reflects edges i old label → IsLabelling new (merged label a b) → Reflects edges (i + 1) new (merged label a b)
 reflects_more edges i a b old new label edge h labelling =
     let between : Joined edges (label a) (label b) = joined_trans edges (label a) a (label b) (joined_sym edges a (label a) (h.joined a)) (along i edge (h.joined b)) in
@@ -63,7 +63,7 @@ reflects_more edges i a b old new label edge h labelling =
       ends = λ k c d lt e. ends_more edges i a b k c d label edge h.ends lt e (cases_eq k i);
     }
 
--- no edge yet
+-- the labels before any edge
 pub reflects_none : (edges : Edges) (parents : List ℕ) → ((x : ℕ) → x < length parents → get_or parents x 0 ≡ x) → Reflects edges 0 parents (λ x. x)
 reflects_none edges parents own = record {
   labelling = record {
@@ -76,7 +76,7 @@ reflects_none edges parents own = record {
   ends = λ k a b lt e. absurd (omega arith);
 }
 
--- the labels that were read
+-- the labels that were read are those of all edges
 pub labels_read : (edges : Edges) (parents labels : List ℕ) (label : ℕ → ℕ) → ((k a b : ℕ) → slice_get edges k ≡ Some (a, b) → (a < length labels) × (b < length labels)) →
     ((x : ℕ) → x < length labels → get_or labels x 0 ≡ label x) → Reflects edges (length edges) parents label → AreLabels edges labels
 labels_read edges parents labels label ends read h = record {
@@ -97,7 +97,7 @@ pub if_ok_both : {V E : Type 0} (P Q R : V → Type 0) → ((v : V) → P v → 
 if_ok_both P Q R f (Ok v) p q = f v p q
 if_ok_both P Q R f (Err e) p q = tt
 
--- the ends of an edge are points
+-- the ends of each edge are points
 pub ends_within : (edges : Edges) (n count : ℕ) → count ≡ n → All (λ e. (e.0 < count) × (e.1 < count)) edges → (k a b : ℕ) → slice_get edges k ≡ Some (a, b) → (a < n) × (b < n)
 ends_within edges n count same all k a b e =
     let read : get_or edges k (a, b) ≡ (a, b) = get_or_from_slice_get edges k (a, b) (a, b) e in

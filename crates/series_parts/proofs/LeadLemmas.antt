@@ -1,4 +1,4 @@
--- Nets that are joined by paths of links.
+-- Nets that paths of links join.
 use Rattle.std.proofs.Common.{◌≡◌, true, ◌&&◌, ◌||◌, List, [], ◌∷◌, refl, sym, ap, ◌∙◌, ◌⊎◌, inl, inr}
 use Rattle.std.proofs.lemmas.Bool.{and_parts, and_from, or_cases, or_left, or_right}
 use Rattle.std.specs.Cmp.Lexicographic.{bytes_decides}
@@ -13,7 +13,7 @@ same_self a = (bytes_decides a a).1 refl
 pub same_is : (a b : Word) → same_word a b ≡ true → a ≡ b
 same_is a b e = (bytes_decides a b).0 e
 
--- how the links lead from one net to the other when one more link comes before the others
+-- how links lead from one net to another if one link is put in front of the others
 pub data Way (link : Pair) (links : List Pair) (a b : Word) : Type 0 where
   without : leads links a b ≡ true → Way link links a b
   forth : leads links a link.0 ≡ true → leads links link.1 b ≡ true → Way link links a b
@@ -39,7 +39,7 @@ leads_by link links a b (back e f) =
     or_right (leads links a b) ((leads links a link.0 && leads links link.1 b) || (leads links a link.1 && leads links link.0 b))
     (or_right (leads links a link.0 && leads links link.1 b) (leads links a link.1 && leads links link.0 b) (and_from (leads links a link.1) (leads links link.0 b) e f))
 
--- each net to itself
+-- links lead from each net to itself
 pub leads_self : (links : List Pair) (a : Word) → leads links a a ≡ true
 leads_self [] a = same_self a
 leads_self (link ∷ links) a = leads_by link links a a (without (leads_self links a))
@@ -59,13 +59,13 @@ on link links a b c step (without q) = without (step c q)
 on link links a b c step (forth q r) = forth (step link.0 q) r
 on link links a b c step (back q r) = back (step link.1 q) r
 
--- a link, followed by others
+-- a path that begins with a link taken forwards
 pub leads_forth : (links : List Pair) (a b c : Word) → Has links (a, b) → leads links b c ≡ true → leads links a c ≡ true
 leads_forth [] a b c h p = absurd h
 leads_forth (link ∷ links) a b c (inl e) p = leads_by link links a c (forth_here link links a b c e (way link links b c p))
 leads_forth (link ∷ links) a b c (inr h) p = leads_by link links a c (on link links a b c (λ d q. leads_forth links a b d h q) (way link links b c p))
 
--- a link taken backwards, followed by others
+-- a path that begins with a link taken backwards
 pub leads_back : (links : List Pair) (a b c : Word) → Has links (b, a) → leads links b c ≡ true → leads links a c ≡ true
 leads_back [] a b c h p = absurd h
 leads_back (link ∷ links) a b c (inl e) p = leads_by link links a c (back_here link links a b c e (way link links b c p))

@@ -1,4 +1,4 @@
--- The joined files as a relation and as a function.
+-- The function that gives joined files meets the relation of joined files.
 use Rattle.std.proofs.Common.{◌≡◌, ℕ, zero, suc, ◌<◌, ◌≤◌, Bool, true, false, List, [], ◌∷◌, length, map, get_or, Option, Some, None, refl, sym, ap, subst, ◌∙◌, arith, true≢false, inl, inr}
 use Rattle.std.specs.Prelude.{Contains, slice_get, find, unwrap_or}
 use Rattle.std.proofs.lemmas.Option.{slice_get-get_or, slice_get_within, get_or_from_slice_get, some_pair_parts, none-some}
@@ -23,7 +23,7 @@ joined_trans chain nets a b c itself q = q
 joined_trans chain nets a b c (along {b = d} link p) q = along link (joined_trans chain nets d b c p q)
 joined_trans chain nets a b c (back {b = d} link p) q = back link (joined_trans chain nets d b c p q)
 
--- the pairs of nets are those of LINK lines
+-- the pairs of nets that the relation links are those of the function
 has_of_link : (chain : List ChainLine) (nets : List NetLine) (a b : Word) → IsLink chain nets a b → Has (links nets chain) (a, b)
 has_of_link chain nets a b link =
     let line : ChainLine = record { line = link.line; statement = Link link.part link.first link.second } in
@@ -51,7 +51,7 @@ link_of_has chain nets p h =
     let s = has_place chain r.0 r.1 in
     link_at chain nets p.0 p.1 s.0 r.0.line r.0.statement s.1 r.2
 
--- joined nets are those to which the links lead
+-- two nets are joined if and only if the links lead from one to the other
 pub joined_leads_to : (chain : List ChainLine) (nets : List NetLine) (a b : Word) → AreJoined chain nets a b → leads (links nets chain) a b ≡ true
 joined_leads_to chain nets a b itself = leads_self (links nets chain) a
 joined_leads_to chain nets a b (along {b = d} link p) = leads_forth (links nets chain) a d b (has_of_link chain nets a d link) (joined_leads_to chain nets d b p)
@@ -69,7 +69,7 @@ joined_by chain nets (link ∷ some) are a b h = by_way chain nets link some a b
 pub leads_joined : (chain : List ChainLine) (nets : List NetLine) (a b : Word) → leads (links nets chain) a b ≡ true → AreJoined chain nets a b
 leads_joined chain nets a b h = joined_by chain nets (links nets chain) (λ p has. link_of_has chain nets p has) a b h
 
--- the first item that passes, if some item does
+-- the first item that passes, if some item passes
 record Least {A : Type 0} (p : A → Bool) (xs : List A) (d : A) : Type 0 where
   place : ℕ
   within : place < length xs
@@ -97,7 +97,7 @@ le_by zero k f = omega arith
 le_by (suc m) zero f = absurd (f (omega arith))
 le_by (suc m) (suc k) f = let r : m ≤ k = le_by m k (λ lt. f (omega arith)) in omega arith
 
--- the joined name of a net on a line is that of the least-numbered net joined with it
+-- for a net on a line, the joined name is that of the first net on the lines that is joined with it
 least_joined : (chain : List ChainLine) (nets : List NetLine) (name : Word) → Contains (line_names nets) name → IsLeastJoined chain nets name (joined_name (links nets chain) (line_names nets) name)
 unfolding joined_name
 least_joined chain nets name has =
@@ -123,7 +123,7 @@ kept_by : (chain : List ChainLine) (nets : List NetLine) (name : Word) → (Cont
 kept_by chain nets name none None e = kept_name nets chain name e
 kept_by chain nets name none (Some m) e = absurd (none (contains_found (line_names nets) name m e))
 
--- the name of the function replaces the old name
+-- the function replaces each name as the relation says
 pub replaced : (chain : List ChainLine) (nets : List NetLine) (name : Word) → IsReplaced chain nets name (renaming chain nets name)
 replaced chain nets name = record {
   there = λ has. least_joined chain nets name has;

@@ -1,4 +1,4 @@
--- Nets that LINK lines join, and the joined files.
+-- The nets that LINK lines join, and the joined files.
 use Rattle.std.specs.Prelude.{◌≡◌, ℕ, ◌≤◌, List, [], ◌∷◌, Some, slice_get, Contains}
 use Rattle.board_files.specs.declared.chain_file.ChainLine.{ChainLine}
 use Rattle.board_files.specs.declared.chain_file.ChainStatement.{ChainStatement}
@@ -7,7 +7,7 @@ use Rattle.board_files.specs.declared.net_file.NetLine.{NetLine}
 use Rattle.board_files.specs.Names.{line_names}
 use Rattle.series_parts.specs.Nets.{Word, net_of}
 
--- a LINK line has its first pin in net `a` and its second pin in net `b`
+-- some LINK line has its first pin in net `a` and its second pin in net `b`
 pub record IsLink (chain : List ChainLine) (nets : List NetLine) (a b : Word) : Type 0 where
   pub place : ℕ
   pub line : ℕ
@@ -18,20 +18,21 @@ pub record IsLink (chain : List ChainLine) (nets : List NetLine) (a b : Word) : 
   pub of_first : net_of nets part first ≡ Some a
   pub of_second : net_of nets part second ≡ Some b
 
--- a path of LINK lines, each taken in either direction, leads from one net to the other
+-- a path of LINK lines, each of which may be taken in either direction, leads from one net to the other
 pub data AreJoined (chain : List ChainLine) (nets : List NetLine) : Word → Word → Type 0 where
   itself : {a : Word} → AreJoined chain nets a a
   along : {a b c : Word} → IsLink chain nets a b → AreJoined chain nets b c → AreJoined chain nets a c
   back : {a b c : Word} → IsLink chain nets b a → AreJoined chain nets b c → AreJoined chain nets a c
 
--- `least` is the least-numbered net that is joined with `net`: no earlier line has a net that is joined with it
+-- `least` is the first net on the lines that is joined with `net`
 pub record IsLeastJoined (chain : List ChainLine) (nets : List NetLine) (net least : Word) : Type 0 where
   pub joined : AreJoined chain nets net least
   pub place : ℕ
   pub stands : slice_get (line_names nets) place ≡ Some least
   pub first : (k : ℕ) (other : Word) → slice_get (line_names nets) k ≡ Some other → AreJoined chain nets net other → place ≤ k
 
--- a net's name is replaced by that of the least-numbered net joined with it; a net on no line keeps its name
+-- The new name of a net is that of the first net on the lines that is joined with it. A net that is on no line keeps
+-- its name.
 pub record IsReplaced (chain : List ChainLine) (nets : List NetLine) (old new : Word) : Type 0 where
   pub there : Contains (line_names nets) old → IsLeastJoined chain nets old new
   pub missing : (Contains (line_names nets) old → ⊥) → new ≡ old
@@ -53,7 +54,7 @@ pub record IsJoinedNet (chain : List ChainLine) (nets : List NetLine) (old new :
   pub pins : new.pins ≡ old.pins
   pub name : IsReplaced chain nets old.name new.name
 
--- two lists of the same length, with related items at each place
+-- the two lists have the same length, and `R` relates the items at each place
 abbrev pub Each : {A : Type 0} → (A → A → Type 0) → List A → List A → Type 0
 Each R [] [] = Unit {0}
 Each R (x ∷ xs) [] = ⊥

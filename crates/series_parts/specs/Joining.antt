@@ -1,4 +1,4 @@
--- The joined files as a function of the files.
+-- The joined files as a function of the chain file and the net file.
 use Rattle.std.specs.Prelude.{◌&&◌, ◌||◌, Bool, List, [], ◌∷◌, map, find, filter_map, Option, Some, None, Result, Ok, Err, option_map, option_and_then, unwrap_or}
 use Rattle.board_files.specs.declared.chain_file.ChainLine.{ChainLine}
 use Rattle.board_files.specs.declared.chain_file.ChainStatement.{ChainStatement}
@@ -31,12 +31,13 @@ link_on nets (Pull net value) = None
 abbrev pub links : List NetLine → List ChainLine → List Pair
 links nets chain = filter_map (λ line. link_on nets line.statement) chain
 
--- a path of these links, each taken in either direction, leads from one net to the other; it leaves out the first link or goes over it
+-- A path of these links, each of which may be taken in either direction, leads from one net to the other. The path either leaves out
+-- the first link or takes it once.
 abbrev pub leads : List Pair → Word → Word → Bool
 leads [] a b = same_word a b
 leads (link ∷ links) a b = leads links a b || ((leads links a link.0 && leads links link.1 b) || (leads links a link.1 && leads links link.0 b))
 
--- the first net on the lines that is joined with this one, or this net if there is none
+-- the first net on the lines that is joined with this net, or the net itself if there is none
 unfoldable pub joined_name : List Pair → List Word → Word → Word
 joined_name links names name = unwrap_or (find (leads links name) names) name
 
@@ -54,7 +55,7 @@ joined_line rename line = record { line = line.line; statement = joined_statemen
 abbrev pub joined_net : (Word → Word) → NetLine → NetLine
 joined_net rename line = record { line = line.line; name = rename line.name; pins = line.pins }
 
--- the new name of each net
+-- the function that gives the new name of each net
 abbrev pub renaming : List ChainLine → List NetLine → Word → Word
 renaming chain nets = joined_name (links nets chain) (line_names nets)
 
@@ -64,12 +65,12 @@ joined_chain chain nets = map (joined_line (renaming chain nets)) chain
 abbrev pub joined_nets : List ChainLine → List NetLine → List NetLine
 joined_nets chain nets = map (joined_net (renaming chain nets)) nets
 
--- the value if no pin is missing, and otherwise the fault
+-- the value if no pin is missing, otherwise the fault
 abbrev pub unless : {V : Type 0} → Option Spot → V → Result V LinkFault
 unless None value = Ok value
 unless (Some spot) value = Err (NoLinkPin spot)
 
--- the joined files, or the first pin of a LINK line that is in no net
+-- the joined files, or the fault of the first pin of a LINK line that is in no net
 abbrev pub joined_files : List ChainLine → List NetLine → Result Joined LinkFault
 joined_files chain nets = unless (missing_link_pin nets chain) (record { chain = joined_chain chain nets; nets = joined_nets chain nets })
 

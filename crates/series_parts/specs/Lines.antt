@@ -1,4 +1,4 @@
--- LINK lines, and the lines of the parts of the chain.
+-- LINK lines, and the lines that are parts of the chain.
 use Rattle.std.specs.Prelude.{Bool, true, false, List, filter}
 use Rattle.std.specs.List.{list_any}
 use Rattle.board_files.specs.declared.chain_file.ChainLine.{ChainLine}

@@ -1,4 +1,4 @@
-// The edges between lines of joined nets.
+// The edges between lines whose nets are joined.
 ghost use Rattle.std.specs.Prelude.{All, ◌≡◌, ◌<◌, ◌^◌, ◌++◌, length, unwrap_or, IfOk, OnOk};
 ghost use Rattle.board_files.specs.Names.{line_names};
 ghost use Rattle.series_parts.specs.inner.Edges.{edge_between, edge_of, edge_on, edges, link_edges, name_edges, name_place};
@@ -8,7 +8,7 @@ use crate::pins::Pins;
 use board_files::{ChainLine, ChainStatement};
 use std::alloc::{AllocError, Global};
 
-/// Returns the edge between two ends, if both are there.
+/// Returns the edge between two ends, or None if an end is missing.
 fn edge_of(first: Option<u32>, second: Option<u32>) -> Option<(usize, usize)>
     ensures { result ≡ edge_of first second }
 {
@@ -18,7 +18,7 @@ fn edge_of(first: Option<u32>, second: Option<u32>) -> Option<(usize, usize)>
     }
 }
 
-/// Returns the edge between the lines of two pins of a part, if both pins are on a line.
+/// Returns the edge between the lines of two pins of a part. Returns None if a pin is on no line.
 #[tactic(auto, unfolding(crate::specs::inner::Edges::edge_between))]
 fn edge_between(pins: &Pins<'_>, part: &[u8], first: &[u8], second: &[u8]) -> Option<(usize, usize)>
     ensures { result ≡ edge_between pins.now part.now first.now second.now }
@@ -26,7 +26,7 @@ fn edge_between(pins: &Pins<'_>, part: &[u8], first: &[u8], second: &[u8]) -> Op
     edge_of(pins.place_of(part, first), pins.place_of(part, second))
 }
 
-/// Returns the edge of a LINK line.
+/// Returns the edge of a LINK line. Returns None for any other line, and if a pin is on no line.
 fn edge_on(pins: &Pins<'_>, statement: &ChainStatement) -> Option<(usize, usize)>
     ensures { result ≡ edge_on pins.now statement.now }
 {
@@ -40,7 +40,7 @@ fn edge_on(pins: &Pins<'_>, statement: &ChainStatement) -> Option<(usize, usize)
     }
 }
 
-/// Appends an edge for each LINK line.
+/// Appends the edge of each LINK line that has one.
 fn push_link_edges(
     edges: &mut Vec<(usize, usize)>,
     pins: &Pins<'_>,
@@ -66,7 +66,7 @@ fn first_of(names: &Names<'_>, name: &[u8], place: usize) -> usize
     }
 }
 
-/// Returns an edge from each line to the first line with its name.
+/// Returns the edges from each line to the first line with its name.
 fn name_edges(alloc: Global, names: &Names<'_>) -> Result<Vec<(usize, usize)>, AllocError>
     ensures { IfOk result (λ edges. edges.items ≡ name_edges names.now 0 names.now) }
 {
@@ -78,7 +78,7 @@ fn name_edges(alloc: Global, names: &Names<'_>) -> Result<Vec<(usize, usize)>, A
     Ok(edges)
 }
 
-/// Returns the edges between lines of joined nets.
+/// Returns the edges between lines whose nets have the same name or are joined by a LINK line.
 pub fn edges(
     alloc: Global,
     chain: &[ChainLine],

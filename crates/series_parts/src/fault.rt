@@ -1,4 +1,4 @@
-// Why files have no joined files.
+// The reasons why two files have no joined files.
 ghost use Rattle.std.specs.Prelude.{◌≡◌, alloc_error};
 ghost use Rattle.series_parts.specs.declared.fault.LinkFault.TheVariants.{Memory};
 
@@ -8,7 +8,7 @@ use std::alloc::{AllocError, AllocFailed};
 /// The first pin of a LINK line that is in no net, or a refusal of memory.
 #[derive(Debug, Drop, thiserror::Error)]
 pub enum LinkFault {
-    /// The line of the chain file, and the number of the pin's word: 3 or 4.
+    /// The place of the pin: the line of the chain file and the number of the word, 3 or 4.
     #[error("a pin of a LINK line is in no net")]
     NoLinkPin(Spot),
     #[error("out of memory")]

@@ -13,14 +13,14 @@ use crate::pins::Pins;
 use board_files::{ChainFile, NetFile};
 use std::alloc::{AllocError, Global};
 
-/// A chain file and a net file in which joined nets have one name. The chain file has no LINK line.
+/// A chain file and a net file in which joined nets have the same name. The chain file has no LINK line.
 #[derive(Drop)]
 pub struct Joined {
     pub chain: ChainFile,
     pub nets: NetFile,
 }
 
-/// Returns the files with the new names.
+/// Returns the files with the new names of nets.
 fn renamed_files(
     alloc: Global,
     chain: &ChainFile,
@@ -40,8 +40,8 @@ fn renamed_files(
     })
 }
 
-/// Returns the joined files of a chain file and a net file, or the first line and word of a LINK pin that is in no
-/// net.
+/// Returns the joined files of a chain file and a net file. If a pin of a LINK line is in no net, returns the place of
+/// the first such pin.
 pub fn join(alloc: Global, chain: &ChainFile, nets: &NetFile) -> Result<Joined, LinkFault>
     ensures answer { Gives link_told (λ joined. joined) (λ answer. joined_files chain.now nets.now ≡ answer) result }
     ensures joined { IfOk result (λ joined. AreJoinedFiles chain.now nets.now joined.chain joined.nets) }

@@ -1,5 +1,5 @@
 //! Laws of joined files. Each function does nothing, and its contract is the law. A function whose proof needs a law
-//! calls the law's function.
+//! calls that function.
 ghost use Rattle.std.specs.Prelude.{◌≡◌, false, List, length, map, Ok};
 ghost use Rattle.std.specs.List.{AllByRecursion};
 ghost use Rattle.board_files.specs.ChainLines.{HasLength};
@@ -20,7 +20,7 @@ pub fn unlinked_files()
     ensures { (chain : List ChainLine) (nets : List NetLine) → has_link chain ≡ false → joined_files chain nets ≡ Ok (record { chain = chain; nets = nets }) }
 {}
 
-/// A joined chain file has no LINK line. It has the DEVICE and BYPASS lines of the chain file, and its line
+/// A joined chain file has no LINK line. It has the DEVICE and BYPASS lines of the chain file, and all its line
 /// numbers. A joined net file has the line numbers and the pins of the net file, line by line.
 pub fn kept_lines()
     ensures links { (chain : List ChainLine) (nets : List NetLine) → has_link (joined_chain chain nets) ≡ false }

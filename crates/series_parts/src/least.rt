@@ -11,7 +11,7 @@ use crate::pins::Pins;
 use board_files::ChainLine;
 use std::alloc::{AllocError, Global};
 
-/// Returns the names on these lines.
+/// Returns the names on the lines at these places.
 fn names_at<'a>(
     alloc: Global,
     names: &Names<'a>,
@@ -27,7 +27,7 @@ fn names_at<'a>(
     Ok(found)
 }
 
-/// Returns, for each line, the name of the least-numbered net that is joined with the line's net.
+/// Returns, for each line, the name of the first net on the lines that is joined with the line's net.
 pub fn least_names<'a>(
     alloc: Global,
     chain: &[ChainLine],

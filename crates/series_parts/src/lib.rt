@@ -1,4 +1,4 @@
-//! Series parts: the nets that they join, and the files of the board after these nets are joined.
+//! Series parts: the nets that they join, and the files of a board in which joined nets have the same name.
 #![tactic(auto)]
 
 mod classes;

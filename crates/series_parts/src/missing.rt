@@ -44,7 +44,7 @@ fn missing_on(pins: &Pins<'_>, line: u32, statement: &ChainStatement) -> Option<
     }
 }
 
-/// Returns the first line and word of a LINK pin that is in no net.
+/// Returns the place of the first pin of a LINK line that is in no net. Returns None if there is no such pin.
 pub fn missing_link_pin(pins: &Pins<'_>, lines: &[ChainLine]) -> Option<Spot>
     ensures { result ≡ missing_link_pin pins.now lines.now }
 {

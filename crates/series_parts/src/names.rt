@@ -12,7 +12,7 @@ use indexmap::IndexMap;
 use std::alloc::{AllocError, Global};
 use std::marker::Model;
 
-/// Returns the first line with each name.
+/// Returns a map from each name to the first line with that name.
 fn name_places<'a>(alloc: Global, names: &[&'a [u8]]) -> Result<IndexMap<&'a [u8], u32>, AllocError>
     requires { length names.now < 2 ^ 32 }
     ensures { IfOk result (λ places. (q : Bor (List ℕ)) → get_by (λ n. same_word q.now n.now) places ≡ name_place (map (λ n. n.now) names.now) q.now) }
@@ -20,7 +20,7 @@ fn name_places<'a>(alloc: Global, names: &[&'a [u8]]) -> Result<IndexMap<&'a [u8
     first_places(alloc, names)
 }
 
-/// The names on the lines of a net file. Contracts see them as a list.
+/// The names on the lines of a net file. The value in contracts is the list of these names.
 #[derive(Drop)]
 pub struct Names<'a> {
     names: Vec<&'a [u8]>,
@@ -42,7 +42,7 @@ impl<'a> Model for Names<'a> {
 }
 
 impl<'a> Names<'a> {
-    /// Collects the names of these lines.
+    /// Returns the names on these lines.
     pub fn of(alloc: Global, lines: &'a [NetLine]) -> Result<Names<'a>, AllocError>
         requires { length lines.now < 2 ^ 32 }
         ensures { IfOk result (λ names. names ≡ line_names lines.now) }
@@ -52,7 +52,7 @@ impl<'a> Names<'a> {
         Ok(Names { names, places })
     }
 
-    /// Returns the first line with this name.
+    /// Returns the first line with this name, if there is one.
     pub fn place_of(&self, name: &[u8]) -> Option<u32>
         ensures { result ≡ name_place self.now name.now }
     {
@@ -66,7 +66,7 @@ impl<'a> Names<'a> {
         self.names.len()
     }
 
-    /// Returns the name on a line.
+    /// Returns the name on line `place`.
     pub fn at(&self, place: usize) -> &'a [u8]
         requires { place < length self.now }
         ensures { slice_get self.now place ≡ Some result.now }

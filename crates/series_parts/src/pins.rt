@@ -11,10 +11,10 @@ use indexmap::IndexMap;
 use std::alloc::{AllocError, Global};
 use std::marker::Model;
 
-/// A pin, given by its part and its name.
+/// A pin, given by the name of its part and its own name.
 type PinKey<'a> = (&'a [u8], &'a [u8]);
 
-/// Records `place` as the line of these pins.
+/// Makes `place` the line of each of these pins.
 fn put_pins<'a>(
     places: &mut IndexMap<PinKey<'a>, u32>,
     words: &'a [PinWord],
@@ -28,7 +28,7 @@ fn put_pins<'a>(
     Ok(())
 }
 
-/// Returns the first line of each pin.
+/// Returns a map from each pin to the first line with that pin.
 fn pin_places<'a>(
     alloc: Global,
     lines: &'a [NetLine],
@@ -45,7 +45,7 @@ fn pin_places<'a>(
     Ok(places)
 }
 
-/// The pins on the lines of a net file. Contracts see them as the list of the lines.
+/// The pins on the lines of a net file. The value in contracts is the list of the lines.
 #[derive(Drop)]
 pub struct Pins<'a> {
     lines: &'a [NetLine],
@@ -68,7 +68,7 @@ impl<'a> Model for Pins<'a> {
 }
 
 impl<'a> Pins<'a> {
-    /// Collects the pins of these lines.
+    /// Returns the pins on these lines.
     pub fn of(alloc: Global, lines: &'a [NetLine]) -> Result<Pins<'a>, AllocError>
         requires { length lines.now < 2 ^ 32 }
         ensures { IfOk result (λ pins. pins ≡ lines.now) }
@@ -77,7 +77,7 @@ impl<'a> Pins<'a> {
         Ok(Pins { lines, places })
     }
 
-    /// Returns the first line with this pin.
+    /// Returns the first line with this pin, if there is one.
     pub fn place_of(&self, part: &[u8], pin: &[u8]) -> Option<u32>
         ensures { result ≡ pin_place self.now part.now pin.now }
     {

@@ -1,4 +1,4 @@
--- The value of an earlier item replaces that of a later one with the same key.
+-- The value of an earlier item replaces the value of a later item with the same key.
 use Rattle.std.proofs.Common.{◌≡◌, ◌-◌, ◌+◌, ◌<◌, ◌≤◌, length, sym, arith}
 use Rattle.indexmap.specs.IndexMap.{get}
 use Rattle.first_places.proofs.PlaceLemmas.{value_step}

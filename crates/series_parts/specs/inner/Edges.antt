@@ -1,4 +1,4 @@
--- The lines of a net file as points, and the edges between lines of joined nets.
+-- The lines of a net file as points, and edges between lines whose nets are joined.
 use Rattle.std.specs.Prelude.{ℕ, ◌+◌, List, [], ◌∷◌, ◌++◌, filter_map, get_or, Option, Some, None, option_map, option_and_then, unwrap_or}
 use Rattle.std.specs.List.{position_from}
 use Rattle.first_places.specs.Places.{first_place}
@@ -10,11 +10,11 @@ use Rattle.board_files.specs.Names.{same_word, line_names}
 use Rattle.series_parts.specs.Nets.{Word, has_pin}
 use Rattle.series_parts.specs.inner.Labels.{Edges}
 
--- the first line with a name
+-- the first line with this name
 abbrev pub name_place : List Word → Word → Option ℕ
 name_place names name = first_place same_word names name
 
--- the first line with a pin
+-- the first line with this pin
 abbrev pub pin_place : List NetLine → Word → Word → Option ℕ
 pin_place nets part pin = position_from (has_pin part pin) 0 nets
 
@@ -37,7 +37,7 @@ edge_on nets (Pull net value) = None
 abbrev pub link_edges : List NetLine → List ChainLine → Edges
 link_edges nets chain = filter_map (λ line. edge_on nets line.statement) chain
 
--- an edge from each line to the first line with its name; the first of `names` is on line `n`
+-- the edges from each line to the first line with its name; the first of `names` is on line `n`
 abbrev pub name_edges : List Word → ℕ → List Word → Edges
 name_edges all n [] = []
 name_edges all n (name ∷ names) = (n, unwrap_or (name_place all name) n) ∷ name_edges all (n + 1) names
@@ -49,6 +49,6 @@ abbrev pub at_place : List Word → Word → Option ℕ → Word
 at_place least name None = name
 at_place least name (Some place) = get_or least place name
 
--- the new name of a net, given the new names of the lines
+-- the new name of a net, given the new names on the lines
 unfoldable pub renamed : List Word → List Word → Word → Word
 renamed names least name = at_place least name (name_place names name)

@@ -1,16 +1,16 @@
--- Classes of points as trees. Following the parents of a point leads to the root of its class.
+-- Classes of points as trees. The path from a point along the parents leads to the root of its class.
 use Rattle.std.specs.Prelude.{◌≡◌, ℕ, ◌<◌, ◌≤◌, ◌==◌, ◌||◌, min, List, length, Some, slice_get, slice_index, if◌then◌else◌}
 use Rattle.series_parts.specs.inner.Labels.{Edges, Joined}
 
--- A label for each point. It is the label of the point's parent, it is not above the point, and it is the point itself if that is its own
--- parent.
+-- `label` gives a label for each point. It is no higher than the point, and it is the label of the point's parent. A point that is its
+-- own parent is its own label.
 pub record IsLabelling (parents : List ℕ) (label : ℕ → ℕ) : Type 0 where
   pub low : (x : ℕ) → x < length parents → slice_index parents x ≤ x
   pub least : (x : ℕ) → label x ≤ x
   pub parent : (x : ℕ) → x < length parents → label (slice_index parents x) ≡ label x
   pub root : (x : ℕ) → x < length parents → slice_index parents x ≡ x → label x ≡ x
 
--- the lower of two labels replaces both
+-- the label `v` after the labels `a` and `b` are both replaced by the lower of them
 abbrev pub lowered : ℕ → ℕ → ℕ → ℕ
 lowered a b v = if (v == a) || (v == b) then min a b else v
 
@@ -18,7 +18,7 @@ lowered a b v = if (v == a) || (v == b) then min a b else v
 abbrev pub merged : (ℕ → ℕ) → ℕ → ℕ → ℕ → ℕ
 merged label a b x = lowered (label a) (label b) (label x)
 
--- the labels say which points the first `n` edges join
+-- the labels take the first `n` edges into account
 pub record Reflects (edges : Edges) (n : ℕ) (parents : List ℕ) (label : ℕ → ℕ) : Type 0 where
   pub labelling : IsLabelling parents label
   pub joined : (x : ℕ) → Joined edges x (label x)

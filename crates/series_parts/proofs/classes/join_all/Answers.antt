@@ -1,4 +1,4 @@
--- The labels reflect one more edge at a time.
+-- Each step takes one more edge into account.
 use Rattle.std.proofs.Common.{◌≡◌, get_or, refl, arith}
 use Rattle.std.proofs.lemmas.Option.{slice_get-get_or}
 use Rattle.series_parts.specs.inner.Roots.{merged}

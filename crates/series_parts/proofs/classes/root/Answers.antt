@@ -1,4 +1,4 @@
--- Halving a path keeps each labelling.
+-- Shortening the path of a point does not change any label.
 use Rattle.std.proofs.Common.{◌≡◌, ℕ, ◌<◌, ◌≤◌, ◌≢◌, length, get_or, arith, rules, sym, ◌∙◌}
 use Rattle.std.proofs.lemmas.List.{get_or_read}
 use Rattle.series_parts.proofs.RootLemmas.{low-set, labels-halved, same_label}

@@ -1,4 +1,4 @@
--- A pin is in a net if and only if it is on a line.
+-- A pin is in a net if and only if it is on a line of the net file.
 use Rattle.std.proofs.Common.{◌∙◌, [], ap, sym}
 use Rattle.std.specs.Prelude.{is_none}
 use Rattle.series_parts.specs.Nets.{has_pin}
