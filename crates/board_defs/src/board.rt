@@ -39,7 +39,7 @@ pub struct NetPin {
     pub pin: Name,
     /// The place of the pin in the chain. Only pins of described parts have one.
     pub at: Option<PinAt>,
-    /// Whether the pin's part is inert. An inert part drives no net and connects no two nets.
+    /// True if the pin's part is inert. An inert part drives no net and connects no two nets.
     pub inert: bool,
 }
 
@@ -47,7 +47,7 @@ pub struct NetPin {
 #[derive(Drop)]
 pub struct Net {
     pub name: Name,
-    /// Whether the net carries a supply, such as power or ground.
+    /// True if the net carries a supply, such as power or ground.
     pub supply: bool,
     /// The value to which a resistor pulls the net, or None if no resistor pulls it.
     pub pull: Option<bool>,
@@ -84,7 +84,7 @@ impl Ctl {
     }
 }
 
-/// How a driver is enabled.
+/// The way in which a driver is enabled.
 #[derive(Clone, Copy, PartialEq, Eq)]
 pub enum Drive {
     AlwaysOn,

@@ -146,9 +146,9 @@ pub struct PortBit {
     pub mode: Mode,
     /// The pin that the chosen pin map assigns to the bit, if the map names the port.
     pub pin: Option<Name>,
-    /// Whether the port belongs to the test access port.
+    /// True if the port belongs to the test access port.
     pub tap: bool,
-    /// Whether the compliance patterns name the bit.
+    /// True if the compliance patterns name the bit.
     pub compliance: bool,
 }
 

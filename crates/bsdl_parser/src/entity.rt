@@ -6,7 +6,7 @@ use board_defs::{Items, Mode, Name};
 pub struct Range {
     pub left: u32,
     pub right: u32,
-    /// Whether the bounds have `to` between them. Otherwise they have `downto`.
+    /// True if the bounds have `to` between them, and false if they have `downto`.
     pub up: bool,
 }
 

@@ -14,16 +14,16 @@ use few_items::Few;
 use net_pins::BoardPins;
 use std::alloc::{AllocError, Global};
 
-/// Whether a pin is a driver or a receiver, and whether it is tested as one.
+/// The facts about a pin: its roles on the net, and the roles in which some safe setting tests it.
 #[derive(Clone, Copy)]
 pub struct PinClass {
-    /// Whether the pin is a tested driver.
+    /// True if the pin is a tested driver.
     pub driver_tested: bool,
-    /// Whether the pin is a tested receiver.
+    /// True if the pin is a tested receiver.
     pub receiver_tested: bool,
-    /// Whether the pin is a driver.
+    /// True if the pin is a driver.
     pub drives: bool,
-    /// Whether the pin is a receiver.
+    /// True if the pin is a receiver.
     pub receives: bool,
 }
 
@@ -43,9 +43,9 @@ pub struct NetClass {
 pub struct ControlClass {
     /// The numbers of the nets with a driver of this control, in net order.
     pub nets: NetNumbers,
-    /// Whether the setting with this control alone is safe.
+    /// True if the setting with this control alone is safe.
     pub safe: bool,
-    /// Whether the control is safe alone and enables a tested driver.
+    /// True if the control is safe alone and enables a tested driver.
     pub useful: bool,
 }
 

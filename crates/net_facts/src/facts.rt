@@ -18,25 +18,26 @@ pub struct PinFacts {
     pub at: Option<PinAt>,
     /// The way in which the pin's driver is enabled, or None if the pin is not a driver.
     pub drive: Option<Drive>,
-    /// Whether the pin is a receiver.
+    /// True if the pin is a receiver.
     pub receives: bool,
 }
 
 /// The facts about a net that do not depend on settings.
 #[derive(Drop)]
 pub struct NetFacts {
-    /// Whether the net carries a supply.
+    /// True if the net carries a supply.
     pub supply: bool,
     /// The value to which the net is pulled, or None if it is not pulled.
     pub pull: Option<bool>,
-    /// Whether some pin of the net belongs to a test access port or is named by compliance patterns.
+    /// True if some pin of the net belongs to a test access port or is named by compliance patterns.
     pub test_port: bool,
-    /// Whether some pin of the net is dark, so that something that no setting controls may drive the net.
+    /// True if some pin of the net is dark. Something that no setting controls may drive the net of a dark pin.
     pub dark: bool,
-    /// Whether the net is guarded: it carries a supply, or it has a pin of a test access port, a pin that compliance
+    /// True if the net is guarded: it carries a supply, or it has a pin of a test access port, a pin that compliance
     /// patterns name, or a dark pin.
     pub guarded: bool,
-    /// Whether no control may enable a driver of the net, because the net is guarded or has a driver that is always on.
+    /// True if no control may enable a driver of the net. This is so if the net is guarded or has a driver that is
+    /// always on.
     pub closed: bool,
     /// The facts about the pins, in pin order.
     pub pins: Few<PinFacts>,

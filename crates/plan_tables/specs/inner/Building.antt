@@ -1,4 +1,4 @@
--- How the tables of a plan are made, item by item.
+-- The steps that make the tables of a plan.
 use Rattle.std.specs.Prelude.{◌≡◌, ℕ, ◌<◌, List, [], map, filter, fold, Option, Some, option_map, is_none, replicate}
 use Rattle.lists.specs.Rows.{noted}
 use Rattle.board_defs.specs.declared.board.Net.{Net}

@@ -1,4 +1,4 @@
--- How an observed net is driven while a row of a pass is in the latches.
+-- The driver and the bit of an observed net while a row of a pass is in the latches.
 use Rattle.std.proofs.Common.{◌≡◌, ◌≢◌, ℕ, zero, suc, ◌+◌, ◌==◌, Bool, true, false, cond, not, ◌&&◌, List, [], ◌∷◌, Option, Some, None, refl, sym, ◌∙◌, ap, subst, arith}
 use Rattle.std.specs.Prelude.{slice_get, unwrap_or, option_map, option_and_then}
 use Rattle.std.specs.List.{list_all}
@@ -25,8 +25,8 @@ use Rattle.std.proofs.lemmas.Bool.{and_parts, both_ways, eq-eqb, false_from_ne_t
 use Rattle.tap_defs.proofs.board.InTestLemmas.{InTest, shifted_row}
 use Rattle.tap_defs.proofs.board.LiveLemmas.{IsWired, found, find_some, control_on, latch_is, extest_is, dead_if_off}
 
--- what the rules of boards say about a pin of a net: its part is not described, or the pin has its place in the chain
--- and in the nets
+-- the facts about a pin of a net that follow from the rules of boards: its part is not described, or the pin has its
+-- place in the chain and in the nets
 pub data PinRules (board : RawBoard) (n : ℕ) (net : Net) (i : ℕ) (p : NetPin) : Type 0 where
   apart : p.at ≡ None → PinRules board n net i p
   placed : (at : PinAt) (part : Part) (device : RawDevice) → p.at ≡ Some at → slice_get board.chain at.part ≡ Some part →

@@ -1,4 +1,4 @@
--- What the rules of devices and boards say about controls, entries and pins.
+-- Consequences of the rules of devices and boards for controls, entries and pins.
 use Rattle.std.proofs.Common.{◌≡◌, ℕ, zero, suc, ◌+◌, ◌<◌, ◌==◌, Bool, true, false, cond, ◌&&◌, ◌||◌, List, [], ◌∷◌, Option, Some, None, refl, sym, ◌∙◌, ap, subst, arith}
 use Rattle.std.specs.Prelude.{slice_get, option_map, option_and_then, is_some}
 use Rattle.std.specs.List.{list_any}

@@ -66,7 +66,7 @@ extest_where states (Some at) = in_extest states at.part
 abbrev pub ruled : RawBoard → List PinState → Net → Bool
 ruled board states net = not (guarded board net) && list_all (λ pin. extest_where states pin.at) net.pins
 
--- How a net is driven: unknown, since the net is not ruled; by no driver; by one live driver, with its place and its bit; or by several
+-- The driving of a net: unknown, since the net is not ruled; by no driver; by one live driver, with its place and its bit; or by several
 -- live drivers.
 pub data Feeding : Type 0 where
   Unruled : Feeding
@@ -74,7 +74,7 @@ pub data Feeding : Type 0 where
   Driven : ℕ → Bool → Feeding
   Contended : Feeding
 
--- how a net with one more pin is driven, if that pin may be live
+-- the driving of a net with one more pin, which may be live
 abbrev pub counted : Bool → ℕ → Bool → Feeding → Feeding
 counted false place bit feeding = feeding
 counted true place bit Undriven = Driven place bit
@@ -82,12 +82,12 @@ counted true place bit Unruled = Unruled
 counted true place bit (Driven other value) = Contended
 counted true place bit Contended = Contended
 
--- how these pins drive their net; the first of them has place `place`
+-- the driving of a net by these pins, the first of which has place `place`
 abbrev pub feeding_from : RawBoard → List PinState → ℕ → List NetPin → Feeding
 feeding_from board states place [] = Undriven
 feeding_from board states place (pin ∷ pins) = counted (live board states pin) place (driver_bit board states pin.at) (feeding_from board states (suc place) pins)
 
--- how the net is driven
+-- the driving of the net
 abbrev pub feeding : RawBoard → List PinState → Net → Feeding
 feeding board states net = cond (ruled board states net) (feeding_from board states 0 net.pins) Unruled
 
