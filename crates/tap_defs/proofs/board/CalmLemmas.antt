@@ -79,7 +79,7 @@ off_quiet board s off = (inl (λ k device e. off k), λ k cell device v e extest
 abbrev pub LiveWithin : RawBoard → Enabling → List PinState → Type 0
 LiveWithin board setting s = (n : ℕ) (net : Net) (i : ℕ) (p : NetPin) → slice_get board.nets n ≡ Some net → slice_get net.pins i ≡ Some p → live board s p ≡ true → enables board setting p ≡ true
 
--- a moment of a pass with this setting, or a moment outside the test
+-- a quiet moment at which only drivers that the setting enables are live
 pub record Moment (board : RawBoard) (setting : Enabling) (s : List PinState) : Type 0 where
   pub quiet_moment : IsQuietMoment board s
   pub within : LiveWithin board setting s
@@ -149,7 +149,7 @@ nothing_safe board rule = record {
     always_on : (net : Net) (p : NetPin) → enables board nothing p ≡ true → drive board net p ≡ Some AlwaysOn
     always_on net p h = by_at net p.at h
 
--- the moments after these clocks are quiet if all later moments are
+-- during these clocks the board stays quiet, provided that it stays quiet afterwards
 abbrev pub StaysBy : RawBoard → Wiring → List Clock → Choices → List ChainPart → Type 0
 StaysBy board wiring cs free chain = (rest : List (List PinState)) → StaysQuiet board (pin_states (run wiring cs free chain)) rest → StaysQuiet board (pin_states chain) (shown wiring cs free chain ++ rest)
 
@@ -181,7 +181,7 @@ switch_then board setting safe moments chain next s m k rest h =
     (all_then board setting safe (pin_states chain) m s.old (a ∷ a ∷ rest) s.old_are
     (k.quiet_moment, moments_apart board setting safe (pin_states chain) a m k, (k.quiet_moment, moments_apart board setting safe a a k k, h)))
 
--- one clock is quiet
+-- if the moments before and after a clock are quiet under one safe setting, the board stays quiet during the clock
 step_then : (board : RawBoard) (setting : Enabling) → IsSafe board setting →
     (wiring : Wiring) (c : Clock) (free : Choices) (chain : List ChainPart) → Moment board setting (pin_states chain) →
     Moment board setting (pin_states (clock_after wiring c (free 0) chain)) → StaysBy board wiring (c ∷ []) free chain

@@ -165,7 +165,7 @@ module _ (board : RawBoard) (rules : IsBoard board) (rows : List Ctl → ℕ →
   abbrev test : RowScan → Bool
   test t = is_compared (scan_of_row board t)
 
-  -- the test whether row `j` of the pass is compared gives `b`
+  -- the scan that compares row `j` of the pass compares some bit if and only if `b` is true
   abbrev pub Row : List Ctl → ℕ → TestRow → Bool → Type 0
   Row pass j now b = test (record { now = now; before = rows pass j }) ≡ b
 

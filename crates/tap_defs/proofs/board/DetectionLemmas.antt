@@ -174,7 +174,7 @@ module _ (board : RawBoard) (passes : List (List Ctl)) (width : ℕ) (plan : IsP
       let c = compared_at board (holds r.1) n r.4.net r.3 i r.5 plan.read r.4.rules r.4.observing r.6 r.7 r.8 in
       opened r.0 r.1 r.2 n r.3 r.4 c.0 u cov (ap (λ (x : ℕ). faults.opened n x) c.1 ∙ e)
 
-  -- if a driver is open, its net is stuck, in a short, or reads a constant
+  -- an open driver makes some scan wrong, since its net is stuck, in a short, or reads a constant
   pub open_driver : IsObservable board faults → (n d : ℕ) (u : Bool) → faults.opened n d ≡ Some u → IsTestedDriver board n d →
       IsCovered board n → SomeWrong board faults row (row_scans (code_row board passes) width passes)
   open_driver observable n d u e tested cov =

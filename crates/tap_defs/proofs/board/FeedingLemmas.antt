@@ -262,7 +262,7 @@ module _ (board : RawBoard) (row : TestRow) (safe : IsSafe board row.setting) (n
         let f = found (drives_bit at.bit) device.cells x.0 entry in
         carries_here at part device a ek ed wired pinned place x.0 f.1.0 entry f.0 f.1.1
 
-    -- in each row of the pass, an observed net carries the bit that the row gives it
+    -- an observed net carries the bit that the row gives it
     pub carries : Carries d net.pull v (feeding board (pin_states chain) net)
     carries = by_rules (rules.pins d w.pin w.stands)
 

@@ -37,7 +37,7 @@ one_feeds board states m (p ∷ ps) one = by_head (one_feeds board states (suc m
         ap (λ (f : Feeding). is_decided (counted true m (driver_bit board states p.at) f))
         (all_dead board states (suc m) ps (λ i q eq. false_from_ne_true (live board states q) (λ on. one 0 (suc i) p q refl eq (λ z. absurd (omega (arith, z))) e on)))
 
--- a test that each net of a short passes
+-- if each net of a short passes a test, the test is true of the whole list of the short's nets
 shorted_pass : (faults : FaultSet) (k n : ℕ) (nets : List Net) (test : OfNet Net → Bool) →
     ((i : ℕ) (net : Net) → slice_get nets i ≡ Some net → faults.short (n + i) ≡ Some k → test (n + i, net) ≡ true) → list_all test (shorted_nets faults k n nets) ≡ true
 shorted_pass faults k n [] test h = refl

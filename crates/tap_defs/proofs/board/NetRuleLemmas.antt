@@ -83,7 +83,7 @@ module _ (device : RawDevice) (rules : IsDevice device) where
   num_below : (i : ℕ) (e : Cell) → slice_get device.cells i ≡ Some e → e.num < device.boundary
   num_below i e ei = all_stands (λ (c : Cell). c.num < device.boundary) device.cells i e ei rules.cells_below
 
-  -- the entry that owns the cell of a control
+  -- the control of an entry is the entry's own cell, or a cell with a CONTROL or CONTROLR entry
   data Owner (e : Cell) (control : Control) : Type 0 where
     own_cell : control.cell ≡ e.num → Owner e control
     control_cell : (k : ℕ) (x : Cell) → slice_get device.cells k ≡ Some x → x.num ≡ control.cell → is_controlling x.role ≡ true →
@@ -141,7 +141,7 @@ module _ (device : RawDevice) (rules : IsDevice device) where
     num_below = num_below;
   }
 
--- the place of a pin that occurs only once in the nets
+-- the place that is found for a pin that occurs only once in the nets
 self_at : (at : PinAt) → is_at at (Some at) ≡ true
 self_at at = ap (λ (b : Bool). b && (at.bit == at.bit)) (eq-eqb at.part at.part refl) ∙ eq-eqb at.bit at.bit refl
 

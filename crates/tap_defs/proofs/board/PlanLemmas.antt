@@ -22,7 +22,7 @@ use Rattle.tap_defs.proofs.board.NetRuleLemmas.{all_read, net_rules}
 use Rattle.tap_defs.proofs.board.CodeBitLemmas.{has_one, count_whole, count_up, has_zero, codes_differ}
 use Rattle.tap_defs.proofs.board.DetectionLemmas.{IsPlan, Sees}
 
--- if a safe setting observes a net by a pin, that pin is the observing driver
+-- if a setting enables only one of some pins, that pin is the first one that it enables
 first_is : (board : RawBoard) (setting : Enabling) (m d : ℕ) (ps : List NetPin) (p : NetPin) → slice_get ps d ≡ Some p →
     enables board setting p ≡ true →
     ((i : ℕ) (q : NetPin) → slice_get ps i ≡ Some q → enables board setting q ≡ true → i ≡ d) → first_enabled board setting m ps ≡ Some (m + d)
@@ -69,7 +69,7 @@ observing_is board setting safe n net d en o =
     by_decision i q ei on true h = eqb-true i d h
     by_decision i q ei on false h = absurd (safe.one n net i d q o.pin en ei o.stands (λ e. eqb-false i d h e) on o.enabled)
 
--- conversely, if a pin is the observing driver, the setting observes the net by it
+-- if a pin is the observing driver, the setting observes the net by it
 pub observed_by : (board : RawBoard) (setting : Enabling) (net : Net) (d : ℕ) → observing_driver board setting net ≡ Some d →
     ObservesBy board setting net d
 observed_by board setting net d e =

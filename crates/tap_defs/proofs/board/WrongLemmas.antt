@@ -142,7 +142,7 @@ abbrev pub IsDead : RawBoard → TestRow → PinAt → Type 0
 IsDead board row at =
     (before : TestRow) (chain : List ChainPart) → InTest board (shifted_row board (record { now = row; before = before })) chain → live_where board (pin_states chain) (Some at) ≡ false
 
--- if a net is stuck or the pin that reads it is open, a compared cell has a constant, which is wrong in some row
+-- if a compared cell captures a constant, the scan is wrong in every row in which the cell's net carries the other bit
 pub wrong_if_constant : (board : RawBoard) (faults : FaultSet) (row before now : TestRow) (n : ℕ) (net : Net) (c : Compared board row.setting n net) (u : Bool) →
     IsDead board row (record { part = c.k; bit = c.bit }) →
     ((free : Choice) (chain : List ChainPart) → InTest board (shifted_row board (record { now = row; before = before })) chain → captured_here board faults free chain n net c.place c.k c.cell ≡ u) →
@@ -152,7 +152,7 @@ wrong_if_constant board faults row before now n net c u dead const carried chain
     false_from_ne_true (scan_passes (joined (row_bits board (record { now = now; before = row }))) (joined (registers (pins_at (board_wiring board faults) free chain) board.chain)))
     (λ ok. not_itself u (sym (passes_at board faults row now n net (not u) carried c free chain (dead before chain h) ok) ∙ const free chain h))
 
--- if two nets have the same bit while their codes differ, a scan is wrong
+-- if two nets are in one short, a scan is wrong in every row in which they carry different bits
 pub wrong_if_shorted : (board : RawBoard) (faults : FaultSet) (row before now : TestRow) (a b s : ℕ) (v : Bool) (one two : Net) (c : Compared board row.setting a one) (d : Compared board row.setting b two) →
     IsDead board row (record { part = c.k; bit = c.bit }) → IsDead board row (record { part = d.k; bit = d.bit }) →
     faults.opened a c.place ≡ None → faults.opened b d.place ≡ None → faults.stuck a ≡ None → faults.stuck b ≡ None → faults.short a ≡ Some s → faults.short b ≡ Some s →
