@@ -6,7 +6,7 @@ use Rattle.std.specs.Cmp.{IsEquivalence}
 use Rattle.std.proofs.lemmas.List.{map-append, take_more}
 use Rattle.first_places.specs.Places.{first_place, number_in}
 
--- the first key that passes is in the first list
+-- if some key of the first list passes, the first key that passes is in this list
 found_early : {K : Type 0} (p q : K → Bool) → ((k : K) → p k ≡ q k) → (n : ℕ) (front back : List K) → list_any q front ≡ true → position_from p n (front ++ back) ≡ Some (n + position_or_len q front)
 found_early p q same n [] back e = cc e
 found_early {K} p q same n (k ∷ front) back e =
@@ -17,7 +17,7 @@ found_early {K} p q same n (k ∷ front) back e =
     by_test rest true t = let here : n ≡ n + 0 = omega arith in ap Some here
     by_test rest false t = let there : n + 1 + position_or_len q front ≡ n + (1 + position_or_len q front) = omega arith in rest t ∙ ap Some there
 
--- the first key that passes comes right after the first list
+-- if no key of the first list passes and the next key does, the next key is found
 found_next : {K : Type 0} (p q : K → Bool) → ((k : K) → p k ≡ q k) → (n : ℕ) (front : List K) (k : K) (back : List K) → list_any q front ≡ false → p k ≡ true →
     position_from p n (front ++ k ∷ back) ≡ Some (n + position_or_len q front)
 found_next p q same n [] k back e passes = let here : n ≡ n + 0 = omega arith in ap (λ b. cond b (Some n) (position_from p (n + 1) back)) passes ∙ ap Some here

@@ -43,7 +43,7 @@ several_stays (pin ∷ pins) = ap (λ s. controls_from s pins) (step pin.drive) 
     step (Some OneSided) = refl
     step (Some (By c)) = refl
 
--- if one control was seen so far, another control makes several
+-- after one control, the controls are several if and only if some pin has another control
 one_is : (d : Ctl) (pins : List PinFacts) → is_several (controls_from (One d) pins) ≡ list_any (other_pin d) pins
 one_is d [] = refl
 one_is d (pin ∷ pins) = by_drive pin.drive (one_is d pins)

@@ -53,7 +53,7 @@ control_below board rules c device e any =
     let k = control_is c.cell x.1.ctl (and_parts (is_control_of c.cell x.1.ctl) (is_driving x.1.role) driver.0).0 in
     subst (λ (n : ℕ). n < device.boundary) k.2 ((wired_at board rules c.part device e).below x.0 x.1 k.0 x.2 k.1)
 
--- a control of a pass enables a driver of its device
+-- a control that enables some driver enables a driver of its part's device
 pub controls_any : (board : RawBoard) (c : Ctl) (device : RawDevice) → device_at board c.part ≡ Some device → controls_some board c ≡ true →
     list_any (controls_driver board c.part c.cell) device.cells ≡ true
 controls_any board c device e controls = sym (ap (λ (o : Option RawDevice). controls_in board c o) e) ∙ controls

@@ -240,7 +240,7 @@ observer_stands board rules x h =
       omega (arith, position_within board k.at.part k.entry.num (entry_below board rules k.at k.entry k.is_entry), position),
     )
 
--- the controls of a pass, found by their positions
+-- a pass holds a control if and only if its list has the control
 pub holds_has : (pass : List Ctl) (c : Ctl) → holds pass c ≡ true → Has pass c
 holds_has pass c h = let f = any_place (same_ctl c) pass h in has_at pass f.place c (f.stands ∙ ap (λ (x : Ctl). Some x) (sym (same_equal c f.item f.passes)))
 

@@ -128,7 +128,8 @@ safe_walk roles device is one g h right rest = walk_is (safe_value_in roles) dev
         let value : CellBit = record { cell = e.num; bit = bit_of e.safe } in
         inr (record { index = f.1.0; entry = e; stands = f.1.1; value = value; is_value = ap (λ (b : Bool). cond b (Some value) None) p.1; cell_is = eqb-true e.num cell p.0 })
 
--- the safe value of the reading entry of a cell, or 0 if there is none
+-- The safe value of the reading entry of a cell, or 0 without one. `safe_value` takes that of the entry for the update
+-- latch if there is one.
 abbrev read_value : RawDevice → ℕ → Bool
 read_value device cell = unwrap_or (option_map (λ (e : Cell). bit_of e.safe) (reading_entry device cell)) false
 

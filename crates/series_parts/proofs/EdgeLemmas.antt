@@ -192,7 +192,7 @@ Labelled n labels es = (e : ℕ × ℕ) → Has es e → IsWithin n e × (get_or
 abbrev OneLabel : List Word → List ℕ → Type 0
 OneLabel names labels = (i j : ℕ) → i < length names → j < length names → at names i ≡ at names j → get_or labels i 0 ≡ get_or labels j 0
 
--- the statement of the next lemma, for the links after the first
+-- if these links lead from one net to another, the lines of the two nets have the same label
 abbrev Rest : List Word → List ℕ → Edges → Type 0
 Rest names labels es = (u v : Word) → leads (map (ends names) es) u v ≡ true → (k l : ℕ) → k < length names → l < length names → at names k ≡ u → at names l ≡ v → get_or labels k 0 ≡ get_or labels l 0
 
@@ -228,7 +228,7 @@ joined_leads nets chain x y (against {b = d} k e p) = by_kind (edge_kind nets ch
     by_kind (inl n) q = ap (λ w. leads (links nets chain) w (at (line_names nets) y)) (sym n.same) ∙ q
     by_kind (inr h) q = leads_back (links nets chain) (at (line_names nets) x) (at (line_names nets) d) (at (line_names nets) y) (has_link nets chain (d, x) h) q
 
--- if links lead from the net of a line to the net of an earlier line, the two lines have the same label
+-- if links lead from the net of one line to the net of another, the two lines have the same label
 labels_agree : (nets : List NetLine) (chain : List ChainLine) (labels : List ℕ) → AreLabels (edges nets chain) labels → (k i : ℕ) → k < length (line_names nets) → i < length (line_names nets) →
     leads (links nets chain) (at (line_names nets) k) (at (line_names nets) i) ≡ true → get_or labels k 0 ≡ get_or labels i 0
 labels_agree nets chain labels h k i within_k within_i p =

@@ -3,7 +3,7 @@ use Rattle.std.proofs.Common.{◌≡◌, ℕ, zero, suc, ◌+◌, ◌<◌, Bool,
 use Rattle.std.specs.Prelude.{find, option_map, is_none}
 use Rattle.std.specs.List.{position_from}
 
--- the place is in the list, its item passes, and no earlier item does
+-- the place is in the list, and its item passes
 pub record Found {A : Type 0} (p : A → Bool) (xs : List A) (d : A) (place : ℕ) : Type 0 where
   pub within : place < length xs
   pub passes : p (get_or xs place d) ≡ true
@@ -44,7 +44,7 @@ some_place p xs d k lt passes (Some m) e =
     ap-lt : (a b n : ℕ) → a ≡ b → a < n → b < n
     ap-lt a b n e lt = omega arith
 
--- if an item passes, its place or an earlier one is found
+-- if some item passes, the place of such an item is found
 pub place_of_item : {A : Type 0} (p : A → Bool) (xs : List A) (d : A) (k : ℕ) → k < length xs → p (get_or xs k d) ≡ true → (m : ℕ) × (position_from p 0 xs ≡ Some m) × Found p xs d m
 place_of_item p xs d k lt passes = some_place p xs d k lt passes (position_from p 0 xs) refl
 
