@@ -143,7 +143,7 @@ new_control board earlier c (safe, n, net, place, pin, en, ep, d, t) = (is, new)
         let p = has_place earlier r.0 r.1 in
         k.new (p.0, r.0, p.1, by_enables board k.net k.pin c k.drives (holds r.0) ∙ r.2)))
 
--- two tested drivers are compatible if and only if one safe setting enables both
+-- two tested drivers are compatible if and only if the setting of their controls is safe
 pair_compatible : (board : RawBoard) → IsBoard board → (m n : ℕ) (a b : Net) (d e : Drive) → HasTestedDriver board m a d → HasTestedDriver board n b e → Decides (are_compatible board (Some d) (Some e)) (IsSafe board (holds (with_driver (with_driver [] d) e)))
 pair_compatible board rules m n a b d e s t = (λ h. safe_setting board (with_driver (with_driver [] d) e) rules (both_together board d e rules h), λ safe. compatible safe)
   where

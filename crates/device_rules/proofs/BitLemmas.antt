@@ -286,7 +286,7 @@ bit_fits ports name at n k start port kept e is here before =
     let within = place_within port.range at k here in
     omega (arith, few, within, before)
 
--- the number of a bit is below the number of all bits
+-- the number of a bit is less than the count of all bits
 pub bit_within : (ports : List Port) (name : List ℕ) (at : Option ℕ) (n k start : ℕ) (port : Port) → position_from (port_named name) 0 ports ≡ Some n → get_or ports n port ≡ port
     → place_in port.range at ≡ Some k → start ≡ bits_of (take n ports) → start + k < bits_of ports
 bit_within ports name at n k start port e is here before =

@@ -57,7 +57,7 @@ bits_kept k first (suc m) (p ∷ ports) port here at =
     filter-append (is_of k) (bits_of_port first p) (bits_from (first + 1) ports) ∙ (ap (λ v. v ++ filter (is_of k) (bits_from (first + 1) ports)) none
     ∙ bits_kept k (first + 1) m ports port (omega arith) at)
 
--- numbers that do not fall, the first of which is at least `low`
+-- numbers that do not decrease, the first of which is at least `low`
 abbrev Rises : ℕ → List ℕ → Type 0
 Rises low [] = Unit {0}
 Rises low (x ∷ xs) = (low ≤ x) × Rises x xs

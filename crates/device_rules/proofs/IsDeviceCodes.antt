@@ -134,7 +134,7 @@ extests (Some code) preload e =
     let parts = and_parts (not (is_all_ones code)) (not (is_same code preload)) e in
     record { own = code; is = refl; not_ones = not-true (is_all_ones code) parts.0; apart = not-true (is_same code preload) parts.1 }
 
--- what the rules say about the preload code and the EXTEST code
+-- the rules on the preload code and the EXTEST code hold
 record CodesStand (edition : Edition) (ops : List Opcode) : Type 0 where
   may_load : may_preload edition (preload_code edition ops) ≡ true
   may_test : extest_holds edition ops ≡ true

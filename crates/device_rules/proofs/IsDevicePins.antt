@@ -23,7 +23,7 @@ use Rattle.device_rules.proofs.IsDeviceLists.{same_name, name_same, earlier, hol
 use Rattle.device_rules.proofs.RangeLemmas.{length_indexes}
 use Rattle.device_rules.proofs.IsDevicePorts.{PortsStand, IsBitOf, is_bit_of, spot, spots_once}
 
--- the port with a name is the only one that has it
+-- the search for the name of a port finds the port
 pub port_is : (ports : List Port) → Once (λ port. port.name) ports → (name : List ℕ) (port : Port) → Has ports port → port.name ≡ name → port_of ports name ≡ Some port
 port_is ports once name port has same = by_found (port_of ports name) refl
   where

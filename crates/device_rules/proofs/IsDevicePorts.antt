@@ -14,7 +14,7 @@ use Rattle.device_rules.proofs.RuleLemmas.{holds}
 use Rattle.device_rules.proofs.BitLemmas.{length_bits}
 use Rattle.device_rules.proofs.IsDeviceLists.{name_same, earlier, holds_at, none_has, Once, once_nil, once_cons, once_tail, once_head, once_append, once_by_order}
 
--- what rule V2 says about the ports
+-- rule V2 holds for the ports
 pub record PortsStand (ports : List Port) : Type 0 where
   pub once : Once (λ port. port.name) ports
   pub ordered : (port : Port) → Has ports port → in_order port.range ≡ true

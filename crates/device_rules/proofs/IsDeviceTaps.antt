@@ -51,7 +51,7 @@ one_more ports (n ∷ names) (m ∷ modes) name mode h new tap =
     apart other new (inr (inl same)) e = clash (bytes_eq name n) (name_same name n (same ∙ sym e)) new
     apart other new (inr (inr k)) e = absurd k
 
--- what the rule says about one attribute
+-- the consequences of the rule for one attribute
 no_range : (range : Option Range) → is_none range ≡ true → range ≡ None
 no_range None e = refl
 no_range (Some range) e = cc e

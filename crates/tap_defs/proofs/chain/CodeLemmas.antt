@@ -120,7 +120,7 @@ all_shifts wiring b (c ∷ bits) choices ps h =
       count = ap suc ih.count;
     }
 
--- one part that enters Update-IR, where its test logic says what the code means
+-- one part that enters Update-IR, where its test logic gives the meaning of the code
 record Updates (logic : TestLogic) (s after : PartState) : Type 0 where
   code : after.ir ≡ s.ir
   current : after.current ≡ instruction_of logic after.ir

@@ -116,7 +116,7 @@ moved_twice : (t u : TapState) (ps : List ChainPart) → map (moved_to u) (map (
 moved_twice t u [] = refl
 moved_twice t u (p ∷ ps) = cons_path refl (moved_twice t u ps)
 
--- the path of a controller through some clocks, and whether these clocks only move the controller
+-- the path of a controller through some clocks, and the test that these clocks only move the controller
 abbrev pub way : TapState → List Clock → TapState
 way t [] = t
 way t (c ∷ cs) = way (next_state t c.tms) cs

@@ -62,7 +62,7 @@ shown_step t (n ∷ chain) pins free tms tdi h e =
     cons_path (part_shown n.logic (pins 0) (free 0) tms tdi n.state (ap (λ (u : TapState). changes (next_state u tms)) h.0 ∙ e))
     (shown_step t chain (λ k. pins (suc k)) (λ k. free (suc k)) tms (part_tdo (free 0) tdi n.state) h.1 e)
 
--- the path of the controllers through some clocks, and whether nothing visible changes on it
+-- the path of the controllers through some clocks, and the test that nothing visible changes on it
 abbrev pub tap_after_all : TapState → List Clock → TapState
 tap_after_all t [] = t
 tap_after_all t (c ∷ cs) = tap_after_all (next_state t c.tms) cs
