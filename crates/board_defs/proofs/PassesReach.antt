@@ -68,7 +68,7 @@ drivers_tested board rules n place (s, safe, (net, en, o)) =
     let p = has_place (passes_of board) r.0 r.1 in
     (p.0, r.0, p.1, (net, en, enabled_observes board net place d.0 r.0 t d.1 r.2))
 
--- some pass observes both nets of each paired pair
+-- for every two paired nets, some pass observes both
 paired_compatible : (board : RawBoard) (a b : Net) → are_paired board a b ≡ true → (pair : Drive × Drive) × Compatible board a b pair
 paired_compatible board a b h =
     let r : FoundBelow (length a.pins) (λ i. any_below (length b.pins) (pairs_at board a b i)) = below_place (length a.pins) (λ i. any_below (length b.pins) (pairs_at board a b i)) h in

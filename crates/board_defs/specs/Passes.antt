@@ -78,7 +78,7 @@ add_for_driver board useful passes d = cond (list_any (λ pass. is_enabled pass 
 abbrev pub driver_passes : RawBoard → List Ctl → List Drive → List (List Ctl)
 driver_passes board useful drivers = fold (add_for_driver board useful) [] drivers
 
--- the pass enables one of the net's tested drivers, so it observes the net
+-- the pass enables one of the net's tested drivers, so the pass observes the net
 abbrev pub shows : List Drive → List Ctl → Bool
 shows drivers pass = list_any (is_enabled pass) drivers
 
@@ -95,11 +95,11 @@ abbrev pub pairs_within : {X : Type 0} → List X → List (X × X)
 pairs_within [] = []
 pairs_within (x ∷ xs) = map (λ y. (x, y)) xs ++ pairs_within xs
 
--- the first pair of a tested driver of each net for which one safe setting enables both
+-- the first pair of tested drivers, one of each net, that one safe setting enables together
 abbrev pub first_pair : RawBoard → List Drive → List Drive → Option (Drive × Drive)
 first_pair board a b = find (λ pair. are_compatible board (Some pair.0) (Some pair.1)) (pairs_of a b)
 
--- the pass that is made for two paired nets that no earlier pass observes together, by this pair of drivers
+-- the pass that is made for two paired nets, from this pair of their drivers; no earlier pass observes both nets
 abbrev pub pair_pass : RawBoard → List Ctl → Drive × Drive → List Ctl
 pair_pass board useful pair = second_walk board useful (with_driver (with_driver [] pair.0) pair.1)
 
@@ -112,7 +112,7 @@ with_pair board useful passes (Some pair) = passes ++ pair_pass board useful pai
 abbrev pub add_for_nets : RawBoard → List Ctl → List (List Ctl) → List Drive × List Drive → List (List Ctl)
 add_for_nets board useful passes nets = cond (are_shown passes nets.0 nets.1) passes (with_pair board useful passes (first_pair board nets.0 nets.1))
 
--- the passes, followed by those that are made for the pairs of nets in turn, so that some pass observes both nets of each paired pair
+-- The passes, followed by those that are made for the pairs of nets in turn. For every two paired nets, some pass then observes both.
 abbrev pub pair_passes : RawBoard → List Ctl → List (List Ctl) → List (List Drive) → List (List Ctl)
 pair_passes board useful passes nets = fold (add_for_nets board useful) passes (pairs_within nets)
 
@@ -131,7 +131,7 @@ passes_of board =
 abbrev pub SomePass : List (List Ctl) → (Enabling → Type 0) → Type 0
 SomePass passes P = (x : ℕ) × (pass : List Ctl) × (slice_get passes x ≡ Some pass) × P (holds pass)
 
--- the pass enables a tested driver and observes its net by it, and no earlier pass does
+-- the pass observes a net by one of its tested drivers, by which no earlier pass observes the net
 pub record EnablesNew (board : RawBoard) (earlier : List (List Ctl)) (pass : List Ctl) : Type 0 where
   pub net : ℕ
   pub place : ℕ

@@ -253,7 +253,7 @@ ends_full text tokens to line token w e full = ended text tokens to line (Err (T
 pub ends_whole : (text : List ℕ) (tokens : List Token) (to line : ℕ) → WalksTo text tokens to line → Ok None ≡ step text to line → IsAnswer text tokens (Ok tt)
 ends_whole text tokens to line w e = ended text tokens to line (Ok tt) (Ok None) w (sym e) refl
 
--- the result of a function that gives an answer is the only answer
+-- if a function gives an answer for a text, it is the only answer for this text
 pub only_answer : (text : List ℕ) (tokens : List Token) (result : Result (Unit {0}) LexFault) → Gives lex_told (λ done. done) (IsAnswer text tokens) result
     → Gives lex_told (λ done. done) (λ answer. (others : List Token) (other : Result (Unit {0}) LexFault) → IsAnswer text others other → (others ≡ tokens) × (other ≡ answer)) result
 only_answer text tokens (Err fault) h = IfSome_then (lex_told fault) h (λ f is others other k. one_answer text others tokens other (Err f) k is)

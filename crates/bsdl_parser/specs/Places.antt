@@ -85,6 +85,6 @@ mode = place (λ token. if is_word token.kind then mode_of token.spelled else No
 abbrev pub other_than : List ℕ → Phrase Bool
 other_than name = place (λ token. Some (if is_the_mark name token then false else true))
 
--- a word or the mark `name`, with the value whether it is a word
+-- a word or the mark `name`; the value is true for a word
 abbrev pub word_or_mark : List ℕ → Phrase Bool
 word_or_mark name = place (λ token. if is_word token.kind then Some true else some_if (is_the_mark name token) false)

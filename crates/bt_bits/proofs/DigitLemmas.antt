@@ -222,7 +222,7 @@ bits_of-append [] high = refl
 bits_of-append (x ∷ low) high =
     ap (λ t. digit_bit x 0 ∷ digit_bit x 1 ∷ digit_bit x 2 ∷ digit_bit x 3 ∷ t) (bits_of-append low high)
 
--- the bits from len on are those of the last digit
+-- the bits from `len` on are the last bits of the last digit
 pub drop-bits_of : (digits : List ℕ) (len : ℕ) → length digits ≡ digit_count len → 0 < len % 4 → drop len (bits_of digits) ≡ drop (len % 4) (bits_of (get_or digits (len / 4) 0 ∷ []))
 drop-bits_of [] len sized some = absurd (omega arith)
 drop-bits_of (x ∷ []) zero sized some = absurd (omega arith)

@@ -12,7 +12,7 @@ use std::marker::Model;
 // A word in which each digit has only its lowest bit set.
 const LOWEST: u64 = 0x1111_1111_1111_1111;
 
-// The entry for a digit has each of its four bits in a digit of its own, as the lowest bit.
+// Entry `d` has the four bits of the digit `d`, each as the lowest bit of a digit of its own.
 const SPREAD: [u64; 16] = [
     0x0000, 0x0001, 0x0010, 0x0011, 0x0100, 0x0101, 0x0110, 0x0111, 0x1000, 0x1001, 0x1010, 0x1011,
     0x1100, 0x1101, 0x1110, 0x1111,

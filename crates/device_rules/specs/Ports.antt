@@ -71,7 +71,7 @@ bits_from number (port ∷ ports) = bits_of_port number port ++ bits_from (numbe
 abbrev pub port_bits : List Port → List Bit
 port_bits ports = bits_from 0 ports
 
--- A word with the index `index` can name a bit whose index is the second argument: both are None, or both are the same number.
+-- A word with the first index can name a bit with the second index. Either both are None, or both are the same number.
 abbrev pub has_index : Option ℕ → Option ℕ → Bool
 has_index None index = is_none index
 has_index (Some number) index = is_on number index

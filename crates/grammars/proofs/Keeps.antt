@@ -13,8 +13,8 @@ pub total-append : {T : Type 0} (weight : T → ℕ) (xs ys : List T) → total 
 total-append weight [] ys = omega arith
 total-append weight (x ∷ xs) ys = let e : total weight (xs ++ ys) ≡ total weight xs + total weight ys = total-append weight xs ys in omega arith
 
--- The fact is true of every value of the production. Its number is the weight of the value's tokens, added to what was
--- given before.
+-- The fact is true of every value of the production and a number. The number is `given` plus the weight of the tokens
+-- from which the value is read.
 abbrev pub Kept : {T A : Type 0} → (T → ℕ) → Production T A → ℕ → (ℕ → A → Type 0) → Type 0
 Kept {T} {A} weight p given Fact = (tokens : List T) (a : A) → p.Whole tokens a → Fact (given + total weight tokens) a
 

@@ -1,4 +1,4 @@
--- Described parts with identification codes (IEEE 1149.1-1990, section 11), and when a code fits a pattern.
+-- Described parts with identification codes (IEEE 1149.1-1990, section 11), and codes that fit a pattern.
 use Rattle.std.specs.Prelude.{◌≡◌, ℕ, suc, Bool, true, not, ◌&&◌, List, [], ◌∷◌, length, Option, Some, None}
 use Rattle.board_defs.specs.declared.device.Symbol.{Symbol}
 use Rattle.board_defs.specs.declared.device.Symbol.TheVariants.{Zero, One, Any}

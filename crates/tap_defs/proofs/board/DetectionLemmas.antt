@@ -21,7 +21,7 @@ use Rattle.tap_defs.proofs.board.FeedingLemmas.{NetRules, dead_at, carries, cut_
 use Rattle.tap_defs.proofs.board.ReadingLemmas.{AllRead, compared, compared_at}
 use Rattle.tap_defs.proofs.board.WrongLemmas.{Compared, IsDead, wrong_if_constant, wrong_if_shorted}
 
--- the scan after the one that shifts this row in is wrong
+-- if a scan shifts this row in, the scan after it is wrong
 abbrev pub WrongAt : RawBoard → FaultSet → TestRow → Type 0
 WrongAt board faults row =
     (before now : TestRow) → IsWrong board faults (shifted_row board (record { now = row; before = before })) (record { now = now; before = row })

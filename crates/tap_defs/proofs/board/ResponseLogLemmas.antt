@@ -169,7 +169,8 @@ module _ (board : RawBoard) (rules : IsBoard board) (faults : FaultSet) (scans :
         (merge board faults scans quiet_row log follow (of_each board faults (compared_scans board scans) log (λ x scan logged e f choice. h x scan logged choice e f)));
   }
 
-  -- faults explain a log if and only if each of its rows is what is captured
+  -- faults explain a log if and only if the log has the shape for the scans and its rows have the bits that are captured
+  -- under the faults
   pub explained_by_rows : (log : List (List Bool)) → ExplainedBy board faults scans log ↔ (HasShape board scans log × IsCapturedBy board faults scans log)
   explained_by_rows log = (λ h. (h.shape, captured_rows log h), λ h. explained_rows log h.0 h.1)
 
