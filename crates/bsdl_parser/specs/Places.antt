@@ -44,11 +44,11 @@ keyword name = place (λ token. some_if (is_the_word name token) tt)
 abbrev pub mark : List ℕ → Phrase (Unit {0})
 mark name = place (λ token. some_if (is_the_mark name token) tt)
 
--- one of two words, with the value whether it is the first
+-- one of two words; the value is true for the first
 abbrev pub either_word : List ℕ → List ℕ → Phrase Bool
 either_word first second = place (λ token. if is_the_word first token then Some true else some_if (is_the_word second token) false)
 
--- one of two marks, with the value whether it is the first
+-- one of two marks; the value is true for the first
 abbrev pub either_mark : List ℕ → List ℕ → Phrase Bool
 either_mark first second = place (λ token. if is_the_mark first token then Some true else some_if (is_the_mark second token) false)
 

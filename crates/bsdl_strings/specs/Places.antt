@@ -94,11 +94,11 @@ Part A = Grammar (List ℕ) A
 abbrev pub mark : ℕ → Part (Unit {0})
 mark byte = place (λ piece. some_if (is_mark byte piece) tt)
 
--- one of two marks, with the value whether it is the first
+-- one of two marks; the value is true for the first
 abbrev pub either_mark : ℕ → ℕ → Part Bool
 either_mark first second = place (λ piece. if is_mark first piece then Some true else some_if (is_mark second piece) false)
 
--- a comma or the end of the string, with the value whether it is the comma
+-- a comma or the end of the string; the value is true for a comma
 abbrev pub comma_or_end : Part Bool
 comma_or_end = place (λ piece. if is_mark comma piece then Some true else some_if (is_end piece) false)
 
@@ -130,7 +130,7 @@ code = place (λ piece. some_if (is_code piece) (code_of piece))
 abbrev pub safe_value : Part Symbol
 safe_value = place (λ piece. if is_mark 48 piece then Some Zero else if is_mark 49 piece then Some One else some_if (bytes_eq (upper piece) (codes "X")) Any)
 
--- value = 0 | 1, with the value whether it is 1
+-- value = 0 | 1; the result is true for 1
 abbrev pub bit_value : Part Bool
 bit_value = either_mark 49 48
 
@@ -142,8 +142,8 @@ role = place (λ piece. role_of (upper piece))
 abbrev pub result_word : Part (Unit {0})
 result_word = place (λ piece. some_if (is_result (upper piece)) tt)
 
--- The mark after the port name of a compliance bit. The value is None if an index follows, and otherwise whether another bit
--- follows.
+-- The mark after the port name of a compliance bit. The value is None if an index follows, Some true if another bit follows, and
+-- Some false if the list ends.
 abbrev pub after_bit : Part (Option Bool)
 after_bit = place (λ piece. if is_mark open_mark piece then Some None else if is_mark comma piece then Some (Some true) else some_if (is_mark close_mark piece) (Some false))
 

@@ -34,7 +34,7 @@ fn bit_from(
     }
 }
 
-/// Reads a compliance bit and the mark after it. Returns the bit, and whether another bit follows.
+/// Reads a compliance bit and the mark after it. Returns the bit, and true if another bit follows.
 #[tactic(auto, unfolding(crate::specs::Strings::bit))]
 fn bit(alloc: Global, text: &[u8]) -> Result<((PortWord, bool), &[u8]), Stop<'_>>
     ensures { ReadsPieces (λ x. found x.0 (pieces x.1.now)) result (reader_of any_bit (pieces text.now)) }

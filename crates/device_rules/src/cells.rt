@@ -10,7 +10,7 @@ use bsdl_strings::Entry;
 use lists::is_set;
 use std::alloc::{AllocError, Global};
 
-/// Returns a flag for each cell, which says whether the cell has an entry.
+/// Returns a flag for each cell, which is true if the cell has an entry.
 fn cells_with_entry(
     alloc: Global,
     boundary: u32,
@@ -27,7 +27,7 @@ fn cells_with_entry(
     Ok(table)
 }
 
-/// Returns a flag for each cell, which says whether the cell controls an entry with this disable value.
+/// Returns a flag for each cell, which is true if the cell controls an entry with this disable value.
 fn cells_disabling_by(
     alloc: Global,
     value: bool,

@@ -15,7 +15,7 @@ fn wants_control(role: Role) -> bool
     matches!(role, Role::Output3 | Role::Bidir)
 }
 
-/// Returns a flag for each cell, which says whether the cell has a CONTROL or CONTROLR entry.
+/// Returns a flag for each cell, which is true if the cell has a CONTROL or CONTROLR entry.
 fn control_cells(alloc: Global, boundary: u32, entries: &[Entry]) -> Result<Vec<bool>, AllocError>
     ensures { IfOk result (λ table. Marks is_control_of entries.now boundary table.items) }
 {

@@ -75,7 +75,7 @@ abbrev pub is_same : List Symbol → Option (List Symbol) → Bool
 is_same code None = false
 is_same code (Some other) = same_code code other
 
--- EXTEST is listed, and its code does not have only ones and is not the preload code
+-- EXTEST is listed, its code is not all ones, and its code is not the preload code
 abbrev pub may_extest : Option (List Symbol) → Option (List Symbol) → Bool
 may_extest None preload = false
 may_extest (Some code) preload = not (is_all_ones code) && not (is_same code preload)

@@ -73,7 +73,7 @@ fn is_contended(pins: &[PinFacts]) -> bool
     }
 }
 
-/// Returns a flag for each net, which says whether the net has drivers of two different controls.
+/// Returns a flag for each net, which is true if the net has drivers of two different controls.
 pub fn contended_nets(alloc: Global, nets: &[NetFacts]) -> Result<Vec<bool>, AllocError>
     ensures { IfOk result (λ flags. flags.items ≡ flags_of nets.now) }
 {

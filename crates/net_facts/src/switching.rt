@@ -76,8 +76,8 @@ fn blank_table(alloc: Global, chain: &[Part]) -> Result<Vec<Vec<bool>>, AllocErr
     Ok(rows)
 }
 
-/// Returns a flag for each port bit of each part, which says whether the pin is on an unguarded net that is pulled to
-/// `value`.
+/// Returns a flag for each port bit of each part, which is true if the bit's pin is on an unguarded net that is pulled
+/// to `value`.
 pub fn pulled_bits(
     alloc: Global,
     chain: &[Part],

@@ -15,7 +15,7 @@ pub struct PinTables {
     pub firsts: Items<u32>,
     /// The entries of each port bit of each part.
     pub entries: Items<Items<BitEntries>>,
-    /// A flag for each net, which says whether the net is guarded. On a guarded net, no setting may enable a controlled
+    /// A flag for each net, which is true if the net is guarded. On a guarded net, no setting may enable a controlled
     /// or a one-sided driver. No setting observes such a net, so none of its drivers is kept, not even one that is
     /// always on.
     pub guarded: Items<bool>,

@@ -56,7 +56,7 @@ fn push_link_edges(
     Ok(())
 }
 
-/// Returns the first line with this name, or `place` if there is none.
+/// Returns the place of the first line with this name, or `place` if no line has the name.
 fn first_of(names: &Names<'_>, name: &[u8], place: usize) -> usize
     ensures { result ≡ unwrap_or (name_place names.now name.now) place }
 {
