@@ -1,4 +1,4 @@
--- The functions of boundary entries, and the rules of devices: those that the fields of every device keep.
+-- The functions of boundary entries, and the rules that every device keeps.
 use Rattle.std.specs.Prelude.{◌≡◌, ◌≢◌, ◌⊎◌, ℕ, ◌+◌, ◌-◌, ◌<◌, ◌≤◌, ◌==◌, Bool, true, false, ◌&&◌, ◌||◌, List, [], ◌∷◌, length, map, reverse, filter, find, count_by, Option, Some, None, option_map, is_some, All, AllPairs, Contains, IsSome, IsNone, IfSome, slice_get, nat_le, cond, IsTrue}
 use Rattle.std.specs.List.{list_any, list_all, range_with_len}
 use Rattle.std.specs.List.Sorted.{IsNonDecreasing}

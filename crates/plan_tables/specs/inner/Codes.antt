@@ -43,7 +43,7 @@ marked flags cells = assigned (λ d. d.net) (λ d. true) flags cells
 abbrev pub marked_on : RawBoard → DriverTable → List Bool → List Ctl → List Bool
 marked_on board table flags pass = fold (λ done c. marked done (controlled board table.rows c)) (marked flags table.always) pass
 
--- for each of the first `nets` nets, a flag that says whether the net has a driver cell that is steady or belongs to a pass
+-- for each of the first `nets` nets, a flag that is true if the net has a driver cell that is steady or belongs to a pass
 abbrev pub seen_in : RawBoard → ℕ → List DriverCell → DriverTable → List (List Ctl) → List Bool
 seen_in board nets steady table passes = fold (marked_on board table) (marked (replicate nets false) steady) passes
 

@@ -10,11 +10,12 @@ use Rattle.plan_tables.specs.declared.uses.Uses.{Uses}
 use Rattle.plan_tables.specs.Assigned.{assigned}
 use Rattle.plan_tables.specs.Tables.{PassCells, held_cell, ArePassCells}
 
--- the flags after those of these cells are set
+-- the flags, with those of these cells set
 abbrev pub marked_held : List Bool → List HeldCell → List Bool
 marked_held flags held = assigned (λ h. h.position) (λ h. true) flags held
 
--- the runs after pass `k` has a control with its cell at the position; if all earlier passes have one, the run gets longer by one
+-- The runs after pass `k`, which has a control with its cell at the position. The run of this position gets longer by one if
+-- every earlier pass has such a control.
 abbrev pub run_at : ℕ → List ℕ → ℕ → List ℕ
 run_at k runs position = cond (slice_index_or runs position 0 == k) (slice_set runs position (suc k)) runs
 
