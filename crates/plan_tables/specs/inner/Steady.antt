@@ -30,7 +30,7 @@ HoldsAt held position = (h : HeldCell) × Contains held h × (h.position ≡ pos
 abbrev pub held_by : RawBoard → List Bool → List (List Ctl) → List (List HeldCell)
 held_by board quiet passes = map (λ pass. map (held_cell board quiet) pass) passes
 
--- the flags after those of the cells of all passes' controls are set
+-- the flags, with those of the cells of all passes' controls set
 abbrev pub all_marked : RawBoard → List Bool → List Bool → List (List Ctl) → List Bool
 all_marked board quiet flags passes = fold (λ done pass. marked_held done (map (held_cell board quiet) pass)) flags passes
 
