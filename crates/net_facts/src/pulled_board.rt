@@ -16,9 +16,11 @@ use std::marker::Model;
 #[derive(Drop)]
 pub struct PulledBoard<'a, 'b> {
     board: &'a BoardPins<'b>,
-    /// A flag for each port bit of each part, which is set if the pin is on an unguarded net that is pulled to 0.
+    /// A flag for each port bit of each part, which is true if the bit's pin is on an unguarded net that is pulled to
+    /// 0.
     low: Vec<Vec<bool>>,
-    /// A flag for each port bit of each part, which is set if the pin is on an unguarded net that is pulled to 1.
+    /// A flag for each port bit of each part, which is true if the bit's pin is on an unguarded net that is pulled to
+    /// 1.
     high: Vec<Vec<bool>>,
 }
 

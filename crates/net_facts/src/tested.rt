@@ -31,7 +31,7 @@ pub fn is_safe(rows: &[Vec<ControlClass>], c: Ctl) -> bool
     }
 }
 
-/// Returns whether the table has the control and it is marked as useful.
+/// Returns whether the table has the control and marks the control as useful.
 pub fn is_useful(rows: &[Vec<ControlClass>], c: Ctl) -> bool
     ensures { result ≡ useful_in (table rows.now) c }
 {

@@ -66,7 +66,7 @@ fn first_of(names: &Names<'_>, name: &[u8], place: usize) -> usize
     }
 }
 
-/// Returns the edges from each line to the first line with its name.
+/// Returns the edges from each line to the first line with the same name.
 fn name_edges(alloc: Global, names: &Names<'_>) -> Result<Vec<(usize, usize)>, AllocError>
     ensures { IfOk result (λ edges. edges.items ≡ name_edges names.now 0 names.now) }
 {

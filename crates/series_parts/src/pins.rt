@@ -28,7 +28,7 @@ fn put_pins<'a>(
     Ok(())
 }
 
-/// Returns a map from each pin to the first line with that pin.
+/// Returns a map from each pin to the place of the first line with that pin.
 fn pin_places<'a>(
     alloc: Global,
     lines: &'a [NetLine],

@@ -105,7 +105,7 @@ module _ (board : RawBoard) (rules : IsBoard board) (faults : FaultSet) where
             held = (stays_of board rules faults (sdr_clocks scan.bits) free chain h.0, d.in_test);
           }
 
-  -- if the scans pass with what is captured, a run of them passes
+  -- if the scans pass with the bits that are captured, a run of the scans passes
   pub run_follows : (ts : List RowScan) (scans : List Scan) (row before : TestRow) (free : Choices) (chain : List ChainPart) →
       Held row before chain → ShiftRows board ts scans →
       CapturesPass board faults row ts scans → run_passes (all_clocks scans) (tdos around (all_clocks scans) free chain) ≡ true
