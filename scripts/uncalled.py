@@ -35,6 +35,7 @@ TESTS = {
     "value_tests",
     "device_bench",
     "device_tests",
+    "bench_tests",
     "run_bench",
     "worked_rows",
     "log_rows",

@@ -2,8 +2,6 @@
 #![tactic(auto)]
 
 #[cfg(test)]
-mod benches;
-#[cfg(test)]
 mod devices;
 #[cfg(test)]
 mod lexing;

@@ -1,8 +1,6 @@
-//! Tests of public calls that the program doesn't make, and of the benches: a bench must report each kind of wrong answer.
+//! Tests of public calls that the program doesn't make.
 #![tactic(auto)]
 
-#[cfg(test)]
-mod benches;
 #[cfg(test)]
 mod boards;
 #[cfg(test)]

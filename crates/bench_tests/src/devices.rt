@@ -1,4 +1,4 @@
-//! Cases that don't hold. Each function of the bench must report such a case, whatever differs.
+// Cases that don't hold. Each function of the bench must report such a case, whatever differs.
 use board_defs::Symbol;
 use bsdl_lexer::LexFault::{self, Byte};
 use bsdl_parser::ParseFault::Expected;
