@@ -1,7 +1,7 @@
 mod TextLemmas
 mod OrderLemmas
 mod StringLemmas
-mod SearchLemmas
+mod FoundLemmas
 mod AnswerLemmas
 mod OneAnswer
 mod SomeAnswer

@@ -8,7 +8,9 @@ use Rattle.bsdl_strings.specs.declared.values.Opcode.{Opcode}
 use Rattle.bsdl_strings.specs.Strings.{IsPinMap, AreOpcodes, IsPattern, IsCompliance}
 use Rattle.device_check.specs.declared.fault.DeviceFault.{DeviceFault}
 use Rattle.device_check.specs.declared.fault.DeviceFault.TheVariants.{Rule, Text, Memory}
-use Rattle.device_check.specs.Attributes.{needed_text, text_of, pin_map_text}
+use Rattle.device_check.specs.declared.sources.Attribute.TheVariants.{IdcodeRegister, CompliancePatterns}
+use Rattle.device_check.specs.Attributes.{text_of}
+use Rattle.device_check.specs.Needed.{Found}
 use Rattle.device_check.specs.DeviceStrings.{MayBe, DeviceString, pin_map, opcodes, capture, idcode, compliance, boundary, IsRead, LeavesBy, LeavesFirst, in_order}
 use Rattle.device_check.specs.inner.Reading.{NamesPlace}
 
@@ -19,11 +21,11 @@ weaker f (Text attribute entry) h = f attribute entry h
 weaker f (Memory error) h = tt
 
 -- the first string leaves its grammar, or it is read and one of the others is the first
-first_leaves : (entity : Entity) (given : Option (List ℕ)) (string : DeviceString) (strings : List DeviceString) (fault : DeviceFault) → NamesPlace (LeavesBy entity given string) fault → NamesPlace (LeavesFirst entity given (string ∷ strings)) fault
-first_leaves entity given string strings fault h = weaker (λ attribute entry k. inl k) fault h
+first_leaves : (entity : Entity) (found : Found) (string : DeviceString) (strings : List DeviceString) (fault : DeviceFault) → NamesPlace (LeavesBy entity found string) fault → NamesPlace (LeavesFirst entity found (string ∷ strings)) fault
+first_leaves entity found string strings fault h = weaker (λ attribute entry k. inl k) fault h
 
-later_leaves : (entity : Entity) (given : Option (List ℕ)) (string : DeviceString) (strings : List DeviceString) (fault : DeviceFault) → IsRead entity given string → NamesPlace (LeavesFirst entity given strings) fault → NamesPlace (LeavesFirst entity given (string ∷ strings)) fault
-later_leaves entity given string strings fault read h = weaker (λ attribute entry k. inr (read, k)) fault h
+later_leaves : (entity : Entity) (found : Found) (string : DeviceString) (strings : List DeviceString) (fault : DeviceFault) → IsRead entity found string → NamesPlace (LeavesFirst entity found strings) fault → NamesPlace (LeavesFirst entity found (string ∷ strings)) fault
+later_leaves entity found string strings fault read h = weaker (λ attribute entry k. inr (read, k)) fault h
 
 abbrev from_boundary : List DeviceString
 from_boundary = boundary ∷ []
@@ -40,40 +42,40 @@ from_capture = capture ∷ from_idcode
 abbrev from_opcodes : List DeviceString
 from_opcodes = opcodes ∷ from_capture
 
-pub in_pin_map : (entity : Entity) (given : Option (List ℕ)) (fault : DeviceFault) → NamesPlace (LeavesBy entity given pin_map) fault → NamesPlace (LeavesFirst entity given in_order) fault
-in_pin_map entity given fault h = first_leaves entity given pin_map from_opcodes fault h
+pub in_pin_map : (entity : Entity) (found : Found) (fault : DeviceFault) → NamesPlace (LeavesBy entity found pin_map) fault → NamesPlace (LeavesFirst entity found in_order) fault
+in_pin_map entity found fault h = first_leaves entity found pin_map from_opcodes fault h
 
-behind_map : (entity : Entity) (given : Option (List ℕ)) (fault : DeviceFault) (map : List MapEntry) → IsPinMap (pin_map_text entity given) map → NamesPlace (LeavesFirst entity given from_opcodes) fault → NamesPlace (LeavesFirst entity given in_order) fault
-behind_map entity given fault map is h = later_leaves entity given pin_map from_opcodes fault (map, is) h
+behind_map : (entity : Entity) (found : Found) (fault : DeviceFault) (map : List MapEntry) → IsPinMap found.chosen.pin_map map → NamesPlace (LeavesFirst entity found from_opcodes) fault → NamesPlace (LeavesFirst entity found in_order) fault
+behind_map entity found fault map is h = later_leaves entity found pin_map from_opcodes fault (map, is) h
 
-pub in_opcodes : (entity : Entity) (given : Option (List ℕ)) (fault : DeviceFault) (map : List MapEntry) → IsPinMap (pin_map_text entity given) map → NamesPlace (LeavesBy entity given opcodes) fault → NamesPlace (LeavesFirst entity given in_order) fault
-in_opcodes entity given fault map is h = behind_map entity given fault map is (first_leaves entity given opcodes from_capture fault h)
+pub in_opcodes : (entity : Entity) (found : Found) (fault : DeviceFault) (map : List MapEntry) → IsPinMap found.chosen.pin_map map → NamesPlace (LeavesBy entity found opcodes) fault → NamesPlace (LeavesFirst entity found in_order) fault
+in_opcodes entity found fault map is h = behind_map entity found fault map is (first_leaves entity found opcodes from_capture fault h)
 
-behind_opcodes : (entity : Entity) (given : Option (List ℕ)) (fault : DeviceFault) (map : List MapEntry) (ops : List Opcode) → IsPinMap (pin_map_text entity given) map → AreOpcodes (needed_text entity 7) ops
-    → NamesPlace (LeavesFirst entity given from_capture) fault → NamesPlace (LeavesFirst entity given in_order) fault
-behind_opcodes entity given fault map ops is are h = behind_map entity given fault map is (later_leaves entity given opcodes from_capture fault (ops, are) h)
+behind_opcodes : (entity : Entity) (found : Found) (fault : DeviceFault) (map : List MapEntry) (ops : List Opcode) → IsPinMap found.chosen.pin_map map → AreOpcodes found.registers.opcodes ops
+    → NamesPlace (LeavesFirst entity found from_capture) fault → NamesPlace (LeavesFirst entity found in_order) fault
+behind_opcodes entity found fault map ops is are h = behind_map entity found fault map is (later_leaves entity found opcodes from_capture fault (ops, are) h)
 
-pub in_capture : (entity : Entity) (given : Option (List ℕ)) (fault : DeviceFault) (map : List MapEntry) (ops : List Opcode) → IsPinMap (pin_map_text entity given) map → AreOpcodes (needed_text entity 7) ops
-    → NamesPlace (LeavesBy entity given capture) fault → NamesPlace (LeavesFirst entity given in_order) fault
-in_capture entity given fault map ops is are h = behind_opcodes entity given fault map ops is are (first_leaves entity given capture from_idcode fault h)
+pub in_capture : (entity : Entity) (found : Found) (fault : DeviceFault) (map : List MapEntry) (ops : List Opcode) → IsPinMap found.chosen.pin_map map → AreOpcodes found.registers.opcodes ops
+    → NamesPlace (LeavesBy entity found capture) fault → NamesPlace (LeavesFirst entity found in_order) fault
+in_capture entity found fault map ops is are h = behind_opcodes entity found fault map ops is are (first_leaves entity found capture from_idcode fault h)
 
-behind_capture : (entity : Entity) (given : Option (List ℕ)) (fault : DeviceFault) (map : List MapEntry) (ops : List Opcode) (code : List Symbol) → IsPinMap (pin_map_text entity given) map → AreOpcodes (needed_text entity 7) ops
-    → IsPattern (needed_text entity 8) code → NamesPlace (LeavesFirst entity given from_idcode) fault → NamesPlace (LeavesFirst entity given in_order) fault
-behind_capture entity given fault map ops code is are captured h = behind_opcodes entity given fault map ops is are (later_leaves entity given capture from_idcode fault (code, captured) h)
+behind_capture : (entity : Entity) (found : Found) (fault : DeviceFault) (map : List MapEntry) (ops : List Opcode) (code : List Symbol) → IsPinMap found.chosen.pin_map map → AreOpcodes found.registers.opcodes ops
+    → IsPattern found.registers.capture code → NamesPlace (LeavesFirst entity found from_idcode) fault → NamesPlace (LeavesFirst entity found in_order) fault
+behind_capture entity found fault map ops code is are captured h = behind_opcodes entity found fault map ops is are (later_leaves entity found capture from_idcode fault (code, captured) h)
 
-pub in_idcode : (entity : Entity) (given : Option (List ℕ)) (fault : DeviceFault) (map : List MapEntry) (ops : List Opcode) (code : List Symbol) → IsPinMap (pin_map_text entity given) map → AreOpcodes (needed_text entity 7) ops
-    → IsPattern (needed_text entity 8) code → NamesPlace (LeavesBy entity given idcode) fault → NamesPlace (LeavesFirst entity given in_order) fault
-in_idcode entity given fault map ops code is are captured h = behind_capture entity given fault map ops code is are captured (first_leaves entity given idcode from_compliance fault h)
+pub in_idcode : (entity : Entity) (found : Found) (fault : DeviceFault) (map : List MapEntry) (ops : List Opcode) (code : List Symbol) → IsPinMap found.chosen.pin_map map → AreOpcodes found.registers.opcodes ops
+    → IsPattern found.registers.capture code → NamesPlace (LeavesBy entity found idcode) fault → NamesPlace (LeavesFirst entity found in_order) fault
+in_idcode entity found fault map ops code is are captured h = behind_capture entity found fault map ops code is are captured (first_leaves entity found idcode from_compliance fault h)
 
-behind_idcode : (entity : Entity) (given : Option (List ℕ)) (fault : DeviceFault) (map : List MapEntry) (ops : List Opcode) (code : List Symbol) (id : Option (List Symbol)) → IsPinMap (pin_map_text entity given) map → AreOpcodes (needed_text entity 7) ops
-    → IsPattern (needed_text entity 8) code → MayBe IsPattern (text_of entity 12) id → NamesPlace (LeavesFirst entity given from_compliance) fault → NamesPlace (LeavesFirst entity given in_order) fault
-behind_idcode entity given fault map ops code id is are captured known h = behind_capture entity given fault map ops code is are captured (later_leaves entity given idcode from_compliance fault (id, known) h)
+behind_idcode : (entity : Entity) (found : Found) (fault : DeviceFault) (map : List MapEntry) (ops : List Opcode) (code : List Symbol) (id : Option (List Symbol)) → IsPinMap found.chosen.pin_map map → AreOpcodes found.registers.opcodes ops
+    → IsPattern found.registers.capture code → MayBe IsPattern (text_of entity IdcodeRegister) id → NamesPlace (LeavesFirst entity found from_compliance) fault → NamesPlace (LeavesFirst entity found in_order) fault
+behind_idcode entity found fault map ops code id is are captured known h = behind_capture entity found fault map ops code is are captured (later_leaves entity found idcode from_compliance fault (id, known) h)
 
-pub in_compliance : (entity : Entity) (given : Option (List ℕ)) (fault : DeviceFault) (map : List MapEntry) (ops : List Opcode) (code : List Symbol) (id : Option (List Symbol)) → IsPinMap (pin_map_text entity given) map → AreOpcodes (needed_text entity 7) ops
-    → IsPattern (needed_text entity 8) code → MayBe IsPattern (text_of entity 12) id → NamesPlace (LeavesBy entity given compliance) fault → NamesPlace (LeavesFirst entity given in_order) fault
-in_compliance entity given fault map ops code id is are captured known h = behind_idcode entity given fault map ops code id is are captured known (first_leaves entity given compliance from_boundary fault h)
+pub in_compliance : (entity : Entity) (found : Found) (fault : DeviceFault) (map : List MapEntry) (ops : List Opcode) (code : List Symbol) (id : Option (List Symbol)) → IsPinMap found.chosen.pin_map map → AreOpcodes found.registers.opcodes ops
+    → IsPattern found.registers.capture code → MayBe IsPattern (text_of entity IdcodeRegister) id → NamesPlace (LeavesBy entity found compliance) fault → NamesPlace (LeavesFirst entity found in_order) fault
+in_compliance entity found fault map ops code id is are captured known h = behind_idcode entity found fault map ops code id is are captured known (first_leaves entity found compliance from_boundary fault h)
 
-pub in_boundary : (entity : Entity) (given : Option (List ℕ)) (fault : DeviceFault) (map : List MapEntry) (ops : List Opcode) (code : List Symbol) (id : Option (List Symbol)) (value : Option Compliance) → IsPinMap (pin_map_text entity given) map → AreOpcodes (needed_text entity 7) ops
-    → IsPattern (needed_text entity 8) code → MayBe IsPattern (text_of entity 12) id → MayBe IsCompliance (text_of entity 13) value → NamesPlace (LeavesBy entity given boundary) fault → NamesPlace (LeavesFirst entity given in_order) fault
-in_boundary entity given fault map ops code id value is are captured known complies h =
-    behind_idcode entity given fault map ops code id is are captured known (later_leaves entity given compliance from_boundary fault (value, complies) (first_leaves entity given boundary [] fault h))
+pub in_boundary : (entity : Entity) (found : Found) (fault : DeviceFault) (map : List MapEntry) (ops : List Opcode) (code : List Symbol) (id : Option (List Symbol)) (value : Option Compliance) → IsPinMap found.chosen.pin_map map → AreOpcodes found.registers.opcodes ops
+    → IsPattern found.registers.capture code → MayBe IsPattern (text_of entity IdcodeRegister) id → MayBe IsCompliance (text_of entity CompliancePatterns) value → NamesPlace (LeavesBy entity found boundary) fault → NamesPlace (LeavesFirst entity found in_order) fault
+in_boundary entity found fault map ops code id value is are captured known complies h =
+    behind_idcode entity found fault map ops code id is are captured known (later_leaves entity found compliance from_boundary fault (value, complies) (first_leaves entity found boundary [] fault h))

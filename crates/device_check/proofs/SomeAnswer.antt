@@ -21,9 +21,12 @@ use Rattle.device_rules.specs.Raw.{raw_device}
 use Rattle.device_check.specs.declared.fault.DeviceFault.{DeviceFault}
 use Rattle.device_check.specs.declared.fault.DeviceFault.TheVariants.{Rule, Text}
 use Rattle.device_check.specs.declared.strings.Strings.{Strings}
-use Rattle.device_check.specs.Attributes.{needed_text, text_of, pin_map_text}
-use Rattle.device_check.specs.Needed.{v1}
-use Rattle.device_check.specs.DeviceStrings.{MayBe, MayLeave, DeviceString, pin_map, opcodes, capture, idcode, compliance, boundary, IsRead, Leaves, LeavesFirst, in_order, AreStrings}
+use Rattle.device_check.specs.declared.sources.Attribute.TheVariants.{IdcodeRegister, CompliancePatterns}
+use Rattle.device_check.specs.declared.sources.Source.{Source}
+use Rattle.device_check.specs.Sources.{source_number}
+use Rattle.device_check.specs.Attributes.{text_of}
+use Rattle.device_check.specs.Needed.{Found, v1}
+use Rattle.device_check.specs.DeviceStrings.{MayBe, MayLeave, DeviceString, pin_map, opcodes, capture, idcode, compliance, boundary, string_number, IsRead, Leaves, LeavesFirst, in_order, AreStrings}
 use Rattle.device_check.specs.SoundDevice.{draft_of, IsAnswer}
 use Rattle.device_check.proofs.OrderLemmas.{in_pin_map, in_opcodes, in_capture, in_idcode, in_compliance, in_boundary}
 use Rattle.device_check.proofs.StringLemmas.{Answered, listed, wrong, answered, pattern_answered}
@@ -73,58 +76,59 @@ maybe_answered {A} Is IsNo answers (Some text) = by_answer (answers text)
     by_answer (inr y) = inr y
 
 -- each string is read or leaves its grammar
-read_or_left : (entity : Entity) (given : Option (List ℕ)) (string : DeviceString) → IsRead entity given string ⊎ ((n : ℕ) × Leaves entity given string n)
-read_or_left entity given pin_map = list_answered can_maps (pin_map_text entity given)
-read_or_left entity given opcodes = list_answered can_opcodes (needed_text entity 7)
-read_or_left entity given capture = pattern_answered (needed_text entity 8)
-read_or_left entity given idcode = maybe_answered IsPattern IsNoPattern pattern_answered (text_of entity 12)
-read_or_left entity given compliance = maybe_answered IsCompliance IsNoCompliance compliance_answered (text_of entity 13)
-read_or_left entity given boundary = list_answered can_entries (needed_text entity 10)
+read_or_left : (entity : Entity) (needs : Found) (string : DeviceString) → IsRead entity needs string ⊎ ((n : ℕ) × Leaves entity needs string n)
+read_or_left entity needs pin_map = list_answered can_maps needs.chosen.pin_map
+read_or_left entity needs opcodes = list_answered can_opcodes needs.registers.opcodes
+read_or_left entity needs capture = pattern_answered needs.registers.capture
+read_or_left entity needs idcode = maybe_answered IsPattern IsNoPattern pattern_answered (text_of entity IdcodeRegister)
+read_or_left entity needs compliance = maybe_answered IsCompliance IsNoCompliance compliance_answered (text_of entity CompliancePatterns)
+read_or_left entity needs boundary = list_answered can_entries needs.registers.boundary
 
 -- the values of all strings, or the first that leaves its grammar
-pub data Gathered (entity : Entity) (given : Option (List ℕ)) : Type 0 where
-  values : (strings : Strings) → AreStrings entity given strings → Gathered entity given
-  leaves : (attribute entry : ℕ) → LeavesFirst entity given in_order attribute entry → Gathered entity given
+pub data Gathered (entity : Entity) (needs : Found) : Type 0 where
+  values : (strings : Strings) → AreStrings entity needs strings → Gathered entity needs
+  leaves : (attribute entry : ℕ) → LeavesFirst entity needs in_order attribute entry → Gathered entity needs
 
-module _ (entity : Entity) (given : Option (List ℕ)) where
-  from_boundary : IsRead entity given pin_map → IsRead entity given opcodes → IsRead entity given capture → IsRead entity given idcode → IsRead entity given compliance → IsRead entity given boundary ⊎ ((n : ℕ) × Leaves entity given boundary n)
-      → Gathered entity given
+module _ (entity : Entity) (needs : Found) where
+  from_boundary : IsRead entity needs pin_map → IsRead entity needs opcodes → IsRead entity needs capture → IsRead entity needs idcode → IsRead entity needs compliance → IsRead entity needs boundary ⊎ ((n : ℕ) × Leaves entity needs boundary n)
+      → Gathered entity needs
   from_boundary m o c i p (inl b) =
       values (record { map = m.0; opcodes = o.0; capture = c.0; idcode = i.0; compliance = p.0; entries = b.0 })
       (record { map_is = m.1; opcodes_are = o.1; capture_is = c.1; idcode_is = i.1; compliance_is = p.1; entries_are = b.1 })
-  from_boundary m o c i p (inr l) = leaves 10 l.0 (in_boundary entity given (Text 10 l.0) m.0 o.0 c.0 i.0 p.0 m.1 o.1 c.1 i.1 p.1 (refl, l.1))
+  from_boundary m o c i p (inr l) = leaves (string_number boundary) l.0 (in_boundary entity needs (Text (string_number boundary) l.0) m.0 o.0 c.0 i.0 p.0 m.1 o.1 c.1 i.1 p.1 (refl, l.1))
 
-  from_compliance : IsRead entity given pin_map → IsRead entity given opcodes → IsRead entity given capture → IsRead entity given idcode → IsRead entity given compliance ⊎ ((n : ℕ) × Leaves entity given compliance n) → Gathered entity given
-  from_compliance m o c i (inl p) = from_boundary m o c i p (read_or_left entity given boundary)
-  from_compliance m o c i (inr l) = leaves 13 l.0 (in_compliance entity given (Text 13 l.0) m.0 o.0 c.0 i.0 m.1 o.1 c.1 i.1 (refl, l.1))
+  from_compliance : IsRead entity needs pin_map → IsRead entity needs opcodes → IsRead entity needs capture → IsRead entity needs idcode → IsRead entity needs compliance ⊎ ((n : ℕ) × Leaves entity needs compliance n) → Gathered entity needs
+  from_compliance m o c i (inl p) = from_boundary m o c i p (read_or_left entity needs boundary)
+  from_compliance m o c i (inr l) = leaves (string_number compliance) l.0 (in_compliance entity needs (Text (string_number compliance) l.0) m.0 o.0 c.0 i.0 m.1 o.1 c.1 i.1 (refl, l.1))
 
-  from_idcode : IsRead entity given pin_map → IsRead entity given opcodes → IsRead entity given capture → IsRead entity given idcode ⊎ ((n : ℕ) × Leaves entity given idcode n) → Gathered entity given
-  from_idcode m o c (inl i) = from_compliance m o c i (read_or_left entity given compliance)
-  from_idcode m o c (inr l) = leaves 12 l.0 (in_idcode entity given (Text 12 l.0) m.0 o.0 c.0 m.1 o.1 c.1 (refl, l.1))
+  from_idcode : IsRead entity needs pin_map → IsRead entity needs opcodes → IsRead entity needs capture → IsRead entity needs idcode ⊎ ((n : ℕ) × Leaves entity needs idcode n) → Gathered entity needs
+  from_idcode m o c (inl i) = from_compliance m o c i (read_or_left entity needs compliance)
+  from_idcode m o c (inr l) = leaves (string_number idcode) l.0 (in_idcode entity needs (Text (string_number idcode) l.0) m.0 o.0 c.0 m.1 o.1 c.1 (refl, l.1))
 
-  from_capture : IsRead entity given pin_map → IsRead entity given opcodes → IsRead entity given capture ⊎ ((n : ℕ) × Leaves entity given capture n) → Gathered entity given
-  from_capture m o (inl c) = from_idcode m o c (read_or_left entity given idcode)
-  from_capture m o (inr l) = leaves 8 l.0 (in_capture entity given (Text 8 l.0) m.0 o.0 m.1 o.1 (refl, l.1))
+  from_capture : IsRead entity needs pin_map → IsRead entity needs opcodes → IsRead entity needs capture ⊎ ((n : ℕ) × Leaves entity needs capture n) → Gathered entity needs
+  from_capture m o (inl c) = from_idcode m o c (read_or_left entity needs idcode)
+  from_capture m o (inr l) = leaves (string_number capture) l.0 (in_capture entity needs (Text (string_number capture) l.0) m.0 o.0 m.1 o.1 (refl, l.1))
 
-  from_opcodes : IsRead entity given pin_map → IsRead entity given opcodes ⊎ ((n : ℕ) × Leaves entity given opcodes n) → Gathered entity given
-  from_opcodes m (inl o) = from_capture m o (read_or_left entity given capture)
-  from_opcodes m (inr l) = leaves 7 l.0 (in_opcodes entity given (Text 7 l.0) m.0 m.1 (refl, l.1))
+  from_opcodes : IsRead entity needs pin_map → IsRead entity needs opcodes ⊎ ((n : ℕ) × Leaves entity needs opcodes n) → Gathered entity needs
+  from_opcodes m (inl o) = from_capture m o (read_or_left entity needs capture)
+  from_opcodes m (inr l) = leaves (string_number opcodes) l.0 (in_opcodes entity needs (Text (string_number opcodes) l.0) m.0 m.1 (refl, l.1))
 
-  from_pin_map : IsRead entity given pin_map ⊎ ((n : ℕ) × Leaves entity given pin_map n) → Gathered entity given
-  from_pin_map (inl m) = from_opcodes m (read_or_left entity given opcodes)
-  from_pin_map (inr l) = leaves 15 l.0 (in_pin_map entity given (Text 15 l.0) (refl, l.1))
+  from_pin_map : IsRead entity needs pin_map ⊎ ((n : ℕ) × Leaves entity needs pin_map n) → Gathered entity needs
+  from_pin_map (inl m) = from_opcodes m (read_or_left entity needs opcodes)
+  from_pin_map (inr l) = leaves (string_number pin_map) l.0 (in_pin_map entity needs (Text (string_number pin_map) l.0) (refl, l.1))
 
-  by_rule : (strings : Strings) → v1 entity given ≡ None → AreStrings entity given strings → (o : Option Broken) → first_rule (draft_of entity given strings) ≡ o → (answer : Result RawDevice DeviceFault) × IsAnswer entity given answer
-  by_rule strings e read None f = (Ok (raw_device (draft_of entity given strings)), record { needed = e; strings = strings; read = read; kept = f; device_is = refl })
-  by_rule strings e read (Some broken) f = (Err (Rule broken.rule broken.item), inr (record { needed = e; strings = strings; read = read; broken = f }))
+module _ (entity : Entity) (given : Option (List ℕ)) where
+  by_rule : (needs : Found) (strings : Strings) → v1 entity given ≡ Ok needs → AreStrings entity needs strings → (o : Option Broken) → first_rule (draft_of entity needs strings) ≡ o → (answer : Result RawDevice DeviceFault) × IsAnswer entity given answer
+  by_rule needs strings e read None f = (Ok (raw_device (draft_of entity needs strings)), record { found = needs; needed = e; strings = strings; read = read; kept = f; device_is = refl })
+  by_rule needs strings e read (Some broken) f = (Err (Rule broken.rule broken.item), inr (record { found = needs; needed = e; strings = strings; read = read; broken = f }))
 
-  by_strings : v1 entity given ≡ None → Gathered entity given → (answer : Result RawDevice DeviceFault) × IsAnswer entity given answer
-  by_strings e (values strings read) = by_rule strings e read (first_rule (draft_of entity given strings)) refl
-  by_strings e (leaves attribute entry l) = (Err (Text attribute entry), record { needed = e; leaves = l })
+  by_strings : (needs : Found) → v1 entity given ≡ Ok needs → Gathered entity needs → (answer : Result RawDevice DeviceFault) × IsAnswer entity given answer
+  by_strings needs e (values strings read) = by_rule needs strings e read (first_rule (draft_of entity needs strings)) refl
+  by_strings needs e (leaves attribute entry l) = (Err (Text attribute entry), record { found = needs; needed = e; leaves = l })
 
-  by_need : (o : Option ℕ) → v1 entity given ≡ o → (answer : Result RawDevice DeviceFault) × IsAnswer entity given answer
-  by_need (Some item) e = (Err (Rule 1 item), inl (refl, e))
-  by_need None e = by_strings e (from_pin_map (read_or_left entity given pin_map))
+  by_need : (r : Result Found Source) → v1 entity given ≡ r → (answer : Result RawDevice DeviceFault) × IsAnswer entity given answer
+  by_need (Err source) e = (Err (Rule 1 (source_number source)), inl (record { number_is = refl; source = source; wrong = e; item_is = refl }))
+  by_need (Ok needs) e = by_strings needs e (from_pin_map entity needs (read_or_left entity needs pin_map))
 
   pub some_answer : (answer : Result RawDevice DeviceFault) × IsAnswer entity given answer
   some_answer = by_need (v1 entity given) refl

@@ -1,15 +1,21 @@
 -- The texts of a small entity are short.
-use Rattle.std.proofs.Common.{◌≡◌, ℕ, ◌<◌, ◌^◌, Bool, true, false, if◌then◌else◌, List, [], ◌∷◌, length, Option, Some, None, refl, subst, arith}
-use Rattle.std.specs.List.{All, find}
-use Rattle.std.specs.Option.{IfSome, option_map, option_and_then, unwrap_or}
+use Rattle.std.proofs.Common.{◌≡◌, ◌==◌, ℕ, ◌<◌, ◌^◌, Bool, true, false, if◌then◌else◌, List, [], ◌∷◌, length, Option, Some, None, Ok, subst, ap}
+use Rattle.std.specs.List.{All, count_by, find}
+use Rattle.std.specs.Option.{IfSome, option_map, option_and_then}
 use Rattle.std.proofs.lemmas.List.Elements.{All-head, All-tail}
 use Rattle.bsdl_parser.specs.declared.entity.Attr.{Attr}
 use Rattle.bsdl_parser.specs.declared.entity.AttrValue.{AttrValue}
 use Rattle.bsdl_parser.specs.declared.entity.AttrValue.TheVariants as values
 use Rattle.bsdl_parser.specs.declared.entity.Constant.{Constant}
 use Rattle.bsdl_parser.specs.declared.entity.Entity.{Entity}
-use Rattle.bsdl_parser.specs.Entity.{IsShort, HasShortText}
-use Rattle.device_check.specs.Attributes.{is_numbered, text_in, text_of, needed_text, is_constant, constant_text, chosen, pin_map_text}
+use Rattle.bsdl_parser.specs.Entity.{IsShort, HasShortText, IsSmall}
+use Rattle.device_check.specs.declared.sources.Attribute.{Attribute}
+use Rattle.device_check.specs.declared.sources.Attribute.TheVariants.{InstructionOpcode, InstructionCapture, BoundaryRegister}
+use Rattle.device_check.specs.Sources.{attribute_number}
+use Rattle.device_check.specs.Attributes.{is_numbered, times, value_of, text_in, text_of, only_text, is_constant, only_constant, chosen}
+use Rattle.device_check.specs.Needed.{FoundPackage, Found, pin_map_in, found_package, v1}
+use Rattle.device_check.specs.inner.Reading.{HasShortStrings}
+use Rattle.device_check.proofs.FoundLemmas.{IsFound, found_is}
 
 -- what is true of each item is true of the item that is found
 found_holds : {X : Type 0} (P : X → Type 0) (test : X → Bool) (xs : List X) → All P xs → IfSome (find test xs) P
@@ -30,23 +36,44 @@ short_found : (found : Option Attr) (text : List ℕ) → IfSome found (λ attri
 short_found None text h e = cc
 short_found (Some attribute) text h e = short_value attribute.value text h e
 
-pub short_text : (entity : Entity) (number : ℕ) (text : List ℕ) → All (λ attribute. HasShortText attribute.value) entity.attributes → text_of entity number ≡ Some text → length text < 2 ^ 32
-short_text entity number text all e = short_found (find (is_numbered number) entity.attributes) text (found_holds (λ attribute. HasShortText attribute.value) (is_numbered number) entity.attributes all) e
+pub short_text : (entity : Entity) (attribute : Attribute) (text : List ℕ) → All (λ attribute. HasShortText attribute.value) entity.attributes → text_of entity attribute ≡ Some text → length text < 2 ^ 32
+short_text entity attribute text all e =
+    let numbered = is_numbered (attribute_number attribute) in
+    short_found (find numbered entity.attributes) text (found_holds (λ attribute. HasShortText attribute.value) numbered entity.attributes all) e
 
-short_or_none : (text : Option (List ℕ)) → ((t : List ℕ) → text ≡ Some t → length t < 2 ^ 32) → length (unwrap_or text []) < 2 ^ 32
-short_or_none None h = omega arith
-short_or_none (Some t) h = h t refl
+short_only : (entity : Entity) (attribute : Attribute) (text : List ℕ) → All (λ attribute. HasShortText attribute.value) entity.attributes → only_text entity attribute ≡ Some text → length text < 2 ^ 32
+short_only entity attribute text all e = by_test (times entity attribute == 1) e
+  where
+    by_test : (b : Bool) → option_and_then text_in (if b then value_of entity attribute else None) ≡ Some text → length text < 2 ^ 32
+    by_test true h = short_text entity attribute text all h
+    by_test false h = cc
 
-pub short_needed : (entity : Entity) (number : ℕ) → All (λ attribute. HasShortText attribute.value) entity.attributes → length (needed_text entity number) < 2 ^ 32
-short_needed entity number all = short_or_none (text_of entity number) (λ text e. short_text entity number text all e)
+short_constant : (name : List ℕ) (found : Option Constant) (chosen : FoundPackage) → IfSome found (λ constant. IsShort constant.text) → pin_map_in name found ≡ Some chosen → length chosen.pin_map < 2 ^ 32
+short_constant name None chosen h e = cc
+short_constant name (Some constant) chosen h e = let same : constant.text ≡ chosen.pin_map = ap (λ o. pin_map_or o) e in subst (λ xs. length xs < 2 ^ 32) same h
+  where
+    pin_map_or : Option FoundPackage → List ℕ
+    pin_map_or None = []
+    pin_map_or (Some found) = found.pin_map
 
-short_constant : (found : Option Constant) → IfSome found (λ constant. IsShort constant.text) → length (unwrap_or (option_map (λ constant. constant.text) found) []) < 2 ^ 32
-short_constant None h = omega arith
-short_constant (Some constant) h = h
+short_only_constant : (entity : Entity) (name : List ℕ) (chosen : FoundPackage) → All (λ constant. IsShort constant.text) entity.constants → pin_map_in name (only_constant entity name) ≡ Some chosen → length chosen.pin_map < 2 ^ 32
+short_only_constant entity name chosen all e = by_test (count_by (is_constant name) entity.constants == 1) e
+  where
+    by_test : (b : Bool) → pin_map_in name (if b then find (is_constant name) entity.constants else None) ≡ Some chosen → length chosen.pin_map < 2 ^ 32
+    by_test true h = short_constant name (find (is_constant name) entity.constants) chosen (found_holds (λ constant. IsShort constant.text) (is_constant name) entity.constants all) h
+    by_test false h = cc
 
-short_named : (entity : Entity) (name : Option (List ℕ)) → All (λ constant. IsShort constant.text) entity.constants → length (unwrap_or (constant_text entity name) []) < 2 ^ 32
-short_named entity None all = omega arith
-short_named entity (Some name) all = short_constant (find (is_constant name) entity.constants) (found_holds (λ constant. IsShort constant.text) (is_constant name) entity.constants all)
+short_pin_map : (entity : Entity) (name : Option (List ℕ)) (chosen : FoundPackage) → All (λ constant. IsShort constant.text) entity.constants → found_package entity name ≡ Some chosen → length chosen.pin_map < 2 ^ 32
+short_pin_map entity None chosen all e = cc
+short_pin_map entity (Some name) chosen all e = short_only_constant entity name chosen all e
 
-pub short_pin_map : (entity : Entity) (given : Option (List ℕ)) → All (λ constant. IsShort constant.text) entity.constants → length (pin_map_text entity given) < 2 ^ 32
-short_pin_map entity given all = short_named entity (chosen entity given) all
+-- the strings that V1 finds in a small entity are short
+pub short_strings : (entity : Entity) (given : Option (List ℕ)) (found : Found) → IsSmall entity → v1 entity given ≡ Ok found → HasShortStrings found
+short_strings entity given found small e =
+    let is : IsFound entity given found = found_is entity given found e in
+    record {
+      pin_map = short_pin_map entity (chosen entity given) found.chosen small.constant_texts is.chosen_is;
+      opcodes = short_only entity InstructionOpcode found.registers.opcodes small.attribute_texts is.opcodes_are;
+      capture = short_only entity InstructionCapture found.registers.capture small.attribute_texts is.capture_is;
+      boundary = short_only entity BoundaryRegister found.registers.boundary small.attribute_texts is.boundary_is;
+    }

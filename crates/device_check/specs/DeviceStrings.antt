@@ -1,4 +1,4 @@
--- The strings of an entity, their values, and the first string that leaves its grammar.
+-- The strings of an entity in which V1 found what it needs, their values, and the first string that leaves its grammar.
 use Rattle.std.specs.Prelude.{◌≡◌, ℕ, List, [], ◌∷◌, Option, Some, None, ◌⊎◌}
 use Rattle.board_defs.specs.declared.device.Symbol.{Symbol}
 use Rattle.bsdl_parser.specs.declared.entity.Entity.{Entity}
@@ -8,7 +8,12 @@ use Rattle.bsdl_strings.specs.declared.values.Entry.{Entry}
 use Rattle.bsdl_strings.specs.declared.values.Compliance.{Compliance}
 use Rattle.bsdl_strings.specs.Strings.{IsPinMap, IsNoPinMap, AreOpcodes, AreNoOpcodes, IsPattern, IsNoPattern, IsCompliance, IsNoCompliance, IsBoundary, IsNoBoundary}
 use Rattle.device_check.specs.declared.strings.Strings.{Strings}
-use Rattle.device_check.specs.Attributes.{pin_map_text, needed_text, text_of}
+use Rattle.device_check.specs.declared.sources.Attribute.TheVariants.{InstructionOpcode, InstructionCapture, IdcodeRegister, CompliancePatterns, BoundaryRegister}
+use Rattle.device_check.specs.declared.sources.Source.{Source}
+use Rattle.device_check.specs.declared.sources.Source.TheVariants as sources
+use Rattle.device_check.specs.Sources.{source_number}
+use Rattle.device_check.specs.Attributes.{text_of}
+use Rattle.device_check.specs.Needed.{Found}
 
 -- if there is a string, it has this value; if there is none, there is no value
 abbrev pub MayBe : {A : Type 0} → (List ℕ → A → Type 0) → Option (List ℕ) → Option A → Type 0
@@ -32,52 +37,56 @@ pub data DeviceString : Type 0 where
   compliance : DeviceString
   boundary : DeviceString
 
--- the number of the string's attribute, or 15 for the pin map
-abbrev pub attribute_of : DeviceString → ℕ
-attribute_of pin_map = 15
-attribute_of opcodes = 7
-attribute_of capture = 8
-attribute_of idcode = 12
-attribute_of compliance = 13
-attribute_of boundary = 10
+-- where the string is
+abbrev pub source_of : DeviceString → Source
+source_of pin_map = sources.PinMapConstant
+source_of opcodes = sources.Attribute InstructionOpcode
+source_of capture = sources.Attribute InstructionCapture
+source_of idcode = sources.Attribute IdcodeRegister
+source_of compliance = sources.Attribute CompliancePatterns
+source_of boundary = sources.Attribute BoundaryRegister
+
+-- the number by which a fault names the string
+abbrev pub string_number : DeviceString → ℕ
+string_number string = source_number (source_of string)
 
 -- the string is in its grammar, or is optional and not there
-abbrev pub IsRead : Entity → Option (List ℕ) → DeviceString → Type 0
-IsRead entity given pin_map = (entries : List MapEntry) × IsPinMap (pin_map_text entity given) entries
-IsRead entity given opcodes = (ops : List Opcode) × AreOpcodes (needed_text entity 7) ops
-IsRead entity given capture = (code : List Symbol) × IsPattern (needed_text entity 8) code
-IsRead entity given idcode = (code : Option (List Symbol)) × MayBe IsPattern (text_of entity 12) code
-IsRead entity given compliance = (value : Option Compliance) × MayBe IsCompliance (text_of entity 13) value
-IsRead entity given boundary = (entries : List Entry) × IsBoundary (needed_text entity 10) entries
+abbrev pub IsRead : Entity → Found → DeviceString → Type 0
+IsRead entity found pin_map = (entries : List MapEntry) × IsPinMap found.chosen.pin_map entries
+IsRead entity found opcodes = (ops : List Opcode) × AreOpcodes found.registers.opcodes ops
+IsRead entity found capture = (code : List Symbol) × IsPattern found.registers.capture code
+IsRead entity found idcode = (code : Option (List Symbol)) × MayBe IsPattern (text_of entity IdcodeRegister) code
+IsRead entity found compliance = (value : Option Compliance) × MayBe IsCompliance (text_of entity CompliancePatterns) value
+IsRead entity found boundary = (entries : List Entry) × IsBoundary found.registers.boundary entries
 
 -- the string leaves its grammar at this entry
-abbrev pub Leaves : Entity → Option (List ℕ) → DeviceString → ℕ → Type 0
-Leaves entity given pin_map entry = IsNoPinMap (pin_map_text entity given) entry
-Leaves entity given opcodes entry = AreNoOpcodes (needed_text entity 7) entry
-Leaves entity given capture entry = IsNoPattern (needed_text entity 8) entry
-Leaves entity given idcode entry = MayLeave IsNoPattern (text_of entity 12) entry
-Leaves entity given compliance entry = MayLeave IsNoCompliance (text_of entity 13) entry
-Leaves entity given boundary entry = IsNoBoundary (needed_text entity 10) entry
+abbrev pub Leaves : Entity → Found → DeviceString → ℕ → Type 0
+Leaves entity found pin_map entry = IsNoPinMap found.chosen.pin_map entry
+Leaves entity found opcodes entry = AreNoOpcodes found.registers.opcodes entry
+Leaves entity found capture entry = IsNoPattern found.registers.capture entry
+Leaves entity found idcode entry = MayLeave IsNoPattern (text_of entity IdcodeRegister) entry
+Leaves entity found compliance entry = MayLeave IsNoCompliance (text_of entity CompliancePatterns) entry
+Leaves entity found boundary entry = IsNoBoundary found.registers.boundary entry
 
 -- the string belongs to this attribute, and leaves its grammar at this entry
-abbrev pub LeavesBy : Entity → Option (List ℕ) → DeviceString → ℕ → ℕ → Type 0
-LeavesBy entity given string attribute entry = (attribute ≡ attribute_of string) × Leaves entity given string entry
+abbrev pub LeavesBy : Entity → Found → DeviceString → ℕ → ℕ → Type 0
+LeavesBy entity found string attribute entry = (attribute ≡ string_number string) × Leaves entity found string entry
 
 -- the first of the strings that leaves its grammar belongs to this attribute, and does so at this entry
-abbrev pub LeavesFirst : Entity → Option (List ℕ) → List DeviceString → ℕ → ℕ → Type 0
-LeavesFirst entity given [] attribute entry = ⊥
-LeavesFirst entity given (string ∷ strings) attribute entry =
-    LeavesBy entity given string attribute entry ⊎ (IsRead entity given string × LeavesFirst entity given strings attribute entry)
+abbrev pub LeavesFirst : Entity → Found → List DeviceString → ℕ → ℕ → Type 0
+LeavesFirst entity found [] attribute entry = ⊥
+LeavesFirst entity found (string ∷ strings) attribute entry =
+    LeavesBy entity found string attribute entry ⊎ (IsRead entity found string × LeavesFirst entity found strings attribute entry)
 
 -- the order in which the strings are read
 abbrev pub in_order : List DeviceString
 in_order = pin_map ∷ opcodes ∷ capture ∷ idcode ∷ compliance ∷ boundary ∷ []
 
 -- the values of the strings
-pub record AreStrings (entity : Entity) (given : Option (List ℕ)) (strings : Strings) : Type 0 where
-  pub map_is : IsPinMap (pin_map_text entity given) strings.map
-  pub opcodes_are : AreOpcodes (needed_text entity 7) strings.opcodes
-  pub capture_is : IsPattern (needed_text entity 8) strings.capture
-  pub idcode_is : MayBe IsPattern (text_of entity 12) strings.idcode
-  pub compliance_is : MayBe IsCompliance (text_of entity 13) strings.compliance
-  pub entries_are : IsBoundary (needed_text entity 10) strings.entries
+pub record AreStrings (entity : Entity) (found : Found) (strings : Strings) : Type 0 where
+  pub map_is : IsPinMap found.chosen.pin_map strings.map
+  pub opcodes_are : AreOpcodes found.registers.opcodes strings.opcodes
+  pub capture_is : IsPattern found.registers.capture strings.capture
+  pub idcode_is : MayBe IsPattern (text_of entity IdcodeRegister) strings.idcode
+  pub compliance_is : MayBe IsCompliance (text_of entity CompliancePatterns) strings.compliance
+  pub entries_are : IsBoundary found.registers.boundary strings.entries

@@ -1,3 +1,4 @@
+pub mod Sources
 pub mod Attributes
 pub mod Needed
 pub mod DeviceStrings

@@ -1,34 +1,115 @@
--- Rule V1: the attributes that an entity needs.
-use Rattle.std.specs.Prelude.{ℕ, ◌==◌, List, [], ◌∷◌, Bool, false, ◌&&◌, ◌||◌, not, if◌then◌else◌, Option, Some, None, codes, nat_le, find}
+-- Rule V1: what an entity must have, and what is found if it has all of it.
+use Rattle.std.specs.Prelude.{ℕ, ◌==◌, List, Bool, ◌&&◌, ◌||◌, if◌then◌else◌, Option, Some, None, Result, Ok, Err, codes, nat_le, nat_lt}
 use Rattle.board_defs.specs.Limits.{most_bits, most_instruction_bits}
+use Rattle.bsdl_parser.specs.declared.entity.Constant.{Constant}
 use Rattle.bsdl_parser.specs.declared.entity.Entity.{Entity}
-use Rattle.device_check.specs.Attributes.{times, number_of, text_of, chosen, constants_named, is_text}
+use Rattle.device_check.specs.declared.sources.Attribute.{Attribute}
+use Rattle.device_check.specs.declared.sources.Attribute.TheVariants.{PinMap, TapScanIn, TapScanOut, TapScanMode, TapScanClock, InstructionLength, InstructionOpcode, InstructionCapture, BoundaryLength, BoundaryRegister, TapScanReset, IdcodeRegister, CompliancePatterns, ComponentConformance}
+use Rattle.device_check.specs.declared.sources.Source.{Source}
+use Rattle.device_check.specs.declared.sources.Source.TheVariants as sources
+use Rattle.device_check.specs.Attributes.{times, only_value, only_port, only_number, only_text, chosen, only_constant, is_text}
 
--- there is a number, and it is from `least` to `most`
-abbrev pub is_within : ℕ → ℕ → Option ℕ → Bool
-is_within least most None = false
-is_within least most (Some number) = nat_le least number && nat_le number most
+-- the ports that the mandatory TAP attributes name
+pub record FoundTaps : Type 0 where
+  pub scan_in : List ℕ
+  pub scan_out : List ℕ
+  pub mode : List ℕ
+  pub clock : List ℕ
+
+-- the lengths of the two registers, and the strings of INSTRUCTION_OPCODE, INSTRUCTION_CAPTURE and BOUNDARY_REGISTER
+pub record FoundRegisters : Type 0 where
+  pub instruction_length : ℕ
+  pub opcodes : List ℕ
+  pub capture : List ℕ
+  pub boundary_length : ℕ
+  pub boundary : List ℕ
+
+-- the package, and the string of its pin map
+pub record FoundPackage : Type 0 where
+  pub name : List ℕ
+  pub pin_map : List ℕ
+
+-- what an entity has if V1 holds
+pub record Found : Type 0 where
+  pub taps : FoundTaps
+  pub registers : FoundRegisters
+  pub chosen : FoundPackage
+
+-- the next step takes the value of the source. A source without a value ends the search
+abbrev pub need : {A B : Type 0} → Source → Option A → (A → Result B Source) → Result B Source
+need source None next = Err source
+need source (Some value) next = next value
+
+-- like `need`, for what was found by a search of its own
+abbrev pub and_then : {A B : Type 0} → Result A Source → (A → Result B Source) → Result B Source
+and_then (Err source) next = Err source
+and_then (Ok value) next = next value
+
+-- an attribute that is wrong ends the search
+abbrev pub unless : {B : Type 0} → Option Attribute → Result B Source → Result B Source
+unless (Some attribute) next = Err (sources.Attribute attribute)
+unless None next = next
+
+-- PIN_MAP and the four mandatory TAP attributes are there exactly once
+unfoldable pub found_taps : Entity → Result FoundTaps Source
+found_taps entity =
+    need (sources.Attribute PinMap) (only_value entity PinMap) (λ _.
+    need (sources.Attribute TapScanIn) (only_port entity TapScanIn) (λ scan_in.
+    need (sources.Attribute TapScanOut) (only_port entity TapScanOut) (λ scan_out.
+    need (sources.Attribute TapScanMode) (only_port entity TapScanMode) (λ mode.
+    need (sources.Attribute TapScanClock) (only_port entity TapScanClock) (λ clock.
+    Ok (record { scan_in = scan_in; scan_out = scan_out; mode = mode; clock = clock }))))))
+
+-- the number, if it is from `least` to `most`
+abbrev pub within : ℕ → ℕ → Option ℕ → Option ℕ
+within least most None = None
+within least most (Some number) = if nat_le least number && nat_le number most then Some number else None
+
+-- the attributes of the registers are there exactly once, with lengths in their ranges
+unfoldable pub found_registers : Entity → Result FoundRegisters Source
+found_registers entity =
+    need (sources.Attribute InstructionLength) (within 2 most_instruction_bits (only_number entity InstructionLength)) (λ instruction_length.
+    need (sources.Attribute InstructionOpcode) (only_text entity InstructionOpcode) (λ opcodes.
+    need (sources.Attribute InstructionCapture) (only_text entity InstructionCapture) (λ capture.
+    need (sources.Attribute BoundaryLength) (within 1 most_bits (only_number entity BoundaryLength)) (λ boundary_length.
+    need (sources.Attribute BoundaryRegister) (only_text entity BoundaryRegister) (λ boundary.
+    Ok (record { instruction_length = instruction_length; opcodes = opcodes; capture = capture; boundary_length = boundary_length; boundary = boundary }))))))
+
+-- the entity has the attribute more than once
+abbrev pub is_repeated : Entity → Attribute → Bool
+is_repeated entity attribute = nat_lt 1 (times entity attribute)
 
 -- the editions of the standard that COMPONENT_CONFORMANCE may name
 abbrev pub is_edition : Option (List ℕ) → Bool
 is_edition text = is_text (codes "STD_1149_1_1990") text || (is_text (codes "STD_1149_1_1993") text || is_text (codes "STD_1149_1_2001") text)
 
--- the attribute with this number is there exactly once
-abbrev pub stands_once : Entity → ℕ → Bool
-stands_once entity number = times entity number == 1
+-- COMPONENT_CONFORMANCE is not there, or is there exactly once and names an edition
+abbrev pub conforms : Entity → Bool
+conforms entity = (times entity ComponentConformance == 0) || is_edition (only_text entity ComponentConformance)
 
--- The attribute with this number is there as often as the entity needs, with an allowed value. 1 to 10 are there once, and 11 to 14 at
--- most once. INSTRUCTION_LENGTH (6) is 2 to 255, BOUNDARY_LENGTH (9) is 1 to 65,535, and COMPONENT_CONFORMANCE (14) names an edition.
--- 15 stands for the pin map: exactly one constant has the package's name, as `constants` counts them.
-unfoldable pub is_as_needed : Entity → ℕ → ℕ → Bool
-is_as_needed entity constants number =
-    if number == 6 then stands_once entity 6 && is_within 2 most_instruction_bits (number_of entity 6) else
-    if number == 9 then stands_once entity 9 && is_within 1 most_bits (number_of entity 9) else
-    if nat_le number 10 then stands_once entity number else
-    if nat_le number 13 then nat_le (times entity number) 1 else
-    if number == 14 then (times entity 14 == 0) || (stands_once entity 14 && is_edition (text_of entity 14)) else
-    constants == 1
+-- the first optional attribute that is repeated or names no edition
+unfoldable pub wrong_option : Entity → Option Attribute
+wrong_option entity =
+    if is_repeated entity TapScanReset then Some TapScanReset else
+    if is_repeated entity IdcodeRegister then Some IdcodeRegister else
+    if is_repeated entity CompliancePatterns then Some CompliancePatterns else
+    if conforms entity then None else Some ComponentConformance
 
--- V1: the least of the numbers 1 to 15 for which `is_as_needed` is false
-unfoldable pub v1 : Entity → Option (List ℕ) → Option ℕ
-v1 entity given = find (λ number. not (is_as_needed entity (constants_named entity (chosen entity given)) number)) (1 ∷ 2 ∷ 3 ∷ 4 ∷ 5 ∷ 6 ∷ 7 ∷ 8 ∷ 9 ∷ 10 ∷ 11 ∷ 12 ∷ 13 ∷ 14 ∷ 15 ∷ [])
+abbrev pub pin_map_in : List ℕ → Option Constant → Option FoundPackage
+pin_map_in name None = None
+pin_map_in name (Some constant) = Some (record { name = name; pin_map = constant.text })
+
+-- a package is given or is the default, and exactly one constant has its name
+abbrev pub found_package : Entity → Option (List ℕ) → Option FoundPackage
+found_package entity None = None
+found_package entity (Some name) = pin_map_in name (only_constant entity name)
+
+-- V1: what is found, or the first source that is not as needed. The attributes are tried in the order of their numbers, and the pin map
+-- is the last
+unfoldable pub v1 : Entity → Option (List ℕ) → Result Found Source
+v1 entity given =
+    and_then (found_taps entity) (λ taps.
+    and_then (found_registers entity) (λ registers.
+    unless (wrong_option entity) (
+    need sources.PinMapConstant (found_package entity (chosen entity given)) (λ chosen.
+    Ok (record { taps = taps; registers = registers; chosen = chosen })))))

@@ -8,61 +8,71 @@ use Rattle.device_rules.specs.Rules.{first_rule}
 use Rattle.device_rules.specs.Raw.{raw_device}
 use Rattle.device_check.specs.declared.fault.DeviceFault.{DeviceFault}
 use Rattle.device_check.specs.declared.fault.DeviceFault.TheVariants.{Rule, Text, Memory}
+use Rattle.device_check.specs.declared.sources.Attribute.TheVariants.{TapScanReset}
+use Rattle.device_check.specs.declared.sources.Source.{Source}
 use Rattle.device_check.specs.declared.strings.Strings.{Strings}
-use Rattle.device_check.specs.Attributes.{needed_port, port_of, needed_number, package_name, edition}
-use Rattle.device_check.specs.Needed.{v1}
+use Rattle.device_check.specs.Sources.{source_number}
+use Rattle.device_check.specs.Attributes.{port_of, edition}
+use Rattle.device_check.specs.Needed.{Found, v1}
 use Rattle.device_check.specs.DeviceStrings.{LeavesFirst, in_order, AreStrings}
 
-abbrev pub taps_of : Entity → TapPorts
-taps_of entity = record {
-  scan_in = needed_port entity 2;
-  scan_out = needed_port entity 3;
-  mode = needed_port entity 4;
-  clock = needed_port entity 5;
-  reset = port_of entity 11;
+-- the ports that the TAP attributes name
+abbrev pub taps_of : Entity → Found → TapPorts
+taps_of entity found = record {
+  scan_in = found.taps.scan_in;
+  scan_out = found.taps.scan_out;
+  mode = found.taps.mode;
+  clock = found.taps.clock;
+  reset = port_of entity TapScanReset;
 }
 
--- the draft of the entity, with the package and the values of the strings
-abbrev pub draft_of : Entity → Option (List ℕ) → Strings → Draft
-draft_of entity given strings = record {
+-- the draft of the entity, with what V1 found and the values of the strings
+abbrev pub draft_of : Entity → Found → Strings → Draft
+draft_of entity found strings = record {
   entity = entity.name;
-  «package» = package_name entity given;
+  «package» = found.chosen.name;
   edition = edition entity;
   ports = entity.ports;
-  taps = taps_of entity;
-  ir = needed_number entity 6;
+  taps = taps_of entity found;
+  ir = found.registers.instruction_length;
   opcodes = strings.opcodes;
   capture = strings.capture;
   idcode = strings.idcode;
   compliance = strings.compliance;
-  boundary = needed_number entity 9;
+  boundary = found.registers.boundary_length;
   map = strings.map;
   entries = strings.entries;
 }
 
 -- V1 holds, the strings have values, V2 to V14 hold, and `device` is made from these values
 pub record IsSound (entity : Entity) (given : Option (List ℕ)) (device : RawDevice) : Type 0 where
-  pub needed : v1 entity given ≡ None
+  pub found : Found
+  pub needed : v1 entity given ≡ Ok found
   pub strings : Strings
-  pub read : AreStrings entity given strings
-  pub kept : first_rule (draft_of entity given strings) ≡ None
-  pub device_is : device ≡ raw_device (draft_of entity given strings)
+  pub read : AreStrings entity found strings
+  pub kept : first_rule (draft_of entity found strings) ≡ None
+  pub device_is : device ≡ raw_device (draft_of entity found strings)
 
 -- V1 holds, the strings have values, and rule `number` is the first of V2 to V14 that fails, with its first item
 pub record FailsRule (entity : Entity) (given : Option (List ℕ)) (number item : ℕ) : Type 0 where
-  pub needed : v1 entity given ≡ None
+  pub found : Found
+  pub needed : v1 entity given ≡ Ok found
   pub strings : Strings
-  pub read : AreStrings entity given strings
-  pub broken : first_rule (draft_of entity given strings) ≡ Some (record { rule = number; item = item })
+  pub read : AreStrings entity found strings
+  pub broken : first_rule (draft_of entity found strings) ≡ Some (record { rule = number; item = item })
 
--- V1 holds, and the string of this attribute is the first that leaves its grammar, at this entry
+-- V1 holds, and the string with this number is the first that leaves its grammar, at this entry
 pub record FailsText (entity : Entity) (given : Option (List ℕ)) (attribute entry : ℕ) : Type 0 where
-  pub needed : v1 entity given ≡ None
-  pub leaves : LeavesFirst entity given in_order attribute entry
+  pub found : Found
+  pub needed : v1 entity given ≡ Ok found
+  pub leaves : LeavesFirst entity found in_order attribute entry
 
--- V1 fails, and `item` is the least attribute that is not as needed
-abbrev pub FailsNeed : Entity → Option (List ℕ) → ℕ → ℕ → Type 0
-FailsNeed entity given number item = (number ≡ 1) × (v1 entity given ≡ Some item)
+-- V1 fails, and `item` is the number of the first source that is not as needed
+pub record FailsNeed (entity : Entity) (given : Option (List ℕ)) (number item : ℕ) : Type 0 where
+  pub number_is : number ≡ 1
+  pub source : Source
+  pub wrong : v1 entity given ≡ Err source
+  pub item_is : item ≡ source_number source
 
 -- the first step that fails: V1, then the strings, then V2 to V14
 abbrev pub IsFirst : Entity → Option (List ℕ) → DeviceFault → Type 0

@@ -8,12 +8,12 @@ ghost use Rattle.device_rules.specs.Raw.{HasLengths};
 ghost use Rattle.device_check.specs.declared.fault.DeviceFault.{DeviceFault};
 ghost use Rattle.device_check.specs.Needed.{v1};
 ghost use Rattle.device_check.specs.DeviceStrings.{AreStrings};
-ghost use Rattle.device_check.specs.inner.Reading.{IsJudged};
+ghost use Rattle.device_check.specs.inner.Reading.{needed_view, IsJudged};
 ghost use Rattle.device_check.specs.SoundDevice.{draft_of, IsAnswer, device_told};
 
 use crate::draft::draft_of;
 use crate::fault::DeviceFault;
-use crate::needed::wrong_attribute;
+use crate::needed::find_needed;
 use crate::strings::read_strings;
 use board_defs::Device;
 use bsdl_parser::Entity;
@@ -35,19 +35,25 @@ fn judge(alloc: Global, draft: &Draft) -> Result<Device, DeviceFault>
     }
 }
 
-#[tactic(auto, using(crate::proofs::AnswerLemmas::needs_answer, crate::proofs::AnswerLemmas::text_answer, crate::proofs::AnswerLemmas::short_draft, crate::proofs::AnswerLemmas::judged_answer))]
+#[tactic(auto, using(crate::proofs::AnswerLemmas::needs_answer, crate::proofs::AnswerLemmas::text_answer))]
 fn answer(alloc: Global, entity: &Entity, package: Option<&[u8]>) -> Result<Device, DeviceFault>
     requires small { IsSmall entity.now }
     ensures { Gives device_told (λ device. device) (IsAnswer entity.now (option_copied «package».entry)) result }
 {
-    if let Some(item) = wrong_attribute(entity, package) {
-        return Err(DeviceFault::Rule { number: 1, item });
-    }
-    let strings = match read_strings(alloc, entity, package) {
+    let needed = match find_needed(entity, package) {
+        Ok(needed) => needed,
+        Err(source) => {
+            return Err(DeviceFault::Rule {
+                number: 1,
+                item: source.number(),
+            });
+        }
+    };
+    let strings = match read_strings(alloc, entity, &needed) {
         Ok(strings) => strings,
         Err(fault) => return Err(fault),
     };
-    let draft = draft_of(alloc, entity, package, strings)?;
+    let draft = draft_of(alloc, entity, &needed, strings)?;
     judge(alloc, &draft)
 }
 

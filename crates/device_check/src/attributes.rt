@@ -1,15 +1,15 @@
 //! The values of an entity's attributes and constants.
-ghost use Rattle.std.specs.Prelude.{◌≡◌, find, option_copied};
+ghost use Rattle.std.specs.Prelude.{◌≡◌, find, count_by, option_copied, option_map, option_and_then, None};
 ghost use Rattle.std.specs.List.{list_any};
 ghost use Rattle.std.specs.Str.{bytes_eq};
-ghost use Rattle.device_check.specs.Attributes.{times, value_of, port_of, number_of, text_of, needed_port, needed_number, needed_text, chosen, is_constant, constants_named, constant_text, package_name, pin_map_text, is_text, is_of_2001, edition};
+ghost use Rattle.device_check.specs.Attributes.{is_numbered, times, value_of, only_value, port_in, number_in, text_in, port_of, text_of, only_port, only_number, only_text, chosen, is_constant, only_constant, is_text, is_of_2001, edition};
 
+use crate::sources::Attribute;
 use board_defs::Edition;
 use bsdl_parser::{AttrValue, Constant, Entity};
 
-/// Returns how often the entity has the attribute with this number.
-pub(crate) fn times(entity: &Entity, number: u32) -> usize
-    ensures { result ≡ times entity.now number }
+fn count_numbered(entity: &Entity, number: u32) -> usize
+    ensures { result ≡ count_by (is_numbered number) entity.now.attributes }
 {
     entity
         .attributes
@@ -19,8 +19,8 @@ pub(crate) fn times(entity: &Entity, number: u32) -> usize
         .count()
 }
 
-fn value_of(entity: &Entity, number: u32) -> Option<&AttrValue>
-    ensures { option_copied result ≡ value_of entity.now number }
+fn find_numbered(entity: &Entity, number: u32) -> Option<&AttrValue>
+    ensures { option_copied result ≡ option_map (λ found. found.value) (find (is_numbered number) entity.now.attributes) }
 {
     entity
         .attributes
@@ -30,55 +30,90 @@ fn value_of(entity: &Entity, number: u32) -> Option<&AttrValue>
         .map(|attribute| &attribute.value)
 }
 
-/// Returns the port to which the attribute belongs.
-pub(crate) fn port_of(entity: &Entity, number: u32) -> Option<&[u8]>
-    ensures { option_copied result ≡ port_of entity.now number }
+/// Returns how often the entity has the attribute.
+pub(crate) fn times(entity: &Entity, attribute: Attribute) -> usize
+    ensures { result ≡ times entity.now attribute }
 {
-    match value_of(entity, number) {
+    count_numbered(entity, attribute.number())
+}
+
+fn value_of(entity: &Entity, attribute: Attribute) -> Option<&AttrValue>
+    ensures { option_copied result ≡ value_of entity.now attribute }
+{
+    find_numbered(entity, attribute.number())
+}
+
+/// Returns the value of an attribute that the entity has exactly once.
+pub(crate) fn only_value(entity: &Entity, attribute: Attribute) -> Option<&AttrValue>
+    ensures { option_copied result ≡ only_value entity.now attribute }
+{
+    if times(entity, attribute) == 1 {
+        value_of(entity, attribute)
+    } else {
+        None
+    }
+}
+
+fn port_in(value: Option<&AttrValue>) -> Option<&[u8]>
+    ensures { option_copied result ≡ option_and_then port_in (option_copied value.entry) }
+{
+    match value {
         Some(AttrValue::Port(port)) => Some(port.bytes()),
         _ => None,
     }
 }
 
-/// Returns the number that is the attribute's value.
-pub(crate) fn number_of(entity: &Entity, number: u32) -> Option<u32>
-    ensures { result ≡ number_of entity.now number }
+fn number_in(value: Option<&AttrValue>) -> Option<u32>
+    ensures { result ≡ option_and_then number_in (option_copied value.entry) }
 {
-    match value_of(entity, number) {
+    match value {
         Some(AttrValue::Number(number)) => Some(*number),
         _ => None,
     }
 }
 
-/// Returns the string that is the attribute's value.
-pub(crate) fn text_of(entity: &Entity, number: u32) -> Option<&[u8]>
-    ensures { option_copied result ≡ text_of entity.now number }
+fn text_in(value: Option<&AttrValue>) -> Option<&[u8]>
+    ensures { option_copied result ≡ option_and_then text_in (option_copied value.entry) }
 {
-    match value_of(entity, number) {
+    match value {
         Some(AttrValue::Text(text)) => Some(text.bytes()),
         _ => None,
     }
 }
 
-/// Returns the port of an attribute that must be there.
-pub(crate) fn needed_port(entity: &Entity, number: u32) -> &[u8]
-    ensures { result.now ≡ needed_port entity.now number }
+/// Returns the port to which the attribute belongs.
+pub(crate) fn port_of(entity: &Entity, attribute: Attribute) -> Option<&[u8]>
+    ensures { option_copied result ≡ port_of entity.now attribute }
 {
-    port_of(entity, number).unwrap_or(&[])
+    port_in(value_of(entity, attribute))
 }
 
-/// Returns the number of an attribute that must be there.
-pub(crate) fn needed_number(entity: &Entity, number: u32) -> u32
-    ensures { result ≡ needed_number entity.now number }
+/// Returns the string that is the attribute's value.
+pub(crate) fn text_of(entity: &Entity, attribute: Attribute) -> Option<&[u8]>
+    ensures { option_copied result ≡ text_of entity.now attribute }
 {
-    number_of(entity, number).unwrap_or(0)
+    text_in(value_of(entity, attribute))
 }
 
-/// Returns the string of an attribute that must be there.
-pub(crate) fn needed_text(entity: &Entity, number: u32) -> &[u8]
-    ensures { result.now ≡ needed_text entity.now number }
+/// Like `port_of`, but of an attribute that the entity has exactly once.
+pub(crate) fn only_port(entity: &Entity, attribute: Attribute) -> Option<&[u8]>
+    ensures { option_copied result ≡ only_port entity.now attribute }
 {
-    text_of(entity, number).unwrap_or(&[])
+    port_in(only_value(entity, attribute))
+}
+
+/// Returns the number that is the value of an attribute that the entity has exactly once.
+pub(crate) fn only_number(entity: &Entity, attribute: Attribute) -> Option<u32>
+    ensures { result ≡ only_number entity.now attribute }
+{
+    number_in(only_value(entity, attribute))
+}
+
+/// Like `text_of`, but of an attribute that the entity has exactly once.
+pub(crate) fn only_text(entity: &Entity, attribute: Attribute) -> Option<&[u8]>
+    ensures { option_copied result ≡ only_text entity.now attribute }
+{
+    text_in(only_value(entity, attribute))
 }
 
 /// Returns the package that is given, or otherwise the default of the generic.
@@ -94,22 +129,18 @@ pub(crate) fn chosen<'a>(entity: &'a Entity, package: Option<&'a [u8]>) -> Optio
     }
 }
 
-/// Returns the number of constants with this name.
-pub(crate) fn constants_named(entity: &Entity, name: Option<&[u8]>) -> usize
-    ensures { result ≡ constants_named entity.now (option_copied name.entry) }
+fn count_named(entity: &Entity, name: &[u8]) -> usize
+    ensures { result ≡ count_by (is_constant name.now) entity.now.constants }
 {
-    match name {
-        Some(name) => entity
-            .constants
-            .as_slice()
-            .iter()
-            .filter(|constant| constant.name.bytes() == name)
-            .count(),
-        None => 0,
-    }
+    entity
+        .constants
+        .as_slice()
+        .iter()
+        .filter(|constant| constant.name.bytes() == name)
+        .count()
 }
 
-fn constant<'a>(entity: &'a Entity, name: &[u8]) -> Option<&'a Constant>
+fn find_named<'a>(entity: &'a Entity, name: &[u8]) -> Option<&'a Constant>
     ensures { option_copied result ≡ find (is_constant name.now) entity.now.constants }
 {
     entity
@@ -119,30 +150,15 @@ fn constant<'a>(entity: &'a Entity, name: &[u8]) -> Option<&'a Constant>
         .find(|constant| constant.name.bytes() == name)
 }
 
-fn constant_text<'a>(entity: &'a Entity, name: Option<&[u8]>) -> Option<&'a [u8]>
-    ensures { option_copied result ≡ constant_text entity.now (option_copied name.entry) }
+/// Returns the constant with this name, if there is exactly one.
+pub(crate) fn only_constant<'a>(entity: &'a Entity, name: &[u8]) -> Option<&'a Constant>
+    ensures { option_copied result ≡ only_constant entity.now name.now }
 {
-    match name {
-        Some(name) => match constant(entity, name) {
-            Some(constant) => Some(constant.text.bytes()),
-            None => None,
-        },
-        None => None,
+    if count_named(entity, name) == 1 {
+        find_named(entity, name)
+    } else {
+        None
     }
-}
-
-/// Returns the name of the package, which must be there.
-pub(crate) fn package_name<'a>(entity: &'a Entity, package: Option<&'a [u8]>) -> &'a [u8]
-    ensures { result.now ≡ package_name entity.now (option_copied «package».entry) }
-{
-    chosen(entity, package).unwrap_or(&[])
-}
-
-/// Returns the pin map string of the package, which must be there.
-pub(crate) fn pin_map_text<'a>(entity: &'a Entity, package: Option<&[u8]>) -> &'a [u8]
-    ensures { result.now ≡ pin_map_text entity.now (option_copied «package».entry) }
-{
-    constant_text(entity, chosen(entity, package)).unwrap_or(&[])
 }
 
 /// Returns whether there is a text and it equals `wanted`.
@@ -169,10 +185,8 @@ fn uses(entity: &Entity, name: &[u8]) -> bool
 pub(crate) fn edition(entity: &Entity) -> Edition
     ensures { result ≡ edition entity.now }
 {
-    if is_text(b"STD_1149_1_2001", text_of(entity, 14)) {
-        return Edition::Of2001;
-    }
-    if uses(entity, b"STD_1149_1_2001") {
+    let conformance = text_of(entity, Attribute::ComponentConformance);
+    if is_text(b"STD_1149_1_2001", conformance) || uses(entity, b"STD_1149_1_2001") {
         Edition::Of2001
     } else {
         Edition::Old

@@ -10,6 +10,7 @@ pub mod law;
 mod listing;
 mod listing_table;
 mod needed;
+mod sources;
 mod strings;
 
 pub use answer::device;

@@ -1,4 +1,4 @@
-// The listing of a device.
+//! The listing of a device.
 ghost use Rattle.std.specs.Prelude.{◌≡◌, ◌==◌, ◌<◌, ◌≤◌, ◌+◌, ℕ, [], ◌∷◌, ◌++◌, length, filter, is_some, codes, decimal, true};
 ghost use Rattle.std.specs.List.{flat_map, list_any, prefix_len};
 ghost use Rattle.board_defs.specs.Limits.{most_bits};
@@ -15,7 +15,7 @@ use bt_bits::Line;
 use itoa::Buffer;
 use line_printer::{begin_line, end_line, print, print_all, put_line};
 
-// The number of cells whose entries are collected in one walk over all entries.
+/// The number of cells whose entries are collected in one walk over all entries.
 const BLOCK: usize = 1024;
 
 fn mode_word(mode: Mode) -> &'static [u8]
@@ -62,7 +62,7 @@ fn bit_word(bit: bool) -> &'static [u8]
     if bit { b"1" } else { b"0" }
 }
 
-// Prints a code, ending with the symbol nearest TDO.
+/// Prints a code, ending with the symbol nearest TDO.
 fn print_code<K: Sink>(code: &[Symbol], line: &mut Line, out: &mut K) -> Result<(), PutFault>
     ensures { Prints (K.shown out.old) (K.shown out.new) line.old line.new (code_text code.now) result }
 {
@@ -74,7 +74,7 @@ fn print_code<K: Sink>(code: &[Symbol], line: &mut Line, out: &mut K) -> Result<
     Ok(())
 }
 
-// Prints the name of an instruction and its code.
+/// Prints the name of an instruction and its code.
 fn print_instruction<K: Sink>(
     name: &[u8],
     code: &[Symbol],
@@ -87,7 +87,7 @@ fn print_instruction<K: Sink>(
     print_code(code, line, out)
 }
 
-// Prints the preload code, and the EXTEST code if the edition leaves it to the device.
+/// Prints the preload code, and the EXTEST code if the edition leaves it to the device.
 fn print_instructions<K: Sink>(
     device: &RawDevice,
     line: &mut Line,
@@ -105,7 +105,7 @@ fn print_instructions<K: Sink>(
     }
 }
 
-// Prints the pattern of the identification code, or `-` if there is none.
+/// Prints the pattern of the identification code, or `-` if there is none.
 fn print_pattern<K: Sink>(device: &RawDevice, line: &mut Line, out: &mut K) -> Result<(), PutFault>
     ensures { Prints (K.shown out.old) (K.shown out.new) line.old line.new (pattern_text device.now.idcode) result }
 {
@@ -115,7 +115,7 @@ fn print_pattern<K: Sink>(device: &RawDevice, line: &mut Line, out: &mut K) -> R
     }
 }
 
-// Begins the line of the instruction register with its length.
+/// Begins the line of the instruction register with its length.
 fn begin_instructions<K: Sink>(ir: u32, line: &mut Line, out: &mut K) -> Result<(), PutFault>
     ensures { Prints (K.shown out.old) (K.shown out.new) [] line.new (whole (codes "IR " ∷ decimal ir ∷ [])) result }
 {
@@ -124,7 +124,7 @@ fn begin_instructions<K: Sink>(ir: u32, line: &mut Line, out: &mut K) -> Result<
     begin_line(&[b"IR ".as_slice(), number], line, out)
 }
 
-// Writes the line of the instruction register.
+/// Writes the line of the instruction register.
 fn put_instructions<K: Sink>(
     device: &RawDevice,
     line: &mut Line,
@@ -139,7 +139,7 @@ fn put_instructions<K: Sink>(
     end_line(line, out)
 }
 
-// Prints the pin of a port bit, if it has one.
+/// Prints the pin of a port bit, if it has one.
 fn print_pin<K: Sink>(bit: &PortBit, line: &mut Line, out: &mut K) -> Result<(), PutFault>
     ensures { Prints (K.shown out.old) (K.shown out.new) line.old line.new (pin_text bit.now.pin) result }
 {
@@ -149,14 +149,14 @@ fn print_pin<K: Sink>(bit: &PortBit, line: &mut Line, out: &mut K) -> Result<(),
     }
 }
 
-// Returns whether one of the bits has a pin.
+/// Returns whether one of the bits has a pin.
 fn has_pins(bits: &[PortBit]) -> bool
     ensures { result ≡ list_any (λ bit. is_some bit.pin) bits.now }
 {
     bits.iter().any(|bit| bit.pin.is_some())
 }
 
-// Prints the pins of the bits in order.
+/// Prints the pins of the bits in order.
 fn print_each_pin<K: Sink>(bits: &[PortBit], line: &mut Line, out: &mut K) -> Result<(), PutFault>
     ensures { Prints (K.shown out.old) (K.shown out.new) line.old line.new
         (flat_map (λ bit. pin_text bit.pin) bits.now) result }
@@ -167,7 +167,7 @@ fn print_each_pin<K: Sink>(bits: &[PortBit], line: &mut Line, out: &mut K) -> Re
     Ok(())
 }
 
-// Prints the pins of a port, or `-` if it has none.
+/// Prints the pins of a port, or `-` if it has none.
 fn print_pins<K: Sink>(bits: &[PortBit], line: &mut Line, out: &mut K) -> Result<(), PutFault>
     ensures { Prints (K.shown out.old) (K.shown out.new) line.old line.new (pins_text bits.now) result }
 {
@@ -178,7 +178,7 @@ fn print_pins<K: Sink>(bits: &[PortBit], line: &mut Line, out: &mut K) -> Result
     }
 }
 
-// Begins the line of a port with its name.
+/// Begins the line of a port with its name.
 fn begin_port<K: Sink>(name: &[u8], line: &mut Line, out: &mut K) -> Result<(), PutFault>
     ensures { Prints (K.shown out.old) (K.shown out.new) [] line.new
         (whole (codes "PORT " ∷ name.now ∷ codes " " ∷ [])) result }
@@ -186,14 +186,14 @@ fn begin_port<K: Sink>(name: &[u8], line: &mut Line, out: &mut K) -> Result<(), 
     begin_line(&[b"PORT ".as_slice(), name, b" "], line, out)
 }
 
-// Prints the mode of a port.
+/// Prints the mode of a port.
 fn print_mode<K: Sink>(mode: Mode, line: &mut Line, out: &mut K) -> Result<(), PutFault>
     ensures { Prints (K.shown out.old) (K.shown out.new) line.old line.new (mode_word mode) result }
 {
     print(mode_word(mode), line, out)
 }
 
-// Writes the line of a port with this mode and these bits.
+/// Writes the line of a port with this mode and these bits.
 fn put_port_line<K: Sink>(
     name: &[u8],
     mode: Mode,
@@ -210,7 +210,7 @@ fn put_port_line<K: Sink>(
     end_line(line, out)
 }
 
-// Writes the line of a port with these bits, or nothing if there are none.
+/// Writes the line of a port with these bits, or nothing if there are none.
 fn put_port<K: Sink>(
     name: &[u8],
     bits: &[PortBit],
@@ -225,7 +225,7 @@ fn put_port<K: Sink>(
     }
 }
 
-// Returns the name of a port.
+/// Returns the name of a port.
 fn port_name(ports: &[Name], port: usize) -> &[u8]
     ensures { result.now ≡ port_name ports.now port }
 {
@@ -235,7 +235,7 @@ fn port_name(ports: &[Name], port: usize) -> &[u8]
     }
 }
 
-// Returns the number of bits at the front that belong to the port.
+/// Returns the number of bits at the front that belong to the port.
 fn count_bits(port: usize, bits: &[PortBit]) -> usize
     ensures value { result ≡ prefix_len (λ bit. bit.port == port) bits.now }
     ensures within { result ≤ length bits.now }
@@ -245,7 +245,7 @@ fn count_bits(port: usize, bits: &[PortBit]) -> usize
         .count()
 }
 
-// Returns the bits of a port and the bits of later ports.
+/// Returns the bits of a port and the bits of later ports.
 fn split_port(port: usize, bits: &[PortBit]) -> (&[PortBit], &[PortBit])
     requires { Rises port bits.now }
     ensures own { result.0.now ≡ filter (λ bit. bit.port == port) bits.now }
@@ -255,7 +255,7 @@ fn split_port(port: usize, bits: &[PortBit]) -> (&[PortBit], &[PortBit])
     bits.split_at(count_bits(port, bits))
 }
 
-// Writes the lines of the ports, whose bits are in the order of the ports.
+/// Writes the lines of the ports, whose bits are in the order of the ports.
 fn put_ports<K: Sink>(
     ports: &[Name],
     bits: &[PortBit],
@@ -274,7 +274,7 @@ fn put_ports<K: Sink>(
     Ok(())
 }
 
-// Prints the index of a bit, if it belongs to a vector.
+/// Prints the index of a bit, if it belongs to a vector.
 fn print_index<K: Sink>(index: Option<u32>, line: &mut Line, out: &mut K) -> Result<(), PutFault>
     ensures { Prints (K.shown out.old) (K.shown out.new) line.old line.new (index_text index) result }
 {
@@ -286,7 +286,7 @@ fn print_index<K: Sink>(index: Option<u32>, line: &mut Line, out: &mut K) -> Res
     print_all(&[b"(".as_slice(), number, b")"], line, out)
 }
 
-// Prints the name of a port.
+/// Prints the name of a port.
 fn print_port_name<K: Sink>(
     ports: &[Name],
     port: u32,
@@ -298,7 +298,7 @@ fn print_port_name<K: Sink>(
     print(port_name(ports, port as usize), line, out)
 }
 
-// Prints a port bit.
+/// Prints a port bit.
 fn print_bit<K: Sink>(
     ports: &[Name],
     bit: &PortBit,
@@ -312,7 +312,7 @@ fn print_bit<K: Sink>(
     print_index(bit.index, line, out)
 }
 
-// Prints the port bit of an entry, or `*` if it has none.
+/// Prints the port bit of an entry, or `*` if it has none.
 fn print_place<K: Sink>(
     ports: &[Name],
     bits: &[PortBit],
@@ -331,7 +331,7 @@ fn print_place<K: Sink>(
     }
 }
 
-// Prints the control cell of an entry and the disable value, if the entry has a control.
+/// Prints the control cell of an entry and the disable value, if the entry has a control.
 fn print_control<K: Sink>(
     control: Option<Control>,
     line: &mut Line,
@@ -348,7 +348,7 @@ fn print_control<K: Sink>(
     print_all(&[b" ".as_slice(), cell, b" ", disable], line, out)
 }
 
-// Begins the line of an entry with the number of its cell and its function.
+/// Begins the line of an entry with the number of its cell and its function.
 fn begin_cell<K: Sink>(num: u32, role: Role, line: &mut Line, out: &mut K) -> Result<(), PutFault>
     ensures { Prints (K.shown out.old) (K.shown out.new) [] line.new
         (whole (codes "CELL " ∷ decimal num ∷ codes " " ∷ role_word role ∷ codes " " ∷ [])) result }
@@ -362,14 +362,14 @@ fn begin_cell<K: Sink>(num: u32, role: Role, line: &mut Line, out: &mut K) -> Re
     )
 }
 
-// Prints the safe value of an entry.
+/// Prints the safe value of an entry.
 fn print_safe<K: Sink>(safe: Symbol, line: &mut Line, out: &mut K) -> Result<(), PutFault>
     ensures { Prints (K.shown out.old) (K.shown out.new) line.old line.new (whole (codes " " ∷ symbol_word safe ∷ [])) result }
 {
     print_all(&[b" ".as_slice(), symbol_word(safe)], line, out)
 }
 
-// Writes the line of an entry.
+/// Writes the line of an entry.
 fn put_cell<K: Sink>(
     ports: &[Name],
     bits: &[PortBit],
@@ -386,7 +386,7 @@ fn put_cell<K: Sink>(
     end_line(line, out)
 }
 
-// Writes the lines of the entries of a cell.
+/// Writes the lines of the entries of a cell.
 fn put_entries<K: Sink>(
     ports: &[Name],
     bits: &[PortBit],
@@ -406,7 +406,7 @@ fn put_entries<K: Sink>(
     }
 }
 
-// Writes the lines of the cells of a table.
+/// Writes the lines of the cells of a table.
 fn put_table<K: Sink>(
     ports: &[Name],
     bits: &[PortBit],
@@ -423,7 +423,7 @@ fn put_table<K: Sink>(
     Ok(())
 }
 
-// Writes the lines of cells `from`, `from + 1` and so on, one cell for each place of the table.
+/// Writes the lines of cells `from`, `from + 1` and so on, one cell for each place of the table.
 fn put_block<K: Sink>(
     device: &RawDevice,
     from: u32,
@@ -446,7 +446,7 @@ fn put_block<K: Sink>(
     )
 }
 
-// Writes the lines of all cells, block by block, so that no order of the entries makes this slow.
+/// Writes the lines of all cells, block by block, so that no order of the entries makes this slow.
 fn put_blocks<K: Sink>(device: &RawDevice, line: &mut Line, out: &mut K) -> Result<(), PutFault>
     requires few { (num : ℕ) → length (entries_of num device.now.cells) ≤ 2 }
     requires most { device.now.boundary ≤ most_bits }
@@ -463,7 +463,7 @@ fn put_blocks<K: Sink>(device: &RawDevice, line: &mut Line, out: &mut K) -> Resu
     Ok(())
 }
 
-// Returns whether the entries are in the order of their cells and all cell numbers are below `most`.
+/// Returns whether the entries are in the order of their cells and all cell numbers are below `most`.
 fn are_in_order(cells: &[Cell], most: u32) -> bool
     ensures { result ≡ true → Climbs 0 most cells.now }
 {
@@ -477,7 +477,7 @@ fn are_in_order(cells: &[Cell], most: u32) -> bool
     true
 }
 
-// Writes the lines of the entries in their order.
+/// Writes the lines of the entries in their order.
 fn put_in_order<K: Sink>(
     ports: &[Name],
     bits: &[PortBit],
@@ -493,7 +493,7 @@ fn put_in_order<K: Sink>(
     Ok(())
 }
 
-// Writes the lines of all cells. Most texts have the entries in the order of the cells, so one walk writes them.
+/// Writes the lines of all cells. Most texts have the entries in the order of the cells, so one walk writes them.
 fn put_cells<K: Sink>(device: &RawDevice, line: &mut Line, out: &mut K) -> Result<(), PutFault>
     requires few { (num : ℕ) → length (entries_of num device.now.cells) ≤ 2 }
     requires most { device.now.boundary ≤ most_bits }
@@ -514,7 +514,7 @@ fn put_cells<K: Sink>(device: &RawDevice, line: &mut Line, out: &mut K) -> Resul
     }
 }
 
-// Writes the lines of the ports of a device.
+/// Writes the lines of the ports of a device.
 fn put_all_ports<K: Sink>(device: &RawDevice, line: &mut Line, out: &mut K) -> Result<(), PutFault>
     requires { IsDevice device.now }
     ensures { Prints (K.shown out.old) (K.shown out.new) [] [] (port_lines device.now.ports device.now.bits) result }
@@ -522,14 +522,14 @@ fn put_all_ports<K: Sink>(device: &RawDevice, line: &mut Line, out: &mut K) -> R
     put_ports(device.ports.as_slice(), device.bits.as_slice(), line, out)
 }
 
-// Writes a line of a word and a name.
+/// Writes a line of a word and a name.
 fn put_name<K: Sink>(word: &[u8], name: &Name, line: &mut Line, out: &mut K) -> Result<(), PutFault>
     ensures { Prints (K.shown out.old) (K.shown out.new) [] [] (line_of (word.now ∷ name.now ∷ [])) result }
 {
     put_line(&[word, name.bytes()], line, out)
 }
 
-// Writes the listing.
+/// Writes the listing.
 fn put_listing<K: Sink>(device: &RawDevice, line: &mut Line, out: &mut K) -> Result<(), PutFault>
     requires { IsDevice device.now }
     ensures { Prints (K.shown out.old) (K.shown out.new) [] [] (device_text device.now) result }

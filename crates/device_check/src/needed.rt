@@ -1,19 +1,126 @@
-//! Rule V1: the attributes that an entity needs.
-ghost use Rattle.std.specs.Prelude.{◌≡◌, ◌==◌, ◌||◌, ◌&&◌, not, find, option_copied};
-ghost use Rattle.device_check.specs.Attributes.{times, text_of};
-ghost use Rattle.device_check.specs.Needed.{is_within, is_edition, stands_once, is_as_needed, v1};
+//! Rule V1: what an entity must have.
+ghost use Rattle.std.specs.Prelude.{◌≡◌, option_copied, option_map};
+ghost use Rattle.device_check.specs.Attributes.{chosen};
+ghost use Rattle.device_check.specs.Needed.{within, is_repeated, is_edition, conforms, found_taps, found_registers, wrong_option, found_package, v1};
+ghost use Rattle.device_check.specs.inner.Reading.{Says, taps_view, registers_view, package_view, needed_view};
 
-use crate::attributes::{chosen, constants_named, is_text, number_of, text_of, times};
+use crate::attributes::{
+    chosen, is_text, only_constant, only_number, only_port, only_text, only_value, times,
+};
+use crate::sources::{Attribute, Source};
 use board_defs::{MOST_BITS, MOST_INSTRUCTION_BITS};
 use bsdl_parser::Entity;
 
-fn is_within(least: u32, most: u32, number: Option<u32>) -> bool
-    ensures { result ≡ is_within least most number }
+/// The ports that the mandatory TAP attributes name.
+#[derive(Clone, Copy)]
+pub struct NeededTaps<'a> {
+    pub scan_in: &'a [u8],
+    pub scan_out: &'a [u8],
+    pub mode: &'a [u8],
+    pub clock: &'a [u8],
+}
+
+/// The values of the attributes of the instruction register and the boundary-scan register.
+#[derive(Clone, Copy)]
+pub struct NeededRegisters<'a> {
+    /// In bits, from 2 to 255.
+    pub instruction_length: u32,
+    pub opcodes: &'a [u8],
+    pub capture: &'a [u8],
+    /// In cells, from 1 to 65,535.
+    pub boundary_length: u32,
+    pub boundary: &'a [u8],
+}
+
+/// The package that is chosen: its name, and the string of its pin map.
+#[derive(Clone, Copy)]
+pub struct NeededPackage<'a> {
+    pub name: &'a [u8],
+    pub pin_map: &'a [u8],
+}
+
+/// The values that an entity has if rule V1 holds.
+#[derive(Clone, Copy)]
+pub struct Needed<'a> {
+    pub taps: NeededTaps<'a>,
+    pub registers: NeededRegisters<'a>,
+    pub chosen: NeededPackage<'a>,
+}
+
+/// Returns the ports of the four mandatory TAP attributes. PIN_MAP is tried first.
+#[tactic(auto, unfolding(crate::specs::Needed::found_taps))]
+fn needed_taps(entity: &Entity) -> Result<NeededTaps<'_>, Source>
+    ensures { Says taps_view (found_taps entity.now) result }
+{
+    if only_value(entity, Attribute::PinMap).is_none() {
+        return Err(Source::Attribute(Attribute::PinMap));
+    }
+    let Some(scan_in) = only_port(entity, Attribute::TapScanIn) else {
+        return Err(Source::Attribute(Attribute::TapScanIn));
+    };
+    let Some(scan_out) = only_port(entity, Attribute::TapScanOut) else {
+        return Err(Source::Attribute(Attribute::TapScanOut));
+    };
+    let Some(mode) = only_port(entity, Attribute::TapScanMode) else {
+        return Err(Source::Attribute(Attribute::TapScanMode));
+    };
+    let Some(clock) = only_port(entity, Attribute::TapScanClock) else {
+        return Err(Source::Attribute(Attribute::TapScanClock));
+    };
+    Ok(NeededTaps {
+        scan_in,
+        scan_out,
+        mode,
+        clock,
+    })
+}
+
+/// Returns the number, if it is from `least` to `most`.
+fn within(least: u32, most: u32, number: Option<u32>) -> Option<u32>
+    ensures { result ≡ within least most number }
 {
     match number {
-        Some(number) => least <= number && number <= most,
-        None => false,
+        Some(number) if least <= number && number <= most => Some(number),
+        _ => None,
     }
+}
+
+/// Returns the values of INSTRUCTION_LENGTH, INSTRUCTION_OPCODE, INSTRUCTION_CAPTURE, BOUNDARY_LENGTH and
+/// BOUNDARY_REGISTER.
+#[tactic(auto, unfolding(crate::specs::Needed::found_registers))]
+fn needed_registers(entity: &Entity) -> Result<NeededRegisters<'_>, Source>
+    ensures { Says registers_view (found_registers entity.now) result }
+{
+    let length = only_number(entity, Attribute::InstructionLength);
+    let Some(instruction_length) = within(2, MOST_INSTRUCTION_BITS, length) else {
+        return Err(Source::Attribute(Attribute::InstructionLength));
+    };
+    let Some(opcodes) = only_text(entity, Attribute::InstructionOpcode) else {
+        return Err(Source::Attribute(Attribute::InstructionOpcode));
+    };
+    let Some(capture) = only_text(entity, Attribute::InstructionCapture) else {
+        return Err(Source::Attribute(Attribute::InstructionCapture));
+    };
+    let length = only_number(entity, Attribute::BoundaryLength);
+    let Some(boundary_length) = within(1, MOST_BITS, length) else {
+        return Err(Source::Attribute(Attribute::BoundaryLength));
+    };
+    let Some(boundary) = only_text(entity, Attribute::BoundaryRegister) else {
+        return Err(Source::Attribute(Attribute::BoundaryRegister));
+    };
+    Ok(NeededRegisters {
+        instruction_length,
+        opcodes,
+        capture,
+        boundary_length,
+        boundary,
+    })
+}
+
+fn is_repeated(entity: &Entity, attribute: Attribute) -> bool
+    ensures { result ≡ is_repeated entity.now attribute }
+{
+    times(entity, attribute) > 1
 }
 
 fn is_edition(text: Option<&[u8]>) -> bool
@@ -24,56 +131,74 @@ fn is_edition(text: Option<&[u8]>) -> bool
         || is_text(b"STD_1149_1_2001", text)
 }
 
-fn stands_once(entity: &Entity, number: u32) -> bool
-    ensures { result ≡ stands_once entity.now number }
-{
-    times(entity, number) == 1
-}
-
-/// Returns whether COMPONENT_CONFORMANCE is missing, or is there once and names an edition.
+/// Returns whether COMPONENT_CONFORMANCE is missing, or is there exactly once and names an edition.
 fn conforms(entity: &Entity) -> bool
-    ensures { result ≡ ((times entity.now 14 == 0) || (stands_once entity.now 14 && is_edition (text_of entity.now 14))) }
+    ensures { result ≡ conforms entity.now }
 {
-    if times(entity, 14) == 0 {
-        return true;
-    }
-    stands_once(entity, 14) && is_edition(text_of(entity, 14))
+    times(entity, Attribute::ComponentConformance) == 0
+        || is_edition(only_text(entity, Attribute::ComponentConformance))
 }
 
-/// Returns whether the attribute with this number is there as often as the entity needs, with an allowed value.
-/// Number 15 stands for the pin map. `constants` is the number of constants with the package's name.
-#[tactic(auto, unfolding(crate::specs::Needed::is_as_needed))]
-fn is_as_needed(entity: &Entity, constants: usize, number: u32) -> bool
-    ensures { result ≡ is_as_needed entity.now constants number }
+/// Returns the first optional attribute that is repeated or names no edition.
+#[tactic(auto, unfolding(crate::specs::Needed::wrong_option))]
+fn wrong_option(entity: &Entity) -> Option<Attribute>
+    ensures { result ≡ wrong_option entity.now }
 {
-    match number {
-        6 => stands_once(entity, 6) && is_within(2, MOST_INSTRUCTION_BITS, number_of(entity, 6)),
-        9 => stands_once(entity, 9) && is_within(1, MOST_BITS, number_of(entity, 9)),
-        0..=10 => stands_once(entity, number),
-        11..=13 => times(entity, number) <= 1,
-        14 => conforms(entity),
-        _ => constants == 1,
+    if is_repeated(entity, Attribute::TapScanReset) {
+        return Some(Attribute::TapScanReset);
+    }
+    if is_repeated(entity, Attribute::IdcodeRegister) {
+        return Some(Attribute::IdcodeRegister);
+    }
+    if is_repeated(entity, Attribute::CompliancePatterns) {
+        return Some(Attribute::CompliancePatterns);
+    }
+    if conforms(entity) {
+        None
+    } else {
+        Some(Attribute::ComponentConformance)
     }
 }
 
-fn first_wrong(entity: &Entity, constants: usize, numbers: &[u32]) -> Option<u32>
-    ensures { result ≡ find (λ number. not (is_as_needed entity.now constants number)) numbers.now }
+/// Returns the package that is given, or otherwise the default, with its pin map. Returns None if there is no package,
+/// or if not exactly one constant has its name.
+fn needed_package<'a>(entity: &'a Entity, package: Option<&'a [u8]>) -> Option<NeededPackage<'a>>
+    ensures { option_map package_view result ≡ found_package entity.now (chosen entity.now (option_copied «package».entry)) }
 {
-    for number in numbers {
-        if !is_as_needed(entity, constants, *number) {
-            return Some(*number);
-        }
-    }
-    None
+    let name = chosen(entity, package)?;
+    let constant = only_constant(entity, name)?;
+    Some(NeededPackage {
+        name,
+        pin_map: constant.text.bytes(),
+    })
 }
 
-/// Checks rule V1: returns the least number of an attribute that is missing, repeated or has a wrong value. Number 15
-/// stands for the pin map.
+/// Tries rule V1. Returns what the entity must have, or the first source that is missing, repeated or has a wrong
+/// value.
 #[tactic(auto, unfolding(crate::specs::Needed::v1))]
-pub(crate) fn wrong_attribute(entity: &Entity, package: Option<&[u8]>) -> Option<u32>
-    ensures { result ≡ v1 entity.now (option_copied «package».entry) }
+pub(crate) fn find_needed<'a>(
+    entity: &'a Entity,
+    package: Option<&'a [u8]>,
+) -> Result<Needed<'a>, Source>
+    ensures { Says needed_view (v1 entity.now (option_copied «package».entry)) result }
 {
-    let constants = constants_named(entity, chosen(entity, package));
-    let numbers = [1, 2, 3, 4, 5, 6, 7, 8, 9, 10, 11, 12, 13, 14, 15];
-    first_wrong(entity, constants, &numbers)
+    let taps = match needed_taps(entity) {
+        Ok(taps) => taps,
+        Err(source) => return Err(source),
+    };
+    let registers = match needed_registers(entity) {
+        Ok(registers) => registers,
+        Err(source) => return Err(source),
+    };
+    if let Some(attribute) = wrong_option(entity) {
+        return Err(Source::Attribute(attribute));
+    }
+    match needed_package(entity, package) {
+        Some(chosen) => Ok(Needed {
+            taps,
+            registers,
+            chosen,
+        }),
+        None => Err(Source::PinMapConstant),
+    }
 }

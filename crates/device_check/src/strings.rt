@@ -1,13 +1,18 @@
-//! Reads the strings of an entity in order.
-ghost use Rattle.std.specs.Prelude.{◌≡◌, ℕ, List, Option, All, IfOk, IfErr, option_copied};
-ghost use Rattle.bsdl_parser.specs.Entity.{IsShort, HasShortText, IsSmall};
-ghost use Rattle.bsdl_strings.specs.Strings.{IsPinMap, AreOpcodes, IsPattern, IsCompliance, IsBoundary};
-ghost use Rattle.device_check.specs.Attributes.{needed_text, text_of, pin_map_text};
+//! Reads the strings of an entity.
+ghost use Rattle.std.specs.Prelude.{◌≡◌, ◌<◌, ◌^◌, length, All, IfOk, IfErr};
+ghost use Rattle.bsdl_parser.specs.Entity.{HasShortText};
+ghost use Rattle.bsdl_strings.specs.Strings.{IsPinMap, IsNoPinMap, AreOpcodes, AreNoOpcodes, IsPattern, IsNoPattern, IsCompliance, IsBoundary, IsNoBoundary};
+ghost use Rattle.bsdl_parser.specs.declared.entity.Entity.{Entity};
+ghost use Rattle.device_check.specs.declared.sources.Attribute.TheVariants.{IdcodeRegister, CompliancePatterns};
+ghost use Rattle.device_check.specs.Attributes.{text_of};
+ghost use Rattle.device_check.specs.Needed.{Found};
 ghost use Rattle.device_check.specs.DeviceStrings.{MayBe, LeavesBy, pin_map, opcodes, capture, idcode, compliance, boundary};
-ghost use Rattle.device_check.specs.inner.Reading.{fault_of, NamesPlace, Gathers};
+ghost use Rattle.device_check.specs.inner.Reading.{fault_of, needed_view, HasShortStrings, NamesPlace, Gathers};
 
-use crate::attributes::{needed_text, pin_map_text, text_of};
+use crate::attributes::text_of;
 use crate::fault::DeviceFault;
+use crate::needed::Needed;
+use crate::sources::{Attribute, Source};
 use board_defs::{Code, Items};
 use bsdl_parser::Entity;
 use bsdl_strings::{Compliance, Entry, MapEntry, Opcode, StringFault};
@@ -24,116 +29,110 @@ pub struct Strings {
     pub entries: Items<Entry>,
 }
 
-/// Returns the fault for the string of this attribute.
-fn fault(attribute: u32, fault: StringFault) -> DeviceFault
-    ensures { result ≡ fault_of attribute fault }
+/// Returns the fault for the string of this source.
+fn fault(source: Source, fault: StringFault) -> DeviceFault
+    ensures { result ≡ fault_of source fault }
 {
     match fault {
-        StringFault::At(entry) => DeviceFault::Text { attribute, entry },
+        StringFault::At(entry) => DeviceFault::Text {
+            attribute: source.number(),
+            entry,
+        },
         StringFault::Memory(error) => DeviceFault::Memory(error),
     }
 }
 
-#[tactic(auto, using(crate::proofs::TextLemmas::short_pin_map))]
-fn read_pin_map(
-    alloc: Global,
-    entity: &Entity,
-    package: Option<&[u8]>,
-) -> Result<Items<MapEntry>, DeviceFault>
-    requires { All (λ constant. IsShort constant.text) entity.now.constants }
-    ensures value { IfOk result (λ map. IsPinMap (pin_map_text entity.now (option_copied «package».entry)) map) }
-    ensures fault { IfErr result (NamesPlace (LeavesBy entity.now (option_copied «package».entry) pin_map)) }
+fn read_pin_map(alloc: Global, needed: &Needed) -> Result<Items<MapEntry>, DeviceFault>
+    requires { length needed.now.chosen.pin_map.now < 2 ^ 32 }
+    ensures value { IfOk result (λ map. IsPinMap needed.now.chosen.pin_map.now map) }
+    ensures fault { (entity : Entity) → IfErr result (NamesPlace (LeavesBy entity (needed_view needed.now) pin_map)) }
 {
-    match bsdl_strings::pin_map(alloc, pin_map_text(entity, package)) {
+    match bsdl_strings::pin_map(alloc, needed.chosen.pin_map) {
         Ok(map) => Ok(Items::of(map)),
-        Err(stop) => Err(fault(15, stop)),
+        Err(stop) => Err(fault(Source::PinMapConstant, stop)),
     }
 }
 
-#[tactic(auto, using(crate::proofs::TextLemmas::short_needed))]
-fn read_opcodes(alloc: Global, entity: &Entity) -> Result<Items<Opcode>, DeviceFault>
-    requires { All (λ attribute. HasShortText attribute.value) entity.now.attributes }
-    ensures value { IfOk result (λ opcodes. AreOpcodes (needed_text entity.now 7) opcodes) }
-    ensures fault { (given : Option (List ℕ)) → IfErr result (NamesPlace (LeavesBy entity.now given opcodes)) }
+fn read_opcodes(alloc: Global, needed: &Needed) -> Result<Items<Opcode>, DeviceFault>
+    requires { length needed.now.registers.opcodes.now < 2 ^ 32 }
+    ensures value { IfOk result (λ opcodes. AreOpcodes needed.now.registers.opcodes.now opcodes) }
+    ensures fault { (entity : Entity) → IfErr result (NamesPlace (LeavesBy entity (needed_view needed.now) opcodes)) }
 {
-    match bsdl_strings::opcodes(alloc, needed_text(entity, 7)) {
+    match bsdl_strings::opcodes(alloc, needed.registers.opcodes) {
         Ok(opcodes) => Ok(Items::of(opcodes)),
-        Err(stop) => Err(fault(7, stop)),
+        Err(stop) => Err(fault(Source::Attribute(Attribute::InstructionOpcode), stop)),
     }
 }
 
-#[tactic(auto, using(crate::proofs::TextLemmas::short_needed))]
-fn read_capture(alloc: Global, entity: &Entity) -> Result<Code, DeviceFault>
-    requires { All (λ attribute. HasShortText attribute.value) entity.now.attributes }
-    ensures value { IfOk result (λ code. IsPattern (needed_text entity.now 8) code) }
-    ensures fault { (given : Option (List ℕ)) → IfErr result (NamesPlace (LeavesBy entity.now given capture)) }
+fn read_capture(alloc: Global, needed: &Needed) -> Result<Code, DeviceFault>
+    requires { length needed.now.registers.capture.now < 2 ^ 32 }
+    ensures value { IfOk result (λ code. IsPattern needed.now.registers.capture.now code) }
+    ensures fault { (entity : Entity) → IfErr result (NamesPlace (LeavesBy entity (needed_view needed.now) capture)) }
 {
-    match bsdl_strings::pattern(alloc, needed_text(entity, 8)) {
+    match bsdl_strings::pattern(alloc, needed.registers.capture) {
         Ok(code) => Ok(code),
-        Err(stop) => Err(fault(8, stop)),
+        Err(stop) => Err(fault(Source::Attribute(Attribute::InstructionCapture), stop)),
     }
 }
 
-#[tactic(auto, using(crate::proofs::TextLemmas::short_text))]
 fn read_idcode(alloc: Global, entity: &Entity) -> Result<Option<Code>, DeviceFault>
     requires { All (λ attribute. HasShortText attribute.value) entity.now.attributes }
-    ensures value { IfOk result (λ code. MayBe IsPattern (text_of entity.now 12) code) }
-    ensures fault { (given : Option (List ℕ)) → IfErr result (NamesPlace (LeavesBy entity.now given idcode)) }
+    ensures value { IfOk result (λ code. MayBe IsPattern (text_of entity.now IdcodeRegister) code) }
+    ensures fault { (found : Found) → IfErr result (NamesPlace (LeavesBy entity.now found idcode)) }
 {
-    match text_of(entity, 12) {
+    match text_of(entity, Attribute::IdcodeRegister) {
         None => Ok(None),
         Some(text) => match bsdl_strings::pattern(alloc, text) {
             Ok(code) => Ok(Some(code)),
-            Err(stop) => Err(fault(12, stop)),
+            Err(stop) => Err(fault(Source::Attribute(Attribute::IdcodeRegister), stop)),
         },
     }
 }
 
 fn read_compliance(alloc: Global, entity: &Entity) -> Result<Option<Compliance>, DeviceFault>
-    ensures value { IfOk result (λ value. MayBe IsCompliance (text_of entity.now 13) value) }
-    ensures fault { (given : Option (List ℕ)) → IfErr result (NamesPlace (LeavesBy entity.now given compliance)) }
+    ensures value { IfOk result (λ value. MayBe IsCompliance (text_of entity.now CompliancePatterns) value) }
+    ensures fault { (found : Found) → IfErr result (NamesPlace (LeavesBy entity.now found compliance)) }
 {
-    match text_of(entity, 13) {
+    match text_of(entity, Attribute::CompliancePatterns) {
         None => Ok(None),
         Some(text) => match bsdl_strings::compliance(alloc, text) {
             Ok(value) => Ok(Some(value)),
-            Err(stop) => Err(fault(13, stop)),
+            Err(stop) => Err(fault(Source::Attribute(Attribute::CompliancePatterns), stop)),
         },
     }
 }
 
-#[tactic(auto, using(crate::proofs::TextLemmas::short_needed))]
-fn read_boundary(alloc: Global, entity: &Entity) -> Result<Items<Entry>, DeviceFault>
-    requires { All (λ attribute. HasShortText attribute.value) entity.now.attributes }
-    ensures value { IfOk result (λ entries. IsBoundary (needed_text entity.now 10) entries) }
-    ensures fault { (given : Option (List ℕ)) → IfErr result (NamesPlace (LeavesBy entity.now given boundary)) }
+fn read_boundary(alloc: Global, needed: &Needed) -> Result<Items<Entry>, DeviceFault>
+    requires { length needed.now.registers.boundary.now < 2 ^ 32 }
+    ensures value { IfOk result (λ entries. IsBoundary needed.now.registers.boundary.now entries) }
+    ensures fault { (entity : Entity) → IfErr result (NamesPlace (LeavesBy entity (needed_view needed.now) boundary)) }
 {
-    match bsdl_strings::boundary(alloc, needed_text(entity, 10)) {
+    match bsdl_strings::boundary(alloc, needed.registers.boundary) {
         Ok(entries) => Ok(Items::of(entries)),
-        Err(stop) => Err(fault(10, stop)),
+        Err(stop) => Err(fault(Source::Attribute(Attribute::BoundaryRegister), stop)),
     }
 }
 
-/// Returns the values of all strings, or the fault of the first string that leaves its grammar.
-#[tactic(auto, using(crate::proofs::OrderLemmas::in_pin_map))]
+/// Returns the values of all strings, or the fault of the first string that leaves its grammar. The strings are read
+/// in the order of the fields of `Strings`.
 pub(crate) fn read_strings(
     alloc: Global,
     entity: &Entity,
-    package: Option<&[u8]>,
+    needed: &Needed,
 ) -> Result<Strings, DeviceFault>
-    requires constants { All (λ constant. IsShort constant.text) entity.now.constants }
+    requires needed { HasShortStrings (needed_view needed.now) }
     requires attributes { All (λ attribute. HasShortText attribute.value) entity.now.attributes }
-    ensures { Gathers entity.now (option_copied «package».entry) result }
+    ensures { Gathers entity.now (needed_view needed.now) result }
 {
-    let map = match read_pin_map(alloc, entity, package) {
+    let map = match read_pin_map(alloc, needed) {
         Ok(map) => map,
         Err(fault) => return Err(fault),
     };
-    let opcodes = match read_opcodes(alloc, entity) {
+    let opcodes = match read_opcodes(alloc, needed) {
         Ok(opcodes) => opcodes,
         Err(fault) => return Err(fault),
     };
-    let capture = match read_capture(alloc, entity) {
+    let capture = match read_capture(alloc, needed) {
         Ok(capture) => capture,
         Err(fault) => return Err(fault),
     };
@@ -145,7 +144,7 @@ pub(crate) fn read_strings(
         Ok(compliance) => compliance,
         Err(fault) => return Err(fault),
     };
-    let entries = match read_boundary(alloc, entity) {
+    let entries = match read_boundary(alloc, needed) {
         Ok(entries) => entries,
         Err(fault) => return Err(fault),
     };

@@ -1,5 +1,5 @@
--- The results of the functions that read the strings of an entity.
-use Rattle.std.specs.Prelude.{◌≡◌, ℕ, List, Option, Some, None, Result, Ok, Err}
+-- The results of the functions that try V1, read the strings of an entity and try the rules.
+use Rattle.std.specs.Prelude.{◌≡◌, ℕ, ◌<◌, ◌^◌, length, Some, None, Result, Ok, Err}
 use Rattle.board_defs.specs.declared.device.RawDevice.{RawDevice}
 use Rattle.bsdl_parser.specs.declared.entity.Entity.{Entity}
 use Rattle.bsdl_strings.specs.declared.fault.StringFault.{StringFault}
@@ -9,8 +9,46 @@ use Rattle.device_rules.specs.Rules.{first_rule}
 use Rattle.device_rules.specs.Raw.{raw_device}
 use Rattle.device_check.specs.declared.fault.DeviceFault.{DeviceFault}
 use Rattle.device_check.specs.declared.fault.DeviceFault.TheVariants as faults
+use Rattle.device_check.specs.declared.needed.NeededTaps.{NeededTaps}
+use Rattle.device_check.specs.declared.needed.NeededRegisters.{NeededRegisters}
+use Rattle.device_check.specs.declared.needed.NeededPackage.{NeededPackage}
+use Rattle.device_check.specs.declared.needed.Needed.{Needed}
+use Rattle.device_check.specs.declared.sources.Source.{Source}
 use Rattle.device_check.specs.declared.strings.Strings.{Strings}
+use Rattle.device_check.specs.Sources.{source_number}
+use Rattle.device_check.specs.Needed.{FoundTaps, FoundRegisters, FoundPackage, Found}
 use Rattle.device_check.specs.DeviceStrings.{LeavesFirst, in_order, AreStrings}
+
+-- what V1 found, without the references to the text
+abbrev pub taps_view : NeededTaps → FoundTaps
+taps_view taps = record { scan_in = taps.scan_in.now; scan_out = taps.scan_out.now; mode = taps.mode.now; clock = taps.clock.now }
+
+abbrev pub registers_view : NeededRegisters → FoundRegisters
+registers_view registers = record {
+  instruction_length = registers.instruction_length;
+  opcodes = registers.opcodes.now;
+  capture = registers.capture.now;
+  boundary_length = registers.boundary_length;
+  boundary = registers.boundary.now;
+}
+
+abbrev pub package_view : NeededPackage → FoundPackage
+package_view chosen = record { name = chosen.name.now; pin_map = chosen.pin_map.now }
+
+abbrev pub needed_view : Needed → Found
+needed_view needed = record { taps = taps_view needed.taps; registers = registers_view needed.registers; chosen = package_view needed.chosen }
+
+-- the result, with its value seen by a view, is what the definition says
+abbrev pub Says : {T A E : Type 0} → (T → A) → Result A E → Result T E → Type 0
+Says view said (Ok value) = said ≡ Ok (view value)
+Says view said (Err error) = said ≡ Err error
+
+-- the strings that must be there are short
+pub record HasShortStrings (found : Found) : Type 0 where
+  pub pin_map : length found.chosen.pin_map < 2 ^ 32
+  pub opcodes : length found.registers.opcodes < 2 ^ 32
+  pub capture : length found.registers.capture < 2 ^ 32
+  pub boundary : length found.registers.boundary < 2 ^ 32
 
 -- the fault names an attribute and an entry with this property; nothing is said about a refusal of memory
 abbrev pub NamesPlace : (ℕ → ℕ → Type 0) → DeviceFault → Type 0
@@ -18,15 +56,15 @@ NamesPlace P (faults.Rule number item) = ⊥
 NamesPlace P (faults.Text attribute entry) = P attribute entry
 NamesPlace P (faults.Memory error) = Unit {0}
 
--- the fault for the string of this attribute
-abbrev pub fault_of : ℕ → StringFault → DeviceFault
-fault_of attribute (At entry) = faults.Text attribute entry
-fault_of attribute (Memory error) = faults.Memory error
+-- the fault for the string of this source
+abbrev pub fault_of : Source → StringFault → DeviceFault
+fault_of source (At entry) = faults.Text (source_number source) entry
+fault_of source (Memory error) = faults.Memory error
 
 -- the values of all strings, or the fault of the first one that leaves its grammar
-abbrev pub Gathers : Entity → Option (List ℕ) → Result Strings DeviceFault → Type 0
-Gathers entity given (Ok strings) = AreStrings entity given strings
-Gathers entity given (Err fault) = NamesPlace (LeavesFirst entity given in_order) fault
+abbrev pub Gathers : Entity → Found → Result Strings DeviceFault → Type 0
+Gathers entity found (Ok strings) = AreStrings entity found strings
+Gathers entity found (Err fault) = NamesPlace (LeavesFirst entity found in_order) fault
 
 -- the device of the draft, or the first rule that fails with its item
 abbrev pub IsJudged : Draft → Result RawDevice DeviceFault → Type 0
