@@ -1,6 +1,6 @@
 -- The identity test passes if and only if each code fits its pattern.
 use Rattle.std.proofs.Common.{◌≡◌, ◌≢◌, ℕ, zero, suc, ◌^◌, ◌<◌, Bool, true, false, ◌&&◌, List, [], ◌∷◌, length, map, Option, Some, None, refl, sym, ◌∙◌, ap, subst, arith}
-use Rattle.std.specs.Prelude.{slice_get}
+use Rattle.std.specs.Prelude.{cond, slice_get}
 use Rattle.std.proofs.Math.Bool.{and-true}
 use Rattle.std.proofs.lemmas.List.{length-map}
 use Rattle.board_defs.specs.declared.device.Symbol.{Symbol}
@@ -8,7 +8,7 @@ use Rattle.board_defs.specs.declared.device.Symbol.TheVariants.{Zero, One, Any}
 use Rattle.board_defs.specs.declared.board.PartKind.TheVariants.{Described}
 use Rattle.board_defs.specs.declared.device.RawDevice.{RawDevice}
 use Rattle.tap_defs.specs.declared.tap.TapState.TheVariants.{RunTestIdle}
-use Rattle.tap_defs.specs.chain.TestLogic.{TestLogic, Instruction, Bypass, Idcode, Other}
+use Rattle.tap_defs.specs.chain.TestLogic.{TestLogic, Instruction, Extest, Sample, Bypass, Idcode, Other, all_ones, is_code, instruction_of}
 use Rattle.tap_defs.specs.board.OnBoard.{reset_by, test_logic}
 use Rattle.tap_defs.specs.chain.Part.{FreeBits}
 use Rattle.tap_defs.specs.chain.Chain.{ChainPart, logics, IsChainOf}
@@ -225,6 +225,13 @@ codes_assigned (first ∷ devices) codes zero device is =
     let same : first ≡ device = cc in
     (coded_by first.idcode (codes 0) (test_logic (Described first)), refl, subst (λ (d : RawDevice). HasCode d (codes 0) (coded_by first.idcode (codes 0) (test_logic (Described first)))) same (coded_alone first.idcode first (codes 0) refl))
 codes_assigned (first ∷ devices) codes (suc k) device is = codes_assigned devices (λ n. codes (suc n)) k device is
+
+-- the code of a part changes no instruction
+pub codes_keep_instructions : (device : RawDevice) (code : List Bool) (part : TestLogic) → HasCode device code part → (bits : List Bool) → instruction_of part bits ≡ instruction_of (test_logic (Described device)) bits
+codes_keep_instructions device code part has bits =
+    let given = test_logic (Described device) in
+    ap (λ (extest : Option (List Bool)). cond (all_ones bits) Bypass (cond (is_code extest bits) Extest (cond (is_code part.preload bits) Sample Other))) has.extest
+    ∙ ap (λ (preload : Option (List Bool)). cond (all_ones bits) Bypass (cond (is_code given.extest bits) Extest (cond (is_code preload bits) Sample Other))) has.preload
 
 -- the promises on passing and on failing decide each run
 pub each_run_tells : (patterns : List (Option (List Symbol))) (text : List ℕ) → IsIdentTest patterns text → EachRunTells patterns text

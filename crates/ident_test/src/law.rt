@@ -2,7 +2,9 @@
 ghost use Rattle.std.specs.Prelude.{◌≡◌, ℕ, Bool, List, Option, Some, length, map, slice_get};
 ghost use Rattle.board_defs.specs.declared.device.RawDevice.{RawDevice};
 ghost use Rattle.board_defs.specs.declared.device.Symbol.{Symbol};
-ghost use Rattle.tap_defs.specs.chain.TestLogic.{TestLogic};
+ghost use Rattle.board_defs.specs.declared.board.PartKind.TheVariants.{Described};
+ghost use Rattle.tap_defs.specs.board.OnBoard.{test_logic};
+ghost use Rattle.tap_defs.specs.chain.TestLogic.{TestLogic, instruction_of};
 ghost use Rattle.ident_test.specs.CodedParts.{AreCoded, HasCode, coded_parts};
 ghost use Rattle.ident_test.specs.IdentTest.{ArePatterns, EachRunTells, IsIdentTest};
 ghost use Rattle.ident_test.specs.Patterns.{ident_text};
@@ -26,4 +28,9 @@ pub fn each_run_tells()
 /// Under an assignment of codes, each part has its own code and the registers and instruction codes of its device.
 pub fn codes_assigned()
     ensures { (devices : List RawDevice) (codes : ℕ → List Bool) (k : ℕ) (device : RawDevice) → slice_get devices k ≡ Some device → (part : TestLogic) × (slice_get (coded_parts devices codes) k ≡ Some part) × HasCode device (codes k) part }
+{}
+
+/// A part with a code takes each instruction code as its device does.
+pub fn codes_keep_instructions()
+    ensures { (device : RawDevice) (code : List Bool) (part : TestLogic) → HasCode device code part → (bits : List Bool) → instruction_of part bits ≡ instruction_of (test_logic (Described device)) bits }
 {}
