@@ -1,6 +1,7 @@
 pub mod ItemLemmas
 pub mod TableLemmas
 pub mod LeastLemmas
+mod NumberedLemmas
 pub mod CellLemmas
 pub mod RuleLemmas
 pub mod RangeLemmas

@@ -4,5 +4,6 @@ pub mod PinMap
 pub mod Cells
 pub mod Places
 pub mod Rules
+pub mod Numbered
 pub mod Raw
 pub mod inner

@@ -5,11 +5,15 @@ use Rattle.device_rules.specs.Cells.{breaks_control, has_two_values, is_crowded,
 use Rattle.device_rules.specs.Places.{breaks_place, breaks_driver, breaks_mode, v9, v13, v14}
 use Rattle.device_rules.proofs.ItemLemmas.{first_is_found}
 use Rattle.device_rules.proofs.LeastLemmas.{is_least}
+use Rattle.device_rules.proofs.NumberedLemmas.{v3_finds, v6_finds, v7_finds, v8_finds}
 use Rattle.device_rules.proofs.law.finds_the_first.Goals as goal
 
 pub returns-clause-v2 : goal.returns-clause-v2
 unfolding v2
 returns-clause-v2 c = λ ports. first_is_found breaks_port ports
+
+pub returns-clause-v3 : goal.returns-clause-v3
+returns-clause-v3 c = v3_finds
 
 pub returns-clause-v4 : goal.returns-clause-v4
 unfolding v4
@@ -18,6 +22,15 @@ returns-clause-v4 c = λ ports entries. first_is_found (breaks_map ports) entrie
 pub returns-clause-v5 : goal.returns-clause-v5
 unfolding v5
 returns-clause-v5 c = λ ir ops. first_is_found (breaks_opcode ir) ops
+
+pub returns-clause-v6 : goal.returns-clause-v6
+returns-clause-v6 c = v6_finds
+
+pub returns-clause-v7 : goal.returns-clause-v7
+returns-clause-v7 c = v7_finds
+
+pub returns-clause-v8 : goal.returns-clause-v8
+returns-clause-v8 c = v8_finds
 
 pub returns-clause-v9 : goal.returns-clause-v9
 unfolding v9
