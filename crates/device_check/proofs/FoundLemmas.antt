@@ -1,4 +1,4 @@
--- If V1 holds, every source that must be there has a value, and what is found are these values.
+-- If V1 holds, V1 returns the values of the sources.
 use Rattle.std.proofs.Common.{◌≡◌, ℕ, ◌≤◌, ◌&&◌, nat_le, if◌then◌else◌, Bool, true, false, List, Option, Some, None, Result, Ok, Err, refl, subst}
 use Rattle.std.proofs.lemmas.Bool.{and_parts, leb-true}
 use Rattle.board_defs.specs.Limits.{most_bits, most_instruction_bits}
@@ -10,7 +10,7 @@ use Rattle.device_check.specs.declared.sources.Source.TheVariants as sources
 use Rattle.device_check.specs.Attributes.{only_number, only_text, chosen}
 use Rattle.device_check.specs.Needed.{FoundRegisters, Found, need, and_then, unless, within, found_taps, found_registers, wrong_option, found_package, v1}
 
--- the source has a value, with which the next step goes on
+-- the source has a value, and the next step has this result for the value
 record Has {A B : Type 0} (value : Option A) (next : A → Result B Source) (result : B) : Type 0 where
   it : A
   value_is : value ≡ Some it
@@ -20,7 +20,7 @@ has : {A B : Type 0} (source : Source) (value : Option A) (next : A → Result B
 has source None next result e = cc
 has source (Some it) next result e = record { it = it; value_is = refl; goes_on = e }
 
--- the search found something, with which the next step goes on
+-- the search has a value, and the next step has this result for the value
 record Goes {A B : Type 0} (value : Result A Source) (next : A → Result B Source) (result : B) : Type 0 where
   it : A
   value_is : value ≡ Ok it

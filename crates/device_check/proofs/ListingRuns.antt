@@ -37,7 +37,7 @@ drivers = record {
       record { num = 0; role = Output2; bit = Some 4; safe = Any; ctl = None } ∷ record { num = 1; role = Output2; bit = Some 5; safe = Any; ctl = None } ∷ [];
 }
 
--- a three-state output with an enabling input, by the edition of 2001, its last cell first, and a port without a pin
+-- a device of 2001: a three-state output, the input that enables this output, and a port without a pin. The entry of the last cell comes first
 abbrev buffer : List Symbol → RawDevice
 buffer idcode = record {
   entity = codes "BUF";

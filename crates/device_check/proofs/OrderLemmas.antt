@@ -14,7 +14,7 @@ use Rattle.device_check.specs.Needed.{Found}
 use Rattle.device_check.specs.DeviceStrings.{MayBe, DeviceString, pin_map, opcodes, capture, idcode, compliance, boundary, IsRead, LeavesBy, LeavesFirst, in_order}
 use Rattle.device_check.specs.inner.Reading.{NamesPlace}
 
--- a property of the attribute and the entry that follows from another
+-- if P implies Q, a fault that names a place with P names a place with Q
 weaker : {P Q : ℕ → ℕ → Type 0} → ((attribute entry : ℕ) → P attribute entry → Q attribute entry) → (fault : DeviceFault) → NamesPlace P fault → NamesPlace Q fault
 weaker f (Rule number item) h = absurd h
 weaker f (Text attribute entry) h = f attribute entry h

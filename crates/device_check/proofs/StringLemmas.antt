@@ -1,4 +1,4 @@
--- Each string is in its grammar or leaves it at one entry, and never both.
+-- Each string either is in its grammar or leaves the grammar at exactly one entry.
 use Rattle.std.proofs.Common.{◌≡◌, ℕ, zero, suc, ◌+◌, ◌*◌, ◌<◌, ◌≤◌, ◌^◌, Bool, true, false, List, [], ◌∷◌, ◌++◌, length, ◌⊎◌, inl, inr, refl, subst, arith, length-append, zero-add}
 use Rattle.std.proofs.Math.Nat.{lt_of_not-le}
 use Rattle.std.specs.List.{take_while}
@@ -85,7 +85,7 @@ fewer_stand entry more (suc n) (suc m) tokens le h = record {
   next = record { front = h.next.front; back = h.next.back; value = h.next.value; split = h.next.split; first = h.next.first; next = (h.next.next.0, fewer_stand entry more n m h.next.back (omega arith) h.next.next.1) };
 }
 
--- only one number is that of the entry at which a list goes wrong
+-- a list goes wrong at only one entry
 pub one_number : {T A : Type 0} {entry : Grammar T A} {more : Grammar T Bool} (tokens : List T) (n m : ℕ) → GoesWrongAt entry more n tokens → GoesWrongAt entry more m tokens → n ≡ m
 one_number {T} {A} {entry} {more} tokens n m x y =
     let a : x.whole < suc y.whole = lt_of_not-le (λ le. y.no_more (fewer_stand entry more x.whole (suc y.whole) tokens le x.stand)) in
@@ -103,7 +103,7 @@ few_entries {A} {entry} can text values is short = by_answer (answered can text)
         omega (arith, (length_pieces text).1)
     by_answer (wrong number h) = absurd (h.no_value values is)
 
--- a pattern, or the place at which it leaves its grammar
+-- a string is a pattern, or leaves the grammar of patterns at some place
 pub pattern_answered : (text : List ℕ) → ((code : List Symbol) × IsPattern text code) ⊎ ((number : ℕ) × IsNoPattern text number)
 pattern_answered text = by_test (is_code text) refl
   where

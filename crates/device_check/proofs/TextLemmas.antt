@@ -17,7 +17,7 @@ use Rattle.device_check.specs.Needed.{FoundPackage, Found, pin_map_in, found_pac
 use Rattle.device_check.specs.inner.Reading.{HasShortStrings}
 use Rattle.device_check.proofs.FoundLemmas.{IsFound, found_is}
 
--- what is true of each item is true of the item that is found
+-- a property of all items is a property of the item that `find` returns
 found_holds : {X : Type 0} (P : X → Type 0) (test : X → Bool) (xs : List X) → All P xs → IfSome (find test xs) P
 found_holds P test [] all = tt
 found_holds P test (x ∷ xs) all = by_x (test x) (found_holds P test xs (All-tail P x xs all))

@@ -1,4 +1,4 @@
--- The values of an entity's attributes and constants. All of them are in upper case.
+-- The values of an entity's attributes and constants, which are in upper case.
 use Rattle.std.specs.Prelude.{ℕ, ◌==◌, List, Bool, false, ◌||◌, if◌then◌else◌, Option, Some, None, codes, count_by, find, option_map, option_and_then}
 use Rattle.std.specs.List.{list_any}
 use Rattle.std.specs.Str.{bytes_eq}
@@ -17,11 +17,11 @@ use Rattle.device_check.specs.Sources.{attribute_number}
 abbrev pub is_numbered : ℕ → Attr → Bool
 is_numbered number attribute = attribute.number == number
 
--- how often the entity has the attribute
+-- the number of times that the entity has the attribute
 abbrev pub times : Entity → Attribute → ℕ
 times entity attribute = count_by (is_numbered (attribute_number attribute)) entity.attributes
 
--- the value of the first of these attributes
+-- the value of the attribute at its first place
 abbrev pub value_of : Entity → Attribute → Option AttrValue
 value_of entity attribute = option_map (λ found. found.value) (find (is_numbered (attribute_number attribute)) entity.attributes)
 
@@ -65,7 +65,7 @@ only_number entity attribute = option_and_then number_in (only_value entity attr
 abbrev pub only_text : Entity → Attribute → Option (List ℕ)
 only_text entity attribute = option_and_then text_in (only_value entity attribute)
 
--- the package: the one that is given, otherwise the default of the generic
+-- the package that is given, or otherwise the default of the generic
 abbrev pub chosen : Entity → Option (List ℕ) → Option (List ℕ)
 chosen entity (Some name) = Some name
 chosen entity None = entity.fallback
@@ -83,7 +83,7 @@ abbrev pub is_text : List ℕ → Option (List ℕ) → Bool
 is_text wanted None = false
 is_text wanted (Some text) = bytes_eq text wanted
 
--- a text is of 2001 if COMPONENT_CONFORMANCE or a `use` item says so
+-- COMPONENT_CONFORMANCE or a `use` item names the edition of 2001
 abbrev pub is_of_2001 : Entity → Bool
 is_of_2001 entity = is_text (codes "STD_1149_1_2001") (text_of entity ComponentConformance) || list_any (λ name. bytes_eq name (codes "STD_1149_1_2001")) entity.uses
 

@@ -1,4 +1,4 @@
--- The strings of an entity in which V1 found what it needs, their values, and the first string that leaves its grammar.
+-- The strings of an entity for which V1 holds: their values, and the first string that leaves its grammar.
 use Rattle.std.specs.Prelude.{◌≡◌, ℕ, List, [], ◌∷◌, Option, Some, None, ◌⊎◌}
 use Rattle.board_defs.specs.declared.device.Symbol.{Symbol}
 use Rattle.bsdl_parser.specs.declared.entity.Entity.{Entity}
@@ -15,20 +15,20 @@ use Rattle.device_check.specs.Sources.{source_number}
 use Rattle.device_check.specs.Attributes.{text_of}
 use Rattle.device_check.specs.Needed.{Found}
 
--- if there is a string, it has this value; if there is none, there is no value
+-- the string has this value, or there is neither a string nor a value
 abbrev pub MayBe : {A : Type 0} → (List ℕ → A → Type 0) → Option (List ℕ) → Option A → Type 0
 MayBe Is None None = Unit {0}
 MayBe Is None (Some value) = ⊥
 MayBe Is (Some text) None = ⊥
 MayBe Is (Some text) (Some value) = Is text value
 
--- there is a string, and it leaves its grammar at this entry
+-- the string is there, and leaves its grammar at this entry
 abbrev pub MayLeave : (List ℕ → ℕ → Type 0) → Option (List ℕ) → ℕ → Type 0
 MayLeave IsNo None entry = ⊥
 MayLeave IsNo (Some text) entry = IsNo text entry
 
--- the strings, which are those of the package's pin map, INSTRUCTION_OPCODE, INSTRUCTION_CAPTURE, IDCODE_REGISTER, COMPLIANCE_PATTERNS
--- and BOUNDARY_REGISTER
+-- the strings that are read: the pin map of the package, then those of INSTRUCTION_OPCODE, INSTRUCTION_CAPTURE, IDCODE_REGISTER,
+-- COMPLIANCE_PATTERNS and BOUNDARY_REGISTER
 pub data DeviceString : Type 0 where
   pin_map : DeviceString
   opcodes : DeviceString
@@ -37,7 +37,7 @@ pub data DeviceString : Type 0 where
   compliance : DeviceString
   boundary : DeviceString
 
--- where the string is
+-- the place in the entity that has the string
 abbrev pub source_of : DeviceString → Source
 source_of pin_map = sources.PinMapConstant
 source_of opcodes = sources.Attribute InstructionOpcode
@@ -50,7 +50,7 @@ source_of boundary = sources.Attribute BoundaryRegister
 abbrev pub string_number : DeviceString → ℕ
 string_number string = source_number (source_of string)
 
--- the string is in its grammar, or is optional and not there
+-- the string is in its grammar, or is optional and missing
 abbrev pub IsRead : Entity → Found → DeviceString → Type 0
 IsRead entity found pin_map = (entries : List MapEntry) × IsPinMap found.chosen.pin_map entries
 IsRead entity found opcodes = (ops : List Opcode) × AreOpcodes found.registers.opcodes ops
@@ -68,11 +68,11 @@ Leaves entity found idcode entry = MayLeave IsNoPattern (text_of entity IdcodeRe
 Leaves entity found compliance entry = MayLeave IsNoCompliance (text_of entity CompliancePatterns) entry
 Leaves entity found boundary entry = IsNoBoundary found.registers.boundary entry
 
--- the string belongs to this attribute, and leaves its grammar at this entry
+-- the string has this number, and leaves its grammar at this entry
 abbrev pub LeavesBy : Entity → Found → DeviceString → ℕ → ℕ → Type 0
 LeavesBy entity found string attribute entry = (attribute ≡ string_number string) × Leaves entity found string entry
 
--- the first of the strings that leaves its grammar belongs to this attribute, and does so at this entry
+-- the first string that leaves its grammar has this number, and leaves its grammar at this entry
 abbrev pub LeavesFirst : Entity → Found → List DeviceString → ℕ → ℕ → Type 0
 LeavesFirst entity found [] attribute entry = ⊥
 LeavesFirst entity found (string ∷ strings) attribute entry =
@@ -82,7 +82,7 @@ LeavesFirst entity found (string ∷ strings) attribute entry =
 abbrev pub in_order : List DeviceString
 in_order = pin_map ∷ opcodes ∷ capture ∷ idcode ∷ compliance ∷ boundary ∷ []
 
--- the values of the strings
+-- the values of all strings
 pub record AreStrings (entity : Entity) (found : Found) (strings : Strings) : Type 0 where
   pub map_is : IsPinMap found.chosen.pin_map strings.map
   pub opcodes_are : AreOpcodes found.registers.opcodes strings.opcodes

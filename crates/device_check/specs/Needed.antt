@@ -1,4 +1,4 @@
--- Rule V1: what an entity must have, and what is found if it has all of it.
+-- Rule V1: the values that an entity must have, and the first source that is missing, repeated or has a wrong value.
 use Rattle.std.specs.Prelude.{ℕ, ◌==◌, List, Bool, ◌&&◌, ◌||◌, if◌then◌else◌, Option, Some, None, Result, Ok, Err, codes, nat_le, nat_lt}
 use Rattle.board_defs.specs.Limits.{most_bits, most_instruction_bits}
 use Rattle.bsdl_parser.specs.declared.entity.Constant.{Constant}
@@ -29,28 +29,28 @@ pub record FoundPackage : Type 0 where
   pub name : List ℕ
   pub pin_map : List ℕ
 
--- what an entity has if V1 holds
+-- the values that an entity has if V1 holds
 pub record Found : Type 0 where
   pub taps : FoundTaps
   pub registers : FoundRegisters
   pub chosen : FoundPackage
 
--- the next step takes the value of the source. A source without a value ends the search
+-- the result of the next step for this value. If there is none, the search ends with its source
 abbrev pub need : {A B : Type 0} → Source → Option A → (A → Result B Source) → Result B Source
 need source None next = Err source
 need source (Some value) next = next value
 
--- like `need`, for what was found by a search of its own
+-- like `need`, but for the result of another search
 abbrev pub and_then : {A B : Type 0} → Result A Source → (A → Result B Source) → Result B Source
 and_then (Err source) next = Err source
 and_then (Ok value) next = next value
 
--- an attribute that is wrong ends the search
+-- the result of the next step, if no attribute is wrong
 abbrev pub unless : {B : Type 0} → Option Attribute → Result B Source → Result B Source
 unless (Some attribute) next = Err (sources.Attribute attribute)
 unless None next = next
 
--- PIN_MAP and the four mandatory TAP attributes are there exactly once
+-- the entity has PIN_MAP and the four mandatory TAP attributes exactly once, and names these ports
 unfoldable pub found_taps : Entity → Result FoundTaps Source
 found_taps entity =
     need (sources.Attribute PinMap) (only_value entity PinMap) (λ _.
@@ -65,7 +65,7 @@ abbrev pub within : ℕ → ℕ → Option ℕ → Option ℕ
 within least most None = None
 within least most (Some number) = if nat_le least number && nat_le number most then Some number else None
 
--- the attributes of the registers are there exactly once, with lengths in their ranges
+-- the entity has each attribute of the two registers exactly once, and each length is in its range
 unfoldable pub found_registers : Entity → Result FoundRegisters Source
 found_registers entity =
     need (sources.Attribute InstructionLength) (within 2 most_instruction_bits (only_number entity InstructionLength)) (λ instruction_length.
@@ -83,7 +83,7 @@ is_repeated entity attribute = nat_lt 1 (times entity attribute)
 abbrev pub is_edition : Option (List ℕ) → Bool
 is_edition text = is_text (codes "STD_1149_1_1990") text || (is_text (codes "STD_1149_1_1993") text || is_text (codes "STD_1149_1_2001") text)
 
--- COMPONENT_CONFORMANCE is not there, or is there exactly once and names an edition
+-- COMPONENT_CONFORMANCE is missing, or is there exactly once and names an edition
 abbrev pub conforms : Entity → Bool
 conforms entity = (times entity ComponentConformance == 0) || is_edition (only_text entity ComponentConformance)
 
@@ -95,17 +95,18 @@ wrong_option entity =
     if is_repeated entity CompliancePatterns then Some CompliancePatterns else
     if conforms entity then None else Some ComponentConformance
 
+-- the package with the string of this constant
 abbrev pub pin_map_in : List ℕ → Option Constant → Option FoundPackage
 pin_map_in name None = None
 pin_map_in name (Some constant) = Some (record { name = name; pin_map = constant.text })
 
--- a package is given or is the default, and exactly one constant has its name
+-- the package with its pin map, if exactly one constant has the name of the package
 abbrev pub found_package : Entity → Option (List ℕ) → Option FoundPackage
 found_package entity None = None
 found_package entity (Some name) = pin_map_in name (only_constant entity name)
 
--- V1: what is found, or the first source that is not as needed. The attributes are tried in the order of their numbers, and the pin map
--- is the last
+-- V1: the values of all sources, or the first source that is missing, repeated or has a wrong value. The attributes are tried in the order
+-- of their numbers, then the pin map
 unfoldable pub v1 : Entity → Option (List ℕ) → Result Found Source
 v1 entity given =
     and_then (found_taps entity) (λ taps.

@@ -84,7 +84,7 @@ abbrev pub IsAnswer : Entity → Option (List ℕ) → Result RawDevice DeviceFa
 IsAnswer entity given (Ok device) = IsSound entity given device
 IsAnswer entity given (Err fault) = IsFirst entity given fault
 
--- the fault, unless it is a refusal of memory
+-- the fault, or None for a refusal of memory
 abbrev pub device_told : DeviceFault → Option DeviceFault
 device_told (Memory error) = None
 device_told fault = Some fault

@@ -1,4 +1,4 @@
--- The numbers of the attributes, and of the places in an entity that a fault may name.
+-- The numbers of the attributes, and the numbers by which a fault names a place in an entity.
 use Rattle.std.specs.Prelude.{ℕ}
 use Rattle.device_check.specs.declared.sources.Attribute.{Attribute}
 use Rattle.device_check.specs.declared.sources.Attribute.TheVariants as attributes

@@ -57,11 +57,11 @@ fn answer(alloc: Global, entity: &Entity, package: Option<&[u8]>) -> Result<Devi
     judge(alloc, &draft)
 }
 
-/// Returns the device that the entity describes in this package. If no package is given, it is the default of the
-/// generic.
+/// Returns the device that the entity describes in this package. None stands for the default package of the generic.
 ///
 /// The rules are tried in this order: V1; the strings of the pin map and of INSTRUCTION_OPCODE, INSTRUCTION_CAPTURE,
-/// IDCODE_REGISTER, COMPLIANCE_PATTERNS and BOUNDARY_REGISTER; V2 to V14. The first one that fails is the fault.
+/// IDCODE_REGISTER, COMPLIANCE_PATTERNS and BOUNDARY_REGISTER; V2 to V14. The first rule or string that fails is the
+/// fault.
 #[tactic(auto, using(crate::proofs::OneAnswer::only_answer))]
 pub fn device(alloc: Global, entity: &Entity, package: Option<&[u8]>) -> Result<Device, DeviceFault>
     requires small { IsSmall entity.now }

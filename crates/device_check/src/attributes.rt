@@ -30,7 +30,7 @@ fn find_numbered(entity: &Entity, number: u32) -> Option<&AttrValue>
         .map(|attribute| &attribute.value)
 }
 
-/// Returns how often the entity has the attribute.
+/// Returns the number of times that the entity has the attribute.
 pub(crate) fn times(entity: &Entity, attribute: Attribute) -> usize
     ensures { result ≡ times entity.now attribute }
 {
@@ -161,7 +161,7 @@ pub(crate) fn only_constant<'a>(entity: &'a Entity, name: &[u8]) -> Option<&'a C
     }
 }
 
-/// Returns whether there is a text and it equals `wanted`.
+/// Returns whether the text is there and equals `wanted`.
 pub(crate) fn is_text(wanted: &[u8], text: Option<&[u8]>) -> bool
     ensures { result ≡ is_text wanted.now (option_copied text.entry) }
 {

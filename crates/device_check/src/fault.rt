@@ -10,12 +10,12 @@ use thiserror::Error;
 pub enum DeviceFault {
     /// A rule, by its number from 1 to 14, and the first item that breaks it.
     ///
-    /// For rule 1 the item is the number of an attribute, or 15 for the pin map of the package. For the other rules
-    /// it is the item of `device_rules::Broken`.
+    /// For rule 1 the item is the number of an attribute, or 15 for the pin map of the package. For any other rule
+    /// the item is that of `device_rules::Broken`.
     #[error("rule V{number} item {item}")]
     Rule { number: u32, item: u32 },
     /// A string that leaves its grammar: the number of its attribute, or 15 for the pin map of the package, and the
-    /// entry at which it does, from 1.
+    /// number, from 1, of the entry at which the string leaves the grammar.
     #[error("attribute {attribute} entry {entry}")]
     Text { attribute: u32, entry: u32 },
     #[error("out of memory")]

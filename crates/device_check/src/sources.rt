@@ -1,8 +1,8 @@
-//! The attributes that a device is made of, and the places in an entity that a fault may name.
+//! The attributes that are used, and the places in an entity that a fault may name.
 ghost use Rattle.std.specs.Prelude.{◌≡◌};
 ghost use Rattle.device_check.specs.Sources.{attribute_number, source_number};
 
-/// An attribute that is used, in the order of the numbers.
+/// An attribute that is used. The variants are in the order of the attributes' numbers.
 #[derive(Clone, Copy)]
 pub enum Attribute {
     PinMap,
@@ -22,7 +22,7 @@ pub enum Attribute {
 }
 
 impl Attribute {
-    /// Returns the number of the attribute, from 1 to 14, as `bsdl_parser::Attr` has it.
+    /// Returns the number, from 1 to 14, that `bsdl_parser::Attr` gives the attribute.
     pub(crate) fn number(self) -> u32
         ensures { result ≡ attribute_number self }
     {
@@ -54,7 +54,7 @@ pub enum Source {
 }
 
 impl Source {
-    /// Returns the number by which a fault names the source: that of the attribute, or 15 for the pin map.
+    /// Returns the number by which a fault names the source: the attribute's number, or 15 for the pin map.
     pub(crate) fn number(self) -> u32
         ensures { result ≡ source_number self }
     {

@@ -1,4 +1,4 @@
-//! Reads the strings of an entity.
+//! Reads the strings of an entity: the pin map of the package, and those of five attributes.
 ghost use Rattle.std.specs.Prelude.{◌≡◌, ◌<◌, ◌^◌, length, All, IfOk, IfErr};
 ghost use Rattle.bsdl_parser.specs.Entity.{HasShortText};
 ghost use Rattle.bsdl_strings.specs.Strings.{IsPinMap, IsNoPinMap, AreOpcodes, AreNoOpcodes, IsPattern, IsNoPattern, IsCompliance, IsBoundary, IsNoBoundary};
@@ -29,7 +29,7 @@ pub struct Strings {
     pub entries: Items<Entry>,
 }
 
-/// Returns the fault for the string of this source.
+/// Returns the device's fault for a string of this source.
 fn fault(source: Source, fault: StringFault) -> DeviceFault
     ensures { result ≡ fault_of source fault }
 {

@@ -11,12 +11,12 @@ entries_in Nothing = []
 entries_in (One first) = first ∷ []
 entries_in (Two first second) = first ∷ second ∷ []
 
--- the bits are in the order of their ports, which are all `port` or later ones
+-- the bits are in the order of their ports, and no port number is below `port`
 abbrev pub Rises : ℕ → List PortBit → Type 0
 Rises port [] = Unit {0}
 Rises port (bit ∷ bits) = (port ≤ bit.port) × Rises bit.port bits
 
--- the entries are in the order of their cells, whose numbers are all at least `least` and below `most`
+-- the entries are in the order of their cells, and each cell number is in `least..most`
 abbrev pub Climbs : ℕ → ℕ → List Cell → Type 0
 Climbs least most [] = Unit {0}
 Climbs least most (cell ∷ cells) = (least ≤ cell.num) × ((cell.num < most) × Climbs cell.num most cells)

@@ -43,14 +43,14 @@ abbrev pub Says : {T A E : Type 0} → (T → A) → Result A E → Result T E �
 Says view said (Ok value) = said ≡ Ok (view value)
 Says view said (Err error) = said ≡ Err error
 
--- the strings that must be there are short
+-- the mandatory strings are short
 pub record HasShortStrings (found : Found) : Type 0 where
   pub pin_map : length found.chosen.pin_map < 2 ^ 32
   pub opcodes : length found.registers.opcodes < 2 ^ 32
   pub capture : length found.registers.capture < 2 ^ 32
   pub boundary : length found.registers.boundary < 2 ^ 32
 
--- the fault names an attribute and an entry with this property; nothing is said about a refusal of memory
+-- the fault names an attribute and an entry with this property, or is a refusal of memory
 abbrev pub NamesPlace : (ℕ → ℕ → Type 0) → DeviceFault → Type 0
 NamesPlace P (faults.Rule number item) = ⊥
 NamesPlace P (faults.Text attribute entry) = P attribute entry
@@ -66,7 +66,7 @@ abbrev pub Gathers : Entity → Found → Result Strings DeviceFault → Type 0
 Gathers entity found (Ok strings) = AreStrings entity found strings
 Gathers entity found (Err fault) = NamesPlace (LeavesFirst entity found in_order) fault
 
--- the device of the draft, or the first rule that fails with its item
+-- the device of the draft, or the first rule that fails, with its item
 abbrev pub IsJudged : Draft → Result RawDevice DeviceFault → Type 0
 IsJudged draft (Ok device) = (first_rule draft ≡ None) × (device ≡ raw_device draft)
 IsJudged draft (Err (faults.Rule number item)) = first_rule draft ≡ Some (record { rule = number; item = item })
