@@ -1,10 +1,11 @@
-"""OpenOCD as a player, with a shell script in its place that says what a file has for each text. No
-message is compared here."""
+"""OpenOCD as a player, with a shell script in its place that says what a file has for each text."""
 
 from __future__ import annotations
 
 import os
 import pathlib
+import signal
+import tempfile
 import time
 from types import SimpleNamespace
 from typing import cast
@@ -92,8 +93,48 @@ class Player(Folder):
 
     def test_a_program_that_does_not_answer(self) -> None:
         self.player.limit = 0.2
-        self.assertRaises(PlayerFailed, self.player.play, "a.svf", [ONE])
+        self.player.start()
+        process = self.player.process
+        assert process and process.stdin and process.stdout
+        with self.assertRaisesRegex(PlayerFailed, "^OpenOCD didn't answer in 0.2 s$"):
+            self.player.play("a.svf", [ONE])
         self.assertIsNone(self.player.process)
+        self.assertEqual((process.stdin.closed, process.stdout.closed), (True, True))
+        self.assertEqual(process.returncode, -signal.SIGKILL)
+
+    def test_what_is_said(self) -> None:
+        # The first line that looks like an error, or how the program ended. Each text has a file of
+        # its own, since the program may still read the last one.
+        for name, text, line in (
+            ("a", "", "it ended with status 3"),
+            ("b", "played 1\n", "b was not played"),
+            ("c", "unable to open\ncannot\nplayed 0\n", "unable to open"),
+            ("d", "svf processing file: error\nplayed 1\n", "d was not played"),
+        ):
+            self.write(f"{name}.says", text)
+            with self.assertRaises(PlayerFailed) as why:
+                self.player.play(name, [ONE])
+            self.assertEqual(str(why.exception), f"OpenOCD: {line}")
+
+    def test_how_it_ended(self) -> None:
+        for said, status, line in (
+            (b"Info : x\nError: a \nError: b\n", 1, "a"),
+            (b"Error: tdo check error at line 3\nError: b\n", 1, "b"),
+            (b"Info : x\n", 1, "it ended with status 1"),
+            (b"", -9, "it ended by signal 9; the cable may have been pulled"),
+        ):
+            with tempfile.TemporaryFile() as file:
+                file.write(said)
+                self.player.said = file
+                with mock.patch.object(self.player, "end", return_value=status):
+                    self.assertEqual(str(self.player.failed()), f"OpenOCD: {line}")
+        self.player.said = None
+        self.assertEqual(str(self.player.failed()), "OpenOCD: it ended with status 0")
+
+    def test_a_line_that_compares_nothing(self) -> None:
+        self.write("a.svf.says", check(1, 0xA) + check(3, 0xB) + check(2, 0xC) + GOOD)
+        with self.assertRaisesRegex(PlayerFailed, "^OpenOCD: line 2 of a.svf compares nothing$"):
+            self.player.play("a.svf", [ONE])
 
     def test_a_stop(self) -> None:
         # The text in play comes to its end, and the same program plays the reset.

@@ -169,8 +169,7 @@ class OpenOcd:
         """Ends it at once."""
         if self.process:
             self.process.kill()
-            self.process.wait()
-            self.process = None
+            self.end()
 
     def end(self) -> int:
         """Lets it end, which gives the cable back, and returns its status."""
