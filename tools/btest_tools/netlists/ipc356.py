@@ -103,7 +103,7 @@ def place_of(rest: bytes, scale: Scale, line: int) -> Optional[Place]:
 def point_of(text: bytes, scale: Scale, line: int) -> Point:
     """Reads a record. Names longer than their columns move what follows to the right."""
     cut = 26
-    if text[26:27].strip() not in (b"", b"-"):
+    if text[26:27].strip():
         cut = text.find(b"-", 26)
         if cut < 0:
             refuse(line, f"no hyphen before the pin in column 27: {shown(text)}")
@@ -126,7 +126,7 @@ class Reading:
         self.has_records = False
         self._scale = SCALES[b"CUST 0"]
         self._aliases: Dict[bytes, Tuple[bytes, int]] = {}
-        self._nets: Dict[bytes, Net] = {}  # by their names as they are written
+        self._nets: Dict[bytes, Net] = {}  # by their aliases, or by their names as written
         self._last = Point(b"", b"", b"", None)
         self._images = 0
         self._edge: Optional[Line] = None  # the outline that a record may continue
@@ -191,10 +191,12 @@ class Reading:
         )
 
     def _net(self, written: bytes, line: int) -> Net:
-        net = self._nets.get(written)
+        alias = written.upper()
+        key = alias if alias in self._aliases else written
+        net = self._nets.get(key)
         if not net:
-            name, where = self._aliases.get(written.upper(), (written, line))
-            net = self._nets[written] = self.nets.begin(name, where)
+            name, where = self._aliases.get(alias, (written, line))
+            net = self._nets[key] = self.nets.begin(name, where)
         return net
 
     def _outline(self, line: int, text: bytes) -> None:

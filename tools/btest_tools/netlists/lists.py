@@ -30,10 +30,9 @@ class Lines:
 
     def of(self, offset: int) -> int:
         """Returns the number of the line, from 1, that the byte at the offset is in."""
-        if offset >= self._offset:
-            self._line += self._text.count(b"\n", self._offset, offset)
-        else:
-            self._line -= self._text.count(b"\n", offset, self._offset)
+        # One of the two counts is 0, as its end is before its beginning.
+        self._line += self._text.count(b"\n", self._offset, offset)
+        self._line -= self._text.count(b"\n", offset, self._offset)
         self._offset = offset
         return self._line
 
