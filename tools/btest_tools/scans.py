@@ -77,16 +77,17 @@ class Test:
     def __init__(self, svf: str) -> None:
         self.passes: list[Pass] = []
         self.size = 0
-        one, before = Pass(0), 0
+        one: Optional[Pass] = None
+        before = 0
         for scan in scans(svf):
             if scan is None or scan.register != "dr":
                 continue
             if scan.tdo is None:
-                one = Pass(0)
+                one = None
             else:
-                if not one.expected:
+                if one is None:
+                    one = Pass(scan.mask)
                     self.passes.append(one)
-                one.mask = scan.mask
                 one.expected.append(scan.tdo)
                 one.shifted.append(before)
             self.size, before = scan.size, scan.tdi

@@ -257,8 +257,8 @@ def rows_of(board: Board, logs: Sequence[Log], only: Sequence[str] = ()) -> Rows
     result = Rows(board, len(wants))
     nets = [board.nets[name] for name in only]
     nets = nets or taken(result, [row for _, rows in logs for row in rows])
-    ordered = sorted({place for net in nets for place in places_of(net)})
-    tables = [Columns(table, ordered, board.size) for table in (latches, masks, wants, gots)]
+    places = list({place for net in nets for place in places_of(net)})
+    tables = [Columns(table, places, board.size) for table in (latches, masks, wants, gots)]
     for net in nets:
         result.wires[net.name] = wire_of(result, net, *tables)
     return result

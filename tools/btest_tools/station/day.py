@@ -198,7 +198,7 @@ def explanation(finding: Finding) -> str:
 @lru_cache(KEPT)
 def log_part(log: Log) -> str:
     """Returns a log, folded."""
-    rows = log.rows if len(log.rows) < LONGEST else f"{log.rows[:LONGEST]}..\n"
+    rows = log.rows if len(log.rows) <= LONGEST else f"{log.rows[:LONGEST]}..\n"
     return f"<details><summary>log of {escape(log.stage)}</summary><pre>{rows}</pre></details>\n"
 
 
