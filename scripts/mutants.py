@@ -11,6 +11,7 @@ side by side. With --keep the answers are kept, and the next run goes on; with -
 """
 import argparse
 import ast
+import compileall
 import concurrent.futures
 import copy
 import json
@@ -29,13 +30,14 @@ ROOT = pathlib.Path(__file__).resolve().parents[1]
 PACKAGE = ROOT / 'tools/btest_tools'
 SEEN = ('VERSION', 'docs', 'examples', 'crates', 'scripts')   # what tests read beside tools
 # Of the modules the tests that are run first.
-FIRST = {'explaining': ['candidates', 'explaining', 'told', 'rows'], 'pages': ['pages', 'whole'],
-         'netlists': ['layouts', 'netlist_texts', 'places'],
-         'station': ['station', 'stages', 'records', 'openocd', 'station_commands'],
-         'pictures': ['drawn'], 'drawing': ['drawn'], 'closeups': ['drawn', 'told'], 'logs': ['logs'], 'asking': ['logs', 'told', 'failing'],
-         'walks': ['failing'], 'failing': ['failing'], 'board': ['board', 'model'], 'scans': ['scans'], 'model': ['model', 'rows'],
-         'files': ['files'], 'btest': ['told', 'failing'], 'bitbang': ['bitbang'], 'chain_faults': ['chain_faults'],
-         'neighbors': ['told', 'drawn', 'pictures'], 'places': ['drawn', 'places']}
+FIRST = {'explaining': ['candidates', 'search', 'explaining', 'told', 'rows'], 'pages': ['pages', 'shown', 'whole'],
+         'netlists': ['forms', 'layouts', 'netlist_texts', 'places'],
+         'station': ['station', 'folders', 'stages', 'records', 'openocd', 'station_commands'],
+         'pictures': ['drawn', 'shown'], 'drawing': ['drawn', 'shown'], 'closeups': ['drawn', 'shown', 'told'], 'logs': ['logs', 'signals'],
+         'asking': ['asking', 'logs', 'told', 'failing'], 'walks': ['asking', 'failing'], 'failing': ['asking', 'failing'],
+         'board': ['board', 'signals', 'model'], 'scans': ['scans', 'signals'], 'model': ['signals', 'model', 'rows'],
+         'files': ['files'], 'btest': ['asking', 'told', 'failing'], 'bitbang': ['signals', 'bitbang'],
+         'chain_faults': ['signals', 'chain_faults'], 'neighbors': ['told', 'shown', 'drawn', 'pictures'], 'places': ['drawn', 'forms', 'places']}
 SECONDS = 60   # of processor time: tests that take longer have noticed the change
 WAIT = 900   # seconds, for tests that wait for what never comes
 FAILED = re.compile(r'^(?:FAIL|ERROR): .*\btests\.(test_\w+)', re.M)
@@ -148,26 +150,31 @@ def all_tests():
 
 
 def tests_of(path):
-    """The modules of tests, those first that are most likely to notice a change of a module."""
+    """The modules of tests that are most likely to notice a change of a module, and the others."""
     names = all_tests()
     module = path.relative_to(PACKAGE).with_suffix('').parts[0]
     first = [f'test_{name}' for name in FIRST.get(module, []) if f'test_{name}' in names]
-    return first + [name for name in names if name not in first]
+    return first, [name for name in names if name not in first]
 
 
 def notices(folder, path, text, program):
     """What notices a change: a module of tests, or `time`; an empty text if nothing does."""
     copied = folder / 'tools/btest_tools' / path.relative_to(PACKAGE)
-    before = copied.read_bytes()
+    before, times = copied.read_bytes(), copied.stat()
     copied.write_text(text, encoding='utf-8')
     try:
-        return failing(folder, tests_of(path), program)
+        # In two runs, since to import the tests takes longer than most of them.
+        first, others = tests_of(path)
+        return failing(folder, first, program) or failing(folder, others, program)
     finally:
         copied.write_bytes(before)
+        os.utime(copied, ns=(times.st_atime_ns, times.st_mtime_ns))   # by which Python knows that it is compiled
 
 
 def failing(folder, names, program):
     """The first module of these tests that fails, `time` if they take too long, or an empty text if they pass."""
+    if not names:
+        return ''   # without names, unittest looks for tests itself
     words = [sys.executable, '-B', '-m', 'unittest', '-f', '-b', *(f'tests.{name}' for name in names)]
     words = ['sh', '-c', f'ulimit -t {SECONDS}; exec "$@"', 'sh', *words]
     setting = {**os.environ, 'BTEST': program, 'BTEST_SECONDS': str(WAIT), 'PYTHONDONTWRITEBYTECODE': '1'}
@@ -181,8 +188,9 @@ def failing(folder, names, program):
 
 
 def lay_out(folder):
-    """A copy of tools, with what its tests read beside it."""
+    """A copy of tools, compiled, with what its tests read beside it."""
     shutil.copytree(ROOT / 'tools', folder / 'tools', ignore=shutil.ignore_patterns('.*_cache', '__pycache__'))
+    compileall.compile_dir(folder / 'tools', quiet=1)   # so that a run compiles the changed module alone
     for name in SEEN:
         os.symlink(ROOT / name, folder / name)
 
