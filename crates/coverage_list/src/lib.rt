@@ -1,9 +1,9 @@
-//! The coverage list of a board: what a test can cover, and what it can't.
+//! The coverage list of a board: how many nets a test can cover, and which nets, pins and pairs no test can.
 #![tactic(auto)]
 
-mod classified;
 pub mod law;
 mod lines;
 mod listing;
+mod questions;
 
 pub use listing::{covered_nets, write_cover};

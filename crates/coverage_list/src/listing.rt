@@ -1,4 +1,4 @@
-// The coverage list, net by net.
+// Writes the coverage list of a board, section by section and net by net.
 ghost use Rattle.std.specs.Prelude.{◌≡◌, ◌<◌, ◌≤◌, ◌+◌, ◌*◌, ◌/◌, ◌==◌, [], length, Some, slice_get};
 ghost use Rattle.std.specs.Int.{bit_at};
 ghost use Rattle.bt_base.specs.Puts.{Puts};
@@ -9,14 +9,14 @@ ghost use Rattle.net_classes.specs.Pairs.{AreBitsOf, unpaired_with};
 ghost use Rattle.coverage_list.specs.CoverText.{cover_text, covered, count_line};
 ghost use Rattle.coverage_list.specs.inner.CoverForms.{is_unpaired, pair_at, pairs_at, pins_at, place_text, reason_at, section_at, section_lines, texts_from};
 
-use crate::classified::ClassifiedBoard;
 use crate::lines::{PinUse, Section, put_counts, put_pair, put_pin, put_reason};
+use crate::questions::{covered_count, is_untested, may_be_unpaired, net_at, pin_count};
 use board_defs::{Board, Net, NetPin, PinRef};
 use bt_base::{PutFault, Sink};
 use bt_bits::Line;
-use net_classes::Classes;
+use net_classes::{BoardClasses, Classes};
 
-// Returns the pin at a place of a net.
+/// Returns the pin at a place of a net.
 fn pin_at(net: &Net, place: u32) -> &NetPin
     requires { place < length net.now.pins }
     ensures { slice_get net.now.pins place ≡ Some result.now }
@@ -29,23 +29,23 @@ pub fn covered_nets(board: &Board, classes: &Classes) -> u32
     requires { AreClasses board.now classes.now }
     ensures { result ≡ length (covered board.now) }
 {
-    ClassifiedBoard::of(board, classes).covered_count()
+    covered_count(&BoardClasses::of(board, classes))
 }
 
-// Puts the number of nets and the number of covered nets.
+/// Puts the line with the number of nets and the number of covered nets.
 fn put_count<K: Sink>(
-    board: &ClassifiedBoard<'_>,
+    board: &BoardClasses<'_>,
     line: &mut Line,
     out: &mut K,
 ) -> Result<(), PutFault>
     ensures { Prints (K.shown out.old) (K.shown out.new) [] [] (count_line board.now) result }
 {
-    put_counts(board.net_count(), board.covered_count(), line, out)
+    put_counts(board.net_count() as u32, covered_count(board), line, out)
 }
 
-// Puts the reason why a net is not covered, or nothing if it is.
+/// Puts the line of a net that is not covered, or nothing if the net is covered.
 fn put_reason_at<K: Sink>(
-    board: &ClassifiedBoard<'_>,
+    board: &BoardClasses<'_>,
     n: u32,
     line: &mut Line,
     out: &mut K,
@@ -53,13 +53,13 @@ fn put_reason_at<K: Sink>(
     requires { n < length board.now.nets }
     ensures { Prints (K.shown out.old) (K.shown out.new) [] [] (reason_at board.now n) result }
 {
-    let net = board.net(n);
+    let net = net_at(board, n);
     put_reason(&net.name, board.reason(n), line, out)
 }
 
-// Puts the pin at a place of a net if it is untested.
+/// Puts the line of a pin if the pin is untested in this role.
 fn put_place<K: Sink>(
-    board: &ClassifiedBoard<'_>,
+    board: &BoardClasses<'_>,
     pin_use: PinUse,
     net: &Net,
     pin: PinRef,
@@ -70,16 +70,16 @@ fn put_place<K: Sink>(
     requires place { pin.place < length net.now.pins }
     ensures { Prints (K.shown out.old) (K.shown out.new) [] [] (place_text board.now pin_use net.now pin.place) result }
 {
-    if board.is_untested(pin_use, pin) {
+    if is_untested(board, pin_use, pin) {
         put_pin(pin_use, pin_at(net, pin.place), line, out)
     } else {
         Ok(())
     }
 }
 
-// Puts the untested pins of a net.
+/// Puts the lines of the untested pins of a net.
 fn put_net_pins<K: Sink>(
-    board: &ClassifiedBoard<'_>,
+    board: &BoardClasses<'_>,
     pin_use: PinUse,
     net: &Net,
     n: u32,
@@ -89,16 +89,16 @@ fn put_net_pins<K: Sink>(
     requires { slice_get board.now.nets n ≡ Some net.now }
     ensures { Prints (K.shown out.old) (K.shown out.new) [] [] (texts_from (place_text board.now pin_use net.now) 0 (length net.now.pins)) result }
 {
-    for place in 0..board.pin_count(net, n) {
+    for place in 0..pin_count(board, net, n) {
         let pin = PinRef { net: n, place };
         put_place(board, pin_use, net, pin, line, out)?;
     }
     Ok(())
 }
 
-// Puts the untested pins of a net if the net is covered.
+/// Puts the lines of the untested pins of a net if the net is covered.
 fn put_pins_at<K: Sink>(
-    board: &ClassifiedBoard<'_>,
+    board: &BoardClasses<'_>,
     pin_use: PinUse,
     n: u32,
     line: &mut Line,
@@ -108,13 +108,13 @@ fn put_pins_at<K: Sink>(
     ensures { Prints (K.shown out.old) (K.shown out.new) [] [] (pins_at board.now pin_use n) result }
 {
     if board.is_covered(n) {
-        put_net_pins(board, pin_use, board.net(n), n, line, out)
+        put_net_pins(board, pin_use, net_at(board, n), n, line, out)
     } else {
         Ok(())
     }
 }
 
-// Returns whether a bit of the word is set.
+/// Returns whether a bit of the word is set.
 fn has_bit(word: u64, place: u32) -> bool
     requires { place < 64 }
     ensures { result ≡ (bit_at word place == 1) }
@@ -122,17 +122,19 @@ fn has_bit(word: u64, place: u32) -> bool
     word >> place & 1 == 1
 }
 
-// Returns whether net `high` is covered and not paired with net `low`, from the word of such nets.
-fn is_unpaired(board: &ClassifiedBoard<'_>, unpaired: u64, low: u32, high: u32) -> bool
+/// Returns whether net `high` is covered and not paired with net `low`. `unpaired` is the word of net `high` in which
+/// each such net has its bit set.
+fn is_unpaired(board: &BoardClasses<'_>, unpaired: u64, low: u32, high: u32) -> bool
     requires { AreBitsOf (unpaired_with board.now low) (high / 64) unpaired }
     ensures { OfNet board.now low (λ one. OfNet board.now high (λ two. result ≡ is_unpaired board.now one two)) }
 {
     has_bit(unpaired, high % 64)
 }
 
-// Puts two nets if the second is covered and not paired with the first.
+/// Puts the line of two nets if net `high` is covered and not paired with net `low`. `unpaired` is the word of net
+/// `high`, as for `is_unpaired`.
 fn put_pair_at<K: Sink>(
-    board: &ClassifiedBoard<'_>,
+    board: &BoardClasses<'_>,
     unpaired: u64,
     low: u32,
     high: u32,
@@ -145,15 +147,16 @@ fn put_pair_at<K: Sink>(
     ensures { OfNet board.now low (λ net. Prints (K.shown out.old) (K.shown out.new) [] [] (pair_at board.now net high) result) }
 {
     if is_unpaired(board, unpaired, low, high) {
-        put_pair(board.net(low), board.net(high), line, out)
+        put_pair(net_at(board, low), net_at(board, high), line, out)
     } else {
         Ok(())
     }
 }
 
-// Puts the pairs of a net with the nets `from..end`, whose bits are in one word.
+/// Puts the lines of net `low` and each net in `from..end` that is covered and not paired with net `low`. The bits
+/// of the nets `from..end` are in one word.
 fn put_word<K: Sink>(
-    board: &ClassifiedBoard<'_>,
+    board: &BoardClasses<'_>,
     low: u32,
     from: u32,
     end: u32,
@@ -165,7 +168,7 @@ fn put_word<K: Sink>(
     requires word { end ≤ 64 * (from / 64 + 1) }
     ensures { OfNet board.now low (λ net. Prints (K.shown out.old) (K.shown out.new) [] [] (texts_from (pair_at board.now net) from end) result) }
 {
-    let unpaired = board.unpaired_word(low, from / 64);
+    let unpaired = board.unpaired_word(low as usize, (from / 64) as usize);
     if unpaired == 0 {
         return Ok(());
     }
@@ -175,9 +178,9 @@ fn put_word<K: Sink>(
     Ok(())
 }
 
-// Puts the unpaired pairs of a net with a later, covered net.
+/// Puts the lines of net `low` and each later net that is covered and not paired with net `low`.
 fn put_later<K: Sink>(
-    board: &ClassifiedBoard<'_>,
+    board: &BoardClasses<'_>,
     low: u32,
     line: &mut Line,
     out: &mut K,
@@ -185,7 +188,7 @@ fn put_later<K: Sink>(
     requires { low < length board.now.nets }
     ensures { OfNet board.now low (λ net. Prints (K.shown out.old) (K.shown out.new) [] [] (texts_from (pair_at board.now net) (low + 1) (length board.now.nets)) result) }
 {
-    let count = board.net_count();
+    let count = board.net_count() as u32;
     let mut from = low + 1;
     while from < count {
         let end = count.min(64 * (from / 64 + 1));
@@ -195,9 +198,9 @@ fn put_later<K: Sink>(
     Ok(())
 }
 
-// Puts the unpaired pairs of a net with a later net, if both are covered.
+/// Like `put_later`, but puts nothing if net `low` is not covered.
 fn put_pairs_at<K: Sink>(
-    board: &ClassifiedBoard<'_>,
+    board: &BoardClasses<'_>,
     low: u32,
     line: &mut Line,
     out: &mut K,
@@ -205,16 +208,16 @@ fn put_pairs_at<K: Sink>(
     requires { low < length board.now.nets }
     ensures { Prints (K.shown out.old) (K.shown out.new) [] [] (pairs_at board.now low) result }
 {
-    if board.may_be_unpaired(low) {
+    if may_be_unpaired(board, low) {
         put_later(board, low, line, out)
     } else {
         Ok(())
     }
 }
 
-// Puts the lines of a section for a net.
+/// Puts the lines of one section for one net.
 fn put_at<K: Sink>(
-    board: &ClassifiedBoard<'_>,
+    board: &BoardClasses<'_>,
     section: Section,
     n: u32,
     line: &mut Line,
@@ -230,27 +233,23 @@ fn put_at<K: Sink>(
     }
 }
 
-// Puts a section of the list.
+/// Puts one section of the list, net by net.
 fn put_section<K: Sink>(
-    board: &ClassifiedBoard<'_>,
+    board: &BoardClasses<'_>,
     section: Section,
     line: &mut Line,
     out: &mut K,
 ) -> Result<(), PutFault>
     ensures { Prints (K.shown out.old) (K.shown out.new) [] [] (section_lines board.now section) result }
 {
-    for n in 0..board.net_count() {
+    for n in 0..board.net_count() as u32 {
         put_at(board, section, n, line, out)?;
     }
     Ok(())
 }
 
-// Puts the list.
-fn put_list<K: Sink>(
-    board: &ClassifiedBoard<'_>,
-    line: &mut Line,
-    out: &mut K,
-) -> Result<(), PutFault>
+/// Puts the whole list.
+fn put_list<K: Sink>(board: &BoardClasses<'_>, line: &mut Line, out: &mut K) -> Result<(), PutFault>
     ensures { Prints (K.shown out.old) (K.shown out.new) [] [] (cover_text board.now) result }
 {
     put_count(board, line, out)?;
@@ -262,9 +261,10 @@ fn put_list<K: Sink>(
 
 /// Puts the coverage list of a board: the number of nets and of covered nets; each net that is not covered,
 /// with its reason; the untested drivers and then the untested receivers of covered nets; and the pairs of
-/// covered nets that are not paired. Each line goes out in one put, or in pieces of `MAX_LINE` bytes if it is
-/// longer. It takes no memory. The line is scratch space and may hold anything afterwards. It fails only if
-/// the sink does; then a prefix of the list was put.
+/// covered nets that are not paired. The classes must be those of the board. A line of more than `MAX_LINE` bytes
+/// goes out in pieces of that size, and any other line in one put. The call takes no memory. `line` is scratch
+/// space, and its contents are lost. The call fails only if the sink fails, and the sink then has a prefix of the
+/// list.
 pub fn write_cover<K: Sink>(
     board: &Board,
     classes: &Classes,
@@ -274,5 +274,5 @@ pub fn write_cover<K: Sink>(
     requires { AreClasses board.now classes.now }
     ensures { Puts (K.shown out.old) (K.shown out.new) (cover_text board.now) result }
 {
-    put_list(&ClassifiedBoard::of(board, classes), line, out)
+    put_list(&BoardClasses::of(board, classes), line, out)
 }

@@ -13,15 +13,14 @@ use Rattle.board_defs.specs.Passes.{add_for_nets, are_shown, drivers_by_net, fir
 use Rattle.board_defs.proofs.Members.{any_has, has_any}
 use Rattle.board_defs.proofs.PassesKept.{pair_shows}
 use Rattle.net_classes.specs.Laws.{PairsHaveDrivers}
-use Rattle.net_classes.specs.Pairs.{pairs_with}
+use Rattle.net_classes.specs.Pairs.{drivers_at, pairs_with}
 use Rattle.driver_passes.specs.inner.NumberSets.{is_in}
 use Rattle.driver_passes.specs.inner.Pairs.{AreDone, AreLeft, IsDone, IsDoneTo, StaysDone, is_wanted, pairs_from}
 use Rattle.driver_passes.specs.inner.Progress.{EnableTested}
-use Rattle.driver_passes.specs.inner.Shown.{drivers_at}
 use Rattle.driver_passes.proofs.ProgressLemmas.{drivers_are}
 use Rattle.driver_passes.proofs.PairLemmas.{one_done}
 
--- no pass is added
+-- if two nets need no pass, no pass is added
 pub done_same : (board : RawBoard) (useful : List Ctl) (passes : List (List Ctl)) (a b : ℕ) → IsDone board passes a b → add_for_nets board useful passes (drivers_at board a, drivers_at board b) ≡ passes
 done_same board useful passes a b (inl e) = ap (λ t. cond t passes (with_pair board useful passes (first_pair board (drivers_at board a) (drivers_at board b)))) e
 done_same board useful passes a b (inr e) = ap (λ w. cond (are_shown passes (drivers_at board a) (drivers_at board b)) passes (with_pair board useful passes w)) e ∙ either (are_shown passes (drivers_at board a) (drivers_at board b))
@@ -30,7 +29,7 @@ done_same board useful passes a b (inr e) = ap (λ w. cond (are_shown passes (dr
     either true = refl
     either false = refl
 
--- pairs that need no pass need none after passes are added for other nets
+-- two nets that need no pass need none once passes are added for other nets
 pub done_kept : (board : RawBoard) (useful : List Ctl) (passes after : List (List Ctl)) (nets : List Drive × List Drive) → after ≡ add_for_nets board useful passes nets → StaysDone board passes after
 done_kept board useful passes after nets e m n (inr none) = inr none
 done_kept board useful passes after nets e m n (inl shown) = inl (ap (list_any p) e ∙ by_test (are_shown passes nets.0 nets.1) (first_pair board nets.0 nets.1))
@@ -43,7 +42,7 @@ done_kept board useful passes after nets e m n (inl shown) = inl (ap (list_any p
     by_test false None = shown
     by_test false (Some pair) = list_any_before p passes (pair_pass board useful pair) shown
 
--- after passes are added for two nets, the two need no more
+-- once a pass is added for two nets, the two nets need no other pass
 pub done_now : (board : RawBoard) (useful : List Ctl) (passes after : List (List Ctl)) (a b : ℕ) → a < length board.nets → b < length board.nets → after ≡ add_for_nets board useful passes (drivers_at board a, drivers_at board b) → IsDone board after a b
 done_now board useful passes after a b first second e = let P : List (List Ctl) → Type 0 = λ v. IsDone board v a b in subst P (sym e) (by_test (are_shown passes (drivers_at board a) (drivers_at board b)) refl (first_pair board (drivers_at board a) (drivers_at board b)) refl)
   where
@@ -71,7 +70,7 @@ done_next board passes a are done m less = by_net (cases_eq m a)
     by_net (inl same) = let P : ℕ → Type 0 = λ k. IsDoneTo board passes k (length board.nets) in subst P (sym same) done
     by_net (inr other) = are m (omega (arith, other, less))
 
--- this is so for the nets from `b` on below `c`, and for `c` itself
+-- if the nets from `b` on below `c` need no pass with net `a`, and net `c` needs none either, the nets up to `c` need none
 pub with_last : (board : RawBoard) (before after : List (List Ctl)) (a b c : ℕ) → StaysDone board before after → ((n : ℕ) → b ≤ n → n < c → IsDone board before a n) → IsDone board after a c → (n : ℕ) → b ≤ n → n < c + 1 → IsDone board after a n
 with_last board before after a b c stays earlier last n least below = by_net (cases_eq n c)
   where
@@ -79,7 +78,7 @@ with_last board before after a b c stays earlier last n least below = by_net (ca
     by_net (inl same) = let P : ℕ → Type 0 = λ k. IsDone board after a k in subst P (sym same) last
     by_net (inr other) = stays a n (earlier n least (omega (arith, other, below)))
 
--- this is so for each net from `b` on below `b + k`
+-- if no net in `b..b + k` needs a pass with net `a`, the passes stay the same
 skipped : (board : RawBoard) (useful : List Ctl) (passes : List (List Ctl)) (a b k : ℕ) → b + k ≤ length board.nets → ((n : ℕ) → b ≤ n → n < b + k → IsDone board passes a n) → fold (add_for_nets board useful) passes (pairs_from board a (b + k)) ≡ fold (add_for_nets board useful) passes (pairs_from board a b)
 skipped board useful passes a b zero most done = let same : b + 0 ≡ b = omega arith in ap (λ n. fold (add_for_nets board useful) passes (pairs_from board a n)) same
 skipped board useful passes a b (suc k) most done =
@@ -93,7 +92,7 @@ skipped_to board useful passes a b c least most done =
     let all : b + (c - b) ≡ c = omega (arith, least) in
     sym (ap (λ n. fold (add_for_nets board useful) passes (pairs_from board a n)) all) ∙ skipped board useful passes a b (c - b) (omega (arith, all, most)) (λ n from below. done n from (omega (arith, below, all)))
 
--- the nets that are shown together with net `a` or not paired with it
+-- a net that is not wanted needs no pass: it is shown together with net `a`, or the two are not paired
 pub none_wanted : (board : RawBoard) (passes : List (List Ctl)) (left : List ℕ) (a from b : ℕ) → PairsHaveDrivers → AreLeft board passes a left → a < from → b ≤ length board.nets → ((n : ℕ) → from ≤ n → n < b → is_wanted board left a n ≡ false) → (n : ℕ) → from ≤ n → n < b → IsDone board passes a n
 none_wanted board passes left a from b law are later most none n least below = by_part (and_cases (is_in left n) (pairs_with board a n) (none n least below))
   where
@@ -105,20 +104,20 @@ none_wanted board passes left a from b law are later most none n least below = b
     by_part (inl shown) = inl (not-false (are_shown passes (drivers_at board a) (drivers_at board n)) (sym (are n (omega (arith, least, later)) (omega (arith, below, most))) ∙ shown))
     by_part (inr apart) = inr (by_found (first_pair board (drivers_at board a) (drivers_at board n)) (sym (law board a n) ∙ apart))
 
--- the nets that no pass shows together with net a
+-- no pass shows a wanted net together with net `a`
 pub unshown : (board : RawBoard) (passes : List (List Ctl)) (left : List ℕ) (a n : ℕ) → AreLeft board passes a left → a ≤ n → n < length board.nets → is_wanted board left a n ≡ true → are_shown passes (drivers_at board a) (drivers_at board n) ≡ false
 unshown board passes left a n are from within e = not-true (are_shown passes (drivers_at board a) (drivers_at board n)) (sym (are n from within) ∙ (and_parts (is_in left n) (pairs_with board a n) e).0)
 
--- past the last net there is nothing to do
+-- past the last net no pass is added
 pub none_left : (board : RawBoard) (useful : List Ctl) (passes : List (List Ctl)) (a b : ℕ) → length board.nets ≤ b → fold (add_for_nets board useful) passes (pairs_from board a b) ≡ passes
 none_left board useful passes a b most = ap (λ v. fold (add_for_nets board useful) passes (map (λ others. (drivers_at board a, others)) v)) (drop_all b (drivers_by_net board) (omega (arith, most, length-map board.nets (tested_drivers board))))
 
--- this is so for each later net
+-- if no later net needs a pass with net `a`, no pass is added for net `a`
 pub none_later : (board : RawBoard) (useful : List Ctl) (passes : List (List Ctl)) (a : ℕ) → a < length board.nets → IsDoneTo board passes a (length board.nets) → passes ≡ fold (add_for_nets board useful) passes (pairs_from board a (a + 1))
 none_later board useful passes a less done =
     sym (none_left board useful passes a (length board.nets) (omega arith)) ∙ skipped_to board useful passes a (a + 1) (length board.nets) (omega (arith, less)) (omega arith) (λ n least below. done n (omega (arith, least)) below)
 
--- a net without tested drivers
+-- a net without tested drivers needs no pass
 pub none_tested : (board : RawBoard) (passes : List (List Ctl)) (a b : ℕ) → drivers_at board a ≡ [] → IsDone board passes a b
 none_tested board passes a b e = inr (ap (λ v. first_pair board v (drivers_at board b)) e)
 
@@ -135,7 +134,7 @@ all_pass {X} p q (x ∷ xs) all h = by_part (and_parts (p x) (list_all p xs) all
     by_part here rest (inl e) = or_left (p x && q x) (list_any (λ (y : X). p y && q y) xs) (and_from (p x) (q x) here e)
     by_part here rest (inr e) = or_right (p x && q x) (list_any (λ (y : X). p y && q y) xs) (rest e)
 
--- a net that every pass shows
+-- a net that every pass shows needs no other pass
 pub all_show : (board : RawBoard) (passes : List (List Ctl)) (a b : ℕ) → EnableTested board passes → list_all (shows (drivers_at board a)) passes ≡ true → b < length board.nets → IsDone board passes a b
 all_show board passes a b are all less = by_drivers (drivers_at board b) (λ d h. are b d less h)
   where

@@ -1,5 +1,5 @@
 -- The first tested driver, and the first pass.
-use Rattle.std.proofs.Common.{◌≡◌, Bool, true, false, List, [], ◌∷◌, ◌++◌, length, map, take, fold, Option, Some, None, refl, sym, ◌∙◌, ap, arith, cond}
+use Rattle.std.proofs.Common.{◌≡◌, ℕ, suc, ◌+◌, ◌<◌, Bool, true, false, List, [], ◌∷◌, ◌++◌, length, map, take, fold, Option, Some, None, refl, sym, ◌∙◌, ap, arith, cond}
 use Rattle.std.specs.Prelude.{slice_get, unwrap_or}
 use Rattle.std.specs.List.{flat_map, list_any}
 use Rattle.std.proofs.lemmas.Option.{slice_get_within}
@@ -8,7 +8,32 @@ use Rattle.board_defs.specs.declared.board.Ctl.{Ctl}
 use Rattle.board_defs.specs.declared.board.RawBoard.{RawBoard}
 use Rattle.board_defs.specs.declared.board.Drive.{Drive}
 use Rattle.board_defs.specs.Passes.{add_for_driver, add_for_nets, are_shown, driver_pass, driver_passes, drivers_by_net, first_pair, is_enabled, pair_pass, pairs_within, passes_of, useful_controls, with_pair}
+use Rattle.net_classes.specs.Pairs.{drivers_at}
 use Rattle.driver_passes.specs.inner.Progress.{drivers_from}
+use Rattle.driver_passes.proofs.ProgressLemmas.{drop_drivers}
+
+-- the tested drivers from net `n` on begin with those of net `n`
+from_more : (board : RawBoard) (n : ℕ) → n < length board.nets → drivers_from board n ≡ drivers_at board n ++ drivers_from board (n + 1)
+from_more board n less =
+    let next : suc n ≡ n + 1 = omega arith in
+    ap (flat_map (λ (drivers : List Drive). drivers)) (drop_drivers board n less) ∙ ap (λ k. drivers_at board n ++ drivers_from board k) next
+
+-- if the first nets have no tested driver, the first tested driver of net `n` is the first of all
+pub first_found : (board : RawBoard) (n : ℕ) (drivers : List Drive) (d : Drive) → n < length board.nets → drivers ≡ drivers_at board n → drivers_from board n ≡ drivers_from board 0 → slice_get drivers 0 ≡ Some d → Some d ≡ slice_get (drivers_from board 0) 0
+first_found board n drivers d less e same at =
+    sym (by_list (drivers_at board n) (sym (ap (λ (v : List Drive). slice_get v 0) e) ∙ at)) ∙ ap (λ (v : List Drive). slice_get v 0) (sym (from_more board n less) ∙ same)
+  where
+    by_list : (own : List Drive) → slice_get own 0 ≡ Some d → slice_get (own ++ drivers_from board (n + 1)) 0 ≡ Some d
+    by_list [] h = cc h
+    by_list (x ∷ own) h = h
+
+-- a net without tested drivers changes nothing
+pub first_later : (board : RawBoard) (n : ℕ) (drivers : List Drive) → n < length board.nets → drivers ≡ drivers_at board n → drivers_from board n ≡ drivers_from board 0 → slice_get drivers 0 ≡ None → drivers_from board (n + 1) ≡ drivers_from board 0
+first_later board n drivers less e same at = ap (λ (v : List Drive). v ++ drivers_from board (n + 1)) (sym (empty drivers (sym at)) ∙ e) ∙ sym (from_more board n less) ∙ same
+  where
+    empty : (own : List Drive) → None ≡ slice_get own 0 → own ≡ []
+    empty [] h = refl
+    empty (x ∷ own) h = absurd (omega (arith, slice_get_within [] 0 x h))
 
 -- passes that are appended leave the first pass unchanged
 behind : (first : List Ctl) (passes more : List (List Ctl)) → take 1 passes ≡ first ∷ [] → take 1 (passes ++ more) ≡ first ∷ []

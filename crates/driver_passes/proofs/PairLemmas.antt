@@ -3,17 +3,17 @@ use Rattle.std.proofs.Common.{◌≡◌, ℕ, suc, ◌+◌, ◌<◌, ◌≤◌, 
 use Rattle.std.specs.Prelude.{find, option_map}
 use Rattle.std.specs.Option.{option_or}
 use Rattle.std.proofs.Math.Seq.{drop-cons}
-use Rattle.std.proofs.lemmas.List.{length-map, length_push}
+use Rattle.std.proofs.lemmas.List.{length_push}
 use Rattle.std.proofs.lemmas.List.Folds.{find-append}
 use Rattle.std.proofs.lemmas.List.Sums.{fold-append}
 use Rattle.board_defs.specs.declared.board.Ctl.{Ctl}
 use Rattle.board_defs.specs.declared.board.RawBoard.{RawBoard}
 use Rattle.board_defs.specs.declared.board.Drive.{Drive}
 use Rattle.board_defs.specs.Decided.{are_compatible}
-use Rattle.board_defs.specs.Passes.{add_for_nets, are_shown, drivers_by_net, first_pair, pair_pass, pairs_of, pairs_within, tested_drivers, with_pair}
-use Rattle.net_classes.specs.Pairs.{fit}
+use Rattle.board_defs.specs.Passes.{add_for_nets, are_shown, drivers_by_net, first_pair, pair_pass, pairs_of, pairs_within, with_pair}
+use Rattle.net_classes.specs.Pairs.{drivers_at, fit}
 use Rattle.driver_passes.specs.inner.Pairs.{pairs_from}
-use Rattle.driver_passes.specs.inner.Shown.{drivers_at}
+use Rattle.driver_passes.proofs.ProgressLemmas.{drop_drivers}
 
 -- the first pair with the first driver, if there is one
 abbrev is_fitting : RawBoard → Drive × Drive → Bool
@@ -45,17 +45,14 @@ pair_missed board drivers others i d less at missed =
     ap (λ v. first_pair board v others) (drop-cons drivers i d less ∙ ap (λ v. v ∷ drop (suc i) drivers) (sym at)) ∙ pair_step board d (drop (suc i) drivers) others ∙
     ap (λ v. option_or (option_map (with_first d) v) (first_pair board (drop (suc i) drivers) others)) missed ∙ ap (λ k. first_pair board (drop k drivers) others) next
 
-lists_within : (board : RawBoard) (n : ℕ) → n < length board.nets → n < length (drivers_by_net board)
-lists_within board n less = omega (arith, length-map board.nets (tested_drivers board))
-
 pub one_done : (board : RawBoard) (useful : List Ctl) (passes after : List (List Ctl)) (a b : ℕ) → b < length board.nets → after ≡ add_for_nets board useful passes (drivers_at board a, drivers_at board b) → fold (add_for_nets board useful) after (pairs_from board a (b + 1)) ≡ fold (add_for_nets board useful) passes (pairs_from board a b)
 one_done board useful passes after a b less e =
     let next : suc b ≡ b + 1 = omega arith in
     ap (λ v. fold (add_for_nets board useful) v (pairs_from board a (b + 1))) e ∙
-    sym (ap (λ v. fold (add_for_nets board useful) passes (map (λ others. (drivers_at board a, others)) v)) (drop-cons (drivers_by_net board) b [] (lists_within board b less)) ∙
+    sym (ap (λ v. fold (add_for_nets board useful) passes (map (λ others. (drivers_at board a, others)) v)) (drop_drivers board b less) ∙
     ap (λ k. fold (add_for_nets board useful) (add_for_nets board useful passes (drivers_at board a, drivers_at board b)) (pairs_from board a k)) next)
 
--- the pairs from net a on
+-- the pairs of the nets from net `a` on
 abbrev pub later_pairs : RawBoard → ℕ → List (List Drive × List Drive)
 later_pairs board a = pairs_within (drop a (drivers_by_net board))
 
@@ -63,7 +60,7 @@ pub net_done : (board : RawBoard) (useful : List Ctl) (passes after : List (List
 net_done board useful passes after a less e =
     let next : suc a ≡ a + 1 = omega arith in
     ap (λ v. fold (add_for_nets board useful) v (later_pairs board (a + 1))) e ∙
-    sym (ap (λ v. fold (add_for_nets board useful) passes (pairs_within v)) (drop-cons (drivers_by_net board) a [] (lists_within board a less)) ∙
+    sym (ap (λ v. fold (add_for_nets board useful) passes (pairs_within v)) (drop_drivers board a less) ∙
     fold-append (add_for_nets board useful) passes (pairs_from board a (suc a)) (later_pairs board (suc a)) ∙
     ap (λ k. fold (add_for_nets board useful) (fold (add_for_nets board useful) passes (pairs_from board a k)) (later_pairs board k)) next)
 

@@ -1,29 +1,26 @@
 -- The passes so far, and the tested drivers of the nets.
-use Rattle.std.proofs.Common.{◌≡◌, ℕ, zero, suc, ◌+◌, ◌≤◌, Bool, true, false, not, ◌&&◌, ◌||◌, List, [], ◌∷◌, ◌++◌, length, map, get_or, take, fold, Option, Some, None, refl, sym, ◌∙◌, ap, subst, arith, cond}
-use Rattle.std.specs.Prelude.{◌==◌, slice_get, All, Contains, filter_map, sum_by}
+use Rattle.std.proofs.Common.{◌≡◌, ℕ, zero, suc, ◌+◌, ◌<◌, ◌≤◌, Bool, true, false, not, ◌||◌, List, [], ◌∷◌, ◌++◌, length, map, get_or, drop, take, fold, Option, Some, None, refl, sym, ◌∙◌, ap, arith, cond}
+use Rattle.std.specs.Prelude.{◌==◌, slice_get, filter_map, sum_by}
 use Rattle.std.specs.List.{list_any, flat_map, range_with_len, cons_option}
 use Rattle.std.proofs.Math.Bool.{or-false, or_comm}
-use Rattle.std.proofs.lemmas.Bool.{and_parts}
-use Rattle.std.proofs.lemmas.List.{get_or_default, length-append, length-map, take_all, length_push}
-use Rattle.std.proofs.lemmas.List.Elements.{All-nil}
+use Rattle.std.proofs.Math.Seq.{drop-cons}
+use Rattle.std.proofs.lemmas.List.{append-nil, length-append, length-map, take_all, take_more, length_push}
 use Rattle.std.proofs.lemmas.List.Folds.{list_any-append}
-use Rattle.std.proofs.lemmas.List.Sums.{sum_by-cons}
+use Rattle.std.proofs.lemmas.List.Sums.{fold-append, sum_by-cons}
+use Rattle.std.proofs.lemmas.Grind.{flat_map-append}
 use Rattle.board_defs.specs.Limits.{most_pins}
 use Rattle.lists.proofs.Booleans.{suc-eqb_zero}
 use Rattle.board_defs.specs.declared.board.Net.{Net}
 use Rattle.board_defs.specs.declared.board.Ctl.{Ctl}
 use Rattle.board_defs.specs.declared.board.RawBoard.{RawBoard}
 use Rattle.board_defs.specs.declared.board.Drive.{Drive}
-use Rattle.board_defs.specs.Pins.{IsCell, guarded, receives}
-use Rattle.board_defs.specs.Settings.{holds, just, IsSafe}
-use Rattle.board_defs.specs.Decided.{any_other, can_enable, drive_in, place_drive, is_tested_driver}
-use Rattle.board_defs.specs.Coverage.{IsUseful}
+use Rattle.board_defs.specs.Pins.{IsCell}
+use Rattle.board_defs.specs.Settings.{holds}
 use Rattle.board_defs.specs.Passes.{drivers_by_net, tested_drivers, tested_drive, useful_controls, add_for_driver, driver_pass, is_enabled}
-use Rattle.board_defs.specs.Laws.{PassesAre, DecidesTerms, HasTestedDriver}
-use Rattle.net_classes.specs.Pairs.{drivers_there}
-use Rattle.net_classes.specs.inner.Pairs.{IsByCell}
-use Rattle.driver_passes.specs.inner.Progress.{AreHeld, IsUsefulDriver, is_held}
-use Rattle.driver_passes.specs.inner.Shown.{drivers_at}
+use Rattle.net_facts.proofs.UsefulLemmas.{useful_cells}
+use Rattle.net_classes.specs.Pairs.{drivers_at, drivers_there}
+use Rattle.net_classes.specs.inner.Pairs.{IsByCell, IsUsefulDriver}
+use Rattle.driver_passes.specs.inner.Progress.{AreHeld, is_held}
 use Rattle.driver_passes.specs.inner.NumberSets.{is_in}
 use Rattle.driver_passes.proofs.ControlLemmas.{holds_of}
 
@@ -39,56 +36,49 @@ pub any_pass : (passes : List (List Ctl)) → list_any (λ pass. true) passes �
 any_pass [] = refl
 any_pass (pass ∷ passes) = sym (ap not (suc-eqb_zero (length passes)))
 
--- the tested drivers of the net with a number
-pub same_drivers : (board : RawBoard) (n : ℕ) → drivers_there board (slice_get board.nets n) ≡ drivers_at board n
+-- the item of net `n` in the list of the tested drivers of all nets
+same_drivers : (board : RawBoard) (n : ℕ) → get_or (drivers_by_net board) n [] ≡ drivers_at board n
 same_drivers board n = by_place board.nets n
   where
-    by_place : (nets : List Net) (n : ℕ) → drivers_there board (slice_get nets n) ≡ get_or (map (tested_drivers board) nets) n []
+    by_place : (nets : List Net) (n : ℕ) → get_or (map (tested_drivers board) nets) n [] ≡ drivers_there board (slice_get nets n)
     by_place [] n = refl
     by_place (net ∷ nets) zero = refl
     by_place (net ∷ nets) (suc n) = by_place nets n
 
+lists_within : (board : RawBoard) (n : ℕ) → n < length board.nets → n < length (drivers_by_net board)
+lists_within board n less = omega (arith, length-map board.nets (tested_drivers board))
+
+-- the drivers of the nets from `n` on, of which net `n` is the first
+pub drop_drivers : (board : RawBoard) (n : ℕ) → n < length board.nets → drop n (drivers_by_net board) ≡ drivers_at board n ∷ drop (suc n) (drivers_by_net board)
+drop_drivers board n less = drop-cons (drivers_by_net board) n [] (lists_within board n less) ∙ ap (λ v. v ∷ drop (suc n) (drivers_by_net board)) (same_drivers board n)
+
+-- the drivers of the first nets, with those of one more net
+pub take_drivers : (board : RawBoard) (n : ℕ) → n < length board.nets → take (n + 1) (drivers_by_net board) ≡ take n (drivers_by_net board) ++ drivers_at board n ∷ []
+take_drivers board n less = take_more (drivers_by_net board) n [] (lists_within board n less) ∙ ap (λ v. take n (drivers_by_net board) ++ v ∷ []) (same_drivers board n)
+
 pub drivers_are : (board : RawBoard) (n : ℕ) (net : Net) → slice_get board.nets n ≡ Some net → drivers_at board n ≡ tested_drivers board net
-drivers_are board n net e = sym (same_drivers board n) ∙ ap (drivers_there board) e
+drivers_are board n net e = ap (drivers_there board) e
 
--- the control of a tested driver is useful
-net_useful : (board : RawBoard) (n : ℕ) (net : Net) (drivers : List Drive) → PassesAre board → DecidesTerms board → slice_get board.nets n ≡ Some net → drivers ≡ tested_drivers board net → All (IsUsefulDriver board) drivers
-net_useful board n net drivers are decides e f k d less c by = (are.said.useful c).1 (useful (tested.0 here))
-  where
-    tested : (Contains (tested_drivers board net) (get_or drivers k d) → HasTestedDriver board n net (get_or drivers k d)) × (HasTestedDriver board n net (get_or drivers k d) → Contains (tested_drivers board net) (get_or drivers k d))
-    tested = are.said.drivers n net (get_or drivers k d) e
+-- the control of a useful driver, if it has one, is a cell
+pub useful_cell : (board : RawBoard) (c : Ctl) → holds (useful_controls board) c ≡ true → IsCell board c
+useful_cell board c = holds_of (IsCell board) (useful_controls board) c (useful_cells board (useful_controls board) refl)
 
-    here : Contains (tested_drivers board net) (get_or drivers k d)
-    here = let P : List Drive → Type 0 = λ v. Contains v (get_or drivers k d) in subst P f (k, less, get_or_default drivers k (get_or drivers k d) d less)
-
-    useful : HasTestedDriver board n net (get_or drivers k d) → IsUseful board c
-    useful has = (safe, n, net, has.place, has.pin, has.stands.on_board, has.stands.in_net, has.drives ∙ ap Some by, has.tested)
-      where
-        tests : is_tested_driver board net has.place ≡ true
-        tests = (decides.tested_driver n net has.place e).1 has.tested
-
-        enables : can_enable board (place_drive board net has.place) ≡ true
-        enables = (and_parts (not (guarded board net)) (can_enable board (place_drive board net has.place)) (and_parts (not (guarded board net) && can_enable board (place_drive board net has.place)) (any_other (receives board) has.place net.pins) tests).0).1
-
-        safe : IsSafe board (just c)
-        safe = (decides.safe c).0 (sym (ap (can_enable board) (ap (drive_in board net) has.stands.in_net ∙ has.drives ∙ ap Some by)) ∙ enables)
-
-pub tested_useful : (board : RawBoard) (n : ℕ) (drivers : List Drive) → PassesAre board → DecidesTerms board → drivers ≡ drivers_at board n → All (IsUsefulDriver board) drivers
-tested_useful board n drivers are decides e = by_net (slice_get board.nets n) refl
-  where
-    by_net : (net : Option Net) → slice_get board.nets n ≡ net → All (IsUsefulDriver board) drivers
-    by_net None at =
-        let none : drivers ≡ [] = e ∙ sym (same_drivers board n) ∙ ap (drivers_there board) at in
-        rw none (All-nil (IsUsefulDriver board))
-    by_net (Some net) at = net_useful board n net drivers are decides at (e ∙ drivers_are board n net at)
-
-pub useful_by_cell : (board now : RawBoard) (d : Drive) → board ≡ now → All (IsCell board) (useful_controls board) → IsUsefulDriver now d → IsByCell board d
-useful_by_cell board now d e cells useful c by = holds_of (IsCell board) (useful_controls board) c cells (ap (λ b. holds (useful_controls b) c) e ∙ useful c by)
+pub useful_by_cell : (board : RawBoard) (d : Drive) → IsUsefulDriver board d → IsByCell board d
+useful_by_cell board d useful c by = useful_cell board c (useful c by)
 
 pub passes_whole : (board : RawBoard) (useful : List Ctl) (passes : List (List Ctl)) (n : ℕ) → length board.nets ≤ n → passes ≡ fold (add_for_driver board useful) [] (flat_map (λ drivers. drivers) (take n (drivers_by_net board))) → passes ≡ fold (add_for_driver board useful) [] (flat_map (λ drivers. drivers) (drivers_by_net board))
 passes_whole board useful passes n most e =
     let all : length (drivers_by_net board) ≤ n = omega (arith, length-map board.nets (tested_drivers board)) in
     e ∙ ap (λ v. fold (add_for_driver board useful) [] (flat_map (λ (drivers : List Drive). drivers) v)) (take_all n (drivers_by_net board) all)
+
+-- the steps for the drivers of one more net
+pub drivers_more : (board : RawBoard) (step : List (List Ctl) → Drive → List (List Ctl)) (before after : List (List Ctl)) (drivers : List Drive) (n : ℕ) → n < length board.nets → drivers ≡ drivers_at board n → before ≡ fold step [] (flat_map (λ drivers. drivers) (take n (drivers_by_net board))) → after ≡ fold step before drivers →
+    after ≡ fold step [] (flat_map (λ drivers. drivers) (take (n + 1) (drivers_by_net board)))
+drivers_more board step before after drivers n less e so_far more =
+    let own : List Drive = drivers_at board n in
+    let earlier : List (List Drive) = take n (drivers_by_net board) in
+    more ∙ ap (fold step before) e ∙ ap (λ v. fold step v own) so_far ∙ sym (fold-append step [] (flat_map (λ (v : List Drive). v) earlier) own) ∙ ap (λ v. fold step [] (flat_map (λ (v : List Drive). v) earlier ++ v)) (sym (append-nil own)) ∙
+    sym (ap (fold step []) (ap (flat_map (λ (v : List Drive). v)) (take_drivers board n less) ∙ flat_map-append (λ (v : List Drive). v) earlier (own ∷ [])))
 
 -- each driver gives at most one pass
 one_more : (board : RawBoard) (useful : List Ctl) (passes : List (List Ctl)) (d : Drive) → length (add_for_driver board useful passes d) ≤ length passes + 1

@@ -1,4 +1,4 @@
--- The rows of the passes: the nets that each of them shows.
+-- The rows of the passes. The row of a pass has the nets that the pass shows.
 use Rattle.std.proofs.Common.{◌≡◌, ℕ, ◌+◌, ◌/◌, ◌<◌, ◌≤◌, Bool, true, false, not, ◌&&◌, ◌||◌, List, [], ◌∷◌, ◌++◌, length, refl, sym, ◌∙◌, ap, subst, arith}
 use Rattle.std.specs.List.{list_all, list_any}
 use Rattle.std.proofs.Math.Bool.{and-true, or-false}
@@ -6,11 +6,12 @@ use Rattle.std.proofs.lemmas.List.Folds.{list_all-append, list_any-append}
 use Rattle.board_defs.specs.declared.board.Ctl.{Ctl}
 use Rattle.board_defs.specs.declared.board.RawBoard.{RawBoard}
 use Rattle.board_defs.specs.Passes.{are_shown, shows}
+use Rattle.net_classes.specs.Pairs.{drivers_at}
 use Rattle.driver_passes.specs.inner.NumberSets.{is_in}
 use Rattle.driver_passes.specs.inner.Pairs.{AreLeft}
-use Rattle.driver_passes.specs.inner.Shown.{AreRows, AreShownBy, AreShownByAll, drivers_at, shows_both}
+use Rattle.driver_passes.specs.inner.Shown.{AreRows, AreShownBy, AreShownByAll, shows_both}
 
--- the row of a pass, given as another equal pass
+-- equal passes have the same row
 pub shown_as : (board : RawBoard) (made pass : List Ctl) (row : List ℕ) → pass ≡ made → AreShownBy board made row → AreShownBy board pass row
 shown_as board made pass row e are = let P : List Ctl → Type 0 = λ v. AreShownBy board v row in subst P (sym e) are
 
@@ -56,7 +57,7 @@ left_more board passes after pass row left left_after a are shown first e less n
     not_or true t = refl
     not_or false t = refl
 
--- the nets that each row has are those that each pass shows
+-- the nets that every row has are the nets that every pass shows
 pub always_whole : (board : RawBoard) (passes : List (List Ctl)) (rows : List (List ℕ)) (always : List ℕ) (size : ℕ) → AreRows board passes rows → size ≡ length board.nets / 64 + 1 → length always ≡ size →
     ((n : ℕ) → n / 64 < size → is_in always n ≡ list_all (λ row. is_in row n) rows) → AreShownByAll board passes always
 always_whole board passes rows always size are room same each = record {
@@ -64,7 +65,7 @@ always_whole board passes rows always size are room same each = record {
   always_are = λ n within. each n (omega (arith, within, room)) ∙ all_rows board passes rows n are within;
 }
 
--- those of them that one more pass also shows
+-- the nets that every pass and one more pass show
 pub always_more : (board : RawBoard) (passes after : List (List Ctl)) (pass : List Ctl) (row always always_after : List ℕ) → AreShownByAll board passes always → AreShownBy board pass row → after ≡ passes ++ pass ∷ [] → length always_after ≡ length always →
     ((n : ℕ) → is_in always_after n ≡ (is_in always n && is_in row n)) → AreShownByAll board after always_after
 always_more board passes after pass row always always_after are shown e same kept = record {
@@ -74,7 +75,7 @@ always_more board passes after pass row always always_after are shown e same kep
       kept n ∙ ap (λ t. t && is_in row n) (are.always_are n within) ∙ ap (λ t. list_all p passes && t) (shown.row_are n within ∙ sym (and-true (p pass))) ∙ sym (ap (list_all p) e ∙ list_all-append p passes (pass ∷ []));
 }
 
--- those nets, from the word of net `a` on, that no row has together with net `a`
+-- the nets from the word of net `a` on that no row has together with net `a`
 pub left_whole : (board : RawBoard) (passes : List (List Ctl)) (rows : List (List ℕ)) (left : List ℕ) (a size : ℕ) → AreRows board passes rows → a < length board.nets → size ≡ length board.nets / 64 + 1 →
     ((n : ℕ) → a / 64 ≤ n / 64 → n / 64 < size → is_in left n ≡ not (list_any (shows_both a n) rows)) → AreLeft board passes a left
 left_whole board passes rows left a size are first room each n from within = each n (omega (arith, from)) (omega (arith, within, room)) ∙ ap not (any_rows board passes rows a n are first within)

@@ -21,7 +21,7 @@ use Rattle.board_defs.proofs.ControlOrder.{same_refl}
 use Rattle.driver_passes.specs.inner.Drafts.{chosen, has_number}
 use Rattle.driver_passes.specs.inner.Tested.{AreListed, AreNoted, drives}
 use Rattle.driver_passes.specs.inner.NumberSets.{is_in}
-use Rattle.driver_passes.specs.inner.Shown.{drivers_at}
+use Rattle.net_classes.specs.Pairs.{drivers_at}
 use Rattle.driver_passes.proofs.BlockLemmas.{below_more, same_place}
 use Rattle.driver_passes.proofs.ChosenLemmas.{chosen_next, chosen_skip}
 use Rattle.driver_passes.proofs.ControlLemmas.{other_place}

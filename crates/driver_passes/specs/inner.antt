@@ -1,5 +1,4 @@
 -- Definitions for proofs and for the contracts of private functions. No public contract cites them.
-pub mod Laws
 pub mod Drafts
 pub mod Walks
 pub mod NumberSets

@@ -1,11 +1,11 @@
-// Nets with the same tested drivers. What is done for one of them is done for the others.
+// Nets with the same tested drivers. A pass that shows one of these nets shows all of them.
 ghost use Rattle.std.specs.Prelude.{◌≡◌, ◌≤◌, ◌<◌, length, true, IfOk, IfSome};
 ghost use Rattle.board_defs.specs.Passes.{useful_controls};
 ghost use Rattle.driver_passes.specs.inner.Alike.{AreAlike};
-ghost use Rattle.driver_passes.specs.inner.Shown.{drivers_at};
+ghost use Rattle.net_classes.specs.Pairs.{drivers_at};
 
-use crate::classed::ClassedBoard;
 use board_defs::Drive;
+use net_classes::BoardClasses;
 use std::alloc::{AllocError, Global};
 
 fn are_same(drivers: &[Drive], others: &[Drive]) -> bool
@@ -15,7 +15,7 @@ fn are_same(drivers: &[Drive], others: &[Drive]) -> bool
 }
 
 /// Returns the place, among the useful controls, of the control of the first of these drivers.
-fn first_place(board: &ClassedBoard<'_>, drivers: &[Drive]) -> Option<usize>
+fn first_place(board: &BoardClasses<'_>, drivers: &[Drive]) -> Option<usize>
     ensures { IfSome result (λ i. i < length (useful_controls board.now)) }
 {
     match drivers.first() {
@@ -24,8 +24,8 @@ fn first_place(board: &ClassedBoard<'_>, drivers: &[Drive]) -> Option<usize>
     }
 }
 
-/// Returns `other` if it is an earlier net with the same tested drivers, and otherwise `net`.
-fn like_of(board: &ClassedBoard<'_>, other: usize, net: usize) -> usize
+/// Returns `other` if `other` comes before `net` and has the same tested drivers, and otherwise `net`.
+fn like_of(board: &BoardClasses<'_>, other: usize, net: usize) -> usize
     ensures within { result ≤ net }
     ensures alike { drivers_at board.now result ≡ drivers_at board.now net }
 {
@@ -39,14 +39,14 @@ fn like_of(board: &ClassedBoard<'_>, other: usize, net: usize) -> usize
     }
 }
 
-/// Returns, for each net, an earlier one with the same tested drivers, or the net itself. Candidates are nets
-/// whose first tested driver has the same control.
-pub fn likes_of(alloc: Global, board: &ClassedBoard<'_>) -> Result<Vec<u32>, AllocError>
+/// Returns, for each net, an earlier net with the same tested drivers, or the net itself. Only the latest net whose
+/// first tested driver has the same control is tried.
+pub fn likes_of(alloc: Global, board: &BoardClasses<'_>) -> Result<Vec<u32>, AllocError>
     ensures { IfOk result (λ likes. AreAlike board.now likes.items) }
 {
     let mut likes = Vec::new(alloc);
     let mut latest = vec![in alloc; 0u32; board.useful().len()]?;
-    for net in 0..board.nets() {
+    for net in 0..board.net_count() {
         let mut other = net;
         if let Some(place) = first_place(board, board.tested_drivers(net)) {
             other = latest[place] as usize;

@@ -4,9 +4,9 @@ ghost use Rattle.board_defs.specs.declared.board.Ctl.{Ctl};
 ghost use Rattle.board_defs.specs.Coverage.{IsUseful};
 ghost use Rattle.board_defs.specs.Settings.{holds};
 ghost use Rattle.board_defs.specs.Passes.{useful_controls, with_driver};
+ghost use Rattle.net_classes.specs.inner.Pairs.{IsUsefulDriver};
 ghost use Rattle.driver_passes.specs.inner.Drafts.{chosen, drafted, with_control};
 ghost use Rattle.driver_passes.specs.inner.NumberSets.{is_in};
-ghost use Rattle.driver_passes.specs.inner.Progress.{IsUsefulDriver};
 ghost use Rattle.driver_passes.specs.inner.Shown.{AreShownBy};
 
 use crate::number_set::NumberSet;
@@ -21,7 +21,7 @@ pub struct Draft<'a, 'b> {
     pub(crate) board: &'a BoardTables<'b>,
     /// The places of the useful controls in the pass.
     pub(crate) held: NumberSet,
-    /// The places of the useful controls that can be added: those that are together with each control in the pass.
+    /// The places of the useful controls that can be added. Each is together with every control in the pass.
     pub(crate) free: NumberSet,
 }
 
@@ -49,7 +49,7 @@ impl<'a, 'b> Draft<'a, 'b> {
     pub fn new(alloc: Global, board: &'a BoardTables<'b>) -> Result<Draft<'a, 'b>, AllocError>
         ensures { IfOk result (λ draft. draft ≡ drafted board.now []) }
     {
-        let useful = board.useful();
+        let useful = board.classes().useful();
         let held = NumberSet::new(alloc, useful.len())?;
         let free = all_places(alloc, useful)?;
         Ok(Draft { board, held, free })
@@ -60,7 +60,7 @@ impl<'a, 'b> Draft<'a, 'b> {
         requires { slice_get (useful_controls self.old.board) place ≡ Some c }
         ensures { self.new ≡ with_control self.old c }
     {
-        self.board.laws();
+        let _laws = self.board.classes();
         self.held.insert_if(place, true);
         self.board.take_out_apart(&mut self.free, c);
         self.free.remove(place);
@@ -80,7 +80,7 @@ impl<'a, 'b> Draft<'a, 'b> {
         requires { holds (useful_controls self.old.board) c ≡ true }
         ensures { self.new ≡ with_control self.old c }
     {
-        if let Some(place) = self.board.place_of(c) {
+        if let Some(place) = self.board.classes().place_of(c) {
             self.add(place, c);
         }
     }
@@ -91,8 +91,8 @@ impl<'a, 'b> Draft<'a, 'b> {
         ensures useful { IfOk result (λ setting. (c : Ctl) → holds setting c ≡ true →
             IsUseful self.now.board c) }
     {
-        self.board.laws();
-        let controls = controls_at(alloc, self.board.useful(), &self.held)?;
+        let useful = self.board.classes().useful();
+        let controls = controls_at(alloc, useful, &self.held)?;
         Ok(Setting::of(controls))
     }
 
@@ -110,7 +110,7 @@ impl<'a, 'b> Draft<'a, 'b> {
         ensures places { (i : ℕ) (c : Ctl) → slice_get (useful_controls self.now.board) i ≡ Some c →
             is_in places.new i ≡ (holds self.now.setting c || is_in places.old i) }
     {
-        self.board.laws();
+        let _laws = self.board.classes();
         places.add_all(&self.held);
     }
 }

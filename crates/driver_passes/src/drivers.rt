@@ -1,16 +1,18 @@
-// The passes that enable each tested driver.
+// The passes that together enable every tested driver.
 ghost use Rattle.std.specs.Prelude.{◌≡◌, ◌<◌, ◌≤◌, ◌++◌, ◌∷◌, [], false, true, fold, length, slice_get, take, All, IfOk, IfSome, OnOk};
 ghost use Rattle.std.specs.List.{flat_map, list_any};
 ghost use Rattle.board_defs.specs.Limits.{most_pins};
 ghost use Rattle.board_defs.specs.Settings.{holds};
 ghost use Rattle.board_defs.specs.Passes.{driver_pass, driver_passes, drivers_by_net, is_enabled, passes_of, useful_controls};
 ghost use Rattle.driver_passes.specs.inner.Drafts.{drafted};
-ghost use Rattle.driver_passes.specs.inner.Progress.{EnableTested, IsProgress, IsUsefulDriver, enabling, is_held};
+ghost use Rattle.net_classes.specs.inner.Pairs.{IsUsefulDriver};
+ghost use Rattle.driver_passes.specs.inner.Progress.{EnableTested, IsProgress, enabling, is_held};
 
 use crate::draft::Draft;
 use crate::number_set::NumberSet;
 use crate::tables::BoardTables;
 use board_defs::{Ctl, Drive, Setting};
+use net_classes::BoardClasses;
 use std::alloc::{AllocError, Global};
 
 /// The passes so far.
@@ -44,7 +46,7 @@ fn driver_pass<'a, 'b>(
 }
 
 impl Progress {
-    fn new(alloc: Global, board: &BoardTables<'_>) -> Result<Progress, AllocError>
+    fn new(alloc: Global, board: &BoardClasses<'_>) -> Result<Progress, AllocError>
         ensures progress { IfOk result (λ progress. IsProgress board.now progress) }
         ensures none { IfOk result (λ progress. progress.passes.items ≡ []) }
     {
@@ -57,7 +59,7 @@ impl Progress {
     }
 
     /// Returns whether the useful control is in some pass so far.
-    fn holds(&self, board: &BoardTables<'_>, c: Ctl) -> bool
+    fn holds(&self, board: &BoardClasses<'_>, c: Ctl) -> bool
         requires progress { IsProgress board.now self.now }
         requires useful { holds (useful_controls board.now) c ≡ true }
         ensures { result ≡ is_held self.now.passes.items c }
@@ -69,7 +71,7 @@ impl Progress {
     }
 
     /// Returns whether some pass so far enables the tested driver.
-    fn enables(&self, board: &BoardTables<'_>, d: Drive) -> bool
+    fn enables(&self, board: &BoardClasses<'_>, d: Drive) -> bool
         requires progress { IsProgress board.now self.now }
         requires driver { IsUsefulDriver board.now d }
         ensures { result ≡ list_any (λ pass. is_enabled pass d) self.now.passes.items }
@@ -107,7 +109,7 @@ impl Progress {
         ensures added { OnOk result (self.new.passes.items
             ≡ enabling board.now self.old.passes.items d) }
     {
-        if self.enables(board, d) {
+        if self.enables(board.classes(), d) {
             return Ok(());
         }
         let draft = driver_pass(alloc, board, self, d)?;
@@ -115,7 +117,7 @@ impl Progress {
         Ok(())
     }
 
-    /// Adds passes for these drivers in turn, as `add_for_driver` does for one.
+    /// Calls `add_for_driver` for these drivers in turn.
     fn add_for_drivers(
         &mut self,
         alloc: Global,
@@ -135,7 +137,7 @@ impl Progress {
     }
 }
 
-/// Returns the passes that enable each tested driver.
+/// Returns the passes that together enable every tested driver.
 pub fn driver_passes(alloc: Global, board: &BoardTables<'_>) -> Result<Progress, AllocError>
     ensures progress { IfOk result (λ progress. IsProgress board.now progress) }
     ensures passes { IfOk result (λ progress. progress.passes.items
@@ -144,21 +146,21 @@ pub fn driver_passes(alloc: Global, board: &BoardTables<'_>) -> Result<Progress,
     ensures tested { IfOk result (λ progress. EnableTested board.now progress.passes.items) }
     ensures few { IfOk result (λ progress. length progress.passes.items ≤ most_pins) }
 {
-    board.laws();
-    let mut progress = Progress::new(alloc, board)?;
-    for net in 0..board.nets() {
-        progress.add_for_drivers(alloc, board, board.tested_drivers(net))?;
+    let classes = board.classes();
+    let mut progress = Progress::new(alloc, classes)?;
+    for net in 0..classes.net_count() {
+        progress.add_for_drivers(alloc, board, classes.tested_drivers(net))?;
     }
     Ok(progress)
 }
 
 /// Returns the first tested driver of the first net that has one.
-fn first_driver(board: &BoardTables<'_>) -> Option<Drive>
+fn first_driver(board: &BoardClasses<'_>) -> Option<Drive>
     ensures first { result
         ≡ slice_get (flat_map (λ drivers. drivers) (drivers_by_net board.now)) 0 }
     ensures useful { IfSome result (IsUsefulDriver board.now) }
 {
-    for net in 0..board.nets() {
+    for net in 0..board.net_count() {
         if let Some(d) = board.tested_drivers(net).first() {
             return Some(*d);
         }
@@ -172,18 +174,18 @@ fn first_pass_for(alloc: Global, board: &BoardTables<'_>, d: Drive) -> Result<Se
     ensures { IfOk result (λ pass. pass
         ≡ driver_pass board.now (useful_controls board.now) [] d) }
 {
-    let none = Progress::new(alloc, board)?;
+    let none = Progress::new(alloc, board.classes())?;
     let draft = driver_pass(alloc, board, &none, d)?;
     draft.setting(alloc)
 }
 
-/// Returns the first of the board's passes, if it has one. That is the pass for its first tested driver: a board
-/// without tested drivers has no paired nets either.
+/// Returns a list of the first pass of the board alone, or an empty list if the board has no pass. The first pass is
+/// the pass for the first tested driver, since a board without tested drivers has no paired nets either.
 pub fn first_pass_by(alloc: Global, board: &BoardTables<'_>) -> Result<Vec<Setting>, AllocError>
     ensures { IfOk result (λ passes. passes.items ≡ take 1 (passes_of board.now)) }
 {
     let mut passes = Vec::new(alloc);
-    match first_driver(board) {
+    match first_driver(board.classes()) {
         None => Ok(passes),
         Some(d) => {
             passes.push(first_pass_for(alloc, board, d)?)?;

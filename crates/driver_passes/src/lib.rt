@@ -1,10 +1,9 @@
-//! The passes of a board: safe settings that together enable each tested driver and observe each two paired nets in
-//! one pass.
+//! The passes of a board. They are safe settings. Some pass enables each tested driver, and for every two paired nets,
+//! some pass observes both.
 #![tactic(auto)]
 
 mod alike;
 mod blocks;
-mod classed;
 mod column;
 mod draft;
 mod drivers;
@@ -12,7 +11,6 @@ mod making;
 mod number_set;
 mod paired;
 mod pairs;
-mod places;
 mod sharers;
 mod shown;
 mod tables;

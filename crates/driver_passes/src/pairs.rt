@@ -1,20 +1,22 @@
-// Adds passes until some pass observes each two paired nets.
+// Adds passes until, for every two paired nets, some pass observes both.
 ghost use Rattle.std.specs.Prelude.{◌≡◌, ◌<◌, ◌≤◌, ◌+◌, ◌*◌, ◌^◌, ◌∷◌, ◌++◌, ℕ, [], false, true, fold, length, IfOk, OnOk};
 ghost use Rattle.board_defs.specs.Limits.{most_nets, most_pins};
 ghost use Rattle.board_defs.specs.Passes.{are_shown, drivers_by_net, pair_pass, pair_passes, useful_controls};
+ghost use Rattle.net_classes.specs.Pairs.{drivers_at};
 ghost use Rattle.driver_passes.specs.inner.Drafts.{drafted};
 ghost use Rattle.driver_passes.specs.inner.Pairs.{AreDone, ArePairing, IsDone, IsDoneTo, IsUsefulPair, LooksAt, StaysDone, observing, pairs_from};
 ghost use Rattle.driver_passes.specs.inner.Progress.{EnableTested, IsProgress};
-ghost use Rattle.driver_passes.specs.inner.Shown.{drivers_at};
 ghost use Rattle.driver_passes.specs.Useful.{HoldUseful};
 
 use crate::column::Column;
 use crate::draft::Draft;
 use crate::drivers::Progress;
 use crate::number_set::NumberSet;
+use crate::paired::{first_pair, next_wanted};
 use crate::shown::{keep_shown, leave_unshown, take_shown};
 use crate::tables::BoardTables;
 use board_defs::{Drive, Setting};
+use net_classes::BoardClasses;
 use net_classes::law::pairs_have_drivers;
 use std::alloc::{AllocError, Global};
 
@@ -27,8 +29,8 @@ pub struct Pairing {
     pub column: Column,
     /// The nets after the current one that no pass so far shows together with it.
     pub left: NumberSet,
-    /// The nets that every pass so far shows. Asking each row for a net instead would be slow, since the rows are far
-    /// apart in memory.
+    /// The nets that every pass so far shows. To look a net up in each row instead would be slow, since the rows are
+    /// far apart in memory.
     pub always: NumberSet,
 }
 
@@ -52,7 +54,7 @@ fn pair_pass<'a, 'b>(
 impl Pairing {
     fn new(
         alloc: Global,
-        board: &BoardTables<'_>,
+        board: &BoardClasses<'_>,
         progress: Progress,
     ) -> Result<Pairing, AllocError>
         requires progress { IsProgress board.now progress }
@@ -60,7 +62,7 @@ impl Pairing {
         ensures pairing { IfOk result (λ pairing. ArePairing board.now pairing) }
         ensures passes { IfOk result (λ pairing. pairing.passes.items ≡ progress.passes.items) }
     {
-        let nets = board.nets();
+        let nets = board.net_count();
         let left = NumberSet::new(alloc, nets)?;
         let mut always = NumberSet::new(alloc, nets)?;
         keep_shown(&mut always, &progress.rows);
@@ -74,7 +76,7 @@ impl Pairing {
         })
     }
 
-    /// Adds a pass, while net `a` is the current one.
+    /// Adds a pass while net `a` is the current net.
     fn push(&mut self, alloc: Global, a: usize, draft: &Draft<'_, '_>) -> Result<(), AllocError>
         requires { LooksAt draft.now.board self.old a }
         ensures looks { OnOk result (LooksAt draft.now.board self.new a) }
@@ -91,7 +93,7 @@ impl Pairing {
         Ok(())
     }
 
-    /// Adds a pass for the two nets, which no pass so far shows together, if they are paired.
+    /// Adds a pass for the two nets if they are paired. No pass so far may show both.
     fn add_for_nets(
         &mut self,
         alloc: Global,
@@ -107,15 +109,15 @@ impl Pairing {
             ≡ observing board.now self.old.passes.items
             (drivers_at board.now a, drivers_at board.now b)) }
     {
-        if let Some(pair) = board.first_pair(a, b) {
+        if let Some(pair) = first_pair(board.classes(), a, b) {
             let draft = pair_pass(alloc, board, pair)?;
             self.push(alloc, a, &draft)?;
         }
         Ok(())
     }
 
-    /// Returns true if no pass is needed for net `a` and any later net, because an earlier net has the same tested
-    /// drivers, because net `a` has none, or because every pass shows it.
+    /// Returns whether one of three tests shows that no pass is needed for net `a` and any later net: an earlier net
+    /// has the same tested drivers, net `a` has no tested driver, or every pass shows net `a`.
     fn is_done(&self, board: &BoardTables<'_>, a: usize) -> bool
         requires first { a < length board.now.nets }
         requires pairing { ArePairing board.now self.now }
@@ -126,14 +128,15 @@ impl Pairing {
         if board.like_of(a) < a {
             return true;
         }
-        if board.tested_drivers(a).is_empty() {
+        if board.classes().tested_drivers(a).is_empty() {
             return true;
         }
         self.always.has(a)
     }
 
-    /// Finds the next net, from `from` on, that is paired with net `a` and that no pass shows together with it, and
-    /// adds a pass for the two. Returns the net to continue with.
+    /// Finds the next net from `from` on that is paired with net `a` and that no pass shows together with net `a`.
+    /// Adds a pass for the two nets, and returns the net to continue with. If there is no such net, adds nothing and
+    /// returns the number of nets.
     fn add_for_next(
         &mut self,
         alloc: Global,
@@ -158,9 +161,9 @@ impl Pairing {
             length self.new.passes.items + from ≤ length self.old.passes.items + b) }
     {
         pairs_have_drivers();
-        let nets = board.nets();
-        match board.next_wanted(&self.left, a, from) {
-            None => Ok(nets),
+        let classes = board.classes();
+        match next_wanted(classes, &self.left, a, from) {
+            None => Ok(classes.net_count()),
             Some(b) => {
                 self.add_for_nets(alloc, board, a, b)?;
                 Ok(b + 1)
@@ -190,7 +193,7 @@ impl Pairing {
         }
         self.column.look_at(alloc, &self.rows, a / 64)?;
         leave_unshown(&mut self.left, &self.rows, &self.column.words, a);
-        let nets = board.nets();
+        let nets = board.classes().net_count();
         let mut b = a + 1;
         while b < nets {
             b = self.add_for_next(alloc, board, a, b)?;
@@ -198,7 +201,7 @@ impl Pairing {
         Ok(())
     }
 
-    /// Adds the passes that are needed for each two nets.
+    /// Adds the passes that are needed for all pairs of nets.
     fn add_for_all(&mut self, alloc: Global, board: &BoardTables<'_>) -> Result<(), AllocError>
         requires pairing { ArePairing board.now self.old }
         requires few { length self.old.passes.items ≤ most_pins }
@@ -208,14 +211,14 @@ impl Pairing {
             (drivers_by_net board.now)) }
         ensures few { OnOk result (length self.new.passes.items < 2 ^ 32) }
     {
-        for a in 0..board.nets() {
+        for a in 0..board.classes().net_count() {
             self.add_for_later(alloc, board, a)?;
         }
         Ok(())
     }
 }
 
-/// Returns the passes so far, followed by more until some pass observes each two paired nets.
+/// Returns the passes so far, followed by more passes until, for every two paired nets, some pass observes both.
 pub fn pair_passes(
     alloc: Global,
     board: &BoardTables<'_>,
@@ -230,7 +233,7 @@ pub fn pair_passes(
     ensures useful { IfOk result (λ all. HoldUseful board.now all.items) }
     ensures few { IfOk result (λ all. length all.items < 2 ^ 32) }
 {
-    let mut pairing = Pairing::new(alloc, board, progress)?;
+    let mut pairing = Pairing::new(alloc, board.classes(), progress)?;
     pairing.add_for_all(alloc, board)?;
     Ok(pairing.passes)
 }

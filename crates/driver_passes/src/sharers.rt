@@ -7,9 +7,9 @@ ghost use Rattle.driver_passes.specs.inner.NumberSets.{is_in};
 ghost use Rattle.driver_passes.specs.inner.Sharers.{AreSharers, AreSharersBelow, is_listed};
 
 use crate::blocks::{Block, Blocks, blocks_of};
-use crate::classed::ClassedBoard;
 use crate::number_set::NumberSet;
 use lists::{Items, blank, note};
+use net_classes::BoardClasses;
 use std::alloc::{AllocError, Global};
 
 /// The places of useful controls, in order.
@@ -29,11 +29,11 @@ fn list_place(sharers: &mut [Places], nets: &[u32], place: usize) -> Result<(), 
 }
 
 /// Returns, for each net, the list of the places of the useful controls that share it with another control.
-fn lists_of(alloc: Global, board: &ClassedBoard<'_>) -> Result<Vec<Places>, AllocError>
+fn lists_of(alloc: Global, board: &BoardClasses<'_>) -> Result<Vec<Places>, AllocError>
     ensures { IfOk result (λ lists.
         AreSharersBelow board.now (length (useful_controls board.now)) lists.items) }
 {
-    let mut sharers = blank(alloc, board.nets())?;
+    let mut sharers = blank(alloc, board.net_count())?;
     for (place, c) in board.useful().iter().enumerate() {
         list_place(&mut sharers, board.shared_nets(*c), place)?;
     }
@@ -53,7 +53,7 @@ fn sets_of(alloc: Global, lists: &[Places]) -> Result<Vec<Blocks>, AllocError>
 }
 
 /// Returns, for each net, the places of the useful controls that share it with another control.
-pub fn sharers_of(alloc: Global, board: &ClassedBoard<'_>) -> Result<Vec<Blocks>, AllocError>
+pub fn sharers_of(alloc: Global, board: &BoardClasses<'_>) -> Result<Vec<Blocks>, AllocError>
     ensures { IfOk result (λ sharers. AreSharers board.now sharers.items) }
 {
     let lists = lists_of(alloc, board)?;
@@ -71,7 +71,7 @@ fn blocks_at(sharers: &[Blocks], net: usize) -> &[Block]
     }
 }
 
-/// Removes the places of these blocks.
+/// Removes from `free` the places in these blocks.
 fn close(free: &mut NumberSet, blocks: &[Block])
     ensures { (q : ℕ) → is_in free.new q ≡ (is_in free.old q && not (has_place blocks.now q)) }
 {
@@ -80,7 +80,7 @@ fn close(free: &mut NumberSet, blocks: &[Block])
     }
 }
 
-/// Removes the places that are listed for these nets.
+/// Removes from `free` the places in the sets of these nets.
 pub fn close_sharers(free: &mut NumberSet, sharers: &[Blocks], nets: &[u32])
     ensures { (q : ℕ) → is_in free.new q
         ≡ (is_in free.old q && not (is_listed sharers.now nets.now q)) }

@@ -1,4 +1,5 @@
-// The nets that each useful control tests, and so the nets that a pass shows.
+// The nets that each useful control tests. A pass shows the nets that its controls test, and the nets with a driver
+// that is always on.
 ghost use Rattle.std.specs.Prelude.{◌≡◌, ◌<◌, ◌/◌, [], true, length, Some, IfOk, OnOk};
 ghost use Rattle.board_defs.specs.Decided.{is_by};
 ghost use Rattle.board_defs.specs.Passes.{shows, useful_controls};
@@ -6,11 +7,10 @@ ghost use Rattle.driver_passes.specs.inner.Drafts.{setting_of};
 ghost use Rattle.driver_passes.specs.inner.Shown.{AreShownBy};
 ghost use Rattle.driver_passes.specs.inner.Tested.{AreListed, AreNoted, AreTestedNets, drives};
 
-use crate::classed::ClassedBoard;
 use crate::number_set::NumberSet;
 use board_defs::Drive;
 use lists::blank;
-use net_classes::NetNumbers;
+use net_classes::{BoardClasses, NetNumbers};
 use std::alloc::{AllocError, Global};
 
 /// The nets that the useful controls test.
@@ -35,10 +35,10 @@ fn has_steady(drivers: &[Drive]) -> bool
 }
 
 /// Returns the nets with a tested driver that is always on.
-fn steady_nets(alloc: Global, board: &ClassedBoard<'_>) -> Result<NumberSet, AllocError>
+fn steady_nets(alloc: Global, board: &BoardClasses<'_>) -> Result<NumberSet, AllocError>
     ensures { IfOk result (λ row. AreShownBy board.now [] row) }
 {
-    let nets = board.nets();
+    let nets = board.net_count();
     let mut row = NumberSet::new(alloc, nets)?;
     for net in 0..nets {
         row.insert_if(net, has_steady(board.tested_drivers(net)));
@@ -49,7 +49,7 @@ fn steady_nets(alloc: Global, board: &ClassedBoard<'_>) -> Result<NumberSet, All
 /// Appends the net to the list of the driver's control, if it has one.
 fn list_driver(
     lists: &mut [NetNumbers],
-    board: &ClassedBoard<'_>,
+    board: &BoardClasses<'_>,
     d: Drive,
     net: u32,
 ) -> Result<(), AllocError>
@@ -68,7 +68,7 @@ fn list_driver(
 /// Appends the net to the list of each control of these drivers.
 fn list_drivers(
     lists: &mut [NetNumbers],
-    board: &ClassedBoard<'_>,
+    board: &BoardClasses<'_>,
     drivers: &[Drive],
     net: u32,
 ) -> Result<(), AllocError>
@@ -82,11 +82,11 @@ fn list_drivers(
 }
 
 /// Returns, for each useful control, the nets with a tested driver of this control.
-fn nets_by_control(alloc: Global, board: &ClassedBoard<'_>) -> Result<Vec<NetNumbers>, AllocError>
+fn nets_by_control(alloc: Global, board: &BoardClasses<'_>) -> Result<Vec<NetNumbers>, AllocError>
     ensures { IfOk result (λ lists. AreListed board.now (length board.now.nets) lists.items) }
 {
     let mut lists = blank(alloc, board.useful().len())?;
-    for net in 0..board.nets() {
+    for net in 0..board.net_count() {
         list_drivers(&mut lists, board, board.tested_drivers(net), net as u32)?;
     }
     Ok(lists)
@@ -94,7 +94,7 @@ fn nets_by_control(alloc: Global, board: &ClassedBoard<'_>) -> Result<Vec<NetNum
 
 impl TestedNets {
     /// Collects the nets that the useful controls of the board test.
-    pub fn new(alloc: Global, board: &ClassedBoard<'_>) -> Result<TestedNets, AllocError>
+    pub fn new(alloc: Global, board: &BoardClasses<'_>) -> Result<TestedNets, AllocError>
         ensures { IfOk result (λ nets. AreTestedNets board.now nets) }
     {
         let steady = steady_nets(alloc, board)?;
@@ -106,7 +106,7 @@ impl TestedNets {
     pub fn shown_by(
         &self,
         alloc: Global,
-        board: &ClassedBoard<'_>,
+        board: &BoardClasses<'_>,
         held: &NumberSet,
     ) -> Result<NumberSet, AllocError>
         requires { AreTestedNets board.now self.now }

@@ -1,4 +1,4 @@
-// The walks over the useful controls. They skip those that cannot be added, 64 at a time.
+// The two walks over the useful controls. A walk skips the controls that cannot be added, 64 at a time.
 ghost use Rattle.std.specs.Prelude.{◌≡◌, ◌<◌, length};
 ghost use Rattle.board_defs.specs.Passes.{useful_controls};
 ghost use Rattle.driver_passes.specs.inner.Progress.{IsProgress};
@@ -8,7 +8,7 @@ use crate::draft::Draft;
 use crate::drivers::Progress;
 
 impl<'a, 'b> Draft<'a, 'b> {
-    /// Adds the first useful control, from `from` on, that is together with all controls of the draft and in no
+    /// Adds the first useful control from place `from` on that is together with all controls of the draft and in no
     /// earlier pass, if there is one. Returns the place to continue with.
     fn add_new(&mut self, earlier: &Progress, from: usize) -> usize
         requires earlier { IsProgress self.old.board earlier.now }
@@ -18,9 +18,7 @@ impl<'a, 'b> Draft<'a, 'b> {
         ensures step { first_walked self.new result earlier.now.passes.items
             ≡ first_walked self.old from earlier.now.passes.items }
     {
-        let board = self.board;
-        board.laws();
-        let useful = board.useful();
+        let useful = self.board.classes().useful();
         let place = self.free.first_outside(&earlier.held, from, useful.len());
         if useful.len() <= place {
             return place;
@@ -36,12 +34,12 @@ impl<'a, 'b> Draft<'a, 'b> {
         ensures { self.new ≡ first_walked self.old 0 earlier.now.passes.items }
     {
         let mut place = 0;
-        while place < self.board.useful().len() {
+        while place < self.board.classes().useful().len() {
             place = self.add_new(earlier, place);
         }
     }
 
-    /// Adds the first useful control, from `from` on, that is together with all controls of the draft, if there is
+    /// Adds the first useful control from place `from` on that is together with all controls of the draft, if there is
     /// one. Returns the place to continue with.
     fn add_next(&mut self, from: usize) -> usize
         requires { from < length (useful_controls self.old.board) }
@@ -49,9 +47,7 @@ impl<'a, 'b> Draft<'a, 'b> {
         ensures further { from < result }
         ensures step { second_walked self.new result ≡ second_walked self.old from }
     {
-        let board = self.board;
-        board.laws();
-        let useful = board.useful();
+        let useful = self.board.classes().useful();
         let place = self.free.first_from(from, useful.len());
         if useful.len() <= place {
             return place;
@@ -65,7 +61,7 @@ impl<'a, 'b> Draft<'a, 'b> {
         ensures { self.new ≡ second_walked self.old 0 }
     {
         let mut place = 0;
-        while place < self.board.useful().len() {
+        while place < self.board.classes().useful().len() {
             place = self.add_next(place);
         }
     }

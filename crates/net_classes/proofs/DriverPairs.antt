@@ -1,16 +1,15 @@
 -- Paired nets, by the first of their tested drivers that one safe setting enables.
-use Rattle.std.proofs.Common.{◌≡◌, ℕ, zero, suc, Bool, true, List, [], ◌∷◌, slice_index_or, Option, Some, None, refl, sym, ◌∙◌, ap}
-use Rattle.std.specs.Prelude.{slice_get, find, is_some, option_map}
-use Rattle.std.proofs.lemmas.Option.{slice_get-map}
+use Rattle.std.proofs.Common.{◌≡◌, ℕ, Bool, true, List, [], Option, Some, None, refl, sym, ◌∙◌}
+use Rattle.std.specs.Prelude.{slice_get, find, is_some}
 use Rattle.std.proofs.lemmas.Bool.{false_from_ne_true}
 use Rattle.lists.proofs.Booleans.{clash}
 use Rattle.board_defs.specs.declared.board.Net.{Net}
 use Rattle.board_defs.specs.declared.board.RawBoard.{RawBoard}
 use Rattle.board_defs.specs.declared.board.Drive.{Drive}
 use Rattle.board_defs.specs.Decided.{are_compatible}
-use Rattle.board_defs.specs.Passes.{drivers_by_net, first_pair, pairs_of, tested_drivers}
+use Rattle.board_defs.specs.Passes.{first_pair, pairs_of, tested_drivers}
 use Rattle.board_defs.proofs.Members.{Has, any_has, find_has, find_none, has_any, has_pairs_of, pairs_of_has}
-use Rattle.net_classes.specs.Pairs.{drivers_there, fit, fits_some, pair_there, pairs_with}
+use Rattle.net_classes.specs.Pairs.{drivers_at, drivers_there, fit, fits_some, pair_there, pairs_with}
 use Rattle.net_classes.specs.inner.Pairs.{some_fit}
 use Rattle.net_classes.proofs.Paired.{pairs_are}
 
@@ -31,10 +30,6 @@ fit_found board ds es = by_found (first_pair board ds es) refl
         let y : Has ds pair.0 × Has es pair.1 = pairs_of_has ds es pair x.0 in
         has_any (fits_some board es) ds pair.0 y.0 (has_any (fit board pair.0) es pair.1 y.1 x.1)
 
-abbrev item_or : Option (List Drive) → List Drive
-item_or None = []
-item_or (Some ds) = ds
-
 pub there_are : (board : RawBoard) (a b : Option Net) → pair_there board a b ≡ some_fit board (drivers_there board a) (drivers_there board b)
 there_are board None b = refl
 there_are board (Some a) None = sym (false_from_ne_true (some_fit board (tested_drivers board a) []) (λ h.
@@ -42,20 +37,5 @@ there_are board (Some a) None = sym (false_from_ne_true (some_fit board (tested_
     cc x.2))
 there_are board (Some a) (Some b) = sym (pairs_are board a b)
 
-index_there : (xs : List (List Drive)) (n : ℕ) → slice_index_or xs n [] ≡ item_or (slice_get xs n)
-index_there [] n = refl
-index_there (x ∷ xs) zero = refl
-index_there (x ∷ xs) (suc n) = index_there xs n
-
-lists_at : (board : RawBoard) (n : ℕ) → slice_index_or (drivers_by_net board) n [] ≡ drivers_there board (slice_get board.nets n)
-lists_at board n = index_there (drivers_by_net board) n ∙ ap item_or (slice_get-map (tested_drivers board) board.nets n) ∙ by_net (slice_get board.nets n)
-  where
-    by_net : (net : Option Net) → item_or (option_map (tested_drivers board) net) ≡ drivers_there board net
-    by_net None = refl
-    by_net (Some net) = refl
-
-pub pairs_found : (board : RawBoard) (a b : ℕ) → pairs_with board a b ≡ is_some (first_pair board (slice_index_or (drivers_by_net board) a []) (slice_index_or (drivers_by_net board) b []))
-pairs_found board a b =
-    there_are board (slice_get board.nets a) (slice_get board.nets b) ∙
-    sym (ap (λ ds. some_fit board ds (slice_index_or (drivers_by_net board) b [])) (lists_at board a) ∙ ap (some_fit board (drivers_there board (slice_get board.nets a))) (lists_at board b)) ∙
-    fit_found board (slice_index_or (drivers_by_net board) a []) (slice_index_or (drivers_by_net board) b [])
+pub pairs_found : (board : RawBoard) (a b : ℕ) → pairs_with board a b ≡ is_some (first_pair board (drivers_at board a) (drivers_at board b))
+pairs_found board a b = there_are board (slice_get board.nets a) (slice_get board.nets b) ∙ fit_found board (drivers_at board a) (drivers_at board b)

@@ -13,3 +13,4 @@ pub mod ClosedRows
 pub mod PutRows
 pub mod PairWords
 pub mod UnpairedWords
+pub mod UsefulDrivers

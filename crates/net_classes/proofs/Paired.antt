@@ -1,8 +1,7 @@
 -- Paired nets by their tested drivers.
-use Rattle.std.proofs.Common.{◌≡◌, ℕ, Bool, true, ◌&&◌, List, length, slice_index_or, Option, Some, None, sym, ◌∙◌, ap, subst}
+use Rattle.std.proofs.Common.{◌≡◌, Bool, true, ◌&&◌, length, Option, Some, None, sym, ◌∙◌, ap}
 use Rattle.std.specs.Prelude.{slice_get}
 use Rattle.std.specs.List.{list_any}
-use Rattle.std.proofs.lemmas.Option.{slice_get-get_or}
 use Rattle.std.proofs.lemmas.Bool.{and_from}
 use Rattle.lists.proofs.Booleans.{same_truth, and_left, and_right}
 use Rattle.board_defs.specs.declared.board.Net.{Net}
@@ -16,12 +15,12 @@ use Rattle.board_defs.specs.Pins.{IsCell}
 use Rattle.board_defs.specs.Decided.{any_below, place_drive, drive_in, is_tested_driver, are_compatible, pairs_at, are_paired}
 use Rattle.board_defs.specs.Passes.{tested_drivers}
 use Rattle.board_defs.proofs.BoardLemmas.{control_is_cell}
-use Rattle.board_defs.proofs.Members.{Has, has_at, any_has, has_any}
+use Rattle.board_defs.proofs.Members.{Has, any_has, has_any}
 use Rattle.board_defs.proofs.Places.{FoundBelow, below_place, below_at}
 use Rattle.board_defs.proofs.Covered.{tested_below}
 use Rattle.board_defs.proofs.PassesKept.{Tested, tested_has, has_tested, tested_drives}
-use Rattle.net_classes.specs.Pairs.{drivers_at, drivers_there, fit, fits_some}
-use Rattle.net_classes.specs.inner.Pairs.{IsByCell, AreByCells, some_fit}
+use Rattle.net_classes.specs.Pairs.{fit, fits_some}
+use Rattle.net_classes.specs.inner.Pairs.{IsByCell, some_fit}
 
 place_cell : (board : RawBoard) (net : Net) (pin : Option NetPin) (c : Ctl) → IsBoard board → drive_in board net pin ≡ Some (By c) → IsCell board c
 place_cell board net None c rules e = cc e
@@ -29,15 +28,6 @@ place_cell board net (Some p) c rules e = control_is_cell board net p c rules e
 
 pub has_cells : (board : RawBoard) (net : Net) (d : Drive) → IsBoard board → Has (tested_drivers board net) d → IsByCell board d
 has_cells board net d rules h c e = let t : Tested board net d = tested_has board net d h in place_cell board net (slice_get net.pins t.place) c rules (t.drives ∙ ap Some e)
-
-pub tested_cells : (board : RawBoard) (n : ℕ) (ds : List Drive) → IsBoard board → ds ≡ drivers_at board n → AreByCells board ds
-tested_cells board n ds rules e k d less =
-    let P : List Drive → Type 0 = λ v. Has v (slice_index_or ds k d) in
-    by_net (slice_get board.nets n) (subst P e (has_at ds k (slice_index_or ds k d) (slice_get-get_or ds k d less)))
-  where
-    by_net : (net : Option Net) → Has (drivers_there board net) (slice_index_or ds k d) → IsByCell board (slice_index_or ds k d)
-    by_net None has = absurd has
-    by_net (Some net) has = has_cells board net (slice_index_or ds k d) rules has
 
 pub pairs_are : (board : RawBoard) (a b : Net) → some_fit board (tested_drivers board a) (tested_drivers board b) ≡ are_paired board a b
 pairs_are board a b = same_truth (some_fit board (tested_drivers board a) (tested_drivers board b)) (are_paired board a b) there back

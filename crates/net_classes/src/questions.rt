@@ -1,25 +1,29 @@
-// A board with its classes, and the queries that they answer.
-ghost use Rattle.std.specs.Prelude.{◌≡◌, ◌≢◌, ◌↔◌, ◌<◌, ◌||◌, ℕ, false, true, not, length, All, IsTrue, MatchOption};
+// A board with its classes, and the questions that it answers.
+ghost use Rattle.std.specs.Prelude.{◌≡◌, ◌≢◌, ◌↔◌, ◌<◌, ◌≤◌, ◌||◌, ℕ, Some, false, true, not, length, slice_get, All, IsTrue, MatchOption};
 ghost use Rattle.board_defs.specs.BoardRules.{IsBoard};
+ghost use Rattle.board_defs.specs.Limits.{most_nets};
 ghost use Rattle.board_defs.specs.Pins.{IsCell, IsOnBoard};
-ghost use Rattle.board_defs.specs.Settings.{same_ctl};
+ghost use Rattle.board_defs.specs.Settings.{holds, same_ctl};
 ghost use Rattle.board_defs.specs.Coverage.{AreTogether, ArePaired, IsCovered, IsReason, IsTestedDriver, IsTestedReceiver, IsUseful};
-ghost use Rattle.board_defs.specs.Decided.{are_paired, are_together, is_tested_driver, is_tested_receiver, is_useful, reason_of, share_net};
+ghost use Rattle.board_defs.specs.Decided.{are_paired, are_together, is_covered, is_tested_driver, is_tested_receiver, is_useful, reason_of, share_net};
 ghost use Rattle.board_defs.specs.Passes.{useful_controls};
 ghost use Rattle.net_classes.specs.Pairs.{AreBitsOf, drivers_at, fit, pairs_with, unpaired_with};
-ghost use Rattle.net_classes.specs.inner.Pairs.{AreByCells, IsByCell};
+ghost use Rattle.net_classes.specs.inner.Pairs.{IsByCell, IsUsefulDriver};
+ghost use Rattle.net_classes.specs.Laws.{KeepsLaws};
 ghost use Rattle.net_classes.specs.Kept.{AreClasses};
 ghost use Rattle.net_facts.specs.Kept.{control_class_of, net_class_of, pin_class_of, shared_nets};
 ghost use Rattle.net_classes.specs.inner.Kept.{OfNet};
 
 use crate::classes::Classes;
 use crate::known::drivers_in;
+use crate::places::place_in;
 use crate::words::has_bit;
 use board_defs::{Board, Ctl, Drive, PinRef, RawBoard, Reason, law};
 use net_facts::{ControlClass, NetClass, PinClass, meet};
 use std::marker::Model;
 
-/// A board with its classes, which answer queries about its nets, pins and controls. Contracts see it as the board.
+/// A board with its classes. It answers questions about its nets, pins and controls, and takes no memory for that.
+/// Contracts see it as the board.
 #[derive(Drop)]
 pub struct BoardClasses<'a> {
     board: &'a Board,
@@ -44,7 +48,7 @@ fn is_same(a: Ctl, b: Ctl) -> bool
 }
 
 impl<'a> BoardClasses<'a> {
-    /// Returns the board with these classes, which must be its own.
+    /// Returns the board with these classes, which must be the board's own.
     pub fn of(board: &'a Board, classes: &'a Classes) -> BoardClasses<'a>
         requires { AreClasses board.now classes.now }
         ensures { result ≡ board.now }
@@ -58,6 +62,23 @@ impl<'a> BoardClasses<'a> {
         ensures rules { IsBoard self.now }
     {
         self.board.raw()
+    }
+
+    /// Does nothing. Its contract says that the laws of boards are true of this one.
+    pub fn laws(&self)
+        ensures { KeepsLaws self.now }
+    {
+        law::passes_kept();
+        law::terms_decided();
+        let _rules = self.board.raw();
+    }
+
+    /// Returns the number of nets of the board.
+    pub fn net_count(&self) -> usize
+        ensures value { result ≡ length self.now.nets }
+        ensures most { result ≤ most_nets }
+    {
+        self.raw().nets.as_slice().len()
     }
 
     /// Returns the class of the control.
@@ -92,12 +113,20 @@ impl<'a> BoardClasses<'a> {
         self.net(net).reason
     }
 
+    /// Returns whether the net is covered.
+    pub fn is_covered(&self, net: u32) -> bool
+        requires { net < length self.now.nets }
+        ensures { OfNet self.now net (λ found. result ≡ is_covered self.now found) }
+    {
+        self.reason(net).is_none()
+    }
+
     /// Returns how the tested drivers of the net are enabled, in pin order. There are none past the last net.
     pub fn tested_drivers(&self, net: usize) -> &'a [Drive]
         ensures drivers { result.now ≡ drivers_at self.now net }
-        ensures cells { AreByCells self.now result.now }
+        ensures useful { All (IsUsefulDriver self.now) result.now }
     {
-        let _rules = self.board.raw();
+        self.laws();
         drivers_in(&self.classes.nets, net)
     }
 
@@ -107,6 +136,15 @@ impl<'a> BoardClasses<'a> {
         ensures cells { All (IsCell self.now) result.now }
     {
         &self.classes.useful
+    }
+
+    /// Returns the place of the control among the useful controls, or None if it is not useful.
+    pub fn place_of(&self, c: Ctl) -> Option<usize>
+        ensures { MatchOption result (holds (useful_controls self.now) c ≡ false)
+            (λ place. slice_get (useful_controls self.now) place ≡ Some c) }
+    {
+        self.laws();
+        place_in(self.useful(), c)
     }
 
     /// Returns the numbers of the nets with a driver of this control and a driver of another one, in net order.
@@ -156,7 +194,7 @@ impl<'a> BoardClasses<'a> {
     }
 
     /// Returns the nets that are paired with `net` among the 64 nets from `64 * word` on: bit `i` is for net
-    /// `64 * word + i`. The bit of `net` itself is set if it is covered. A bit past the last net is 0.
+    /// `64 * word + i`. The bit of `net` itself is set if `net` is covered. A bit past the last net is 0.
     pub fn paired_word(&self, net: usize, word: usize) -> u64
         ensures { AreBitsOf (pairs_with self.now net) word result }
     {
@@ -168,7 +206,7 @@ impl<'a> BoardClasses<'a> {
         bits
     }
 
-    /// Returns, in the same form, the nets among these 64 that are covered and not paired with `net`.
+    /// Like `paired_word`, but returns the covered nets that are not paired with `net`.
     pub fn unpaired_word(&self, net: usize, word: usize) -> u64
         ensures { AreBitsOf (unpaired_with self.now net) word result }
     {
@@ -176,8 +214,8 @@ impl<'a> BoardClasses<'a> {
         covered & !self.paired_word(net, word)
     }
 
-    /// Returns true if one tested driver of the net alone shows that every covered net is paired with it. If it
-    /// returns false, they may still all be paired with it, by several drivers.
+    /// Returns true if one tested driver of the net alone shows that every covered net is paired with the net. If the
+    /// result is false, several drivers together may still show the same.
     pub fn is_paired_with_all(&self, net: usize) -> bool
         ensures { result ≡ true → (other : ℕ) → unpaired_with self.now net other ≡ false }
     {
@@ -206,7 +244,8 @@ impl Classes {
         BoardClasses::of(board, self).reason(net)
     }
 
-    /// Returns whether the control is useful: its setting alone is safe, and it controls a tested driver.
+    /// Returns whether the control is useful: the setting of this control alone is safe, and the control enables a
+    /// tested driver.
     pub fn usable(&self, board: &Board, c: Ctl) -> bool
         requires classes { AreClasses board.now self.now }
         requires cell { IsCell board.now c }

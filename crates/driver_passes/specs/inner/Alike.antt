@@ -1,7 +1,7 @@
 -- Nets with the same tested drivers.
 use Rattle.std.specs.Prelude.{◌≡◌, ◌≤◌, ◌<◌, ℕ, List, length, slice_index_or}
 use Rattle.board_defs.specs.declared.board.RawBoard.{RawBoard}
-use Rattle.driver_passes.specs.inner.Shown.{drivers_at}
+use Rattle.net_classes.specs.Pairs.{drivers_at}
 
 -- for each net below `most`, the table has an earlier net with the same tested drivers, or the net itself
 pub record AreAlikeBelow (board : RawBoard) (most : ℕ) (likes : List ℕ) : Type 0 where
@@ -9,6 +9,6 @@ pub record AreAlikeBelow (board : RawBoard) (most : ℕ) (likes : List ℕ) : Ty
   pub likes_within : (n : ℕ) → n < most → slice_index_or likes n 0 ≤ n
   pub likes_are : (n : ℕ) → n < most → drivers_at board (slice_index_or likes n 0) ≡ drivers_at board n
 
--- this is so for each net of the board
+-- the table has such a net for each net of the board
 abbrev pub AreAlike : RawBoard → List ℕ → Type 0
 AreAlike board likes = AreAlikeBelow board (length board.nets) likes

@@ -4,12 +4,13 @@ use Rattle.board_defs.specs.declared.board.Ctl.{Ctl}
 use Rattle.board_defs.specs.declared.board.RawBoard.{RawBoard}
 use Rattle.board_defs.specs.declared.board.Drive.{Drive}
 use Rattle.board_defs.specs.Passes.{add_for_nets, are_shown, drivers_by_net, first_pair, useful_controls}
-use Rattle.net_classes.specs.Pairs.{pairs_with}
+use Rattle.net_classes.specs.Pairs.{drivers_at, pairs_with}
+use Rattle.net_classes.specs.inner.Pairs.{IsUsefulDriver}
 use Rattle.driver_passes.specs.declared.pairs.Pairing.{Pairing}
 use Rattle.driver_passes.specs.inner.NumberSets.{is_in}
-use Rattle.driver_passes.specs.inner.Progress.{EnableTested, IsUsefulDriver}
+use Rattle.driver_passes.specs.inner.Progress.{EnableTested}
 use Rattle.driver_passes.specs.Useful.{HoldUseful}
-use Rattle.driver_passes.specs.inner.Shown.{AreRows, AreShownByAll, IsColumn, drivers_at}
+use Rattle.driver_passes.specs.inner.Shown.{AreRows, AreShownByAll, IsColumn}
 
 -- The rows belong to the passes so far, which enable each tested driver and have useful controls only. The column belongs to the rows.
 -- `always` has the nets that all passes show, and `left` has room for each net.
@@ -25,7 +26,7 @@ pub record ArePairing (board : RawBoard) (pairing : Pairing) : Type 0 where
 abbrev pub AreLeft : RawBoard → List (List Ctl) → ℕ → List ℕ → Type 0
 AreLeft board passes a left = (n : ℕ) → a ≤ n → n < length board.nets → is_in left n ≡ not (are_shown passes (drivers_at board a) (drivers_at board n))
 
--- net `a` is the current net: `left` has those nets from net `a` on that no pass shows together with it
+-- net `a` is the current net: `left` has those nets from net `a` on that no pass shows together with net `a`
 pub record LooksAt (board : RawBoard) (pairing : Pairing) (a : ℕ) : Type 0 where
   pub are : ArePairing board pairing
   pub net : a < length board.nets
@@ -35,19 +36,19 @@ pub record LooksAt (board : RawBoard) (pairing : Pairing) (a : ℕ) : Type 0 whe
 abbrev pub is_wanted : RawBoard → List ℕ → ℕ → ℕ → Bool
 is_wanted board left a n = is_in left n && pairs_with board a n
 
--- no pass is needed for the two nets: one shows both, or no safe setting enables a tested driver of each
+-- no pass is needed for the two nets: some pass shows both, or no safe setting enables a tested driver of each
 abbrev pub IsDone : RawBoard → List (List Ctl) → ℕ → ℕ → Type 0
 IsDone board passes a b = (are_shown passes (drivers_at board a) (drivers_at board b) ≡ true) ⊎ (first_pair board (drivers_at board a) (drivers_at board b) ≡ None)
 
--- this is so for net `a` and each later net below `b`
+-- no pass is needed for net `a` and any later net below `b`
 abbrev pub IsDoneTo : RawBoard → List (List Ctl) → ℕ → ℕ → Type 0
 IsDoneTo board passes a b = (n : ℕ) → a < n → n < b → IsDone board passes a n
 
--- this is so for each net below `a` and all later nets
+-- no pass is needed for any net below `a` and any net after that net
 abbrev pub AreDone : RawBoard → List (List Ctl) → ℕ → Type 0
 AreDone board passes a = (m : ℕ) → m < a → IsDoneTo board passes m (length board.nets)
 
--- nets for which no pass was needed need none afterwards
+-- two nets that need no pass with the earlier passes need no pass with the later ones
 abbrev pub StaysDone : RawBoard → List (List Ctl) → List (List Ctl) → Type 0
 StaysDone board before after = (m n : ℕ) → IsDone board before m n → IsDone board after m n
 
@@ -55,10 +56,10 @@ StaysDone board before after = (m n : ℕ) → IsDone board before m n → IsDon
 abbrev pub IsUsefulPair : RawBoard → Drive × Drive → Type 0
 IsUsefulPair board pair = IsUsefulDriver board pair.0 × IsUsefulDriver board pair.1
 
--- the tested drivers of net `a` and those of each net from net `b` on, in net order
+-- for each net from net `b` on, in net order, the tested drivers of net `a` and of that net
 abbrev pub pairs_from : RawBoard → ℕ → ℕ → List (List Drive × List Drive)
 pairs_from board a b = map (λ others. (drivers_at board a, others)) (drop b (drivers_by_net board))
 
--- the passes, followed by one for the two nets if they are paired and no pass shows both
+-- the passes, followed by a pass for the two nets if the nets are paired and no pass shows both
 abbrev pub observing : RawBoard → List (List Ctl) → List Drive × List Drive → List (List Ctl)
 observing board = add_for_nets board (useful_controls board)

@@ -4,13 +4,13 @@ use Rattle.std.specs.List.{flat_map, list_any}
 use Rattle.board_defs.specs.declared.board.Ctl.{Ctl}
 use Rattle.board_defs.specs.declared.board.RawBoard.{RawBoard}
 use Rattle.board_defs.specs.declared.board.Drive.{Drive}
-use Rattle.board_defs.specs.declared.board.Drive.TheVariants.{By}
 use Rattle.board_defs.specs.Settings.{holds}
 use Rattle.board_defs.specs.Passes.{add_for_driver, drivers_by_net, is_enabled, useful_controls}
+use Rattle.net_classes.specs.Pairs.{drivers_at}
 use Rattle.driver_passes.specs.declared.drivers.Progress.{Progress}
 use Rattle.driver_passes.specs.inner.NumberSets.{is_in}
 use Rattle.driver_passes.specs.Useful.{HoldUseful}
-use Rattle.driver_passes.specs.inner.Shown.{AreRows, drivers_at}
+use Rattle.driver_passes.specs.inner.Shown.{AreRows}
 
 -- the control is in some pass
 abbrev pub is_held : List (List Ctl) → Ctl → Bool
@@ -27,18 +27,14 @@ pub record IsProgress (board : RawBoard) (progress : Progress) : Type 0 where
   pub useful : HoldUseful board progress.passes.items
   pub rows : AreRows board progress.passes.items progress.rows.items
 
--- the control of the driver, if it has one, is useful
-abbrev pub IsUsefulDriver : RawBoard → Drive → Type 0
-IsUsefulDriver board d = (c : Ctl) → d ≡ By c → holds (useful_controls board) c ≡ true
-
--- some pass enables each tested driver
+-- for each tested driver, some pass enables the driver
 abbrev pub EnableTested : RawBoard → List (List Ctl) → Type 0
 EnableTested board passes = (n : ℕ) (d : Drive) → n < length board.nets → Contains (drivers_at board n) d → list_any (λ pass. is_enabled pass d) passes ≡ true
 
--- the passes, followed by one for the driver unless one of them enables it
+-- the passes, followed by a pass for the driver unless some pass enables the driver
 abbrev pub enabling : RawBoard → List (List Ctl) → Drive → List (List Ctl)
 enabling board = add_for_driver board (useful_controls board)
 
--- the tested drivers of net `n` and of each later net, net by net
+-- the tested drivers of net `n` and of each later net, in net order
 abbrev pub drivers_from : RawBoard → ℕ → List Drive
 drivers_from board n = flat_map (λ drivers. drivers) (drop n (drivers_by_net board))

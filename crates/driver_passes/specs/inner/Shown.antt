@@ -1,23 +1,19 @@
 -- The nets that each pass shows.
-use Rattle.std.specs.Prelude.{◌≡◌, ◌<◌, ◌+◌, ◌/◌, ◌&&◌, ℕ, Bool, List, [], length, map, slice_index_or}
+use Rattle.std.specs.Prelude.{◌≡◌, ◌<◌, ◌+◌, ◌/◌, ◌&&◌, ℕ, Bool, List, length, map, slice_index_or}
 use Rattle.std.specs.List.{AllZip, list_all}
 use Rattle.board_defs.specs.declared.board.Ctl.{Ctl}
 use Rattle.board_defs.specs.declared.board.RawBoard.{RawBoard}
-use Rattle.board_defs.specs.declared.board.Drive.{Drive}
-use Rattle.board_defs.specs.Passes.{drivers_by_net, shows}
+use Rattle.board_defs.specs.Passes.{shows}
+use Rattle.net_classes.specs.Pairs.{drivers_at}
 use Rattle.driver_passes.specs.declared.column.Column.{Column}
 use Rattle.driver_passes.specs.inner.NumberSets.{is_in}
-
--- the tested drivers of net number `n`
-abbrev pub drivers_at : RawBoard → ℕ → List Drive
-drivers_at board n = slice_index_or (drivers_by_net board) n []
 
 -- the row is the set of the nets that the pass shows, with room for each net
 pub record AreShownBy (board : RawBoard) (pass : List Ctl) (row : List ℕ) : Type 0 where
   pub row_length : length row ≡ length board.nets / 64 + 1
   pub row_are : (n : ℕ) → n < length board.nets → is_in row n ≡ shows (drivers_at board n) pass
 
--- the rows are those of the passes, one for each pass
+-- each pass has its row
 abbrev pub AreRows : RawBoard → List (List Ctl) → List (List ℕ) → Type 0
 AreRows board passes rows = AllZip (AreShownBy board) passes rows
 
@@ -26,11 +22,11 @@ pub record AreShownByAll (board : RawBoard) (passes : List (List Ctl)) (always :
   pub always_length : length always ≡ length board.nets / 64 + 1
   pub always_are : (n : ℕ) → n < length board.nets → is_in always n ≡ list_all (shows (drivers_at board n)) passes
 
--- the word with this number of each row
+-- the word of each row that has this number
 abbrev pub words_at : ℕ → List (List ℕ) → List ℕ
 words_at number rows = map (λ row. slice_index_or row number 0) rows
 
--- the column has the words with its number
+-- the column has the word of each row that has the column's number
 abbrev pub IsColumn : List (List ℕ) → Column → Type 0
 IsColumn rows column = column.words.items ≡ words_at column.number rows
 

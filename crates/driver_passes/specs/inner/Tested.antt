@@ -6,20 +6,21 @@ use Rattle.board_defs.specs.declared.board.RawBoard.{RawBoard}
 use Rattle.board_defs.specs.declared.board.Drive.{Drive}
 use Rattle.board_defs.specs.Decided.{is_by}
 use Rattle.board_defs.specs.Passes.{useful_controls}
+use Rattle.net_classes.specs.Pairs.{drivers_at}
 use Rattle.driver_passes.specs.declared.tested.TestedNets.{TestedNets}
 use Rattle.driver_passes.specs.inner.Drafts.{has_number}
-use Rattle.driver_passes.specs.inner.Shown.{AreShownBy, drivers_at}
+use Rattle.driver_passes.specs.inner.Shown.{AreShownBy}
 
 -- the control controls one of the drivers
 abbrev pub drives : Ctl → List Drive → Bool
 drives c drivers = list_any (λ d. is_by c (Some d)) drivers
 
--- the net was added to the lists of those useful controls that pass, and nothing else changed
+-- the net was added to the lists of the useful controls that pass, and nothing else changed
 abbrev pub AreNoted : RawBoard → ℕ → (Ctl → Bool) → List (List ℕ) → List (List ℕ) → Type 0
 AreNoted board net passes before after =
     (place : ℕ) (c : Ctl) → slice_get (useful_controls board) place ≡ Some c → (n : ℕ) → has_number (slice_index_or after place []) n ≡ ((n == net && passes c) || has_number (slice_index_or before place []) n)
 
--- the list of each useful control has those nets below `most` that have a tested driver of this control
+-- the list of each useful control has the nets below `most` with a tested driver of this control
 pub record AreListed (board : RawBoard) (most : ℕ) (lists : List (List ℕ)) : Type 0 where
   pub lists_length : length lists ≡ length (useful_controls board)
   pub lists_are : (place : ℕ) (c : Ctl) → slice_get (useful_controls board) place ≡ Some c → (n : ℕ) → has_number (slice_index_or lists place []) n ≡ (ltb n most && drives c (drivers_at board n))

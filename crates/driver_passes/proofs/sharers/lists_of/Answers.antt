@@ -3,15 +3,12 @@ use Rattle.std.specs.Prelude.{slice_get}
 use Rattle.std.proofs.lemmas.List.{with_items_is}
 use Rattle.std.proofs.lemmas.Option.{slice_get-get_or}
 use Rattle.driver_passes.specs.inner.Sharers.{AreSharersBelow}
-use Rattle.board_defs.specs.Passes.{useful_controls}
-use Rattle.driver_passes.proofs.FitLemmas.{holds_at}
 use Rattle.driver_passes.proofs.SharerLemmas.{AreMarked, shared_within, sharers_more}
 use Rattle.driver_passes.proofs.sharers.lists_of.Goals as goal
 
 pub shared_nets-requires : goal.shared_nets-requires
 shared_nets-requires c =
-    let stands = ap (λ v. slice_get v c.loop-place.place) (sym c.useful-c-items.ensures) ∙ slice_get-get_or c.useful-c-items.result.now c.loop-place.place _ c.loop-place-test.true in
-    holds_at (useful_controls c.args.board.now) c.loop-place.place _ stands
+    c.useful-c-items.ensures.cells c.loop-place.place _ c.loop-place-test.true
 
 pub list_place-requires : goal.list_place-requires
 list_place-requires c = shared_within c.args.board.now _ _ _ c.shared_nets.ensures (ap length c.deref_mut.ensures.value ∙ c.loop-place.invariant.sharers_length)
@@ -27,5 +24,5 @@ loop-place-preserved c =
     let kept = with_items_is before c.list_place.new.sharers size in
     let P : List (List ℕ) → Type 0 = λ v. AreSharersBelow board (place + 1) v in
     let Q : List (List ℕ) → Type 0 = λ v. AreMarked place nets v after in
-    let stands = ap (λ v. slice_get v place) (sym c.useful-c-items.ensures) ∙ slice_get-get_or c.useful-c-items.result.now place _ c.loop-place-test.true in
+    let stands = ap (λ v. slice_get v place) (sym c.useful-c-items.ensures.controls) ∙ slice_get-get_or c.useful-c-items.result.now place _ c.loop-place-test.true in
     subst P (sym kept) (sharers_more board place _ nets before.items after c.loop-place.invariant stands c.shared_nets.ensures (c.list_place.auto.sharers ∙ ap length c.deref_mut.ensures.value) (subst Q c.deref_mut.ensures.value c.in_ok-list_place.ensures))

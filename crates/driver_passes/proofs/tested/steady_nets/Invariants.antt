@@ -1,7 +1,7 @@
 use Rattle.std.proofs.Common.{◌≡◌, ◌<◌, ◌≤◌, ◌+◌, ◌/◌, ℕ, [], false, length}
 use Rattle.board_defs.specs.Passes.{shows}
 use Rattle.driver_passes.specs.inner.NumberSets.{is_in}
-use Rattle.driver_passes.specs.inner.Shown.{drivers_at}
+use Rattle.net_classes.specs.Pairs.{drivers_at}
 use Rattle.driver_passes.proofs.tested.steady_nets.Given as goal
 
 abbrev pub invariant-loop-net : goal.invariant-loop-net

@@ -12,10 +12,10 @@ pub of-requires : goal.of-requires
 of-requires c =
     let held = c.self.inside.held in
     let P : List Ctl → Type 0 = λ v. IsInControlOrder v in
-    subst P (sym (c.in_ok-controls.ensures ∙ ap (chosen (is_in held) 0) c.useful.ensures)) (chosen_order (is_in held) 0 (useful_controls c.self.inside.board.now) c.laws.ensures.passes.said.useful_in_order)
+    subst P (sym (c.in_ok-controls.ensures ∙ ap (chosen (is_in held) 0) (c.useful-useful.ensures.controls ∙ ap useful_controls c.classes.ensures.same))) (chosen_order (is_in held) 0 (useful_controls c.self.inside.board.now) c.classes.ensures.laws.passes.said.useful_in_order)
 
 pub returns-clause-useful : goal.returns-clause-useful
 returns-clause-useful c = λ e h.
     let held = c.self.inside.held in
-    let made = c.of.ensures ∙ c.in_ok-controls.ensures ∙ ap (chosen (is_in held) 0) c.useful.ensures in
-    rw (sym c.self.view_is) (chosen_useful c.self.inside.board.now held e c.laws.ensures.passes (ap (λ v. holds v e) (sym made) ∙ h))
+    let made = c.of.ensures ∙ c.in_ok-controls.ensures ∙ ap (chosen (is_in held) 0) (c.useful-useful.ensures.controls ∙ ap useful_controls c.classes.ensures.same) in
+    rw (sym c.self.view_is) (chosen_useful c.self.inside.board.now held e c.classes.ensures.laws.passes (ap (λ v. holds v e) (sym made) ∙ h))

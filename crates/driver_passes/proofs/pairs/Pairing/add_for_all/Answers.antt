@@ -1,4 +1,4 @@
-use Rattle.std.proofs.Common.{◌∙◌, ◌<◌, length, arith}
+use Rattle.std.proofs.Common.{◌∙◌, ◌<◌, length, ap, arith}
 use Rattle.board_defs.specs.Passes.{useful_controls}
 use Rattle.driver_passes.proofs.PairLemmas.{net_done}
 use Rattle.driver_passes.proofs.pairs.Pairing.add_for_all.Goals as goal
@@ -6,7 +6,7 @@ use Rattle.driver_passes.proofs.pairs.Pairing.add_for_all.Goals as goal
 pub loop-a-preserved : goal.loop-a-preserved
 loop-a-preserved c =
     let board = c.args.board.now in
-    let less : c.loop-a.a < length board.nets = omega (arith, c.nets-a-end.ensures.count) in
+    let less : c.loop-a.a < length board.nets = omega (arith, c.net_count-a-end.ensures.value, ap (λ b. length b.nets) c.classes.ensures.same) in
     record {
       pairing = c.in_ok-add_for_later.ensures.pairing;
       done = c.in_ok-add_for_later.ensures.done;

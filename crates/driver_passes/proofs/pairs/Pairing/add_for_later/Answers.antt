@@ -44,5 +44,5 @@ pub returns-clause-done : goal.returns-clause-done
 returns-clause-done c =
     let board = c.args.board.now in
     let inv = c.loop-b.invariant in
-    let past : length board.nets ≤ c.loop-b.b = omega (arith, c.loop-b-test.false, c.nets-nets.ensures.count) in
+    let past : length board.nets ≤ c.loop-b.b = omega (arith, c.loop-b-test.false, c.net_count-nets.ensures.value, ap (λ b. length b.nets) c.classes.ensures.same) in
     done_next board c.loop-b.self.passes.items c.args.a (λ m less n later within. inv.kept m n (c.requires.done m less n later within)) (λ n later within. inv.done n later (omega (arith, within, past)))

@@ -8,7 +8,7 @@ use Rattle.driver_passes.proofs.pairs.Pairing.new.Goals as goal
 pub returns-clause-pairing : goal.returns-clause-pairing
 returns-clause-pairing c =
     let progress = c.args.progress in
-    let same = ap (λ (n : ℕ). n / 64 + 1) c.nets-nets.ensures.count in
+    let same = ap (λ (n : ℕ). n / 64 + 1) c.net_count-nets.ensures.value in
     record {
       rows = c.requires.progress.rows;
       column = c.in_ok-column.ensures ∙ ap (words_at c.in_ok-column.column.number) c.deref-2.ensures.value;

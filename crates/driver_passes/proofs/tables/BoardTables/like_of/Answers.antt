@@ -1,11 +1,11 @@
 use Rattle.std.proofs.Common.{◌≡◌, ◌<◌, ◌∙◌, ap, get_or, length, arith, sym}
 use Rattle.std.proofs.lemmas.List.{get_or_default}
-use Rattle.driver_passes.specs.inner.Shown.{drivers_at}
+use Rattle.net_classes.specs.Pairs.{drivers_at}
 use Rattle.driver_passes.proofs.tables.BoardTables.like_of.Goals as goal
 
 pub returns-in-Some : goal.returns-in-Some
 returns-in-Some c =
-    let board = c.self.inside.classed in
+    let board = c.self.inside.classes in
     let are = c.self.invariant.2 in
     let likes = c.deref.result.now in
     let net = c.args.net in

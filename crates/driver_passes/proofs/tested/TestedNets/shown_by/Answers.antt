@@ -3,7 +3,7 @@ use Rattle.std.proofs.lemmas.List.{get_or_default}
 use Rattle.board_defs.specs.Passes.{shows, useful_controls}
 use Rattle.driver_passes.specs.inner.Drafts.{setting_of}
 use Rattle.driver_passes.specs.inner.NumberSets.{is_in}
-use Rattle.driver_passes.specs.inner.Shown.{drivers_at}
+use Rattle.net_classes.specs.Pairs.{drivers_at}
 use Rattle.driver_passes.proofs.TestedLemmas.{left_from, left_skip, list_within, row_step, shows_split}
 use Rattle.driver_passes.proofs.tested.TestedNets.shown_by.Goals as goal
 

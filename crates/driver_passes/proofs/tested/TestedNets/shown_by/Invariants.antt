@@ -3,7 +3,7 @@ use Rattle.std.specs.List.{list_any}
 use Rattle.board_defs.specs.Passes.{shows, useful_controls}
 use Rattle.driver_passes.specs.inner.Drafts.{chosen, setting_of}
 use Rattle.driver_passes.specs.inner.NumberSets.{is_in}
-use Rattle.driver_passes.specs.inner.Shown.{drivers_at}
+use Rattle.net_classes.specs.Pairs.{drivers_at}
 use Rattle.driver_passes.specs.inner.Tested.{drives}
 use Rattle.driver_passes.proofs.tested.TestedNets.shown_by.Given as goal
 

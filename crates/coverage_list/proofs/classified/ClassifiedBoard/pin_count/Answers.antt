@@ -1,9 +1,0 @@
-use Rattle.std.proofs.Common.{subst, ◌≤◌, length, arith}
-use Rattle.board_defs.specs.BoardRules.{IsBoard}
-use Rattle.coverage_list.proofs.NetLemmas.{few_pins}
-use Rattle.coverage_list.proofs.classified.ClassifiedBoard.pin_count.Goals as goal
-
-pub overflow_cast-result : goal.overflow_cast-result
-overflow_cast-result c =
-    let few : length c.args.net.now.pins ≤ 65535 = few_pins c.args.self.now c.args.n c.args.net.now (subst IsBoard c.self.view_is c.raw-rules.ensures.rules) c.requires in
-    omega (arith, few, c.len.ensures)

@@ -1,0 +1,63 @@
+// What the coverage list asks of a board with its classes.
+ghost use Rattle.std.specs.Prelude.{◌≡◌, ◌<◌, [], length, Some, true, false, slice_get};
+ghost use Rattle.board_defs.specs.Pins.{IsOnBoard};
+ghost use Rattle.board_defs.specs.Decided.{is_covered};
+ghost use Rattle.net_classes.specs.inner.Kept.{OfNet};
+ghost use Rattle.coverage_list.specs.CoverText.{covered, is_untested};
+ghost use Rattle.coverage_list.specs.inner.CoverForms.{net_pairs};
+
+use crate::lines::PinUse;
+use board_defs::{Net, PinRef};
+use net_classes::BoardClasses;
+
+/// Returns net number `n`.
+pub fn net_at<'a>(board: &BoardClasses<'a>, n: u32) -> &'a Net
+    requires { n < length board.now.nets }
+    ensures { slice_get board.now.nets n ≡ Some result.now }
+{
+    &board.raw().nets.as_slice()[n as usize]
+}
+
+/// Returns the number of pins of net number `n`, which is `net`.
+pub fn pin_count(board: &BoardClasses<'_>, net: &Net, n: u32) -> u32
+    requires { slice_get board.now.nets n ≡ Some net.now }
+    ensures { result ≡ length net.now.pins }
+{
+    let _rules = board.raw();
+    net.pins.len() as u32
+}
+
+/// Returns the number of covered nets.
+pub fn covered_count(board: &BoardClasses<'_>) -> u32
+    ensures { result ≡ length (covered board.now) }
+{
+    let mut covered = 0;
+    for n in 0..board.net_count() as u32 {
+        if board.is_covered(n) {
+            covered += 1;
+        }
+    }
+    covered
+}
+
+/// Returns whether the pin is a driver, or a receiver, and is not tested as such.
+pub fn is_untested(board: &BoardClasses<'_>, pin_use: PinUse, pin: PinRef) -> bool
+    requires { IsOnBoard board.now pin }
+    ensures { OfNet board.now pin.net (λ net. result ≡ is_untested board.now pin_use net pin.place) }
+{
+    let class = board.pin(pin);
+    match pin_use {
+        PinUse::Driver => class.drives && !class.driver_tested,
+        PinUse::Receiver => class.receives && !class.receiver_tested,
+    }
+}
+
+/// Returns false if the net has no line about a pair, either because it is not covered or because one of its tested
+/// drivers shows that every covered net is paired with it. If the result is true, the net is covered.
+pub fn may_be_unpaired(board: &BoardClasses<'_>, n: u32) -> bool
+    requires { n < length board.now.nets }
+    ensures free { result ≡ false → OfNet board.now n (λ net. net_pairs board.now n net ≡ []) }
+    ensures covered { result ≡ true → OfNet board.now n (λ net. is_covered board.now net ≡ true) }
+{
+    board.is_covered(n) && !board.is_paired_with_all(n as usize)
+}

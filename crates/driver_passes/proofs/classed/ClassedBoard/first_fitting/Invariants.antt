@@ -1,7 +1,0 @@
-use Rattle.std.proofs.Common.{◌≡◌, drop}
-use Rattle.std.specs.Prelude.{find}
-use Rattle.net_classes.specs.Pairs.{fit}
-use Rattle.driver_passes.proofs.classed.ClassedBoard.first_fitting.Given as goal
-
-abbrev pub invariant-loop-e : goal.invariant-loop-e
-invariant-loop-e l = find (fit l.self l.d) (drop l.e-index l.drivers) ≡ find (fit l.self l.d) l.drivers

@@ -1,9 +1,0 @@
-use Rattle.std.proofs.Common.{sym}
-use Rattle.driver_passes.proofs.classed.ClassedBoard.laws.Goals as goal
-
-pub returns : goal.returns
-returns c = rw (sym c.self.view_is) (record {
-  rules = c.raw-rules.ensures.rules;
-  passes = c.passes_kept.ensures c.self.inside.classes c.raw-rules.ensures.rules;
-  terms = c.terms_decided.ensures c.self.inside.classes c.raw-rules.ensures.rules;
-})

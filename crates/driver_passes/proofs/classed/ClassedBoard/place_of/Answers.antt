@@ -1,6 +1,0 @@
-use Rattle.board_defs.proofs.ControlOrder.{same_order}
-use Rattle.board_defs.specs.Passes.{useful_controls}
-use Rattle.driver_passes.proofs.classed.ClassedBoard.place_of.Goals as goal
-
-pub place_in-requires : goal.place_in-requires
-place_in-requires c = same_order (useful_controls c.args.self.now) c.useful.result.now c.useful.ensures c.laws.ensures.passes.said.useful_in_order
