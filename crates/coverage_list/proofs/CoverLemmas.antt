@@ -1,4 +1,4 @@
--- The texts of the numbers of nets are those of the coverage list.
+-- The texts for the net numbers, in turn, are the coverage list.
 use Rattle.std.proofs.Common.{◌≡◌, ℕ, zero, suc, ◌+◌, ◌-◌, Bool, true, false, not, ◌&&◌, cond, List, [], ◌∷◌, ◌++◌, length, map, filter, drop, Some, refl, sym, ap, ◌∙◌, arith}
 use Rattle.std.specs.Prelude.{slice_get}
 use Rattle.std.specs.List.{flat_map, range_with_len}
@@ -28,12 +28,12 @@ texts_where {X} p f (x ∷ xs) = by (p x) (texts_where p f xs)
     by true rest = ap (λ t. f x ++ t) rest
     by false rest = rest
 
--- a text for each item and those after it
+-- a text for each item, which depends on the items after it
 tails : {X : Type 0} → (X → List X → List ℕ) → List X → List ℕ
 tails f [] = []
 tails f (x ∷ xs) = f x xs ++ tails f xs
 
--- the texts of numbers, where each is the text of its item
+-- the texts of numbers are the texts of items if each number has the text of its item
 numbers_are : {X : Type 0} (f : X → List X → List ℕ) (h : ℕ → List ℕ) (a : ℕ) (xs : List X) → ((i : ℕ) (x : X) → slice_get xs i ≡ Some x → h (a + i) ≡ f x (drop (suc i) xs)) → flat_map h (range_with_len a (length xs)) ≡ tails f xs
 unfolding tails
 numbers_are f h a [] each = refl
@@ -80,7 +80,7 @@ pins_are board pin_use =
     ∙ flat_map_same (net_pins board pin_use) (λ net. cond (is_covered board net) (net_pin_lines board pin_use net) []) (net_pins_are board pin_use) board.nets
     ∙ texts_where (is_covered board) (net_pin_lines board pin_use) board.nets
 
--- the pairs of an item and a later one, of those that pass, that do not fit
+-- the pairs of an item and a later item, both of which pass, that do not fit
 later_pairs : {X : Type 0} (p : X → Bool) (fit : X → X → Bool) (f : X → X → List ℕ) (x : X) (ys : List X)
     → flat_map (λ y. cond (p y && not (fit x y)) (f x y) []) ys ≡ flat_map (λ (pair : X × X). f pair.0 pair.1) (filter (λ (pair : X × X). not (fit pair.0 pair.1)) (map (λ y. (x, y)) (filter p ys)))
 later_pairs p fit f x [] = refl
@@ -109,7 +109,7 @@ later_pairs {X} p fit f x (y ∷ ys) = by_pass (p y) (later_pairs p fit f x ys)
     by_pass true same = by_fit (fit x y) same
     by_pass false same = same
 
--- the same of all pairs
+-- all pairs of items that pass and do not fit
 all_pairs : {X : Type 0} (p : X → Bool) (fit : X → X → Bool) (f : X → X → List ℕ) (xs : List X)
     → tails (λ x later. cond (p x) (flat_map (λ y. cond (p y && not (fit x y)) (f x y) []) later) []) xs ≡ flat_map (λ (pair : X × X). f pair.0 pair.1) (filter (λ (pair : X × X). not (fit pair.0 pair.1)) (pairs_within (filter p xs)))
 unfolding tails

@@ -90,7 +90,7 @@ board devices nets = record { chain = parts 0 devices; nets = nets }
 abbrev lines : List (List ℕ) → List ℕ
 lines ls = flat_map (λ l. l ++ 10 ∷ []) ls
 
--- a net whose drivers are of both controls is paired with either other net, and these are not paired
+-- a net with a driver of each of two controls is paired with both other nets, which are not paired with each other
 crossing : cover_text (board (two ∷ rcv ∷ rcv ∷ []) (net (codes "A") None (pin 0 0 ∷ pin 1 0 ∷ []) ∷ net (codes "X") None (pin 0 1 ∷ pin 0 2 ∷ pin 1 1 ∷ []) ∷ net (codes "B") None (pin 0 3 ∷ pin 2 0 ∷ []) ∷ []))
     ≡ lines (codes "NETS 3 COVERED 3" ∷ codes "PAIR A B" ∷ [])
 unfolding cover_text digits

@@ -1,4 +1,4 @@
--- The coverage list is made by true answers.
+-- The coverage list is the list from answers that are true.
 use Rattle.std.proofs.Common.{◌≡◌, ℕ, Bool, Some, refl}
 use Rattle.std.specs.Prelude.{slice_get}
 use Rattle.std.specs.Bool.{Decides}

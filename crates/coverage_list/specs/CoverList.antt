@@ -14,8 +14,8 @@ use Rattle.coverage_list.specs.declared.lines.PinUse.{PinUse}
 use Rattle.coverage_list.specs.declared.lines.PinUse.TheVariants.{Driver, Receiver}
 use Rattle.coverage_list.specs.CoverText.{reason_line, pin_line, pair_line}
 
--- the answers that the list needs: whether a net is covered, and if not, why; whether the pin at a place of a net is tested as a driver or
--- as a receiver; and whether two nets are paired
+-- The answers that the list needs. `covered` says whether a net is covered, and `reason` why it is not. `tested` says whether the pin at a
+-- place of a net is tested as a driver, or as a receiver. `paired` says whether two nets are paired.
 pub record Answers : Type 0 where
   pub covered : Net → Bool
   pub reason : Net → Option Reason
@@ -39,7 +39,7 @@ abbrev pub serves : RawBoard → PinUse → Net → ℕ → Bool
 serves board Driver net place = is_some (place_drive board net place)
 serves board Receiver net place = receives_of board (slice_get net.pins place)
 
--- the number of nets, and the number of covered nets
+-- the line with the number of nets and the number of covered nets
 abbrev pub counts : Answers → RawBoard → List ℕ
 counts answers board = line_of (codes "NETS " ∷ decimal (length board.nets) ∷ codes " COVERED " ∷ decimal (length (filter answers.covered board.nets)) ∷ [])
 
@@ -52,7 +52,7 @@ abbrev pub untested_in : Answers → RawBoard → PinUse → Net → List ℕ
 untested_in answers board pin_use net =
     flat_map (λ place. pin_line pin_use (slice_get net.pins place)) (filter (λ place. serves board pin_use net place && not (answers.tested pin_use net place)) (range_with_len 0 (length net.pins)))
 
--- those of the covered nets
+-- the untested drivers, or receivers, of all covered nets
 abbrev pub untested_pins : Answers → RawBoard → PinUse → List ℕ
 untested_pins answers board pin_use = flat_map (untested_in answers board pin_use) (filter answers.covered board.nets)
 

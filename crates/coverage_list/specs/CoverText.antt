@@ -13,7 +13,7 @@ use Rattle.board_defs.specs.Passes.{pairs_within}
 use Rattle.coverage_list.specs.declared.lines.PinUse.{PinUse}
 use Rattle.coverage_list.specs.declared.lines.PinUse.TheVariants.{Driver, Receiver}
 
--- words
+-- the word for each reason, and for each role of a pin
 abbrev pub reason_word : Reason → List ℕ
 reason_word Supply = codes "SUPPLY"
 reason_word TestPort = codes "TESTPORT"
@@ -30,11 +30,11 @@ use_word Receiver = codes "RECEIVER "
 abbrev pub covered : RawBoard → List Net
 covered board = filter (is_covered board) board.nets
 
--- the number of nets, and the number of covered nets
+-- the line with the number of nets and the number of covered nets
 abbrev pub count_line : RawBoard → List ℕ
 count_line board = line_of (codes "NETS " ∷ decimal (length board.nets) ∷ codes " COVERED " ∷ decimal (length (covered board)) ∷ [])
 
--- a net that is not covered, with its reason
+-- the line of a net that is not covered, or no text if there is no reason
 abbrev pub reason_line : List ℕ → Option Reason → List ℕ
 reason_line name None = []
 reason_line name (Some reason) = line_of (codes "NET " ∷ name ∷ codes " " ∷ reason_word reason ∷ [])
@@ -47,20 +47,20 @@ abbrev pub is_untested : RawBoard → PinUse → Net → ℕ → Bool
 is_untested board Driver net place = is_some (place_drive board net place) && not (is_tested_driver board net place)
 is_untested board Receiver net place = receives_of board (slice_get net.pins place) && not (is_tested_receiver board net place)
 
--- the places of such pins, in pin order
+-- the places of the untested drivers, or receivers, of a net, in pin order
 abbrev pub untested : RawBoard → PinUse → Net → List ℕ
 untested board pin_use net = filter (is_untested board pin_use net) (range_with_len 0 (length net.pins))
 
--- the pin at a place, if there is one
+-- the line of an untested pin, or no text if there is no pin
 abbrev pub pin_line : PinUse → Option NetPin → List ℕ
 pin_line pin_use None = []
 pin_line pin_use (Some pin) = line_of (use_word pin_use ∷ pin.part ∷ codes "." ∷ pin.pin ∷ [])
 
--- the untested pins of a net
+-- the lines of the untested pins of a net
 abbrev pub net_pin_lines : RawBoard → PinUse → Net → List ℕ
 net_pin_lines board pin_use net = flat_map (λ place. pin_line pin_use (slice_get net.pins place)) (untested board pin_use net)
 
--- those of the covered nets
+-- the lines of the untested pins of all covered nets
 abbrev pub pin_lines : RawBoard → PinUse → List ℕ
 pin_lines board pin_use = flat_map (net_pin_lines board pin_use) (covered board)
 

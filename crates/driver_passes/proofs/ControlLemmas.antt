@@ -30,7 +30,7 @@ order_with c controls after order i zero d less within = absurd (omega arith)
 order_with c controls after order zero (suc j) d less within = after j d (omega arith)
 order_with c controls after order (suc i) (suc j) d less within = order i j d (omega arith) (omega arith)
 
--- a control before all of a setting goes to its front
+-- a control that precedes all controls of a setting is inserted at the front
 pub insert_before : (c : Ctl) (setting : List Ctl) → ComeAfter c setting → inserted c setting ≡ c ∷ setting
 insert_before c [] after = refl
 insert_before c (d ∷ setting) after =
@@ -42,7 +42,7 @@ pub insert_front : (c : Ctl) (setting : List Ctl) → inserted c (c ∷ setting)
 insert_front c setting =
     ap (λ t. cond t (c ∷ inserted c setting) (cond (same_ctl c c) (c ∷ setting) (c ∷ c ∷ setting))) (itself_is c) ∙ ap (λ t. cond t (c ∷ setting) (c ∷ c ∷ setting)) (same_refl c)
 
--- a control that comes after the first goes behind it
+-- a control that comes after the first control is inserted behind the first
 pub insert_behind : (c d : Ctl) (setting : List Ctl) → precedes d c ≡ true → inserted c (d ∷ setting) ≡ d ∷ inserted c setting
 insert_behind c d setting h = ap (λ t. cond t (d ∷ inserted c setting) (cond (same_ctl c d) (d ∷ setting) (c ∷ d ∷ setting))) h
 
@@ -53,7 +53,7 @@ none_holds c (d ∷ setting) after =
     let r : (precedes d c ≡ false) × (same_ctl c d ≡ false) × (same_ctl d c ≡ false) = after_is c d (after 0 d (omega arith)) in
     ap (λ t. t || holds setting c) r.1 ∙ none_holds c setting (λ k e less. after (suc k) e (omega arith))
 
--- a test of each control of a setting with one more control
+-- all controls of a setting with one more control pass a test if and only if that control and the setting's controls do
 pub all_inserted : (p : Ctl → Bool) (c : Ctl) (setting : List Ctl) → list_all p (inserted c setting) ≡ (p c && list_all p setting)
 all_inserted p c [] = refl
 all_inserted p c (d ∷ setting) = by_order (all_inserted p c setting) (precedes d c) (same_ctl c d) refl
@@ -74,7 +74,7 @@ all_inserted p c (d ∷ setting) = by_order (all_inserted p c setting) (precedes
     by_order rest false true e = twice (p c) (p d) (list_all p setting) (ap p (same_equal c d e))
     by_order rest false false e = refl
 
--- what is true of all controls is true of each that is among them
+-- what is true of all controls in a list is true of a control that the list holds
 pub holds_of : (P : Ctl → Type 0) (controls : List Ctl) (c : Ctl) → All P controls → holds controls c ≡ true → P c
 holds_of P [] c all h = cc h
 holds_of P (d ∷ controls) c all h = by_part (holds_of P controls c (λ k e less. all (suc k) e (omega (arith, less)))) (or_cases (same_ctl c d) (holds controls c) h)

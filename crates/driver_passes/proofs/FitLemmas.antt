@@ -18,7 +18,7 @@ use Rattle.driver_passes.specs.inner.Drafts.{has_number, setting_of, IsDraft}
 use Rattle.driver_passes.specs.inner.NumberSets.{is_in}
 use Rattle.driver_passes.proofs.ChosenLemmas.{chosen_set}
 
--- numbers in two lists
+-- a number that two lists have in common
 has_contains : (xs : List ℕ) (n : ℕ) → has_number xs n ≡ true → Contains xs n
 has_contains [] n h = cc h
 has_contains (x ∷ xs) n h = by_part (has_contains xs n) (or_cases (x == n) (has_number xs n) h)
@@ -68,7 +68,7 @@ common_swap xs ys = one_answer (list_any (has_number ys) xs) (list_any (has_numb
     back : HaveCommon xs ys → list_any (has_number xs) ys ≡ true
     back (n, one, two) = (common_decided ys xs).1 (n, two, one)
 
--- two different controls that are safe alone
+-- two different controls that are safe alone are together if and only if they share no net
 pub together_is : (board : RawBoard) (c d : Ctl) → NetsAreShared → is_safe_alone board c ≡ true → is_safe_alone board d ≡ true → same_ctl c d ≡ false → are_together board c d ≡ not (list_any (has_number (shared_nets board d)) (shared_nets board c))
 together_is board c d shared safe also other =
     ap (λ v. v && is_safe_alone board d && (same_ctl c d || not (share_net board c d))) safe ∙ ap (λ v. v && (same_ctl c d || not (share_net board c d))) also ∙ ap (λ v. v || not (share_net board c d)) other ∙ ap not (share_is board c d shared other)
@@ -82,7 +82,7 @@ holds_at (d ∷ controls) (suc i) c e = or_right (same_ctl c d) (holds controls 
 pub useful_safe : (board : RawBoard) (c : Ctl) → PassesAre board → DecidesTerms board → holds (useful_controls board) c ≡ true → is_safe_alone board c ≡ true
 useful_safe board c are decides h = let is : IsUseful board c = (are.said.useful c).0 h in (decides.safe c).1 is.0
 
--- a control that is in the draft changes nothing
+-- to add a control that is in the draft changes nothing
 pub held_nothing : (board : RawBoard) (held : List ℕ) (place : ℕ) (c : Ctl) (t : Bool) → PassesAre board → slice_get (useful_controls board) place ≡ Some c → is_in held place ≡ true → setting_of board held ≡ cond t (inserted c (setting_of board held)) (setting_of board held)
 held_nothing board held place c true are stands h = chosen_set (is_in held) (is_in held) 0 place place (useful_controls board) c are.said.useful_in_order (omega arith) (λ n. same n (cases_eq n place)) stands
   where
@@ -91,7 +91,7 @@ held_nothing board held place c true are stands h = chosen_set (is_in held) (is_
     same n (inr differ) = sym (ap (λ t. t || is_in held n) (ne_eqb n place differ))
 held_nothing board held place c false are stands h = refl
 
--- a control that cannot be added changes nothing: it is in the draft, or it does not fit
+-- a control that cannot be added changes nothing, since the control is in the draft or does not fit
 pub closed_nothing : (board : RawBoard) (held free : List ℕ) (place : ℕ) (c : Ctl) (t : Bool) → PassesAre board → IsDraft board held free → slice_get (useful_controls board) place ≡ Some c → is_in free place ≡ false → (fits board (setting_of board held) c ≡ false → t ≡ false) →
     setting_of board held ≡ cond t (inserted c (setting_of board held)) (setting_of board held)
 closed_nothing board held free place c t are is stands closed only = by_test (is_in held place) refl

@@ -26,6 +26,6 @@ useful_more board passes after last hold useful e x pass c h k = by_part (last_o
     by_part (inl here) = hold x pass c here k
     by_part (inr same) = useful c (ap (λ (v : List Ctl). holds v c) same ∙ k)
 
--- the controls at some places among the useful ones are useful
+-- the controls that are chosen from the useful controls are useful
 pub chosen_useful : (board : RawBoard) (held : List ℕ) (c : Ctl) → PassesAre board → holds (setting_of board held) c ≡ true → IsUseful board c
 chosen_useful board held c are h = (are.said.useful c).0 (chosen_among (is_in held) 0 (useful_controls board) c h)

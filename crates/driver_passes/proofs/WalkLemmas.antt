@@ -19,7 +19,7 @@ use Rattle.driver_passes.proofs.FitLemmas.{closed_nothing, free_fits}
 abbrev pub stepped : (List Ctl → Ctl → Bool) → List Ctl → Ctl → List Ctl
 stepped accepts s c = cond (accepts s c) (inserted c s) s
 
--- the steps over the controls at these places leave the setting as it is
+-- the steps over the controls at these places leave the setting unchanged
 abbrev pub ArePassed : (List Ctl → Ctl → Bool) → List Ctl → List Ctl → ℕ → ℕ → Type 0
 ArePassed accepts controls s from next = (n : ℕ) (c : Ctl) → from ≤ n → n < next → slice_get controls n ≡ Some c → s ≡ stepped accepts s c
 
@@ -56,7 +56,7 @@ pub second_passes : (board : RawBoard) (held free : List ℕ) (from next : ℕ) 
 second_passes board held free from next are is least closed =
     walk_passes (fits board) (useful_controls board) (setting_of board held) from next least (λ n c low less at. closed_nothing board held free n c (fits board (setting_of board held) c) are is at (closed n low less) (λ f. f))
 
--- the first walk also skips those that are in earlier passes
+-- the first walk skips controls that cannot be added or are in earlier passes
 pub first_passes : (board : RawBoard) (held free : List ℕ) (passes : List (List Ctl)) (earlier : List ℕ) (from next : ℕ) → PassesAre board → IsDraft board held free → AreHeld board passes earlier → from ≤ next →
     ((n : ℕ) → from ≤ n → n < next → (is_in free n && not (is_in earlier n)) ≡ false) → first_walk board (drop from (useful_controls board)) passes (setting_of board held) ≡ first_walk board (drop next (useful_controls board)) passes (setting_of board held)
 first_passes board held free passes earlier from next are is known least closed = walk_passes accepts (useful_controls board) s from next least (λ n c low less at. by_test n c at (closed n low less) (is_in free n) refl)
@@ -79,9 +79,9 @@ new_fits board held free passes earlier place c is known at h =
     let both : (is_in free place ≡ true) × (not (is_in earlier place) ≡ true) = and_parts (is_in free place) (not (is_in earlier place)) h in
     and_from (is_new passes c) (fits board (setting_of board held) c) (ap not (sym (known.held_are place c at)) ∙ both.1) (free_fits board held free place c is at both.0)
 
--- the same for drafts, which have board and setting together
+-- the steps of the walks for drafts, which have board and setting together
 
--- no control between the two places is added, and the one at the second place is
+-- no control between the two places is added, and the control at the second place is added
 pub second_adds : (board : RawBoard) (held free : List ℕ) (after : Drafted) (from place : ℕ) (c : Ctl) → PassesAre board → IsDraft board held free → from ≤ place → ((n : ℕ) → from ≤ n → n < place → is_in free n ≡ false) →
     slice_get (useful_controls board) place ≡ Some c → is_in free place ≡ true → after ≡ with_control (drafted board (setting_of board held)) c → second_walked after (place + 1) ≡ second_walked (drafted board (setting_of board held)) from
 second_adds board held free after from place c are is least closed at can e =

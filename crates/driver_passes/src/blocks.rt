@@ -6,15 +6,14 @@ ghost use Rattle.driver_passes.specs.inner.Drafts.{has_number};
 use lists::Items;
 use std::alloc::{AllocError, Global};
 
-/// Places of a set that share a word: place `n` has bit `n % 64` of word `n / 64`.
+/// The places of a set that share a word. Place `n` has bit `n % 64` of word `n / 64`.
 #[derive(Clone, Copy, Drop)]
 pub struct Block {
     pub word: usize,
     pub bits: u64,
 }
 
-/// A set of places. A whole block can be removed from another set in one step, which is fast when many controls
-/// share a net.
+/// A set of places. One step removes a whole block from another set, which is fast when many controls share a net.
 pub type Blocks = Items<Block>;
 
 /// Returns the block with this place alone.
@@ -27,7 +26,7 @@ fn block_of(place: usize) -> Block
     }
 }
 
-/// Returns the block with the place added, which must belong to the same word.
+/// Returns the block with one more place, which must belong to the same word.
 fn with_place(block: Block, place: usize) -> Block
     requires { place / 64 ≡ block.word }
     ensures { (q : ℕ) → block_has result q ≡ (block_has block q || place == q) }
@@ -49,8 +48,8 @@ fn push_some(blocks: &mut Blocks, block: Block) -> Result<(), AllocError>
     Ok(())
 }
 
-/// Adds the place to the set of `blocks` and `last`, its last block, which is kept apart. Returns the new last
-/// block, which is another one if the place belongs to another word.
+/// Adds a place to the set of `blocks` and `last`, where `last` is the last block and not yet in `blocks`. Returns the
+/// new last block. If the place belongs to another word, `last` goes into `blocks` first.
 fn next_block(blocks: &mut Blocks, last: Block, place: usize) -> Result<Block, AllocError>
     ensures { IfOk result (λ block. (q : ℕ) → (has_place blocks.new q || block_has block q)
         ≡ ((has_place blocks.old q || block_has last q) || place == q)) }
@@ -62,7 +61,7 @@ fn next_block(blocks: &mut Blocks, last: Block, place: usize) -> Result<Block, A
     Ok(block_of(place))
 }
 
-/// Returns the set of these places. If they are in order, it has one block for each word.
+/// Returns the set of these places. If the places are in order, the set has one block for each word.
 pub fn blocks_of(alloc: Global, places: &[usize]) -> Result<Blocks, AllocError>
     ensures { IfOk result (λ blocks. (q : ℕ) → has_place blocks q ≡ has_number places.now q) }
 {

@@ -6,7 +6,7 @@ use crate::number_set::NumberSet;
 use std::alloc::{AllocError, Global};
 
 /// The word with number `number` of each pass's row. These words are next to each other in memory, so looking up a
-/// net in all of them is fast. The rows themselves are far apart.
+/// net in all of these words is fast. The rows themselves are far apart.
 #[derive(Drop)]
 pub struct Column {
     pub number: usize,
@@ -33,7 +33,7 @@ impl Column {
         Ok(Column { number: 0, words })
     }
 
-    /// Reads the words with this number, unless the column already has them.
+    /// Reads the words with this number, unless the column has these words already.
     pub fn look_at(
         &mut self,
         alloc: Global,

@@ -207,8 +207,8 @@ impl NumberSet {
         clear_others(&mut self.words, &others.words);
     }
 
-    /// Returns the first number of the set from `from` on if it is below `end`, and otherwise a number that is not
-    /// below `end`.
+    /// Returns the first number of the set from `from` on. If that number is not below `end`, or if there is none, the
+    /// result is some number that is not below `end`.
     pub fn first_from(&self, from: usize, end: usize) -> usize
         ensures passed { (n : ℕ) → from ≤ n → n < result → is_in self.now n ≡ false }
         ensures found { result < end → is_in self.now result ≡ true }
@@ -250,7 +250,7 @@ impl NumberSet {
     }
 }
 
-/// Returns the first number after the word of `number`, or `end` if that comes first.
+/// Returns the first number after the word of `number`, or `end` if `end` comes first.
 fn past_word(number: usize, end: usize) -> usize
     requires { number < end }
     ensures further { number < result }
@@ -260,7 +260,7 @@ fn past_word(number: usize, end: usize) -> usize
     if last < end { last + 1 } else { end }
 }
 
-/// Returns the place of the lowest bit that is set in the word, from `place` on.
+/// Returns the place of the lowest bit from `place` on that is set in the word.
 fn lowest_from(word: u64, place: usize) -> Option<usize>
     requires { place < 64 }
     ensures { MatchOption result
@@ -275,7 +275,8 @@ fn lowest_from(word: u64, place: usize) -> Option<usize>
     }
 }
 
-/// Returns the first number from `from` on whose bit is set in `word`, which is the word of `from`.
+/// Returns the first number from `from` on whose bit is set in `word`, or None if there is none. `word` must be the
+/// word of `from`.
 pub fn next_in(word: u64, from: usize) -> Option<usize>
     ensures { (passes : ℕ → Bool) → AreBitsOf passes (from / 64) word → MatchOption result
         ((n : ℕ) → from ≤ n → n < 64 * (from / 64 + 1) → passes n ≡ false)

@@ -1,4 +1,5 @@
-// What the rows of the passes say about pairs of nets. A row is the set of the nets that its pass shows.
+// The nets that every pass shows, and the nets that some pass shows together with a given net. The row of a pass is
+// the set of the nets that the pass shows.
 ghost use Rattle.std.specs.Prelude.{◌≡◌, ◌<◌, ◌≤◌, ◌/◌, ◌&&◌, ℕ, not, length, slice_index_or};
 ghost use Rattle.std.specs.List.{list_all, list_any};
 ghost use Rattle.driver_passes.specs.inner.NumberSets.{is_in};

@@ -1,4 +1,4 @@
--- Two controls that share a net, by the nets that each shares with any other.
+-- Two controls that share a net, by the lists of the nets that each control shares with other controls.
 use Rattle.std.proofs.Common.{◌≡◌, ℕ, ◌<◌, slice_index, Bool, true, false, ◌&&◌, List, length, Option, Some, None, refl, sym, ◌∙◌, ap, subst, arith}
 use Rattle.std.specs.Prelude.{slice_get}
 use Rattle.std.specs.List.{list_any, range_with_len}

@@ -1,4 +1,4 @@
--- The controls on some nets that have no driver on one of these nets, and the nets that all of them close.
+-- The controls with a driver on some nets, in two sets: those with a driver on one chosen net, and the others.
 use Rattle.std.proofs.Common.{◌≡◌, ◌⊎◌, inl, inr, ℕ, ◌+◌, ◌<◌, Bool, true, false, not, ◌&&◌, ◌||◌, List, [], ◌∷◌, ◌++◌, Contains, length, get_or, nat_lt, take, Option, Some, None, refl, sym, ◌∙◌, ap, subst, arith}
 use Rattle.std.specs.Prelude.{slice_get}
 use Rattle.std.specs.List.{flat_map, list_all, list_any}
@@ -49,7 +49,7 @@ inside board passes others set c e is = same_set board passes (λ d. passes d ||
     same : (d : Ctl) → passes d ≡ (passes d || (same_ctl c d && not (has_control set d)))
     same d = nothing (passes d) (same_ctl c d) ∙ ap (λ t. passes d || t) (same_outside set c d true e)
 
--- a control that is not in it
+-- a control that is not in the other set
 pub outside : (board : RawBoard) (passes : Ctl → Bool) (after set : ControlSet) (c : Ctl) → has_control set c ≡ false → IsSet board (λ d. passes d || same_ctl c d) after → IsSet board (λ d. passes d || (same_ctl c d && not (has_control set d))) after
 outside board passes after set c e is = same_set board (λ d. passes d || same_ctl c d) (λ d. passes d || (same_ctl c d && not (has_control set d))) after same is
   where

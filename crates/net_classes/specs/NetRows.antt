@@ -3,7 +3,7 @@ use Rattle.std.specs.Prelude.{ℕ, ◌==◌, Bool, List, slice_index}
 use Rattle.std.specs.List.{list_any}
 use Rattle.net_classes.specs.Pairs.{AreBitsOf}
 
--- the bits of the row say, for each number, whether it passes
+-- the bits of the row say which numbers pass
 abbrev pub AreRowBits : (ℕ → Bool) → List ℕ → Type 0
 AreRowBits passes row = (w : ℕ) → AreBitsOf passes w (slice_index row w)
 

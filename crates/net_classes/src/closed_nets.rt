@@ -1,5 +1,5 @@
-// Closed nets. Some nets close a net if it is covered and each of its tested drivers has a control with a driver on
-// one of them.
+// Closed nets. A list of nets closes net `n` if net `n` is covered and each tested driver of net `n` has a control with
+// a driver on a net in the list.
 ghost use Rattle.std.specs.Prelude.{◌≡◌, ◌<◌, ◌&&◌, ◌||◌, ◌++◌, ◌∷◌, [], Bool, Contains, filter, length, not, IfOk, OnOk};
 ghost use Rattle.std.specs.List.{flat_map, list_all, list_any};
 ghost use Rattle.board_defs.specs.declared.board.Ctl.{Ctl};
@@ -218,7 +218,7 @@ fn all_closed(alloc: Global, set: &ControlSet, known: &Known<'_>) -> Result<NetN
     Ok(nets)
 }
 
-/// Returns the covered nets whose tested drivers all have a control with a driver on one of the nets.
+/// Returns the nets that `nets` close, and makes `set` the set of the controls with a driver on one of `nets`.
 fn closed_nets(
     alloc: Global,
     set: &mut ControlSet,
@@ -234,8 +234,8 @@ fn closed_nets(
     Ok(closed)
 }
 
-/// The nets that some nets close, kept until other nets are asked for. Many controls share the same nets, or a
-/// bus.
+/// The nets that the nets in `by` close. They are kept for the next call, since many controls share the same nets, or
+/// share a bus.
 #[derive(Drop)]
 pub struct ClosedNets {
     pub(crate) by: NetNumbers,
@@ -246,7 +246,7 @@ pub struct ClosedNets {
 }
 
 impl ClosedNets {
-    /// Returns the nets that are closed by no net: none.
+    /// Returns the nets that an empty list closes, of which there are none.
     pub fn nothing(alloc: Global, known: &Known<'_>) -> Result<ClosedNets, AllocError>
         ensures { IfOk result (λ closed. AreClosedNets known.now.board closed) }
     {
@@ -258,8 +258,8 @@ impl ClosedNets {
         })
     }
 
-    /// Returns the nets that are closed by these nets. If one of them is a bus with most of the controls, the nets
-    /// that the bus closes are kept for the next call.
+    /// Returns the nets that these nets close. If one of these nets is a bus with most of the controls, the nets that
+    /// the bus closes are kept for the next call.
     pub fn closed_by(
         &mut self,
         alloc: Global,
@@ -300,7 +300,7 @@ impl ClosedNets {
         copy_of(alloc, self.nets.as_slice())
     }
 
-    /// Makes the kept nets those that are closed by these nets.
+    /// Finds and keeps the nets that these nets close, unless they are kept already.
     fn turn_to(&mut self, alloc: Global, known: &Known<'_>, nets: &[u32]) -> Result<(), AllocError>
         requires closed { AreClosedNets known.now.board self.old }
         ensures closed { OnOk result (AreClosedNets known.now.board self.new) }

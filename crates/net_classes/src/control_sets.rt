@@ -11,7 +11,7 @@ use board_defs::Ctl;
 use net_facts::{filled_table, item_at, put_at};
 use std::alloc::{AllocError, Global};
 
-/// Controls, as a mark for each of their cells and as a list.
+/// A set of controls, as a mark for each cell and as a list of the controls.
 #[derive(Drop)]
 pub struct ControlSet {
     pub(crate) marks: Vec<Vec<bool>>,

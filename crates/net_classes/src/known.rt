@@ -38,7 +38,7 @@ impl<'a> Model for Known<'a> {
         × (a.firsts.items ≡ map (λ net. slice_get net.drivers 0) a.facts.now.nets.items) };
 }
 
-/// Returns whether the driver is controlled by the control.
+/// Returns whether the control `c` enables the driver.
 pub fn is_by(c: Ctl, drive: Option<Drive>) -> bool
     ensures { result ≡ is_by c drive }
 {
@@ -71,7 +71,7 @@ pub fn drivers_in(nets: &[NetClass], net: usize) -> &[Drive]
 }
 
 impl<'a> Known<'a> {
-    /// Returns the board with these facts, which must be its own.
+    /// Returns the board with these facts, which must be the board's own.
     pub fn of(
         alloc: Global,
         board: &'a Board,
@@ -146,7 +146,7 @@ impl<'a> Known<'a> {
         }
     }
 
-    /// Returns the nets that the control shares with another one.
+    /// Returns the nets that the control shares with another control.
     pub fn shared(&self, c: Ctl) -> &[u32]
         requires { IsCell self.now.board c }
         ensures { result.now ≡ shared_nets self.now.board c }
@@ -154,7 +154,7 @@ impl<'a> Known<'a> {
         self.facts.shared[c.part as usize][c.cell as usize].as_slice()
     }
 
-    /// Returns whether the control is that of the net's first tested driver.
+    /// Returns whether the control enables the net's first tested driver.
     pub fn is_first(&self, c: Ctl, net: u32) -> bool
         ensures { result ≡ is_by c (slice_get (drivers_at self.now.board net) 0) }
     {

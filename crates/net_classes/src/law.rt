@@ -2,7 +2,7 @@
 ghost use Rattle.net_classes.specs.Laws.{NetsAreShared, PairsHaveDrivers};
 
 /// Two controls control drivers of one net if and only if the lists of their driven nets have a number in common.
-/// For two different controls this is so if and only if the lists of the nets that each shares have one.
+/// If the controls differ, they do so if and only if the lists of their shared nets have a number in common.
 pub fn nets_are_shared()
     ensures { NetsAreShared }
 {}

@@ -1,4 +1,4 @@
-// Rows of bits that say which nets are paired with a net, 64 at a time.
+// Rows of bits over the nets, 64 to a word. The rows of a net's tested drivers say which nets are paired with the net.
 ghost use Rattle.std.specs.Prelude.{◌≡◌, ◌<◌, ◌+◌, ◌/◌, ◌++◌, ℕ, Bool, true, false, not, ◌&&◌, filter, length, slice_index, is_some, All, IfOk, OnOk};
 ghost use Rattle.std.specs.Option.{option_to_list};
 ghost use Rattle.board_defs.specs.declared.board.Drive.TheVariants.{AlwaysOn};
@@ -49,7 +49,8 @@ impl PairRows {
         }
     }
 
-    /// Returns, among 64 nets, those with a tested driver that some safe setting enables together with driver `d`.
+    /// Returns one word of the row of driver `d`. The row has the nets with a tested driver that some safe setting
+    /// enables together with `d`.
     pub(crate) fn word(&self, d: Drive, word: usize) -> u64
         ensures { result ≡ drive_word self.now d word }
     {
@@ -94,7 +95,7 @@ fn failing_nets(
     Ok(failing)
 }
 
-/// Returns the row without these nets.
+/// Returns a copy of the row without these nets.
 fn row_without(row: &NetRow, nets: &[u32]) -> Result<NetRow, AllocError>
     requires { All (λ n. n / 64 < length row.now) nets.now }
     ensures { IfOk result (λ less. (passes : ℕ → Bool) → AreRowBits passes row.now → AreRowBits (λ n. passes n && not (stands_in nets.now n)) less) }
@@ -118,8 +119,8 @@ fn covered_row(alloc: Global, known: &Known<'_>) -> Result<NetRow, AllocError>
     Ok(row)
 }
 
-/// Returns the row of a useful control, or None if it is the row of the covered nets. `closed` has the nets that
-/// are closed by those that the control shares.
+/// Returns the row of a useful control, or None if that row is the row of the covered nets. `closed` has the nets that
+/// the control's shared nets close.
 fn row_for(
     alloc: Global,
     known: &Known<'_>,
@@ -193,7 +194,7 @@ fn add_control(
     put_row(pairs, known, c, row)
 }
 
-/// Returns the number of the first row, for each cell of the board.
+/// Returns a table that has the number of the first row for each cell of the board.
 fn first_numbers(alloc: Global, known: &Known<'_>) -> Result<Vec<Vec<usize>>, AllocError>
     ensures { IfOk result (λ numbers. (c : Ctl) → IsCell known.now.board c →
         is_some (item_of (table numbers.items) c) ≡ true) }
@@ -211,7 +212,8 @@ fn covered_rows(alloc: Global, known: &Known<'_>) -> Result<PairRows, AllocError
     Ok(PairRows { rows, numbers })
 }
 
-/// Returns the rows of a board, one for each useful control whose row differs from the first.
+/// Returns the rows of a board: first the row of the covered nets, and then the row of each useful control for which
+/// some covered nets are missing.
 pub fn pair_rows(alloc: Global, known: &Known<'_>) -> Result<PairRows, AllocError>
     ensures { IfOk result (λ pairs. ArePairRows known.now.board pairs) }
 {

@@ -1,4 +1,4 @@
--- The coverage list as it is put, by the numbers of the nets.
+-- The coverage list as the code puts it: a text for each net number.
 use Rattle.std.specs.Prelude.{ℕ, ◌+◌, ◌-◌, Bool, not, ◌&&◌, List, [], length, Option, None, Some, slice_get, cond}
 use Rattle.std.specs.List.{flat_map, range_with_len}
 use Rattle.board_defs.specs.declared.board.Net.{Net}
@@ -9,23 +9,23 @@ use Rattle.coverage_list.specs.declared.lines.Section.{Section}
 use Rattle.coverage_list.specs.declared.lines.Section.TheVariants.{Reasons, Untested, Pairs}
 use Rattle.coverage_list.specs.CoverText.{is_untested, reason_line, reason_lines, pin_line, pin_lines, pair_line, pair_lines}
 
--- the texts of the numbers from n on, up to the count
+-- the texts of the numbers from `n` on that are below `count`
 abbrev pub texts_from : (ℕ → List ℕ) → ℕ → ℕ → List ℕ
 texts_from text n count = flat_map text (range_with_len n (count - n))
 
--- the text of an item, where it is there
+-- the text of an item, or no text if there is no item
 abbrev pub of_item : {X : Type 0} → (X → List ℕ) → Option X → List ℕ
 of_item text None = []
 of_item text (Some x) = text x
 
--- of the net of a number, why it is not covered
+-- the line of a net that is not covered, or no text if the net is covered; `reason_at` takes the number of the net
 abbrev pub net_reason : RawBoard → Net → List ℕ
 net_reason board net = reason_line net.name (reason_of board net)
 
 abbrev pub reason_at : RawBoard → ℕ → List ℕ
 reason_at board n = of_item (net_reason board) (slice_get board.nets n)
 
--- of the net of a number, the untested pins, where it is covered
+-- the line of the pin at a place if the pin is untested; `net_pins` has these lines for a net that is covered, and `pins_at` takes the number of the net
 abbrev pub place_text : RawBoard → PinUse → Net → ℕ → List ℕ
 place_text board pin_use net place = cond (is_untested board pin_use net place) (pin_line pin_use (slice_get net.pins place)) []
 
@@ -35,7 +35,7 @@ net_pins board pin_use net = cond (is_covered board net) (texts_from (place_text
 abbrev pub pins_at : RawBoard → PinUse → ℕ → List ℕ
 pins_at board pin_use n = of_item (net_pins board pin_use) (slice_get board.nets n)
 
--- of the net of a number, the pairs with later nets that are not paired
+-- The lines of a covered net and each later covered net that is not paired with it. `pairs_at` takes the number of the net.
 abbrev pub is_unpaired : RawBoard → Net → Net → Bool
 is_unpaired board low high = is_covered board high && not (are_paired board low high)
 
@@ -51,7 +51,7 @@ net_pairs board n low = cond (is_covered board low) (texts_from (pair_at board l
 abbrev pub pairs_at : RawBoard → ℕ → List ℕ
 pairs_at board n = of_item (net_pairs board n) (slice_get board.nets n)
 
--- what a section of the list says of the net of a number, and in all
+-- the lines of a section for the net with a number; `section_lines` has the whole section
 abbrev pub section_at : RawBoard → Section → ℕ → List ℕ
 section_at board Reasons = reason_at board
 section_at board (Untested pin_use) = pins_at board pin_use

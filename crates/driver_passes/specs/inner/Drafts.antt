@@ -1,4 +1,5 @@
--- A pass while it is made. One set has the places of its useful controls; the other has the places of those that can be added.
+-- A pass while it is made. One set has the places of the useful controls in the pass, and the other set has the places of the useful
+-- controls that can be added.
 use Rattle.std.specs.Prelude.{◌≡◌, ℕ, suc, ◌+◌, ◌/◌, ◌==◌, ◌&&◌, Bool, not, cond, List, [], ◌∷◌, length, Some, slice_get}
 use Rattle.std.specs.List.{list_any}
 use Rattle.board_defs.specs.declared.board.Ctl.{Ctl}
@@ -19,7 +20,7 @@ drafted board setting = record { board = board; setting = setting }
 abbrev pub with_control : Drafted → Ctl → Drafted
 with_control draft c = drafted draft.board (inserted c draft.setting)
 
--- the controls whose places pass the test; the first control has place `place`
+-- the controls whose places pass the test, if the first control has place `place`
 abbrev pub chosen : (ℕ → Bool) → ℕ → List Ctl → List Ctl
 chosen passes place [] = []
 chosen passes place (c ∷ controls) = cond (passes place) (c ∷ chosen passes (suc place) controls) (chosen passes (suc place) controls)
@@ -32,7 +33,8 @@ has_number numbers n = list_any (λ m. m == n) numbers
 abbrev pub setting_of : RawBoard → List ℕ → List Ctl
 setting_of board held = chosen (is_in held) 0 (useful_controls board)
 
--- `held` has room for each useful control; `free` has the places of those that are not in `held` and are together with all that are
+-- `held` has room for each useful control. `free` has the places of the useful controls that are not in `held` and are together with all
+-- controls whose places are in `held`.
 pub record IsDraft (board : RawBoard) (held free : List ℕ) : Type 0 where
   pub held_length : length held ≡ length (useful_controls board) / 64 + 1
   pub free_are : (place : ℕ) (c : Ctl) → slice_get (useful_controls board) place ≡ Some c → is_in free place ≡ (not (is_in held place) && fits board (setting_of board held) c)

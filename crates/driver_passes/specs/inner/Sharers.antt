@@ -12,7 +12,7 @@ use Rattle.driver_passes.specs.inner.Blocks.{has_place}
 use Rattle.driver_passes.specs.inner.Drafts.{has_number}
 use Rattle.driver_passes.specs.inner.NumberSets.{is_in}
 
--- the list of each net has those places below `most` whose useful controls share the net with another control
+-- the list of each net has the places below `most` of the useful controls that share the net with another control
 pub record AreSharersBelow (board : RawBoard) (most : ℕ) (sharers : List (List ℕ)) : Type 0 where
   pub sharers_length : length sharers ≡ length board.nets
   pub sharers_are : (place : ℕ) (c : Ctl) → slice_get (useful_controls board) place ≡ Some c → (n : ℕ) → has_number (slice_index_or sharers n []) place ≡ (ltb place most && has_number (shared_nets board c) n)
@@ -25,6 +25,6 @@ AreSharers board sharers = (place : ℕ) (c : Ctl) → slice_get (useful_control
 abbrev pub is_listed : List (List Block) → List ℕ → ℕ → Bool
 is_listed sharers nets place = list_any (λ n. has_place (slice_index_or sharers n []) place) nets
 
--- among the places of the other useful controls, the set loses those of controls that are not together with `c`
+-- the set loses the places of those other useful controls that are not together with `c`
 abbrev pub LosesApart : RawBoard → Ctl → List ℕ → List ℕ → Type 0
 LosesApart board c before after = (q : ℕ) (e : Ctl) → slice_get (useful_controls board) q ≡ Some e → same_ctl e c ≡ false → is_in after q ≡ (is_in before q && are_together board e c)

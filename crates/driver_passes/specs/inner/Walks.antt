@@ -4,10 +4,10 @@ use Rattle.board_defs.specs.declared.board.Ctl.{Ctl}
 use Rattle.board_defs.specs.Passes.{first_walk, second_walk, useful_controls}
 use Rattle.driver_passes.specs.inner.Drafts.{Drafted, drafted}
 
--- the draft after the first walk over the useful controls from this place on
+-- the draft once the first walk has gone over the useful controls from this place on
 abbrev pub first_walked : Drafted → ℕ → List (List Ctl) → Drafted
 first_walked draft from earlier = drafted draft.board (first_walk draft.board (drop from (useful_controls draft.board)) earlier draft.setting)
 
--- the draft after the second walk over the useful controls from this place on
+-- the draft once the second walk has gone over the useful controls from this place on
 abbrev pub second_walked : Drafted → ℕ → Drafted
 second_walked draft from = drafted draft.board (second_walk draft.board (drop from (useful_controls draft.board)) draft.setting)

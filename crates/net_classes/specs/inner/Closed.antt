@@ -1,5 +1,5 @@
--- A net is closed by some nets if it is covered and each of its tested drivers has a control with a driver on one of them. If those are
--- the nets that control `c` shares, a safe setting with `c` enables none of these drivers but the ones that `c` controls.
+-- A list of nets closes net `n` if net `n` is covered and each tested driver of net `n` has a control with a driver on a net in the list.
+-- If the list has the nets that control `c` shares, a safe setting with `c` enables no tested driver of net `n` except those that `c` controls.
 use Rattle.std.specs.Prelude.{◌≡◌, ℕ, Bool, true, false, ◌&&◌, ◌||◌, List, [], ◌∷◌, filter, length, nat_lt, slice_get, Contains}
 use Rattle.std.specs.Bool.{Decides}
 use Rattle.std.specs.List.{list_any, list_all, flat_map}
@@ -20,7 +20,7 @@ use Rattle.net_classes.specs.Pairs.{drivers_at}
 abbrev pub drives_some : RawBoard → List ℕ → Ctl → Bool
 drives_some board nets c = list_any (λ n. drives_there board c (slice_get board.nets n)) nets
 
--- the driver has a control, and it passes
+-- the driver has a control that passes
 abbrev pub is_by_one : (Ctl → Bool) → Drive → Bool
 is_by_one passes AlwaysOn = false
 is_by_one passes OneSided = false
@@ -58,19 +58,19 @@ closes_beside board set others n = nat_lt 0 (length (drivers_at board n)) && lis
 abbrev pub closed_beside : KnownBoard → ControlSet → ControlSet → Ctl → List ℕ
 closed_beside known set others c = filter (closes_beside known.board set others) (driven_in known c)
 
--- `others` has only controls with a driver on one of the nets, and among these all that are not in `set`
+-- `others` has only controls with a driver on one of the nets, and has each such control that is not in `set`
 pub record AreOthers (board : RawBoard) (set : ControlSet) (nets : List ℕ) (others : ControlSet) : Type 0 where
   pub passes : Ctl → Bool
   pub are_set : IsSet board passes others
   pub drive : (c : Ctl) → passes c ≡ true → drives_some board nets c ≡ true
   pub all : (c : Ctl) → IsCell board c → drives_some board nets c ≡ true → has_control set c ≡ false → passes c ≡ true
 
--- the set is a set of controls, whichever they are
+-- the set is the set of some controls
 pub record IsSomeSet (board : RawBoard) (set : ControlSet) : Type 0 where
   pub passes : Ctl → Bool
   pub is_set : IsSet board passes set
 
--- the kept nets are those that are closed by `by`, and the kept set has the controls with a driver on one of `by`
+-- the kept nets are the nets that `by` closes, and the kept set has the controls with a driver on a net in `by`
 pub record AreClosedNets (board : RawBoard) (closed : ClosedNets) : Type 0 where
   pub set_is : IsSet board (drives_some board closed.by) closed.set
   pub nets_are : AreClosed board closed.by closed.nets

@@ -30,7 +30,7 @@ pub record IsRowOf (board : RawBoard) (pairs : PairRows) (c : Ctl) : Type 0 wher
   pub there : number_in pairs c < length pairs.rows.items
   pub bits : AreRowBits (fits_at board (By c)) (row_in pairs (number_in pairs c))
 
--- the row of the control, or None if that is the row of the covered nets
+-- `row` is the row of the control, or None if the row of the control is the row of the covered nets
 abbrev pub IsRowFor : RawBoard → Ctl → List ℕ → Option (List ℕ) → Type 0
 IsRowFor board c covered None = AreRowBits (fits_at board (By c)) covered
 IsRowFor board c covered (Some row) = AreRowBits (fits_at board (By c)) row
@@ -39,7 +39,7 @@ abbrev pub number_for : ℕ → Option (List ℕ) → ℕ
 number_for count None = 0
 number_for count (Some row) = count
 
--- the rows with that of one more control; the rows of other controls stay
+-- `after` also has the row of control `c`, and the rows of other controls stay the same
 pub record AddsRow (board : RawBoard) (before after : PairRows) (c : Ctl) : Type 0 where
   pub covered : HasCovered board after
   pub own : IsRowOf board after c
