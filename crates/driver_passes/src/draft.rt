@@ -21,7 +21,8 @@ pub struct Draft<'a, 'b> {
     pub(crate) board: &'a BoardTables<'b>,
     /// The places of the useful controls in the pass.
     pub(crate) held: NumberSet,
-    /// The places of the useful controls that can be added. Each is together with every control in the pass.
+    /// The places of the useful controls that can be added. Each such control is together with every control in the
+    /// pass.
     pub(crate) free: NumberSet,
 }
 

@@ -35,6 +35,7 @@ impl<'a> Model for BoardTables<'a> {
     ghost use Rattle.driver_passes.specs.inner.Alike.{AreAlike};
     ghost use Rattle.driver_passes.specs.inner.Sharers.{AreSharers};
     ghost use Rattle.driver_passes.specs.inner.Tested.{AreTestedNets};
+    ghost use Rattle.net_classes.specs.Laws.{KeepsLaws};
 
     ghost Value = { RawBoard };
 
@@ -42,7 +43,8 @@ impl<'a> Model for BoardTables<'a> {
 
     ghost invariant = { λ a. AreSharers a.classes a.sharers.items
         × AreTestedNets a.classes a.tested_nets
-        × AreAlike a.classes a.likes.items };
+        × AreAlike a.classes a.likes.items
+        × KeepsLaws a.classes };
 }
 
 impl<'a> BoardTables<'a> {
@@ -50,6 +52,7 @@ impl<'a> BoardTables<'a> {
     pub fn new(alloc: Global, classes: BoardClasses<'a>) -> Result<BoardTables<'a>, AllocError>
         ensures { IfOk result (λ tables. tables ≡ classes.entry) }
     {
+        classes.laws();
         let sharers = sharers_of(alloc, &classes)?;
         let tested_nets = TestedNets::new(alloc, &classes)?;
         let likes = likes_of(alloc, &classes)?;
@@ -66,7 +69,6 @@ impl<'a> BoardTables<'a> {
         ensures same { result.now ≡ self.now }
         ensures laws { KeepsLaws self.now }
     {
-        self.classes.laws();
         &self.classes
     }
 
@@ -88,7 +90,6 @@ impl<'a> BoardTables<'a> {
         ensures { LosesApart self.now c free.old free.new }
     {
         nets_are_shared();
-        self.classes.laws();
         close_sharers(free, &self.sharers, self.classes.shared_nets(c));
     }
 

@@ -14,5 +14,5 @@ pub returns : goal.returns
 returns c =
     let before = c.args.free.now in
     let nets = c.shared_nets.result.now in
-    rw (sym c.self.view_is) (loses_listed c.self.inside.classes c.self.inside.sharers.items nets c.args.c before c.close_sharers.new.free c.laws.ensures.passes c.laws.ensures.terms c.nets_are_shared.ensures c.self.invariant.0 c.shared_nets.ensures
+    rw (sym c.self.view_is) (loses_listed c.self.inside.classes c.self.inside.sharers.items nets c.args.c before c.close_sharers.new.free c.self.invariant.3.passes c.self.invariant.3.terms c.nets_are_shared.ensures c.self.invariant.0 c.shared_nets.ensures
     (ap (λ b. holds (useful_controls b) c.args.c) c.self.view_is ∙ c.requires) (λ q. c.close_sharers.ensures q ∙ ap (λ v. is_in before q && not (is_listed v nets q)) c.deref.ensures.value))
