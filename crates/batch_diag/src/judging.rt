@@ -5,6 +5,7 @@ ghost use Rattle.board_defs.specs.Passes.{passes_of};
 ghost use Rattle.scan_planner.specs.Plans.{IsPlanOf};
 ghost use Rattle.diagnoser.specs.Diagnosis.{IsNamed};
 ghost use Rattle.fault_sim.specs.Diagnosis.{IsDiagnosis};
+ghost use Rattle.fault_sim.specs.Kept.{KeepDrivers, KeepRows};
 ghost use Rattle.fault_sim.specs.Places.{IsUniverse};
 ghost use Rattle.batch_diag.specs.Verdicts.{AreLogs, AreVerdicts};
 ghost use Rattle.batch_diag.specs.inner.Judging.{IsBatch, Judged};
@@ -13,8 +14,8 @@ use crate::block::Block;
 use crate::verdict::Verdict;
 use board_defs::{Board, Items};
 use bt_base::{Gate, OpenGate};
-use diagnoser::diagnose_logged;
-use fault_sim::{BoardTest, LoggedTest, Universe, kept_passes, none_differs};
+use diagnoser::{Workers, diagnose_in};
+use fault_sim::{BoardTest, KeptPass, LoggedTest, Universe};
 use scan_planner::Plan;
 use side_by_side::{Piece, in_pieces};
 use std::alloc::{AllocError, Global};
@@ -53,23 +54,58 @@ pub fn diagnose_all<R: Threads + Sync, G: Gate>(
     ensures count { IfOk result (λ verdicts. length verdicts.items ≡ length blocks.now) }
     ensures named { IfOk result (λ verdicts. All (λ verdict. All (IsNamed board.now) verdict.faults) verdicts.items) }
 {
-    let kept = kept_passes(alloc, board, plan, blocks.len())?;
-    let test = BoardTest::of(board, plan, &kept);
-    judge_all(rt, alloc, &test, blocks, workers, gate)
+    let test = BoardTest::of(board, plan);
+    diagnose_blocks(rt, alloc, &test, blocks, Workers::of(workers), gate)
 }
 
-// Returns the verdicts on the blocks. `test` has what is kept of the test.
+/// Like `diagnose_all`, but takes the board's test.
+pub fn diagnose_blocks<R: Threads + Sync, G: Gate>(
+    rt: &R,
+    alloc: Global,
+    test: &BoardTest<'_>,
+    blocks: &[Block],
+    workers: Workers,
+    gate: &G,
+) -> Result<Vec<Verdict>, AllocError>
+    requires logs { AreLogs test.now.board test.now.plan blocks.now }
+    ensures verdicts { IfOk result (λ verdicts. AreVerdicts test.now.board blocks.now verdicts.items) }
+    ensures count { IfOk result (λ verdicts. length verdicts.items ≡ length blocks.now) }
+    ensures named { IfOk result (λ verdicts. All (λ verdict. All (IsNamed test.now.board) verdict.faults) verdicts.items) }
+{
+    let kept = test.kept_passes(alloc, blocks.len())?;
+    judge_kept(rt, alloc, test, &kept, blocks, workers, gate)
+}
+
+// Like `diagnose_blocks`, but takes what is kept of the passes.
+fn judge_kept<R: Threads + Sync, G: Gate>(
+    rt: &R,
+    alloc: Global,
+    test: &BoardTest<'_>,
+    kept: &[KeptPass],
+    blocks: &[Block],
+    workers: Workers,
+    gate: &G,
+) -> Result<Vec<Verdict>, AllocError>
+    requires rows { KeepRows test.now.board test.now.plan kept.now }
+    requires drivers { KeepDrivers test.now.plan kept.now }
+    requires logs { AreLogs test.now.board test.now.plan blocks.now }
+    ensures verdicts { IfOk result (λ verdicts. AreVerdicts test.now.board blocks.now verdicts.items) }
+    ensures count { IfOk result (λ verdicts. length verdicts.items ≡ length blocks.now) }
+    ensures named { IfOk result (λ verdicts. All (λ verdict. All (IsNamed test.now.board) verdict.faults) verdicts.items) }
+{
+    let kept_test = test.with_kept(kept);
+    judge_all(rt, alloc, &kept_test, blocks, workers, gate)
+}
+
+// Like `judge_kept`, but takes a test that has the kept passes.
 fn judge_all<R: Threads + Sync, G: Gate>(
     rt: &R,
     alloc: Global,
     test: &BoardTest<'_>,
     blocks: &[Block],
-    workers: u32,
+    workers: Workers,
     gate: &G,
 ) -> Result<Vec<Verdict>, AllocError>
-    requires some { 1 ≤ workers }
-    requires few { workers ≤ 64 }
-    requires passes { test.now.plan.passes ≡ passes_of test.now.board }
     requires logs { AreLogs test.now.board test.now.plan blocks.now }
     ensures verdicts { IfOk result (λ verdicts. AreVerdicts test.now.board blocks.now verdicts.items) }
     ensures count { IfOk result (λ verdicts. length verdicts.items ≡ length blocks.now) }
@@ -91,15 +127,22 @@ fn verdict_on<R: Threads + Sync>(
     logged: &LoggedTest<'_>,
     universe: &Universe,
 ) -> Result<Verdict, AllocError>
-    requires passes { logged.now.test.plan.passes ≡ passes_of logged.now.test.board }
     requires universe { IsUniverse logged.now.test.board universe.now }
     ensures diagnosis { IfOk result (λ verdict. IsDiagnosis logged.now.test.board logged.now.log verdict.pass verdict.faults) }
     ensures named { IfOk result (λ verdict. All (IsNamed logged.now.test.board) verdict.faults) }
 {
     let nets = logged.differing(alloc)?;
-    let faults = diagnose_logged(rt, alloc, logged, universe, &nets, 1, &OpenGate)?;
+    let faults = diagnose_in(
+        rt,
+        alloc,
+        logged,
+        universe,
+        &nets,
+        Workers::of(1),
+        &OpenGate,
+    )?;
     Ok(Verdict {
-        pass: none_differs(logged.board(), logged.plan(), logged.log(), &nets),
+        pass: logged.none_differs(&nets),
         faults: Items::of(faults),
     })
 }
@@ -143,16 +186,15 @@ fn judge_piece<R: Threads + Sync, G: Gate>(
     Ok(verdicts)
 }
 
-// Returns the verdicts on all blocks, which are cut into `pieces` pieces.
+// Returns the verdicts on all blocks, which are cut into as many pieces as there are workers.
 fn judge_pieces<R: Threads + Sync, G: Gate>(
     rt: &R,
     alloc: Global,
     batch: Batch<'_, '_>,
-    pieces: u32,
+    workers: Workers,
     gate: &G,
 ) -> Result<Vec<Verdict>, AllocError>
     requires batch { IsBatch batch }
-    requires some { 0 < pieces }
     ensures { IfOk result (λ verdicts. Judged batch.entry 0 (length batch.entry.blocks.now) verdicts.items) }
 {
     let count = batch.blocks.len() as u64;
@@ -160,5 +202,5 @@ fn judge_pieces<R: Threads + Sync, G: Gate>(
         requires { IsSync R.row × IsBatch batch × (piece.first ≤ piece.end) × (piece.end ≤ length batch.blocks.now) }
         ensures { IfOk result (λ verdicts. Judged batch.entry piece.first piece.end verdicts.items) }
     { judge_piece(rt, alloc, batch, piece, gate) };
-    in_pieces(rt, alloc, count, pieces, &find)
+    in_pieces(rt, alloc, count, workers.number(), &find)
 }

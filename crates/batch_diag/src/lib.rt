@@ -15,7 +15,7 @@ mod verdict;
 
 pub use block::Block;
 pub use fault::BatchFault;
-pub use judging::diagnose_all;
+pub use judging::{diagnose_all, diagnose_blocks};
 pub use listing::write_batch;
 pub use reader::{blocks, blocks_by};
 pub use verdict::Verdict;

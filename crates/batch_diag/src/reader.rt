@@ -22,7 +22,6 @@ use std::thread::Threads;
 /// does not have two words or its id breaks the word rule, it is `Title` with the first such title. Otherwise, if the lines
 /// of a block are no log, it is `Inner` with the first such block. The blocks take no more memory than the ids and a byte
 /// for each byte of the text.
-/// and a byte for each byte of the text.
 pub fn blocks(alloc: Global, bytes: &[u8], rows: u64, len: u32) -> Result<Vec<Block>, BatchFault>
     requires { length bytes.now < 2 ^ 32 }
     ensures read { Gives batch_told (λ blocks. blocks.items) (λ said. batch_of bytes.now rows len ≡ said) result }

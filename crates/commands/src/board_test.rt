@@ -1,6 +1,7 @@
 // The command `svf`.
 ghost use Rattle.std.specs.Prelude.{◌≡◌, ◌-◌, ◌<◌, Bool, IfOk, IfSome, List, slice_get};
 ghost use Rattle.bt_base.specs.Puts.{Puts};
+ghost use Rattle.board_defs.specs.BoardRules.{IsBoard};
 ghost use Rattle.board_defs.specs.Pins.{data_bits};
 ghost use Rattle.tap_defs.specs.board.BoardScans.{RowScan, board_scans, board_text, pass_text, svf_row_scans, test_scans};
 ghost use Rattle.tap_defs.specs.board.BoardTest.{IsBoardTest};
@@ -12,6 +13,7 @@ ghost use Rattle.plan_tables.specs.declared.tables.PlanTables.{PlanTables as Pla
 ghost use Rattle.scan_planner.specs.PassRows.{AreKept};
 ghost use Rattle.scan_planner.specs.Plans.{IsPlanOf, IsRoom, scan_count};
 ghost use Rattle.response_log.specs.LogRows.{HasSize};
+ghost use Rattle.diagnoser.specs.Laws.{ExplainingListed, PassingUnexplained};
 ghost use Rattle.commands.specs.LogRead.{test_rows};
 ghost use Rattle.commands.specs.Worth.{RespondOnce, TestsBoard};
 ghost use Rattle.commands.specs.Answers.{BoardAnswers};
@@ -25,6 +27,7 @@ use crate::unput::{Unput, answer_by};
 use board_defs::Board;
 use board_defs::law::passes_kept;
 use bt_base::{PutFault, Sink};
+use diagnoser::law::{explaining_listed, passing_unexplained};
 use scan_planner::{PassRows, Plan};
 use std::alloc::{AllocError, Global};
 use svf_writer::{write_head, write_scan, write_tail};
@@ -72,9 +75,9 @@ pub fn test_means(board: &Board)
     texts_mean();
 }
 
-/// States that a log with the rows and bits of the board's test has a row for each compared SDR statement of the test, in
-/// their order, and that each row has a bit for each position. Does nothing.
-pub fn test_logs_shaped(board: &Board)
+// States that a log with the rows and bits of the board's test has a row for each compared SDR statement of the test, in
+// their order, and that each row has a bit for each position. Does nothing.
+fn test_logs_shaped(board: &Board)
     ensures { (log : List (List Bool)) → HasSize (test_rows board.now) (data_bits board.now) log → HasShape board.now (svf_row_scans board.now) log }
 {
     let _rules = board.raw();
@@ -82,13 +85,32 @@ pub fn test_logs_shaped(board: &Board)
     rows_compared();
 }
 
-/// States that each single fault of a board has one response to the board's test. Does nothing.
-pub fn singles_respond(board: &Board)
+// States that each single fault of a board has one response to the board's test. Does nothing.
+fn singles_respond(board: &Board)
     ensures { RespondOnce board.now }
 {
     let _rules = board.raw();
     one_log();
     scans_in_turn();
+}
+
+/// States what a diagnosis of the board rests on: the board keeps the rules, any of its texts has a meaning, its logs have the shape
+/// of its test, each of its single faults has one response, the faults of a diagnosis are listed, and no fault explains a log that
+/// passes. Does nothing.
+pub fn judging_laws(board: &Board)
+    ensures rules { IsBoard board.now }
+    ensures means { (scans : List RowScan) → meaning (svf_text (board_scans board.now scans)) ≡ Some (test_clocks (board_scans board.now scans)) }
+    ensures shaped { (log : List (List Bool)) → HasSize (test_rows board.now) (data_bits board.now) log → HasShape board.now (svf_row_scans board.now) log }
+    ensures respond { RespondOnce board.now }
+    ensures listed { ExplainingListed }
+    ensures unexplained { PassingUnexplained }
+{
+    let _rules = board.raw();
+    test_means(board);
+    test_logs_shaped(board);
+    singles_respond(board);
+    explaining_listed();
+    passing_unexplained();
 }
 
 /// Returns the number of bits of the board's longer scan.

@@ -10,15 +10,15 @@ ghost use Rattle.commands.specs.Worth.{DiagnosesEach};
 ghost use Rattle.commands.specs.Answers.{AnswersOn, JudgedAnswers};
 ghost use Rattle.commands.specs.inner.Unput.{PutsText};
 
-use crate::board_test::{singles_respond, test_logs_shaped, test_means};
+use crate::board_test::judging_laws;
 use crate::planned::{Planned, planned_board};
 use crate::texts::{LogTexts, ShortText};
 use crate::unput::{Unput, answer_by, unput_by_batch};
-use batch_diag::{Block, Verdict, blocks_by, diagnose_all, write_batch};
+use batch_diag::{Block, Verdict, blocks_by, diagnose_blocks, write_batch};
 use board_defs::Board;
 use bt_base::{Gate, Sink};
 use bt_bits::Line;
-use diagnoser::law::{explaining_listed, passing_unexplained};
+use diagnoser::Workers;
 use std::alloc::Global;
 use std::thread::Threads;
 
@@ -36,7 +36,7 @@ pub fn batch<R: Threads + Sync, K: Sink, G: Gate>(
     requires few { workers ≤ 64 }
     ensures { JudgedAnswers judging_each verdicts_text DiagnosesEach texts (K.shown out.old) (K.shown out.new) result }
 {
-    batch_of(rt, alloc, &texts, workers, gate, out)
+    batch_of(rt, alloc, &texts, Workers::of(workers), gate, out)
 }
 
 // Writes the diagnoses of a batch of logs of the test of the board that the texts denote.
@@ -44,12 +44,10 @@ fn batch_of<R: Threads + Sync, K: Sink, G: Gate>(
     rt: &R,
     alloc: Global,
     texts: &LogTexts,
-    workers: u32,
+    workers: Workers,
     gate: &G,
     out: &mut K,
 ) -> Result<(), Unput>
-    requires some { 1 ≤ workers }
-    requires few { workers ≤ 64 }
     ensures { JudgedAnswers judging_each verdicts_text DiagnosesEach texts.now (K.shown out.old) (K.shown out.new) result }
 {
     match planned_board(alloc, &texts.board) {
@@ -68,16 +66,14 @@ fn put_batch<R: Threads + Sync, K: Sink, G: Gate>(
     alloc: Global,
     planned: &Planned,
     text: &ShortText,
-    workers: u32,
+    workers: Workers,
     gate: &G,
     out: &mut K,
 ) -> Result<(), Unput>
-    requires some { 1 ≤ workers }
-    requires few { workers ≤ 64 }
     ensures { AnswersOn judging_each verdicts_text DiagnosesEach text.now planned.now.board (K.shown out.old) (K.shown out.new) result }
 {
     let (rows, bits) = (planned.log_rows(), planned.log_bits());
-    match blocks_by(rt, alloc, text.as_bytes(), rows, bits, workers) {
+    match blocks_by(rt, alloc, text.as_bytes(), rows, bits, workers.number()) {
         Ok(blocks) => put_blocks(rt, alloc, planned, &blocks, workers, gate, out),
         Err(fault) => Err(unput_by_batch(rows, fault)),
     }
@@ -89,23 +85,17 @@ fn put_blocks<R: Threads + Sync, K: Sink, G: Gate>(
     alloc: Global,
     planned: &Planned,
     blocks: &[Block],
-    workers: u32,
+    workers: Workers,
     gate: &G,
     out: &mut K,
 ) -> Result<(), Unput>
-    requires some { 1 ≤ workers }
-    requires few { workers ≤ 64 }
     requires size { All (λ block. HasSize (test_rows planned.now.board) (data_bits planned.now.board) block.log) blocks.now }
     ensures { (text : Text) → test_blocks text planned.now.board ≡ Ok blocks.now → AnswersOn judging_each verdicts_text DiagnosesEach text planned.now.board (K.shown out.old) (K.shown out.new) result }
 {
-    let Planned { board, plan } = planned;
-    let verdicts = diagnose_all(rt, alloc, board, plan, blocks, workers, gate)?;
-    let _rules = board.raw();
-    test_means(board);
-    test_logs_shaped(board);
-    singles_respond(board);
-    explaining_listed();
-    passing_unexplained();
+    let test = planned.test();
+    let verdicts = diagnose_blocks(rt, alloc, &test, blocks, workers, gate)?;
+    let board = planned.board();
+    judging_laws(board);
     put_verdicts(alloc, board, blocks, &verdicts, out)
 }
 

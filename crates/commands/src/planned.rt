@@ -1,10 +1,12 @@
 // The board that texts denote, its classes, the pins of its nets, and the plan of its test.
-ghost use Rattle.std.specs.Prelude.{◌≡◌, Ok, IfOk, IfErr};
+ghost use Rattle.std.specs.Prelude.{◌≡◌, ◌*◌, Ok, IfOk, IfErr, length};
 ghost use Rattle.board_defs.specs.Passes.{passes_of};
 ghost use Rattle.board_defs.specs.Pins.{data_bits};
 ghost use Rattle.net_classes.specs.Kept.{AreClasses};
 ghost use Rattle.net_pins.specs.Tables.{AreNetPins};
 ghost use Rattle.scan_planner.specs.Plans.{IsPlanOf};
+ghost use Rattle.response_log.specs.LogRows.{HasSize};
+ghost use Rattle.fault_sim.specs.Planned.{logged_board};
 ghost use Rattle.commands.specs.Answers.{IsBoardOf};
 ghost use Rattle.commands.specs.LogRead.{test_rows};
 ghost use Rattle.commands.specs.inner.Unput.{NoBoard};
@@ -13,8 +15,10 @@ use crate::texts::BoardTexts;
 use crate::unput::{Unput, unput_by};
 use board_defs::Board;
 use btest_core::{plan_by, read_board};
+use fault_sim::{BoardTest, LoggedTest};
 use net_classes::{Classes, classify_by};
 use net_pins::NetPins;
+use response_log::Log;
 use scan_planner::Plan;
 use std::alloc::{AllocError, Global};
 use std::marker::Model;
@@ -27,8 +31,7 @@ pub struct Planned {
 }
 
 impl Model for Planned {
-    ghost use Rattle.scan_planner.specs.Planned.{PlannedBoard, planned_board};
-    ghost use Rattle.commands.specs.inner.Boards.{IsPlanned};
+    ghost use Rattle.fault_sim.specs.Planned.{IsPlanned, PlannedBoard, planned_board};
 
     ghost Value = { PlannedBoard };
 
@@ -43,6 +46,22 @@ impl Planned {
         ensures { result.now ≡ self.now.board }
     {
         &self.board
+    }
+
+    /// Returns the board's test.
+    pub fn test(&self) -> BoardTest<'_>
+        ensures test { result ≡ self.now }
+        ensures rows { length self.now.plan.passes * self.now.plan.width ≡ test_rows self.now.board }
+    {
+        BoardTest::of(&self.board, &self.plan)
+    }
+
+    /// Returns a log of the board's test. It must have the rows and the bits of the test.
+    pub fn with_log<'a>(&'a self, log: &'a Log) -> LoggedTest<'a>
+        requires { HasSize (test_rows self.now.board) (data_bits self.now.board) log.now }
+        ensures { result ≡ logged_board self.now log.now }
+    {
+        self.test().with_log(log)
     }
 
     /// Returns the number of rows of a log of the board's test.

@@ -8,9 +8,10 @@ ghost use Rattle.fault_sim.specs.Suspects.{AreDiffering};
 ghost use Rattle.diagnoser.specs.Diagnosis.{AreExplaining, IsNamed};
 
 use crate::search::{Search, search_pieces};
+use crate::workers::Workers;
 use board_defs::{Board, Single};
 use bt_base::Gate;
-use fault_sim::{BoardTest, LoggedTest, Suspects, Universe, differing_nets, law};
+use fault_sim::{LoggedTest, Universe, law};
 use response_log::Log;
 use scan_planner::Plan;
 use std::alloc::{AllocError, Global};
@@ -42,86 +43,46 @@ pub fn diagnose<R: Threads + Sync, G: Gate>(
     ensures faults { IfOk result (λ faults. AreExplaining board.now log.now faults.items) }
     ensures named { IfOk result (λ faults. All (IsNamed board.now) faults.items) }
 {
-    let nets = differing_nets(alloc, board, plan, log)?;
-    diagnose_by(rt, alloc, board, plan, log, &nets, workers, gate)
+    let logged = LoggedTest::of(board, plan, log);
+    let nets = logged.differing(alloc)?;
+    diagnose_logged(rt, alloc, &logged, &nets, Workers::of(workers), gate)
 }
 
-/// Like `diagnose`, but takes the nets that differ in the log, so the log is not searched for them again.
-pub fn diagnose_by<R: Threads + Sync, G: Gate>(
-    rt: &R,
-    alloc: Global,
-    board: &Board,
-    plan: &Plan,
-    log: &Log,
-    nets: &[u32],
-    workers: u32,
-    gate: &G,
-) -> Result<Vec<Single>, AllocError>
-    requires some { 1 ≤ workers }
-    requires few { workers ≤ 64 }
-    requires plan { IsPlanOf board.now plan.now }
-    requires passes { plan.now.passes ≡ passes_of board.now }
-    requires rows { length log.now ≡ length plan.now.passes * plan.now.width }
-    requires bits { All (λ row. length row ≡ data_bits board.now) log.now }
-    requires differing { AreDiffering board.now plan.now log.now nets.now }
-    ensures faults { IfOk result (λ faults. AreExplaining board.now log.now faults.items) }
-    ensures named { IfOk result (λ faults. All (IsNamed board.now) faults.items) }
-{
-    let universe = Universe::new(alloc, board, plan)?;
-    diagnose_in(rt, alloc, board, plan, &universe, log, nets, workers, gate)
-}
-
-/// Like `diagnose_by`, but takes the universe of the board, which many logs of one test can share.
-pub fn diagnose_in<R: Threads + Sync, G: Gate>(
-    rt: &R,
-    alloc: Global,
-    board: &Board,
-    plan: &Plan,
-    universe: &Universe,
-    log: &Log,
-    nets: &[u32],
-    workers: u32,
-    gate: &G,
-) -> Result<Vec<Single>, AllocError>
-    requires some { 1 ≤ workers }
-    requires few { workers ≤ 64 }
-    requires plan { IsPlanOf board.now plan.now }
-    requires passes { plan.now.passes ≡ passes_of board.now }
-    requires rows { length log.now ≡ length plan.now.passes * plan.now.width }
-    requires bits { All (λ row. length row ≡ data_bits board.now) log.now }
-    requires universe { IsUniverse board.now universe.now }
-    requires differing { AreDiffering board.now plan.now log.now nets.now }
-    ensures faults { IfOk result (λ faults. AreExplaining board.now log.now faults.items) }
-    ensures named { IfOk result (λ faults. All (IsNamed board.now) faults.items) }
-{
-    let logged = BoardTest::of(board, plan, &[]).with_log(log);
-    diagnose_logged(rt, alloc, &logged, universe, nets, workers, gate)
-}
-
-/// Like `diagnose_in`, but takes the log with its test and what is kept of the test.
+/// Like `diagnose`, but takes the log with its test, and the nets that differ in the log.
 pub fn diagnose_logged<R: Threads + Sync, G: Gate>(
+    rt: &R,
+    alloc: Global,
+    logged: &LoggedTest<'_>,
+    nets: &[u32],
+    workers: Workers,
+    gate: &G,
+) -> Result<Vec<Single>, AllocError>
+    requires differing { AreDiffering logged.now.test.board logged.now.test.plan logged.now.log nets.now }
+    ensures faults { IfOk result (λ faults. AreExplaining logged.now.test.board logged.now.log faults.items) }
+    ensures named { IfOk result (λ faults. All (IsNamed logged.now.test.board) faults.items) }
+{
+    let universe = Universe::new(alloc, logged.board(), logged.plan())?;
+    diagnose_in(rt, alloc, logged, &universe, nets, workers, gate)
+}
+
+/// Like `diagnose_logged`, but takes the universe of the board, which many logs of one test can share.
+pub fn diagnose_in<R: Threads + Sync, G: Gate>(
     rt: &R,
     alloc: Global,
     logged: &LoggedTest<'_>,
     universe: &Universe,
     nets: &[u32],
-    workers: u32,
+    workers: Workers,
     gate: &G,
 ) -> Result<Vec<Single>, AllocError>
-    requires some { 1 ≤ workers }
-    requires few { workers ≤ 64 }
-    requires passes { logged.now.test.plan.passes ≡ passes_of logged.now.test.board }
     requires universe { IsUniverse logged.now.test.board universe.now }
     requires differing { AreDiffering logged.now.test.board logged.now.test.plan logged.now.log nets.now }
     ensures faults { IfOk result (λ faults. AreExplaining logged.now.test.board logged.now.log faults.items) }
     ensures named { IfOk result (λ faults. All (IsNamed logged.now.test.board) faults.items) }
 {
-    let board = logged.board();
-    let plan = logged.plan();
-    let log = logged.log();
-    let _rules = board.raw();
+    let _rules = logged.board().raw();
     law::suspects_suffice();
-    let suspects = Suspects::of_nets(alloc, board, plan, universe, log, nets)?;
+    let suspects = logged.suspects(alloc, universe, nets)?;
     let telling = logged.telling_net(nets);
     let search = Search {
         logged,

@@ -9,6 +9,8 @@ pub mod law;
 mod lines;
 mod listing;
 mod search;
+mod workers;
 
-pub use diagnosis::{diagnose, diagnose_by, diagnose_in, diagnose_logged};
+pub use diagnosis::{diagnose, diagnose_in, diagnose_logged};
 pub use listing::write_diagnosis;
+pub use workers::Workers;

@@ -6,6 +6,7 @@ ghost use Rattle.tap_defs.specs.board.Explaining.{Explains};
 ghost use Rattle.fault_sim.specs.Places.{observes_fault};
 ghost use Rattle.diagnoser.specs.inner.Search.{IsSearch, Found};
 
+use crate::workers::Workers;
 use board_defs::Single;
 use board_defs::law::passes_kept;
 use bt_base::Gate;
@@ -107,16 +108,16 @@ fn search_piece<G: Gate>(
     Ok(faults)
 }
 
-/// Returns the faults that explain the log, in order. The candidates are cut into `pieces` pieces, which run side by side.
+/// Returns the faults that explain the log, in order. The candidates are cut into as many pieces as there are workers, which run side
+/// by side.
 pub fn search_pieces<R: Threads + Sync, G: Gate>(
     rt: &R,
     alloc: Global,
     search: Search<'_, '_>,
-    pieces: u32,
+    workers: Workers,
     gate: &G,
 ) -> Result<Vec<Single>, AllocError>
-    requires search { IsSearch search }
-    requires some { 0 < pieces }
+    requires { IsSearch search }
     ensures { IfOk result (λ faults. Found search.entry 0 (length search.entry.suspects.now) faults.items) }
 {
     let count = search.suspects.count();
@@ -124,5 +125,5 @@ pub fn search_pieces<R: Threads + Sync, G: Gate>(
         requires { IsSearch search × (piece.first ≤ piece.end) × (piece.end ≤ length search.suspects.now) }
         ensures { IfOk result (λ faults. Found search.entry piece.first piece.end faults.items) }
     { search_piece(alloc, search, piece, gate) };
-    in_pieces(rt, alloc, count, pieces, &find)
+    in_pieces(rt, alloc, count, workers.number(), &find)
 }

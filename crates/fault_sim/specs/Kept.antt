@@ -7,13 +7,13 @@ use Rattle.tap_defs.specs.chain.Scan.{joined, tdo_bits, mask_bits}
 use Rattle.tap_defs.specs.board.BoardScans.{row_bits}
 use Rattle.net_pins.specs.declared.nets.NetDriver.{NetDriver}
 use Rattle.plan_tables.specs.declared.tables.PlanTables.{PlanTables}
-use Rattle.scan_planner.specs.Plans.{IsPlanOf, scan_of_pass}
+use Rattle.scan_planner.specs.Plans.{scan_of_pass}
 use Rattle.response_log.specs.LogRows.{HasSize}
 use Rattle.fault_sim.specs.declared.feed.EnabledDriver.{EnabledDriver}
 use Rattle.fault_sim.specs.declared.kept.ComparedRow.{ComparedRow}
 use Rattle.fault_sim.specs.declared.kept.KeptPass.{KeptPass}
 use Rattle.fault_sim.specs.Effects.{driver_in, source_in, is_own}
-use Rattle.fault_sim.specs.Planned.{PlanPass, PlannedBoard, plan_pass}
+use Rattle.fault_sim.specs.Planned.{IsPlanned, PlanPass, PlannedBoard, plan_pass, planned_board}
 
 -- the bits of TDO and MASK in the scan that compares row j of pass x
 abbrev pub expected_in : RawBoard → PlanTables → ℕ → ℕ → List Bool
@@ -48,16 +48,16 @@ KeepRows board plan kept = (x : ℕ) (pass : KeptPass) → slice_get kept x ≡ 
 abbrev pub KeepDrivers : PlanTables → List KeptPass → Type 0
 KeepDrivers plan kept = (x : ℕ) (pass : KeptPass) → slice_get kept x ≡ Some pass → AreDrivers plan (slice_index_or plan.passes x []) pass.drivers
 
--- a plan of the board, and what is kept of its passes
+-- the plan of a board's test, and what is kept of the passes
 pub record IsBoardTest (board : RawBoard) (plan : PlanTables) (kept : List KeptPass) : Type 0 where
-  pub plan_is : IsPlanOf board plan
+  pub planned : IsPlanned (planned_board board plan)
   pub rows : KeepRows board plan kept
   pub drivers : KeepDrivers plan kept
 
--- pass x of a plan of the board, with its drivers and its kept rows
+-- pass x of a board's test, with the drivers of the pass and its kept rows
 pub record IsTestPass (board : RawBoard) (plan : PlanTables) (x : ℕ) (drivers : PlanPass) (rows : List ComparedRow) : Type 0 where
   pub within : x < length plan.passes
-  pub plan_is : IsPlanOf board plan
+  pub planned : IsPlanned (planned_board board plan)
   pub drivers_are : drivers ≡ plan_pass plan (slice_index_or plan.passes x [])
   pub rows_are : AreRows board plan x rows
 

@@ -1,9 +1,16 @@
--- The models of a board's test, of a log of it, and of the passes of both.
-use Rattle.std.specs.Prelude.{ℕ, Bool, List, [], slice_index_or}
+-- The models of a board's test, of a pass of the test, and of a log of the test.
+use Rattle.std.specs.Prelude.{◌≡◌, ℕ, Bool, List, [], slice_index_or}
 use Rattle.board_defs.specs.declared.board.Ctl.{Ctl}
+use Rattle.board_defs.specs.Passes.{passes_of}
 use Rattle.plan_tables.specs.declared.tables.PlanTables.{PlanTables}
+use Rattle.scan_planner.specs.Plans.{IsPlanOf}
 -- a board with a plan, and a pass with its number
 pub use Rattle.scan_planner.specs.Planned.{PlannedBoard, planned_board, PlannedPass, planned_pass}
+
+-- the plan is one of the board, and has the board's passes
+pub record IsPlanned (test : PlannedBoard) : Type 0 where
+  pub plan : IsPlanOf test.board test.plan
+  pub passes : test.plan.passes ≡ passes_of test.board
 
 -- a plan with the controls that one of its passes holds
 pub record PlanPass : Type 0 where

@@ -1,5 +1,6 @@
 // A board's test with its kept passes, and a log of the test.
 ghost use Rattle.std.specs.Prelude.{◌≡◌, ◌<◌, length};
+ghost use Rattle.board_defs.specs.Passes.{passes_of};
 ghost use Rattle.scan_planner.specs.Plans.{IsPlanOf};
 ghost use Rattle.fault_sim.specs.Kept.{IsLogOf, KeepDrivers, KeepRows};
 ghost use Rattle.fault_sim.specs.Planned.{logged_board, pass_of_log, planned_board, planned_pass};
@@ -11,7 +12,8 @@ use response_log::Log;
 use scan_planner::Plan;
 use std::marker::Model;
 
-/// A board, a plan of it, and the kept passes of the test. The model is the board and the plan.
+/// A board with the plan of its test, which has the board's passes, and what is kept of these passes. The model is the board and
+/// the plan.
 #[derive(Drop)]
 pub struct BoardTest<'a> {
     pub(crate) board: &'a Board,
@@ -49,14 +51,30 @@ impl<'a> Model for LoggedTest<'a> {
 }
 
 impl<'a> BoardTest<'a> {
-    /// Returns the test of a board that this plan makes. `kept` has what is kept of its passes.
-    pub fn of(board: &'a Board, plan: &'a Plan, kept: &'a [KeptPass]) -> BoardTest<'a>
+    /// Returns the test of a board that this plan makes. The plan must be made of the board's passes. No pass is kept.
+    pub fn of(board: &'a Board, plan: &'a Plan) -> BoardTest<'a>
         requires plan { IsPlanOf board.now plan.now }
-        requires rows { KeepRows board.now plan.now kept.now }
-        requires drivers { KeepDrivers plan.now kept.now }
+        requires passes { plan.now.passes ≡ passes_of board.now }
         ensures { result ≡ planned_board board.now plan.now }
     {
-        BoardTest { board, plan, kept }
+        BoardTest {
+            board,
+            plan,
+            kept: &[],
+        }
+    }
+
+    /// Returns the same test with `kept` as what is kept of its passes.
+    pub fn with_kept(&self, kept: &'a [KeptPass]) -> BoardTest<'a>
+        requires rows { KeepRows self.now.board self.now.plan kept.now }
+        requires drivers { KeepDrivers self.now.plan kept.now }
+        ensures { result ≡ self.now }
+    {
+        BoardTest {
+            board: self.board,
+            plan: self.plan,
+            kept,
+        }
     }
 
     /// Returns the board.
@@ -70,6 +88,7 @@ impl<'a> BoardTest<'a> {
     pub fn plan(&self) -> &'a Plan
         ensures value { result.now ≡ self.now.plan }
         ensures plan { IsPlanOf self.now.board self.now.plan }
+        ensures passes { self.now.plan.passes ≡ passes_of self.now.board }
     {
         self.plan
     }
@@ -103,13 +122,15 @@ impl<'a> BoardTest<'a> {
 }
 
 impl<'a> LoggedTest<'a> {
-    /// Returns a log of the board's test that this plan makes. None of its passes is kept.
-    pub(crate) fn of(board: &'a Board, plan: &'a Plan, log: &'a Log) -> LoggedTest<'a>
+    /// Returns a log of the board's test that this plan makes. The plan must be made of the board's passes, and the log must have
+    /// the plan's rows, each as long as a data scan. No pass is kept.
+    pub fn of(board: &'a Board, plan: &'a Plan, log: &'a Log) -> LoggedTest<'a>
         requires plan { IsPlanOf board.now plan.now }
+        requires passes { plan.now.passes ≡ passes_of board.now }
         requires log { IsLogOf (planned_board board.now plan.now) log.now }
         ensures { result ≡ logged_board (planned_board board.now plan.now) log.now }
     {
-        BoardTest::of(board, plan, &[]).with_log(log)
+        BoardTest::of(board, plan).with_log(log)
     }
 
     /// Returns the test.
@@ -130,6 +151,7 @@ impl<'a> LoggedTest<'a> {
     pub fn plan(&self) -> &'a Plan
         ensures value { result.now ≡ self.now.test.plan }
         ensures plan { IsPlanOf self.now.test.board self.now.test.plan }
+        ensures passes { self.now.test.plan.passes ≡ passes_of self.now.test.board }
     {
         self.test.plan()
     }

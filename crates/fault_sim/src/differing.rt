@@ -43,10 +43,24 @@ impl<'a> LoggedTest<'a> {
         }
         Ok(nets)
     }
+
+    /// Returns whether every compared bit of the log is the expected one. `nets` must be the nets that differ in the log.
+    pub fn none_differs(&self, nets: &[u32]) -> bool
+        requires { AreDiffering self.now.test.board self.now.test.plan self.now.log nets.now }
+        ensures { IsTrue result ↔ IsExpected self.now.test.board (svf_row_scans self.now.test.board) self.now.log }
+    {
+        let _plan = self.plan();
+        let _log = self.log();
+        let _rules = self.board().raw();
+        law::passes_kept();
+        board_law::rows_compared();
+        board_law::expected_bits();
+        nets.is_empty()
+    }
 }
 
 /// Returns the nets that differ in a log, in net order. A net differs if one of its compared cells has a bit other than the expected
-/// one. The log must have the plan's rows, each as long as a data scan. The rows are read once. After that only the cells of the
+/// one. The plan must be made of the board's passes, and the log must have its rows, each as long as a data scan. The rows are read once. After that only the cells of the
 /// nets that differ and of few others are read.
 pub fn differing_nets(
     alloc: Global,
@@ -55,26 +69,10 @@ pub fn differing_nets(
     log: &Log,
 ) -> Result<Vec<u32>, AllocError>
     requires plan { IsPlanOf board.now plan.now }
+    requires passes { plan.now.passes ≡ passes_of board.now }
     requires rows { length log.now ≡ length plan.now.passes * plan.now.width }
     requires bits { All (λ row. length row ≡ data_bits board.now) log.now }
     ensures { IfOk result (λ nets. AreDiffering board.now plan.now log.now nets.items) }
 {
     LoggedTest::of(board, plan, log).differing(alloc)
-}
-
-/// Returns whether every compared bit of a log is the expected one. `nets` must be the nets that differ in it. The plan must be made of
-/// the board's passes, and the log must have its rows, each as long as a data scan.
-pub fn none_differs(board: &Board, plan: &Plan, log: &Log, nets: &[u32]) -> bool
-    requires plan { IsPlanOf board.now plan.now }
-    requires passes { plan.now.passes ≡ passes_of board.now }
-    requires rows { length log.now ≡ length plan.now.passes * plan.now.width }
-    requires bits { All (λ row. length row ≡ data_bits board.now) log.now }
-    requires differing { AreDiffering board.now plan.now log.now nets.now }
-    ensures { IsTrue result ↔ IsExpected board.now (svf_row_scans board.now) log.now }
-{
-    let _rules = board.raw();
-    law::passes_kept();
-    board_law::rows_compared();
-    board_law::expected_bits();
-    nets.is_empty()
 }

@@ -1,6 +1,5 @@
 // What is kept of a test, so that many logs of it can share it.
 ghost use Rattle.std.specs.Prelude.{◌≡◌, ◌<◌, ◌≤◌, length, slice_get, IfOk};
-ghost use Rattle.scan_planner.specs.Plans.{IsPlanOf};
 ghost use Rattle.fault_sim.specs.Kept.{IsRow, AreRows, AreDrivers, KeepRows, KeepDrivers};
 ghost use Rattle.fault_sim.specs.Planned.{controls_of};
 ghost use Rattle.fault_sim.specs.inner.Kept.{kept_drivers, kept_rows};
@@ -109,24 +108,19 @@ fn kept_count(board: &Board, plan: &Plan, logs: usize) -> u32
     plan.pass_count().min(most as u32)
 }
 
-/// Returns what is kept of the first passes of a test for `logs` logs, which takes at most about 64 MiB.
-pub fn kept_passes(
-    alloc: Global,
-    board: &Board,
-    plan: &Plan,
-    logs: usize,
-) -> Result<Vec<KeptPass>, AllocError>
-    requires { IsPlanOf board.now plan.now }
-    ensures rows { IfOk result (λ kept. KeepRows board.now plan.now kept.items) }
-    ensures drivers { IfOk result (λ kept. KeepDrivers plan.now kept.items) }
-{
-    let test = BoardTest::of(board, plan, &[]);
-    let mut kept = Vec::new(alloc);
-    for x in 0..kept_count(board, plan, logs) {
-        let pass = test.pass(x);
-        kept.push(pass.keep(alloc)?)?;
+impl<'a> BoardTest<'a> {
+    /// Returns what to keep of the first passes for `logs` logs, which takes at most about 64 MiB.
+    pub fn kept_passes(&self, alloc: Global, logs: usize) -> Result<Vec<KeptPass>, AllocError>
+        ensures rows { IfOk result (λ kept. KeepRows self.now.board self.now.plan kept.items) }
+        ensures drivers { IfOk result (λ kept. KeepDrivers self.now.plan kept.items) }
+    {
+        let mut kept = Vec::new(alloc);
+        for x in 0..kept_count(self.board(), self.plan(), logs) {
+            let pass = self.pass(x);
+            kept.push(pass.keep(alloc)?)?;
+        }
+        Ok(kept)
     }
-    Ok(kept)
 }
 
 /// Returns the kept rows of pass `x`, or none.

@@ -77,7 +77,6 @@ pub fn matches_by(board: &Board, plan: &Plan, fault: Single, log: &Log, nets: &[
 impl<'a> LoggedTest<'a> {
     /// Like the function `matches_by`, for this test and log.
     pub fn matches_by(&self, fault: Single, nets: &[u32]) -> bool
-        requires passes { self.now.test.plan.passes ≡ passes_of self.now.test.board }
         requires fault { IsSingle self.now.test.board fault }
         requires differing { AreDiffering self.now.test.board self.now.test.plan self.now.log nets.now }
         ensures { IsTrue result ↔ Explains self.now.test.board fault self.now.log }

@@ -1,5 +1,6 @@
 // The passes of a board's test, and of a log of it.
 ghost use Rattle.std.specs.Prelude.{◌≡◌, ◌*◌, ◌<◌, ◌^◌, ◌&&◌, [], length, slice_index_or};
+ghost use Rattle.board_defs.specs.Passes.{passes_of};
 ghost use Rattle.scan_planner.specs.Plans.{IsPlanOf};
 ghost use Rattle.fault_sim.specs.Effects.{code_in, driver_in, fed_net, place_of_driver, pull_in};
 ghost use Rattle.fault_sim.specs.Kept.{AreRows, IsLogOf, IsRow, KeepDrivers, enabled_driver};
@@ -107,6 +108,7 @@ impl<'a> TestPass<'a> {
     pub fn plan(&self) -> &'a Plan
         ensures value { result.now ≡ self.now.test.plan }
         ensures plan { IsPlanOf self.now.test.board self.now.test.plan }
+        ensures passes { self.now.test.plan.passes ≡ passes_of self.now.test.board }
     {
         self.plan
     }
@@ -189,10 +191,12 @@ impl<'a> Model for LoggedPass<'a> {
 }
 
 impl<'a> LoggedPass<'a> {
-    /// Gives the facts about the pass: the plan has it, the plan is one of the board, and the log has the rows of the test.
+    /// Does nothing. Its contract has the facts about the pass: the plan has the pass, the plan is one of the board and has the
+    /// board's passes, and the log has the rows of the test.
     pub fn laws(&self)
         ensures pass { self.now.number < length self.now.logged.test.plan.passes }
         ensures plan { IsPlanOf self.now.logged.test.board self.now.logged.test.plan }
+        ensures passes { self.now.logged.test.plan.passes ≡ passes_of self.now.logged.test.board }
         ensures log { IsLogOf self.now.logged.test self.now.logged.log }
     {
         let _plan = self.pass.plan();

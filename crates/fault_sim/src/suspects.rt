@@ -8,7 +8,7 @@ ghost use Rattle.fault_sim.specs.Places.{IsUniverse};
 ghost use Rattle.fault_sim.specs.Suspects.{AreDiffering, AreSuspects};
 ghost use Rattle.fault_sim.specs.inner.Suspects.{two_from, four_from, pair_number, pair_suspects, pin_net, is_net, pin_suspects, net_suspects, covered_place, suspects_of};
 
-use crate::differing::differing_nets;
+use crate::board_test::LoggedTest;
 use crate::fault_lists::FaultLists;
 use crate::universe::{Universe, start_at};
 use board_defs::{Board, PinRef, law};
@@ -197,37 +197,9 @@ impl Suspects {
         requires bits { All (λ row. length row ≡ data_bits board.now) log.now }
         ensures { IfOk result (λ suspects. AreSuspects board.now plan.now universe.now log.now suspects) }
     {
-        let nets = differing_nets(alloc, board, plan, log)?;
-        Suspects::of_nets(alloc, board, plan, universe, log, &nets)
-    }
-
-    /// Like `new`, but takes the nets that differ in the log.
-    pub fn of_nets(
-        alloc: Global,
-        board: &Board,
-        plan: &Plan,
-        universe: &Universe,
-        log: &Log,
-        nets: &[u32],
-    ) -> Result<Suspects, AllocError>
-        requires plan { IsPlanOf board.now plan.now }
-        requires passes { plan.now.passes ≡ passes_of board.now }
-        requires universe { IsUniverse board.now universe.now }
-        requires rows { length log.now ≡ length plan.now.passes * plan.now.width }
-        requires bits { All (λ row. length row ≡ data_bits board.now) log.now }
-        requires differing { AreDiffering board.now plan.now log.now nets.now }
-        ensures { IfOk result (λ suspects. AreSuspects board.now plan.now universe.now log.now suspects) }
-    {
-        let _rules = board.raw();
-        law::passes_kept();
-        codes_number_covered();
-        singles_observable();
-        board_law::rows_compared();
-        board_law::singles_respond();
-        board_law::expected_bits();
-        board_law::expected_logs();
-        let places = suspects_of(alloc, plan, universe.lists(), nets)?;
-        Ok(Suspects { places })
+        let logged = LoggedTest::of(board, plan, log);
+        let nets = logged.differing(alloc)?;
+        logged.suspects(alloc, universe, &nets)
     }
 
     /// Returns the number of suspects.
@@ -251,4 +223,32 @@ fn place_at(places: &[u64], i: usize) -> u64
     ensures { slice_get places.now i ≡ Some result }
 {
     places[i]
+}
+
+impl<'a> LoggedTest<'a> {
+    /// Returns the suspects, as `Suspects::new` does. `nets` must be the nets that differ in the log, and the universe must be that of
+    /// the board.
+    pub fn suspects(
+        &self,
+        alloc: Global,
+        universe: &Universe,
+        nets: &[u32],
+    ) -> Result<Suspects, AllocError>
+        requires universe { IsUniverse self.now.test.board universe.now }
+        requires differing { AreDiffering self.now.test.board self.now.test.plan self.now.log nets.now }
+        ensures { IfOk result (λ suspects. AreSuspects self.now.test.board self.now.test.plan universe.now self.now.log suspects) }
+    {
+        let plan = self.plan();
+        let _log = self.log();
+        let _rules = self.board().raw();
+        law::passes_kept();
+        codes_number_covered();
+        singles_observable();
+        board_law::rows_compared();
+        board_law::singles_respond();
+        board_law::expected_bits();
+        board_law::expected_logs();
+        let places = suspects_of(alloc, plan, universe.lists(), nets)?;
+        Ok(Suspects { places })
+    }
 }

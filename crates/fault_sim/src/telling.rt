@@ -1,7 +1,6 @@
 // A net that differs in a log, in the first pass that exposes it.
 ghost use Rattle.std.specs.Prelude.{◌≡◌, IfSome, true};
 ghost use Rattle.board_defs.specs.Faults.{IsSingle};
-ghost use Rattle.board_defs.specs.Passes.{passes_of};
 ghost use Rattle.tap_defs.specs.board.Explaining.{Explains};
 ghost use Rattle.fault_sim.specs.Planned.{net_in_pass};
 ghost use Rattle.fault_sim.specs.inner.Telling.{IsWordOn};
@@ -72,10 +71,9 @@ impl<'a> TellingNet<'a> {
         }
     }
 
-    /// Returns true only if the pass shows that a single fault of the board does not explain the log. It rules out only shorts of this
-    /// net with another one. The plan must be made of the board's passes.
+    /// Returns true only if the pass shows that a single fault of the board does not explain the log. Rules out only shorts of this
+    /// net with another one.
     pub fn rules_out(&self, fault: Single) -> bool
-        requires { self.now.pass.logged.test.plan.passes ≡ passes_of self.now.pass.logged.test.board }
         ensures { result ≡ true → IsSingle self.now.pass.logged.test.board fault → Explains self.now.pass.logged.test.board fault self.now.pass.logged.log → ⊥ }
     {
         let _rules = self.pass.board().raw();

@@ -11,8 +11,8 @@ ghost use Rattle.fault_sim.specs.Suspects.{AreDiffering};
 use crate::boards::{BIDIR, Files, GROUPS, PAIR, PULLED, board_of, log_of, plan_of};
 use board_defs::{Board, Kind, Single};
 use bt_base::OpenGate;
-use diagnoser::{diagnose, diagnose_in};
-use fault_sim::{Suspects, Universe, differing_nets, is_pass, matches, matches_by};
+use diagnoser::{Workers, diagnose, diagnose_in};
+use fault_sim::{LoggedTest, Suspects, Universe, differing_nets, is_pass, matches, matches_by};
 use response_log::Log;
 use run_bench::{RowFault, expect};
 use scan_planner::Plan;
@@ -484,7 +484,9 @@ fn own_diagnosis_is(
         plan,
         universe,
     } = tested;
-    let faults = diagnose_in(rt, alloc, board, plan, universe, log, nets, 3, &OpenGate)?;
+    let logged = LoggedTest::of(board, plan, log);
+    let workers = Workers::of(3);
+    let faults = diagnose_in(rt, alloc, &logged, universe, nets, workers, &OpenGate)?;
     are_faults(alloc, &faults, places, words)
 }
 

@@ -1,6 +1,5 @@
 -- How the verdicts on the blocks of a batch are found in pieces.
-use Rattle.std.specs.Prelude.{◌≡◌, ℕ, List, All}
-use Rattle.board_defs.specs.Passes.{passes_of}
+use Rattle.std.specs.Prelude.{ℕ, List, All}
 use Rattle.fault_sim.specs.Places.{IsUniverse}
 use Rattle.diagnoser.specs.Diagnosis.{IsNamed}
 use Rattle.side_by_side.specs.Pieces.{items_between}
@@ -9,9 +8,8 @@ use Rattle.batch_diag.specs.declared.judging.Batch.{Batch}
 use Rattle.batch_diag.specs.declared.verdict.Verdict.{Verdict}
 use Rattle.batch_diag.specs.Verdicts.{EachPair, IsVerdict, AreLogs}
 
--- the logs are of the test that the plan makes of the board's passes
+-- the universe is that of the board, and the logs are of the board's test
 pub record IsBatch (b : Batch) : Type 0 where
-  pub passes : b.test.now.plan.passes ≡ passes_of b.test.now.board
   pub universe : IsUniverse b.test.now.board b.universe.now
   pub logs : AreLogs b.test.now.board b.test.now.plan b.blocks.now
 

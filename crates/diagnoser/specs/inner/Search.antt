@@ -1,7 +1,6 @@
 -- What a search for the faults that explain a log has, and what it finds.
 use Rattle.std.specs.Prelude.{◌≡◌, ℕ, List, filter_map, IfSome}
 use Rattle.board_defs.specs.declared.fault.Single.{Single}
-use Rattle.board_defs.specs.Passes.{passes_of}
 use Rattle.tap_defs.specs.board.Explaining.{Explains}
 use Rattle.fault_sim.specs.Places.{IsUniverse, fault_at}
 use Rattle.fault_sim.specs.Suspects.{AreDiffering, AreSuspects}
@@ -9,9 +8,8 @@ use Rattle.side_by_side.specs.Pieces.{items_between}
 use Rattle.diagnoser.specs.declared.search.Search.{Search}
 use Rattle.fault_sim.specs.Diagnosis.{Picks}
 
--- the candidates are the suspects for a log of the test that the plan makes of the board's passes; the telling net is in a pass of this log
+-- the nets are those that differ in the log, the candidates are the suspects, and the telling net is in a pass of the log
 pub record IsSearch (s : Search) : Type 0 where
-  pub passes : s.logged.now.test.plan.passes ≡ passes_of s.logged.now.test.board
   pub differing : AreDiffering s.logged.now.test.board s.logged.now.test.plan s.logged.now.log s.nets.now
   pub telling : IfSome s.telling.now (λ net. net.pass.logged ≡ s.logged.now)
   pub universe : IsUniverse s.logged.now.test.board s.universe.now

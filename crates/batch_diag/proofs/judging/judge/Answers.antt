@@ -8,9 +8,6 @@ use Rattle.batch_diag.specs.Verdicts.{IsVerdict}
 use Rattle.batch_diag.proofs.JudgeLemmas.{judged_by}
 use Rattle.batch_diag.proofs.judging.judge.Goals as goal
 
-pub verdict_on-requires-clause-passes : goal.verdict_on-requires-clause-passes
-verdict_on-requires-clause-passes g c = λ κs within. rw c.with_log-logged.ensures c.requires.batch.passes
-
 pub verdict_on-requires-clause-universe : goal.verdict_on-requires-clause-universe
 verdict_on-requires-clause-universe g c = λ κs within. rw c.with_log-logged.ensures c.requires.batch.universe
 

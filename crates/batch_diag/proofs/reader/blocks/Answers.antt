@@ -1,6 +1,5 @@
-use Rattle.std.proofs.Common.{ℕ, subst}
 use Rattle.batch_diag.specs.Batch.{batch_of}
-use Rattle.batch_diag.specs.inner.Reading.{IsRead, said_between, said_of}
+use Rattle.batch_diag.specs.inner.Reading.{IsRead}
 use Rattle.batch_diag.proofs.ReadLemmas.{read_end_all, read_text}
 use Rattle.batch_diag.proofs.reader.blocks.Goals as goal
 use Rattle.batch_diag.proofs.reader.blocks.Goals.{After-read_between}

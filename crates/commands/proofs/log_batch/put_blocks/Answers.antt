@@ -1,36 +1,44 @@
-use Rattle.std.proofs.Common.{◌≡◌, ℕ, List, refl, subst, sym}
-use Rattle.std.specs.Prelude.{All, Ok}
+use Rattle.std.proofs.Common.{ℕ, Bool, List, refl, subst, sym}
+use Rattle.std.specs.Prelude.{All}
+use Rattle.board_defs.specs.declared.board.RawBoard.{RawBoard}
+use Rattle.board_defs.specs.BoardRules.{IsBoard}
+use Rattle.board_defs.specs.Pins.{data_bits}
 use Rattle.tap_defs.specs.board.BoardScans.{svf_row_scans}
+use Rattle.tap_defs.specs.board.Explaining.{HasShape}
 use Rattle.response_log.specs.LogRows.{HasSize}
 use Rattle.batch_diag.specs.declared.verdict.Verdict.{Verdict}
 use Rattle.batch_diag.specs.BatchText.{batch_text}
-use Rattle.board_defs.specs.Pins.{data_bits}
-use Rattle.scan_planner.specs.Planned.{PlannedBoard}
-use Rattle.command_line.specs.Words.{Text}
-use Rattle.commands.specs.Answers.{AnswersOn}
-use Rattle.commands.specs.LogRead.{OnBoard, judging_each, test_blocks, test_rows, verdicts_text}
-use Rattle.commands.specs.Worth.{DiagnosesEach}
+use Rattle.commands.specs.LogRead.{OnBoard, judging_each, test_rows, verdicts_text}
+use Rattle.commands.specs.Worth.{DiagnosesEach, RespondOnce, TestMeans}
 use Rattle.commands.specs.inner.Unput.{PutsText}
 use Rattle.commands.proofs.AnswerLemmas.{text_judged}
-use Rattle.commands.proofs.TestLemmas.{rows_are}
 use Rattle.commands.proofs.VerdictLemmas.{each_right}
 use Rattle.commands.proofs.log_batch.put_blocks.Goals as goal
 
-pub diagnose_all-requires-clause-logs : goal.diagnose_all-requires-clause-logs
-diagnose_all-requires-clause-logs g c = λ κs within.
-    let board = c.planned.inside.board in
-    let size = subst (λ (p : PlannedBoard). All (λ block. HasSize (test_rows p.board) (data_bits p.board) block.log) c.args.blocks.now) (sym c.planned.view_is) c.requires.size in
-    subst (λ (n : ℕ). All (λ block. HasSize n (data_bits board) block.log) c.args.blocks.now) (sym (rows_are board c.planned.inside.plan c.planned.invariant.plan c.planned.invariant.passes)) size
+pub diagnose_blocks-requires-clause-logs : goal.diagnose_blocks-requires-clause-logs
+diagnose_blocks-requires-clause-logs g c = λ κs within.
+    rw c.test-test.ensures.test
+    (subst (λ (n : ℕ). All (λ block. HasSize n (data_bits c.args.planned.now.board) block.log) c.args.blocks.now) (sym c.test-test.ensures.rows) c.requires.size)
+
+pub put_verdicts-requires-clause-named : goal.put_verdicts-requires-clause-named
+put_verdicts-requires-clause-named g c =
+    let named = rw c.test-test.ensures.test at c.in_ok-verdicts.ensures.named in
+    rw (c.board-board.ensures, c.deref.ensures.value) named
 
 pub returns : goal.returns
 returns g c =
-    let board = c.planned.inside.board in
+    let board = c.args.planned.now.board in
     let blocks = c.args.blocks.now in
     let verdicts = c.in_ok-verdicts.verdicts.items in
-    let size = subst (λ (p : PlannedBoard). All (λ block. HasSize (test_rows p.board) (data_bits p.board) block.log) blocks) (sym c.planned.view_is) c.requires.size in
-    let right = each_right c.explaining_listed.ensures c.passing_unexplained.ensures board c.raw-rules.ensures.rules blocks verdicts c.in_ok-verdicts.ensures.verdicts in
-    let puts = subst (λ (v : List Verdict). PutsText (batch_text board blocks v) (g.K.Sink.shown c.args.out.now) (g.K.Sink.shown c.put_verdicts.new.out) c.put_verdicts.result) c.deref.ensures.value c.put_verdicts.ensures in
-    subst (λ (p : PlannedBoard). (text : Text) → test_blocks text p.board ≡ Ok blocks → AnswersOn judging_each verdicts_text DiagnosesEach text p.board (g.K.Sink.shown c.args.out.now) (g.K.Sink.shown c.put_verdicts.new.out) c.put_verdicts.result) c.planned.view_is
-    (λ text read. text_judged (OnBoard judging_each text board) (λ found. verdicts_text (board, found)) (DiagnosesEach text board) (blocks, verdicts)
-    (record { contents = blocks; holds = read; finds = (refl, c.in_ok-verdicts.ensures.verdicts) }) _ _ _ puts
-    (record { means = c.test_means.ensures (svf_row_scans board); respond = c.singles_respond.ensures; blocks = blocks; read = read; shapes = λ k d less. c.test_logs_shaped.ensures _ (size k d less); verdicts = verdicts; right = right; is = refl }))
+    let judged = rw c.test-test.ensures.test at c.in_ok-verdicts.ensures.verdicts in
+    let laws = c.judging_laws.ensures in
+    let rules = subst (λ (b : RawBoard). IsBoard b) c.board-board.ensures laws.rules in
+    let means = subst (λ (b : RawBoard). TestMeans b) c.board-board.ensures (laws.means (svf_row_scans c.board-board.result.now)) in
+    let respond = subst (λ (b : RawBoard). RespondOnce b) c.board-board.ensures laws.respond in
+    let shaped = subst (λ (b : RawBoard). (log : List (List Bool)) → HasSize (test_rows b) (data_bits b) log → HasShape b (svf_row_scans b) log) c.board-board.ensures laws.shaped in
+    let right = each_right laws.listed laws.unexplained board rules blocks verdicts judged in
+    let puts = subst (λ (b : RawBoard). PutsText (batch_text b blocks c.deref.result.now) (g.K.Sink.shown c.args.out.now) (g.K.Sink.shown c.put_verdicts.new.out) c.put_verdicts.result) c.board-board.ensures c.put_verdicts.ensures in
+    let written = subst (λ (v : List Verdict). PutsText (batch_text board blocks v) (g.K.Sink.shown c.args.out.now) (g.K.Sink.shown c.put_verdicts.new.out) c.put_verdicts.result) c.deref.ensures.value puts in
+    λ text read. text_judged (OnBoard judging_each text board) (λ found. verdicts_text (board, found)) (DiagnosesEach text board) (blocks, verdicts)
+    (record { contents = blocks; holds = read; finds = (refl, judged) }) _ _ _ written
+    (record { means = means; respond = respond; blocks = blocks; read = read; shapes = λ k d less. shaped _ (c.requires.size k d less); verdicts = verdicts; right = right; is = refl })

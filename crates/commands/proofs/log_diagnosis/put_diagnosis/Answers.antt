@@ -6,8 +6,8 @@ use Rattle.commands.specs.Worth.{Diagnoses}
 use Rattle.commands.proofs.AnswerLemmas.{log_wrong, of_three, of_two}
 use Rattle.commands.proofs.log_diagnosis.put_diagnosis.Goals as goal
 
-pub put_judged-requires-clause-size : goal.put_judged-requires-clause-size
-put_judged-requires-clause-size g c = λ κs within.
+pub with_log-logged-requires : goal.with_log-logged-requires
+with_log-logged-requires g c =
     of_two (λ (rows bits : ℕ). HasSize rows bits c.in-Ok.log) c.log_rows-rows.ensures c.log_bits-bits.ensures c.in-Ok.ensures.size
 
 pub returns-in-Err : goal.returns-in-Err
@@ -21,4 +21,4 @@ returns-in-Err g c =
 
 pub returns-in-Ok : goal.returns-in-Ok
 returns-in-Ok g c =
-    c.put_judged.ensures c.args.text (of_three (λ (t : List ℕ) (rows bits : ℕ). log_rows t rows bits ≡ Ok c.in-Ok.log) c.into_bytes.ensures.bytes c.log_rows-rows.ensures c.log_bits-bits.ensures c.in-Ok.ensures.read)
+    (rw c.with_log-logged.ensures at c.put_judged.ensures) c.args.text (of_three (λ (t : List ℕ) (rows bits : ℕ). log_rows t rows bits ≡ Ok c.in-Ok.log) c.into_bytes.ensures.bytes c.log_rows-rows.ensures c.log_bits-bits.ensures c.in-Ok.ensures.read)

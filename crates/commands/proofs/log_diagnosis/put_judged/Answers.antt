@@ -1,33 +1,37 @@
-use Rattle.std.proofs.Common.{◌≡◌, ℕ, refl, subst, sym}
-use Rattle.std.specs.Prelude.{Ok}
+use Rattle.std.proofs.Common.{ℕ, Bool, List, refl, subst}
+use Rattle.board_defs.specs.declared.board.RawBoard.{RawBoard}
+use Rattle.board_defs.specs.BoardRules.{IsBoard}
 use Rattle.board_defs.specs.Pins.{data_bits}
 use Rattle.tap_defs.specs.board.BoardScans.{svf_row_scans}
+use Rattle.tap_defs.specs.board.Explaining.{HasShape}
 use Rattle.response_log.specs.LogRows.{HasSize}
-use Rattle.scan_planner.specs.Planned.{PlannedBoard}
-use Rattle.command_line.specs.Words.{Text}
-use Rattle.commands.specs.Answers.{AnswersOn}
-use Rattle.commands.specs.LogRead.{OnBoard, diagnosing, diagnosis_text, test_log, test_rows}
-use Rattle.commands.specs.Worth.{Diagnoses}
+use Rattle.diagnoser.specs.DiagText.{diag_text}
+use Rattle.commands.specs.LogRead.{OnBoard, diagnosing, diagnosis_text, test_rows}
+use Rattle.commands.specs.Worth.{Diagnoses, RespondOnce, TestMeans}
+use Rattle.commands.specs.inner.Unput.{PutsText}
 use Rattle.commands.proofs.AnswerLemmas.{text_judged}
 use Rattle.commands.proofs.TestLemmas.{rows_are}
 use Rattle.commands.proofs.VerdictLemmas.{is_right}
 use Rattle.commands.proofs.log_diagnosis.put_judged.Goals as goal
 
-pub found_in-requires-clause-size : goal.found_in-requires-clause-size
-found_in-requires-clause-size g c = λ κs within.
-    let board = c.planned.inside.board in
-    let size = subst (λ (p : PlannedBoard). HasSize (test_rows p.board) (data_bits p.board) c.args.log.now) (sym c.planned.view_is) c.requires.size in
-    subst (λ (n : ℕ). HasSize n (data_bits board) c.args.log.now) (sym (rows_are board c.planned.inside.plan c.planned.invariant.plan c.planned.invariant.passes)) size
+pub put_found-requires : goal.put_found-requires
+put_found-requires g c = rw c.board-board.ensures c.in_ok-found.ensures.named
 
 pub returns : goal.returns
 returns g c =
-    let board = c.planned.inside.board in
-    let rows = c.args.log.now in
+    let logged = c.args.logged.now in
+    let board = logged.test.board in
+    let rows = logged.log in
     let found = c.in_ok-found.found in
     let known = c.in_ok-found.ensures in
-    let size = subst (λ (p : PlannedBoard). HasSize (test_rows p.board) (data_bits p.board) rows) (sym c.planned.view_is) c.requires.size in
-    let right = is_right c.explaining_listed.ensures c.passing_unexplained.ensures board c.raw-rules.ensures.rules rows found.pass found.faults.items known.passes known.faults in
-    subst (λ (p : PlannedBoard). (text : Text) → test_log text p.board ≡ Ok rows → AnswersOn diagnosing diagnosis_text Diagnoses text p.board (g.K.Sink.shown c.args.out.now) (g.K.Sink.shown c.put_found.new.out) c.put_found.result) c.planned.view_is
-    (λ text read. text_judged (OnBoard diagnosing text board) (λ found. diagnosis_text (board, found)) (Diagnoses text board) (found.pass, found.faults.items)
-    (record { contents = rows; holds = read; finds = record { passes = known.passes; list = known.faults } }) _ _ _ c.put_found.ensures
-    (record { means = c.test_means.ensures (svf_row_scans board); respond = c.singles_respond.ensures; rows = rows; read = read; shape = c.test_logs_shaped.ensures rows size; pass = found.pass; faults = found.faults.items; right = right; is = refl }))
+    let laws = c.judging_laws.ensures in
+    let rules = subst (λ (b : RawBoard). IsBoard b) c.board-board.ensures laws.rules in
+    let means = subst (λ (b : RawBoard). TestMeans b) c.board-board.ensures (laws.means (svf_row_scans c.board-board.result.now)) in
+    let respond = subst (λ (b : RawBoard). RespondOnce b) c.board-board.ensures laws.respond in
+    let shaped = subst (λ (b : RawBoard). (log : List (List Bool)) → HasSize (test_rows b) (data_bits b) log → HasShape b (svf_row_scans b) log) c.board-board.ensures laws.shaped in
+    let size = subst (λ (n : ℕ). HasSize n (data_bits board) rows) (rows_are board logged.test.plan c.plan-plan.ensures.plan c.plan-plan.ensures.passes) c.log-log.ensures.rows in
+    let right = is_right laws.listed laws.unexplained board rules rows found.pass found.faults.items known.passes known.faults in
+    let puts = subst (λ (b : RawBoard). PutsText (diag_text b found.pass found.faults.items) (g.K.Sink.shown c.args.out.now) (g.K.Sink.shown c.put_found.new.out) c.put_found.result) c.board-board.ensures c.put_found.ensures in
+    λ text read. text_judged (OnBoard diagnosing text board) (λ found. diagnosis_text (board, found)) (Diagnoses text board) (found.pass, found.faults.items)
+    (record { contents = rows; holds = read; finds = record { passes = known.passes; list = known.faults } }) _ _ _ puts
+    (record { means = means; respond = respond; rows = rows; read = read; shape = shaped rows size; pass = found.pass; faults = found.faults.items; right = right; is = refl })

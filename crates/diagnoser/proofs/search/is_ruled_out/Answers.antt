@@ -1,10 +1,5 @@
 use Rattle.diagnoser.proofs.search.is_ruled_out.Goals as goal
 
-pub rules_out-requires : goal.rules_out-requires
-rules_out-requires c =
-    let logged = rw c.in-Some.is at c.requires.telling in
-    rw logged c.requires.passes
-
 pub returns-in-Some : goal.returns-in-Some
 returns-in-Some c =
     let logged = rw c.in-Some.is at c.requires.telling in

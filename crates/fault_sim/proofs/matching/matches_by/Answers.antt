@@ -4,7 +4,7 @@ pub of-requires-clause-log : goal.of-requires-clause-log
 of-requires-clause-log c = record { rows = c.requires.rows; bits = c.requires.bits }
 
 pub matches_by-requires : goal.matches_by-requires
-matches_by-requires c = rw c.of.ensures (record { passes = c.requires.passes; fault = c.requires.fault; differing = c.requires.differing })
+matches_by-requires c = rw c.of.ensures (record { fault = c.requires.fault; differing = c.requires.differing })
 
 pub returns : goal.returns
 returns c = rw c.of.ensures at c.matches_by.ensures

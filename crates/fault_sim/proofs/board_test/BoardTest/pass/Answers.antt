@@ -10,7 +10,7 @@ invariant_of-result c =
     let inside = c.self.inside in
     record {
       within = rw (← c.self.view_is) at c.requires;
-      plan_is = c.self.invariant.plan_is;
+      planned = c.self.invariant.planned;
       drivers_are = c.of.ensures;
       rows_are = rw c.kept_rows.ensures (rows_kept inside.board.now inside.plan.now inside.kept.now c.self.invariant.rows c.args.x);
     }

@@ -1,4 +1,4 @@
 use Rattle.fault_sim.proofs.board_test.LoggedTest.plan.Goals as goal
 
 pub returns : goal.returns
-returns c = rw (← c.self.view_is) (record { value = c.plan.ensures.value; plan = c.plan.ensures.plan })
+returns c = rw (← c.self.view_is) (record { value = c.plan.ensures.value; plan = c.plan.ensures.plan; passes = c.plan.ensures.passes })

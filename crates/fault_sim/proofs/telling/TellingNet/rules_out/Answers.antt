@@ -16,13 +16,12 @@ returns-in-Some c =
     let plan = pass.logged.test.plan in
     let log = pass.logged.log in
     let rules = subst (λ (b : RawBoard). IsBoard b) c.board.ensures c.raw-rules.ensures.rules in
-    let passes = rw (← c.self.view_is) at c.requires in
     let short = rw (← c.self.view_is) at c.in-Some.ensures in
     let kept = (c.passes_kept.ensures board rules).kept in
     let width = code_width (observed_count board (passes_of board)) in
     rw (← c.self.view_is)
     (λ hidden single explains.
-    let law = explains_is board rules plan c.laws.ensures.plan passes log c.laws.ensures.log.rows c.laws.ensures.log.bits (c.rows_compared.ensures.passes board (passes_of board) width rules kept)
+    let law = explains_is board rules plan c.laws.ensures.plan c.laws.ensures.passes log c.laws.ensures.log.rows c.laws.ensures.log.bits (c.rows_compared.ensures.passes board (passes_of board) width rules kept)
     (c.rows_compared.ensures.shape board (passes_of board) width log rules kept) c.args.fault single (c.singles_respond.ensures.own board c.args.fault log rules single) in
     both_ways c.agree_with.result (not-true c.agree_with.result hidden)
     (c.agree_with.ensures.1

@@ -1,19 +1,23 @@
-use Rattle.std.proofs.Common.{◌≡◌, ◌∙◌, ◌+◌, [], ℕ, List, get_or, length, ap, sym, subst}
+use Rattle.std.proofs.Common.{◌+◌, ◌∙◌, [], ℕ, List, get_or, length, ap, sym, subst, arith}
 use Rattle.std.proofs.lemmas.List.{length_push}
+use Rattle.plan_tables.specs.declared.tables.PlanTables.{PlanTables}
 use Rattle.fault_sim.specs.declared.kept.KeptPass.{KeptPass}
 use Rattle.fault_sim.specs.Kept.{AreDrivers, AreRows, KeepDrivers, KeepRows}
-use Rattle.fault_sim.specs.Planned.{PlannedBoard, PlannedPass, controls_of, planned_board, planned_pass}
+use Rattle.fault_sim.specs.Planned.{PlannedPass, controls_of}
 use Rattle.scan_planner.proofs.NumberedLemmas.{each_more}
-use Rattle.fault_sim.proofs.kept.kept_passes.Goals as goal
+use Rattle.fault_sim.proofs.board_test.BoardTest.kept_passes.Goals as goal
+
+pub pass-pass-requires : goal.pass-pass-requires
+pass-pass-requires c = omega (arith, c.loop-x-test.true, c.kept_count-x-end.ensures, ap (λ (p : PlanTables). length p.passes) c.plan.ensures.value)
 
 pub loop-x-preserved : goal.loop-x-preserved
 loop-x-preserved c =
-    let board = c.args.board.now in
-    let plan = c.args.plan.now in
+    let board = c.args.self.now.board in
+    let plan = c.args.self.now.plan in
     let kept = c.loop-x.kept.items in
     let pass = c.in_ok-keep.field-0 in
     let place = sym c.loop-x.invariant.count in
-    let is : c.pass-pass.result ≡ planned_pass (planned_board board plan) c.loop-x.x = c.pass-pass.ensures ∙ ap (λ (t : PlannedBoard). planned_pass t c.loop-x.x) c.of-test.ensures in
+    let is = c.pass-pass.ensures in
     let rows = subst (λ (p : PlannedPass). AreRows p.test.board p.test.plan p.number pass.rows) is c.in_ok-keep.ensures.rows in
     let drivers = subst (λ (p : PlannedPass). AreDrivers p.test.plan (controls_of p) pass.drivers) is c.in_ok-keep.ensures.drivers in
     record {

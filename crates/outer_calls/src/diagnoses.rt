@@ -1,0 +1,59 @@
+//! The diagnosis of one log, as `diagnoser` answers, and of the logs of many blocks, as `batch_diag` answers.
+ghost use Rattle.std.specs.Prelude.{◌≡◌, ◌*◌, ◌≤◌, length, All, IfOk};
+ghost use Rattle.board_defs.specs.Passes.{passes_of};
+ghost use Rattle.board_defs.specs.Pins.{data_bits};
+ghost use Rattle.scan_planner.specs.Plans.{IsPlanOf};
+ghost use Rattle.diagnoser.specs.Diagnosis.{AreExplaining, IsNamed};
+ghost use Rattle.batch_diag.specs.Verdicts.{AreLogs, AreVerdicts};
+
+use batch_diag::{Block, Verdict};
+use board_defs::{Board, Single};
+use bt_base::Gate;
+use response_log::Log;
+use scan_planner::Plan;
+use std::alloc::{AllocError, Global};
+use std::thread::Threads;
+
+/// Returns the single faults of the board that explain the log.
+pub fn diagnose<R: Threads + Sync, G: Gate>(
+    rt: &R,
+    alloc: Global,
+    board: &Board,
+    plan: &Plan,
+    log: &Log,
+    workers: u32,
+    gate: &G,
+) -> Result<Vec<Single>, AllocError>
+    requires some { 1 ≤ workers }
+    requires few { workers ≤ 64 }
+    requires plan { IsPlanOf board.now plan.now }
+    requires passes { plan.now.passes ≡ passes_of board.now }
+    requires rows { length log.now ≡ length plan.now.passes * plan.now.width }
+    requires bits { All (λ row. length row ≡ data_bits board.now) log.now }
+    ensures faults { IfOk result (λ faults. AreExplaining board.now log.now faults.items) }
+    ensures named { IfOk result (λ faults. All (IsNamed board.now) faults.items) }
+{
+    diagnoser::diagnose(rt, alloc, board, plan, log, workers, gate)
+}
+
+/// Returns a verdict on each block.
+pub fn diagnose_all<R: Threads + Sync, G: Gate>(
+    rt: &R,
+    alloc: Global,
+    board: &Board,
+    plan: &Plan,
+    blocks: &[Block],
+    workers: u32,
+    gate: &G,
+) -> Result<Vec<Verdict>, AllocError>
+    requires some { 1 ≤ workers }
+    requires few { workers ≤ 64 }
+    requires plan { IsPlanOf board.now plan.now }
+    requires passes { plan.now.passes ≡ passes_of board.now }
+    requires logs { AreLogs board.now plan.now blocks.now }
+    ensures verdicts { IfOk result (λ verdicts. AreVerdicts board.now blocks.now verdicts.items) }
+    ensures count { IfOk result (λ verdicts. length verdicts.items ≡ length blocks.now) }
+    ensures named { IfOk result (λ verdicts. All (λ verdict. All (IsNamed board.now) verdict.faults) verdicts.items) }
+{
+    batch_diag::diagnose_all(rt, alloc, board, plan, blocks, workers, gate)
+}
