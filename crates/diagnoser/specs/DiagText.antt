@@ -55,7 +55,7 @@ fault_line board (Short a b kind) = short_line kind (net_name board a) (net_name
 abbrev pub fail_line : ℕ → List ℕ
 fail_line count = line_of (codes "FAIL " ∷ decimal count ∷ [])
 
--- the line that says that the board passes, or the faults
+-- the text of a diagnosis: the line `PASS`, or the line `FAIL` with the number of faults and then a line for each fault
 unfoldable pub diag_text : RawBoard → Bool → List Single → List ℕ
 diag_text board true faults = line_of (codes "PASS" ∷ [])
 diag_text board false faults = fail_line (length faults) ++ flat_map (fault_line board) faults

@@ -1,4 +1,4 @@
--- The models of a board's test, of a pass of the test, and of a log of the test.
+-- Models that pair a board with its plan, a log with its board, and a pass with either.
 use Rattle.std.specs.Prelude.{◌≡◌, ℕ, Bool, List, [], slice_index_or}
 use Rattle.board_defs.specs.declared.board.Ctl.{Ctl}
 use Rattle.board_defs.specs.Passes.{passes_of}

@@ -60,8 +60,8 @@ impl<'a> LoggedTest<'a> {
 }
 
 /// Returns the nets that differ in a log, in net order. A net differs if one of its compared cells has a bit other than the expected
-/// one. The plan must be made of the board's passes, and the log must have its rows, each as long as a data scan. The rows are read once. After that only the cells of the
-/// nets that differ and of few others are read.
+/// one. The plan must be made of the board's passes, and the log must have the plan's rows, each as long as a data scan. The rows are
+/// read once. After that only the cells of the nets that differ and of few others are read.
 pub fn differing_nets(
     alloc: Global,
     board: &Board,

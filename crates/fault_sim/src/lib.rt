@@ -1,4 +1,4 @@
-//! Which single faults of a board explain a log of its test.
+//! Decides which single faults of a board explain a log of its test.
 //!
 //! No run is simulated. The bit that a compared cell has under a single fault follows from the row in the latches, and only
 //! cells of the faulty nets can differ from the expected bits.

@@ -25,7 +25,7 @@ fn mark_digits(marks: &mut [u8], log: &[u8], expected: &[u8], compared: &[u8])
 }
 
 impl<'a> LoggedPass<'a> {
-    // Does the same for row `j` of the pass. `row` has the bits that the test expects and compares there.
+    // Marks the digits of row `j` of the pass. `row` has the bits that the test expects and compares in row `j`.
     fn mark_by(&self, marks: &mut [u8], j: u32, row: &ComparedRow)
         requires row { j < self.now.logged.test.plan.width }
         requires count { length marks.old ≡ digit_count (data_bits self.now.logged.test.board) }
@@ -41,7 +41,7 @@ impl<'a> LoggedPass<'a> {
         );
     }
 
-    // Does the same for row `j` of the pass, which is made in `spare` if it is not kept.
+    // Marks the digits of row `j` of the pass. If the pass has not kept the row, it is made in `spare`.
     fn mark_row(&self, marks: &mut [u8], spare: &mut ComparedRow, j: u32)
         requires row { j < self.now.logged.test.plan.width }
         requires count { length marks.old ≡ digit_count (data_bits self.now.logged.test.board) }
@@ -58,7 +58,7 @@ impl<'a> LoggedPass<'a> {
         }
     }
 
-    // Does the same for each row of the pass.
+    // Marks the digits of all rows of the pass.
     fn mark(&self, marks: &mut [u8], spare: &mut ComparedRow)
         requires count { length marks.old ≡ digit_count (data_bits self.now.logged.test.board) }
         requires room { HaveRoom self.now.logged.test.board spare.old }

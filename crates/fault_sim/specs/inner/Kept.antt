@@ -36,7 +36,7 @@ abbrev pub is_code : Source → Bool
 is_code (Code code) = true
 is_code (Fixed bit) = false
 
--- the pass observes the net on which it enables this driver: its cell has the net's code
+-- the pass observes the net of this driver, that is, the driver's cell carries the bits of the net's code
 abbrev pub observes_coded : Option EnabledDriver → Bool
 observes_coded None = false
 observes_coded (Some d) = is_code d.source
