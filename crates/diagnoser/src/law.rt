@@ -1,4 +1,4 @@
-//! Laws of diagnoses. Each is the contract of a function that does nothing.
+//! Laws of diagnoses. Each law is the contract of a function that does nothing.
 ghost use Rattle.diagnoser.specs.Laws.{ExplainingListed, OneList, OneDiagnosis, PassingUnexplained};
 
 use board_defs::law as board_law;
@@ -11,7 +11,8 @@ pub fn explaining_listed()
     board_law::singles_listed();
 }
 
-/// At most one list of faults explains a log, so neither the number of workers nor the gate changes the list.
+/// A log has at most one list of explaining faults in the order of the single faults. Neither the number of workers nor the gate can
+/// therefore change the list.
 pub fn one_list()
     ensures { OneList }
 {}

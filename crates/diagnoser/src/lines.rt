@@ -15,14 +15,14 @@ fn bit_word(value: bool) -> &'static [u8]
     if value { b"1" } else { b"0" }
 }
 
-/// Writes the line that says that the log passes.
+/// Writes the line `PASS`.
 pub fn put_pass<K: Sink>(line: &mut Line, out: &mut K) -> Result<(), PutFault>
     ensures { Prints (K.shown out.old) (K.shown out.new) [] [] (line_of (codes "PASS" ∷ [])) result }
 {
     put_line(&[b"PASS"], line, out)
 }
 
-/// Writes the line with the number of faults.
+/// Writes the line `FAIL` with the number of faults.
 pub fn put_fail<K: Sink>(count: u64, line: &mut Line, out: &mut K) -> Result<(), PutFault>
     ensures { Prints (K.shown out.old) (K.shown out.new) [] [] (fail_line count) result }
 {
@@ -42,7 +42,7 @@ fn put_stuck_word<K: Sink>(
     put_line(&[b"stuck ".as_slice(), name, b" ", word], line, out)
 }
 
-/// Writes the line of a stuck net.
+/// Writes the line of a stuck net, with the net's name and the value that the net is stuck at.
 pub fn put_stuck<K: Sink>(
     name: &[u8],
     value: bool,
@@ -76,7 +76,7 @@ fn put_open_word<K: Sink>(
     )
 }
 
-/// Writes the line of an open pin.
+/// Writes the line of an open pin, with the pin and the value that the pin reads.
 pub fn put_open<K: Sink>(
     pin: &NetPin,
     value: bool,
@@ -100,7 +100,7 @@ fn put_pair<K: Sink>(
     put_line(&[b"short ".as_slice(), word, b" ", x, b" ", y], line, out)
 }
 
-/// Writes the line of a short of the nets `a` and `b`. The net that dominates comes first.
+/// Writes the line of a short of the nets named `a` and `b`. If one net dominates the other, its name comes first.
 pub fn put_short<K: Sink>(
     kind: Kind,
     a: &[u8],

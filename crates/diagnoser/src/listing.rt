@@ -20,7 +20,7 @@ fn net_name(board: &Board, n: u32) -> &[u8]
     board.raw().nets.as_slice()[n as usize].name.bytes()
 }
 
-// Returns the pin that `pin` refers to.
+// Returns the pin of the board that `pin` refers to.
 fn pin_at(board: &Board, pin: PinRef) -> &NetPin
     requires { IsOnBoard board.now pin }
     ensures { pin_at board.now pin ≡ Some result.now }
@@ -62,7 +62,7 @@ fn put_faults<K: Sink>(
     Ok(())
 }
 
-// Writes the number of faults, and then the line of each.
+// Writes the line `FAIL` with the number of faults, and then a line for each fault.
 fn put_list<K: Sink>(
     board: &Board,
     faults: &[Single],
@@ -76,10 +76,10 @@ fn put_list<K: Sink>(
     put_faults(board, faults, line, out)
 }
 
-/// Writes a diagnosis: that the log passes, or the number of faults that explain it, and then each fault. The faults must name nets
-/// and pins of the board. Each line is one put to the sink. A line of more than `MAX_LINE` bytes is put in pieces of `MAX_LINE`
-/// bytes and the rest. Allocates nothing. `line` is used as a buffer, and its content afterwards is unspecified. Fails only if
-/// the sink does, and then a prefix of the text was put.
+/// Writes a diagnosis. If `pass` is true, this is the line `PASS`. Otherwise it is the line `FAIL` with the number of faults, and then a
+/// line for each fault. The nets and pins of the faults must be on the board. A line of at most `MAX_LINE` bytes is put to the sink in one
+/// call. A longer line is put in pieces of `MAX_LINE` bytes, and the last piece has the rest. Allocates nothing. `line` serves as a buffer,
+/// and its content afterwards is unspecified. Fails only if the sink fails. The sink then got a prefix of the text.
 pub fn write_diagnosis<K: Sink>(
     board: &Board,
     pass: bool,

@@ -9,19 +9,20 @@ use crate::feed::{FedNet, Feed, feed_bit};
 use crate::passes::TestPass;
 use board_defs::{Kind, Single};
 
-/// The bits that the compared cells of a net show.
+/// The bits that the compared cells of a net have in the rows of a pass.
 #[derive(Clone, Copy)]
 pub enum Effect {
     /// The expected bits.
     Plain,
-    /// One bit in all rows.
+    /// This bit at all cells in all rows.
     Constant(bool),
-    /// One bit in all rows at the cells of the pin at this place, and the expected bits elsewhere.
+    /// In all rows `bit` at the cells of the pin at `place`, and the expected bits at the other cells.
     AtPin {
         place: u32,
         bit: bool,
     },
-    /// The common bit of two shorted nets: the one that they are driven to, else the one that they are pulled to, else the expected one.
+    /// The common bit of two shorted nets in each row. It is the bit that the nets are driven to. If neither net is driven, it is the bit
+    /// that they are pulled to. If neither is pulled, it is the expected bit.
     Shorted {
         kind: Kind,
         first: Option<Feed>,
@@ -30,7 +31,7 @@ pub enum Effect {
     },
 }
 
-/// Returns the first net of a fault. A stuck net or an open pin has only one.
+/// Returns the first net of a short, or the only net of any other fault.
 pub fn first_net(fault: Single) -> u32
     ensures { result ≡ first_net fault }
 {
@@ -63,7 +64,8 @@ fn combined(kind: Kind, first: bool, second: bool) -> bool
     }
 }
 
-/// Returns the common bit of two shorted nets. If only one of them has a bit, it is that bit.
+/// Returns the common bit of two shorted nets, given the bit of each net alone. If only one net has a bit, returns this bit. If neither net
+/// has a bit, returns `None`.
 pub fn shorted(kind: Kind, first: Option<bool>, second: Option<bool>) -> Option<bool>
     ensures { result ≡ shorted kind first second }
 {
@@ -91,7 +93,7 @@ fn open_effect(driver: Option<u32>, place: u32, value: bool, pull: Option<bool>)
     }
 }
 
-// Returns the effect of a short, from what both nets get.
+// Returns the effect of a short on its two nets.
 fn shorted_effect(kind: Kind, first: FedNet, second: FedNet) -> Effect
     ensures { result ≡ shorted_effect kind first second }
 {
@@ -139,7 +141,7 @@ impl<'a> TestPass<'a> {
         }
     }
 
-    /// Returns the effect of a fault on net `n` in the rows of the pass.
+    /// Returns the effect of a fault on net `n` in the rows of the pass. Without a fault, the cells have the expected bits.
     pub fn effect(&self, fault: Option<Single>, n: u32) -> Effect
         ensures { result ≡ effect_in self.now.test.board self.now.test.plan (controls_of self.now) fault n }
     {
@@ -150,7 +152,8 @@ impl<'a> TestPass<'a> {
     }
 }
 
-// Returns the common bit of two shorted nets.
+// Returns the common bit of two shorted nets in a row. `first` and `second` are the bits that the nets are driven to in this row. If
+// neither net is driven, returns `pull`. If there is no pull, returns `expected`.
 fn short_bit(
     kind: Kind,
     first: Option<bool>,
@@ -166,7 +169,8 @@ fn short_bit(
     }
 }
 
-/// Returns the bit that the compared cell of the pin at this place of the net has in row `j` of a pass.
+/// Returns the bit that an effect gives the net's compared cells of the pin at `place` in row `j` of a pass. `expected` is the bit that the
+/// test expects.
 #[inline]
 pub fn effect_bit(effect: Effect, j: u32, place: u32, expected: bool) -> bool
     ensures { result ≡ effect_bit effect j place expected }

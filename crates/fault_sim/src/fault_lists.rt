@@ -1,12 +1,12 @@
-// The lists from which the places of a board are found.
+// The lists in which a universe looks up the fault at a place.
 ghost use Rattle.std.specs.Prelude.{◌≤◌, length};
 ghost use Rattle.board_defs.specs.Limits.{most_nets, most_pins};
 ghost use Rattle.fault_sim.specs.Starts.{AreStarts};
 
 use board_defs::{Items, PinRef};
 
-/// The covered nets and the tested pins of a board, and for each covered net the number of pairs of covered nets before its pairs
-/// with later nets.
+/// The covered nets and the tested pins of a board. `starts` has, for each covered net, the number of the net's first pair with a later
+/// net. The last item of `starts` is the number of all pairs.
 #[derive(Drop)]
 pub struct FaultLists {
     pub nets: Items<u32>,

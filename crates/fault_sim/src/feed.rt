@@ -1,4 +1,4 @@
-// How a pass drives a net.
+// The driver that a pass enables on a net, and the bits that the net gets from this driver.
 ghost use Rattle.std.specs.Prelude.{◌≡◌, ◌<◌, ◌==◌, not};
 ghost use Rattle.std.specs.List.{list_any};
 ghost use Rattle.board_defs.specs.Pins.{is_same};
@@ -16,38 +16,38 @@ use scan_planner::{NetDriver, Plan, ReaderCell};
 /// The bits of a driver's cell in the rows of a pass.
 #[derive(Clone, Copy)]
 pub enum Source {
-    /// The bits of its net's code.
+    /// The bits of the code of the driver's net.
     Code(u32),
-    /// One bit in all rows.
+    /// This bit in all rows.
     Fixed(bool),
 }
 
 /// The driver that a pass enables on a net.
 #[derive(Clone, Copy)]
 pub struct EnabledDriver {
-    /// The place of its pin in the net.
+    /// The place of the driver's pin in the net.
     pub place: u32,
     pub source: Source,
-    /// Whether its own cell controls it.
+    /// True if the driver's own cell controls the driver.
     pub own: bool,
 }
 
-/// What the enabled driver of a net gives it in the rows of a pass.
+/// The bits that a net gets from its enabled driver in the rows of a pass.
 #[derive(Clone, Copy)]
 pub struct Feed {
     pub source: Source,
-    /// The bit of the cell at which the driver is off, if its own cell controls it.
+    /// The bit of the driver's own cell that switches the driver off, or `None` if neither bit of this cell does.
     pub off: Option<bool>,
 }
 
-/// What a net gets in a pass: the feed of its enabled driver, and its pull.
+/// A net in a pass: the feed of its enabled driver, if there is one, and the value that the net is pulled to, if any.
 #[derive(Clone, Copy)]
 pub struct FedNet {
     pub feed: Option<Feed>,
     pub pull: Option<bool>,
 }
 
-/// Returns whether the two bits are equal.
+/// Returns whether two bits are equal.
 #[inline]
 pub fn is_same(a: bool, b: bool) -> bool
     ensures { result ≡ is_same a b }
@@ -81,7 +81,7 @@ fn unless_off(off: Option<bool>, bit: bool) -> Option<bool>
     }
 }
 
-/// Returns the bit that a net is driven to in row `j`, if it is driven.
+/// Returns the bit that a net is driven to in row `j`, or `None` if the net is not driven in this row.
 pub fn feed_bit(feed: Option<Feed>, j: u32) -> Option<bool>
     ensures { result ≡ feed_bit feed j }
 {
@@ -111,14 +111,14 @@ fn enabled(drivers: &[NetDriver], pass: &Setting) -> Option<NetDriver>
     None
 }
 
-/// Returns the driver that a pass enables on a net.
+/// Returns the driver that a pass enables on a net, if there is one.
 pub fn driver_in(plan: &Plan, pass: &Setting, net: u32) -> Option<NetDriver>
     ensures { result ≡ driver_in plan.now pass.now net }
 {
     enabled(plan.drivers(net), pass)
 }
 
-/// Returns whether some of these cells reads a pin other than the one at this place.
+/// Returns whether at least one of these cells reads a pin other than the one at `place`.
 pub fn is_read_beside(readers: &[ReaderCell], place: u32) -> bool
     ensures { result ≡ list_any (λ r. not (r.place == place)) readers.now }
 {
@@ -161,7 +161,7 @@ fn enabled_by(plan: &Plan, pass: &Setting, net: u32, driver: NetDriver) -> Enabl
     }
 }
 
-/// Returns the driver that a pass enables on a net, with its cell's bits in the rows of the pass.
+/// Returns the driver that a pass enables on a net, with the bits of the driver's cell in the rows of the pass.
 pub fn enabled_driver(plan: &Plan, pass: &Setting, net: u32) -> Option<EnabledDriver>
     ensures { result ≡ enabled_driver plan.now pass.now net }
 {
@@ -171,7 +171,7 @@ pub fn enabled_driver(plan: &Plan, pass: &Setting, net: u32) -> Option<EnabledDr
     }
 }
 
-// Returns what an enabled driver gives its net, which has this pull.
+// Returns the feed that an enabled driver gives its net. `pull` is the value that the net is pulled to, if any.
 fn feed_of(driver: EnabledDriver, pull: Option<bool>) -> Feed
     ensures { result ≡ feed_of pull driver }
 {
@@ -181,7 +181,7 @@ fn feed_of(driver: EnabledDriver, pull: Option<bool>) -> Feed
     }
 }
 
-/// Returns what a net with this enabled driver and this pull gets.
+/// Returns a net in a pass, given the driver that the pass enables on the net and the net's pull.
 pub fn net_fed_by(driver: Option<EnabledDriver>, pull: Option<bool>) -> FedNet
     ensures { result ≡ net_fed_by driver pull }
 {
@@ -194,7 +194,8 @@ pub fn net_fed_by(driver: Option<EnabledDriver>, pull: Option<bool>) -> FedNet
     }
 }
 
-/// Returns whether the pass observes the net on which it enables this driver. It does exactly if the driver's cell has the net's code.
+/// Returns whether a pass observes the net on which it enables `driver`. The pass observes the net exactly if the driver's cell has the
+/// bits of the net's code. Returns false if there is no driver.
 pub fn observes(driver: Option<EnabledDriver>) -> bool
     ensures { result ≡ observes_coded driver }
 {
@@ -207,7 +208,7 @@ pub fn observes(driver: Option<EnabledDriver>) -> bool
     }
 }
 
-/// Returns the value that a net is pulled to.
+/// Returns the value that a net is pulled to, or `None` if the net has no pull.
 pub fn pull_in(board: &Board, net: u32) -> Option<bool>
     ensures { result ≡ pull_in board.now net }
 {

@@ -1,4 +1,4 @@
-// Compares the cells of a log with the effect of a fault.
+// Checks whether a log shows the effect of a fault on the compared cells.
 ghost use Rattle.std.specs.Prelude.{◌≡◌, ◌↔◌, ◌<◌, [], length, slice_index_or, All, IsTrue};
 ghost use Rattle.std.specs.List.{list_all};
 ghost use Rattle.tap_defs.specs.board.TestRows.{code_bit};
@@ -13,7 +13,7 @@ use board_defs::{Board, Single};
 use response_log::Log;
 use scan_planner::ReaderCell;
 
-// Returns the bit of a log at a position of a row.
+// Returns the bit at position `at` of a row of a log.
 #[inline]
 fn bit_in(log: &Log, row: u64, at: u32) -> bool
     requires row { row < length log.now }
@@ -23,7 +23,8 @@ fn bit_in(log: &Log, row: u64, at: u32) -> bool
     log.bit(row, at)
 }
 
-// Returns whether a cell of a net has the bit of the effect in row `j` of a pass, or reads the driver's own pin.
+// Returns whether a cell of a net has the bit that `effect` gives it in row `j` of a pass. `row` is the number of this row in the log.
+// Returns true for a cell that reads the driver's own pin.
 #[inline]
 fn cell_shows(
     log: &Log,
@@ -68,7 +69,7 @@ fn cells_show(
 }
 
 impl<'a> NetRows<'a> {
-    // Returns whether each cell has the bits of an effect in all rows, or reads the pin at the driver's place.
+    // Returns whether all cells have the bits of an effect in all rows. Cells that read the pin at the driver's place are not checked.
     fn show(&self, code: u32, effect: Effect, driver: u32) -> bool
         ensures { IsTrue result ↔ ShowRows self.now.log self.now.first self.now.width code self.now.readers effect driver }
     {
@@ -82,7 +83,7 @@ impl<'a> NetRows<'a> {
         true
     }
 
-    // Like `show`, for the place of the driver that a pass enables. Returns true if it enables none.
+    // Like `show`, but takes the place of the enabled driver's pin, if there is one. Returns true without an enabled driver.
     fn show_by(&self, code: u32, effect: Effect, driver: Option<u32>) -> bool
         ensures { IsTrue result ↔ ShowBy self.now.log self.now.first self.now.width code self.now.readers effect driver }
     {
@@ -101,14 +102,15 @@ pub fn net_count(board: &Board) -> u32
 }
 
 impl<'a> LoggedPass<'a> {
-    // Returns whether the log shows an effect on a net. `driver` is the place of the pin of the driver that the pass enables on it.
+    // Returns whether this pass of the log shows an effect on a net. `driver` is the place of the enabled driver's pin, if the pass enables
+    // a driver on the net.
     fn shows_effect(&self, effect: Effect, driver: Option<u32>, net: u32) -> bool
         ensures { IsTrue result ↔ ShowsEffect self.now.logged.test.plan self.now.logged.log self.now.number net effect driver }
     {
         self.net_rows(net).show_by(self.code(net), effect, driver)
     }
 
-    /// Returns whether the log shows the effect of a fault on a net.
+    /// Returns whether this pass of the log shows the effect of a fault on a net. Without a fault, checks for the expected bits.
     pub fn shows(&self, fault: Option<Single>, net: u32) -> bool
         ensures { IsTrue result ↔ Shows self.now.logged.test.board self.now.logged.test.plan fault self.now.logged.log self.now.number net }
     {
@@ -116,14 +118,14 @@ impl<'a> LoggedPass<'a> {
         self.shows_effect(effect, self.pass.driver_place(net), net)
     }
 
-    // Returns whether the log shows the effect of a fault on the fault's own nets.
+    // Returns whether this pass of the log shows the effect of a fault on the fault's own nets.
     fn shows_own(&self, fault: Single) -> bool
         ensures { IsTrue result ↔ ShowsOwnIn self.now.logged.test.board self.now.logged.test.plan fault self.now.logged.log self.now.number }
     {
         self.shows(Some(fault), first_net(fault)) && self.shows(Some(fault), second_net(fault))
     }
 
-    // Returns whether the log shows the effect of a fault on each net.
+    // Returns whether this pass of the log shows the effect of a fault on every net. Without a fault, checks for the expected bits.
     fn shows_all(&self, fault: Option<Single>) -> bool
         ensures { IsTrue result ↔ ShowsIn self.now.logged.test.board self.now.logged.test.plan fault self.now.logged.log self.now.number }
     {
@@ -137,8 +139,8 @@ impl<'a> LoggedPass<'a> {
 }
 
 impl<'a> LoggedTest<'a> {
-    /// Returns whether the log shows the effect of a fault on its own nets. Both nets are checked pass by pass, since a fault that does not
-    /// fit mostly fails in an early pass.
+    /// Returns whether every pass of the log shows the effect of a fault on the fault's own nets. Checks both nets in one pass before the
+    /// next pass, since a fault that does not explain the log mostly fails in an early pass.
     pub(crate) fn shows_own(&self, fault: Single) -> bool
         ensures { IsTrue result ↔ ShowsOwn self.now.test.board self.now.test.plan fault self.now.log }
     {
@@ -151,7 +153,7 @@ impl<'a> LoggedTest<'a> {
         true
     }
 
-    /// Returns whether the log shows the effect of a fault on a net.
+    /// Returns whether every pass of the log shows the effect of a fault on a net. Without a fault, checks for the expected bits.
     pub(crate) fn shows_on(&self, fault: Option<Single>, net: u32) -> bool
         ensures { IsTrue result ↔ ShowsOn self.now.test.board self.now.test.plan fault self.now.log net }
     {
@@ -164,7 +166,7 @@ impl<'a> LoggedTest<'a> {
         true
     }
 
-    /// Returns whether the log shows the effect of a fault, or the expected bits if there is none.
+    /// Returns whether every pass of the log shows the effect of a fault on every net. Without a fault, checks for the expected bits.
     pub(crate) fn shows_all(&self, fault: Option<Single>) -> bool
         ensures { IsTrue result ↔ ShowsAll self.now.test.board self.now.test.plan fault self.now.log }
     {

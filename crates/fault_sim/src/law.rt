@@ -1,4 +1,4 @@
-//! Laws of a board's places and of diagnoses. Each is the contract of a function that does nothing.
+//! Laws of a board's places and of diagnoses. Each law is the contract of a function that does nothing.
 ghost use Rattle.std.specs.Prelude.{◌≡◌, ◌↔◌, Bool, List, filter, IsTrue};
 ghost use Rattle.board_defs.specs.declared.board.RawBoard.{RawBoard};
 ghost use Rattle.board_defs.specs.declared.fault.Single.{Single};
@@ -8,17 +8,18 @@ ghost use Rattle.tap_defs.specs.board.Explaining.{Explains};
 ghost use Rattle.fault_sim.specs.Diagnosis.{Picks, IsDiagnosis};
 ghost use Rattle.fault_sim.specs.Laws.{OneOrder, PlacesAre, PlacesCounted, SuspectsArePlaces, SuspectsSuffice};
 
-/// The faults at the places of a board are its single faults, in order.
+/// The faults at the places of a board are the board's single faults, in order.
 pub fn places_are_the_singles()
     ensures { PlacesAre }
 {}
 
-/// A board has as many places as its universe counts.
+/// The number of a board's places is the one that the board's universe counts.
 pub fn places_counted()
     ensures { PlacesCounted }
 {}
 
-/// The single faults of a board that explain a log are those at the suspects' places that explain it, in the same order.
+/// If a test passes only faults that explain a log, filtering the faults at the suspects' places by the test gives the same list as
+/// filtering all single faults of the board.
 pub fn suspects_suffice()
     ensures { SuspectsSuffice }
 {}
@@ -28,7 +29,7 @@ pub fn suspects_are_places()
     ensures { SuspectsArePlaces }
 {}
 
-/// No two single faults each come before the other.
+/// If one single fault comes before another, the other does not come before the first.
 pub fn singles_have_one_order()
     ensures { OneOrder }
 {}
@@ -39,7 +40,8 @@ pub fn logs_have_one_diagnosis()
     ensures one { (board : RawBoard) (log : List (List Bool)) (pass other_pass : Bool) (faults others : List Single) → IsDiagnosis board log pass faults → IsDiagnosis board log other_pass others → (pass ≡ other_pass) × (faults ≡ others) }
 {}
 
-/// If a test decides for each single fault of a board whether it explains a log, the faults that pass it are the diagnosis, in order.
+/// If a test decides for each single fault of a board whether the fault explains a log, the single faults that pass the test are those of
+/// the log's diagnosis, in order.
 pub fn filters_pick()
     ensures { (board : RawBoard) (log : List (List Bool)) (test : Single → Bool) → IsBoard board → ((single : Single) → IsSingle board single → (IsTrue (test single) ↔ Explains board single log)) → Picks (λ single. Explains board single log) (singles board) (filter test (singles board)) }
 {}

@@ -1,4 +1,4 @@
-// Marks of the digits of a log's rows in which some compared bit is not the expected one.
+// Marks of the hexadecimal digits of a log's rows. A digit is marked if, in some row, a compared bit of this digit is not the expected bit.
 ghost use Rattle.std.specs.Prelude.{◌≡◌, ℕ, ◌<◌, length, slice_index_or, IfOk};
 ghost use Rattle.std.specs.Int.Bits.{bit_and, bit_xor};
 ghost use Rattle.board_defs.specs.Pins.{data_bits};
@@ -12,7 +12,7 @@ use crate::passes::LoggedPass;
 use scan_planner::ReaderCell;
 use std::alloc::{AllocError, Global};
 
-// Marks each digit in which a compared bit is not the expected one.
+// Marks each digit in which a compared bit of a row is not the expected bit.
 fn mark_digits(marks: &mut [u8], log: &[u8], expected: &[u8], compared: &[u8])
     requires log { length log.now ≡ length marks.old }
     requires expected { length expected.now ≡ length marks.old }
@@ -25,7 +25,8 @@ fn mark_digits(marks: &mut [u8], log: &[u8], expected: &[u8], compared: &[u8])
 }
 
 impl<'a> LoggedPass<'a> {
-    // Marks the digits of row `j` of the pass. `row` has the bits that the test expects and compares in row `j`.
+    // Marks each digit in which a compared bit of row `j` of the pass is not the expected bit. `row` has the expected bits of this row and
+    // the positions at which they are compared.
     fn mark_by(&self, marks: &mut [u8], j: u32, row: &ComparedRow)
         requires row { j < self.now.logged.test.plan.width }
         requires count { length marks.old ≡ digit_count (data_bits self.now.logged.test.board) }
@@ -41,7 +42,7 @@ impl<'a> LoggedPass<'a> {
         );
     }
 
-    // Marks the digits of row `j` of the pass. If the pass has not kept the row, it is made in `spare`.
+    // Like `mark_by`, but takes the expected bits of row `j` from the kept rows. If row `j` is not kept, fills `spare` with these bits.
     fn mark_row(&self, marks: &mut [u8], spare: &mut ComparedRow, j: u32)
         requires row { j < self.now.logged.test.plan.width }
         requires count { length marks.old ≡ digit_count (data_bits self.now.logged.test.board) }
@@ -58,7 +59,8 @@ impl<'a> LoggedPass<'a> {
         }
     }
 
-    // Marks the digits of all rows of the pass.
+    // Marks each digit in which a compared bit of some row of the pass is not the expected bit. `spare` is a buffer for rows that are not
+    // kept.
     fn mark(&self, marks: &mut [u8], spare: &mut ComparedRow)
         requires count { length marks.old ≡ digit_count (data_bits self.now.logged.test.board) }
         requires room { HaveRoom self.now.logged.test.board spare.old }
@@ -78,8 +80,8 @@ impl<'a> LoggedPass<'a> {
 }
 
 impl<'a> LoggedTest<'a> {
-    /// Returns the marks of the digits of the log's rows, which are read once. If a digit's mark is 0, the digit has the expected
-    /// bits in each row, wherever the row is compared.
+    /// Returns a mark for each hexadecimal digit of a row. If the mark of a digit is 0, every compared bit of this digit is the expected
+    /// bit in all rows of the log. Reads each row once.
     pub(crate) fn marks(&self, alloc: Global) -> Result<Vec<u8>, AllocError>
         ensures { IfOk result (λ marks. AreMarks self.now.test.board self.now.test.plan self.now.log (length self.now.test.plan.passes) marks.items) }
     {
@@ -104,7 +106,7 @@ fn mark_at(marks: &[u8], place: u32) -> u8
     }
 }
 
-/// Returns whether the digit of some of these cells has a mark.
+/// Returns whether at least one of these cells is at a position whose digit is marked.
 pub fn are_marked(marks: &[u8], readers: &[ReaderCell]) -> bool
     ensures { result ≡ are_marked marks.now readers.now }
 {

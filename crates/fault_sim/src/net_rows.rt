@@ -1,4 +1,4 @@
-// The rows of a log in a pass, with the compared cells of a net.
+// The rows of a pass of a log, with the compared cells of a net.
 ghost use Rattle.std.specs.Prelude.{◌≡◌};
 ghost use Rattle.fault_sim.specs.inner.NetRows.{net_rows_in};
 
@@ -7,7 +7,8 @@ use response_log::Log;
 use scan_planner::ReaderCell;
 use std::marker::Model;
 
-/// The rows of a pass of a log, which begin at row `first`, and the compared cells of a net. Each cell has a bit in each row.
+/// The `width` rows of a pass of a log, from row `first` on, and the compared cells of a net. Each row of the log has a bit for each of
+/// these cells.
 #[derive(Drop)]
 pub struct NetRows<'a> {
     pub(crate) log: &'a Log,
@@ -27,7 +28,7 @@ impl<'a> Model for NetRows<'a> {
 }
 
 impl<'a> LoggedPass<'a> {
-    /// Returns the rows of the log in the pass, with the compared cells of a net.
+    /// Returns the rows of this pass of the log, with the compared cells of a net.
     pub fn net_rows(&self, net: u32) -> NetRows<'a>
         ensures { result ≡ net_rows_in self.now net }
     {

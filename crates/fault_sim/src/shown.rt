@@ -1,4 +1,5 @@
-// What the compared cells of a net show in the rows of a pass of a log, as words of 32 bits. Bit `j` of a word is for row `j`.
+// The bits that the compared cells of a net show in the rows of a pass of a log, as words of 32 bits. A cell shows the bit that the log has
+// at its position. Bit `j` of a word is for row `j` of the pass.
 ghost use Rattle.std.specs.Prelude.{◌≡◌, ◌↔◌, ℕ, ◌+◌, ◌<◌, ◌==◌, ◌&&◌, ◌||◌, nat_lt, Some, [], ◌∷◌, length, All, IsTrue};
 ghost use Rattle.fault_sim.specs.Fits.{bit_in};
 ghost use Rattle.fault_sim.specs.Planned.{net_in_pass};
@@ -10,7 +11,8 @@ use crate::net_rows::NetRows;
 use crate::passes::LoggedPass;
 use scan_planner::ReaderCell;
 
-/// The rows in which some compared cell of a net shows 1, and those in which one shows 0. Cells of the driver's own pin do not count.
+/// The rows of a pass in which some compared cell of a net shows 1, and the rows in which some compared cell shows 0. A row can be in both
+/// words. Cells that read the driver's own pin are not counted.
 #[derive(Clone, Copy)]
 pub struct ShownWords {
     pub ones: u32,
@@ -18,7 +20,7 @@ pub struct ShownWords {
 }
 
 impl ShownWords {
-    /// Returns whether the cells show no other bits than those of this word.
+    /// Returns whether, in every row, all counted cells show the bit of this word.
     #[inline]
     pub fn agree_with(&self, word: u32) -> bool
         ensures { IsTrue result ↔ AgreesWith self.now word }
@@ -27,7 +29,7 @@ impl ShownWords {
     }
 }
 
-// Returns the word of all rows of a pass, bits `0..width`.
+// Returns the word in which bits `0..width` are set, one for each row of a pass.
 fn first_rows(width: u32) -> u32
     requires { width < 32 }
     ensures { (j : ℕ) → word_bit result j ≡ nat_lt j width }
@@ -35,7 +37,7 @@ fn first_rows(width: u32) -> u32
     (1 << width) - 1
 }
 
-// Returns the word, with bit `j` set too if `bit` is 1.
+// Returns `word`, with bit `j` set if `bit` is true, and unchanged if `bit` is false.
 #[inline]
 fn with_row(word: u32, j: u32, bit: bool) -> u32
     requires { j < 32 }
@@ -44,7 +46,7 @@ fn with_row(word: u32, j: u32, bit: bool) -> u32
     if bit { word | 1 << j } else { word }
 }
 
-// Returns what the cells of both show.
+// Returns the rows in which a cell of `one` or a cell of `other` shows 1, and the rows in which such a cell shows 0.
 fn joined(one: ShownWords, other: ShownWords) -> ShownWords
     ensures ones { (j : ℕ) → word_bit result.ones j ≡ (word_bit one.ones j || word_bit other.ones j) }
     ensures zeros { (j : ℕ) → word_bit result.zeros j ≡ (word_bit one.zeros j || word_bit other.zeros j) }
@@ -56,7 +58,7 @@ fn joined(one: ShownWords, other: ShownWords) -> ShownWords
 }
 
 impl<'a> NetRows<'a> {
-    // Returns the bits of the cell at position `at` in the rows of the pass.
+    // Returns the bits of the cell at position `at` in the rows of the pass, as a word.
     fn cell_word(&self, at: u32) -> u32
         requires { All (λ row. at < length row) self.now.log }
         ensures { (j : ℕ) → j < 32 → word_bit result j ≡ (nat_lt j self.now.width && bit_in self.now.log (self.now.first + j) at) }
@@ -68,7 +70,7 @@ impl<'a> NetRows<'a> {
         word
     }
 
-    // Returns what one cell shows, which is nothing if it reads the driver's pin.
+    // Returns the rows in which one cell shows 1 and those in which it shows 0. Both words are 0 if the cell reads the driver's pin.
     fn cell_words(&self, reader: ReaderCell, driver: u32) -> ShownWords
         requires { All (λ row. reader.position < length row) self.now.log }
         ensures { AreShown (rows_of_net self.now.log self.now.first self.now.width (reader ∷ [])) (Some driver) result }
@@ -83,7 +85,7 @@ impl<'a> NetRows<'a> {
         }
     }
 
-    // Returns what the cells show, without those that read the driver's pin.
+    // Returns the rows in which some cell shows 1 and those in which some cell shows 0. Cells that read the driver's pin are not counted.
     fn shown_beside(&self, driver: u32) -> ShownWords
         ensures { AreShown self.now (Some driver) result }
     {
@@ -94,7 +96,7 @@ impl<'a> NetRows<'a> {
         shown
     }
 
-    // Returns what the cells show. `driver` is the place of the enabled driver's pin. Without a driver they show nothing.
+    // Like `shown_beside`, but takes the place of the enabled driver's pin, if there is one. Without a driver both words are 0.
     fn shown(&self, driver: Option<u32>) -> ShownWords
         ensures { AreShown self.now driver result }
     {
@@ -106,7 +108,8 @@ impl<'a> NetRows<'a> {
 }
 
 impl<'a> LoggedPass<'a> {
-    /// Returns what the compared cells of a net show in the rows of the pass. Without an enabled driver they show nothing.
+    /// Returns the rows of the pass in which some compared cell of a net shows 1 and those in which some shows 0. Both words are 0 if the
+    /// pass enables no driver on the net.
     pub fn shown(&self, net: u32) -> ShownWords
         ensures { IsShownIn (net_in_pass self.now net) result }
     {

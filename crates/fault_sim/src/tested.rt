@@ -1,4 +1,4 @@
-// The nets and the pins that the passes of a plan test.
+// The nets that the passes of a plan observe, and the pins that these passes test.
 ghost use Rattle.std.specs.Prelude.{◌≡◌, ◌≤◌, ◌++◌, ◌∷◌, [], if◌then◌else◌, length, fold, IfOk, OnOk};
 ghost use Rattle.std.specs.List.{list_all};
 ghost use Rattle.board_defs.specs.Limits.{most_pins};
@@ -15,7 +15,7 @@ use lists::{is_set, mark};
 use scan_planner::{NetDriver, Plan, ReaderCell};
 use std::alloc::{AllocError, Global};
 
-/// Adds the net if `is_one` is true.
+/// Adds net `n` to `nets` if `is_one` is true.
 pub fn push_if(nets: &mut Vec<u32>, n: u32, is_one: bool) -> Result<(), AllocError>
     ensures { OnOk result (nets.new.items ≡ nets.old.items ++ (if is_one then n ∷ [] else [])) }
 {
@@ -25,7 +25,7 @@ pub fn push_if(nets: &mut Vec<u32>, n: u32, is_one: bool) -> Result<(), AllocErr
     Ok(())
 }
 
-/// Returns the nets that some pass observes, in net order. These are the nets with a code.
+/// Returns the nets below `count` that have a code, in net order. These are the nets that some pass observes.
 pub fn coded_nets(alloc: Global, plan: &Plan, count: u32) -> Result<Vec<u32>, AllocError>
     ensures { IfOk result (λ nets. nets.items ≡ coded_nets plan.now count) }
 {
@@ -36,7 +36,7 @@ pub fn coded_nets(alloc: Global, plan: &Plan, count: u32) -> Result<Vec<u32>, Al
     Ok(nets)
 }
 
-// Returns whether some pass observes both nets. `kept` has what is kept of the passes.
+// Returns whether some pass observes both nets. `kept` holds the kept passes of the plan.
 fn paired_in(plan: &Plan, kept: &[KeptPass], a: u32, b: u32) -> bool
     requires { KeepDrivers plan.now kept.now }
     ensures { result ≡ paired_in plan.now a b }
@@ -50,7 +50,7 @@ fn paired_in(plan: &Plan, kept: &[KeptPass], a: u32, b: u32) -> bool
     false
 }
 
-/// Returns whether some pass observes both nets of a short, and true for a fault of one net. `kept` has what is kept of the passes.
+/// Returns whether some pass observes both nets of a short. Returns true for a fault of one net. `kept` holds the kept passes of the plan.
 pub fn observes_fault(plan: &Plan, kept: &[KeptPass], fault: Single) -> bool
     requires { KeepDrivers plan.now kept.now }
     ensures { result ≡ observes_fault plan.now fault }
@@ -93,7 +93,7 @@ fn are_set(flags: &[bool]) -> bool
     flags.iter().all(|flag| *flag)
 }
 
-// Sets the flags of the pins that some pass tests. Mostly one pass tests all pins of a net, and then the later passes are skipped.
+// Sets the flags of a net's pins that some pass tests. Stops once all flags are set, since one pass mostly tests all pins of a net.
 fn mark_passes(flags: &mut [bool], plan: &Plan, net: u32)
     ensures { flags.new ≡ fold (marked_in plan.now net) flags.old plan.now.passes }
 {
@@ -105,7 +105,7 @@ fn mark_passes(flags: &mut [bool], plan: &Plan, net: u32)
     }
 }
 
-// Returns for each of a net's `count` pins whether some pass tests it.
+// Returns a flag for each of a net's `count` pins. The flag is true if some pass tests the pin.
 fn tested_flags(alloc: Global, plan: &Plan, count: usize, net: u32) -> Result<Vec<bool>, AllocError>
     ensures { IfOk result (λ flags. flags.items ≡ tested_flags plan.now count net) }
 {
@@ -156,7 +156,7 @@ fn push_pins(
     push_flagged(net, &flags, pins)
 }
 
-/// Returns the pins that some pass tests as drivers or as receivers, in pin order.
+/// Returns the pins of the board that some pass tests, as a driver or as a receiver, in pin order.
 pub fn tested_pins(alloc: Global, board: &Board, plan: &Plan) -> Result<Vec<PinRef>, AllocError>
     ensures { IfOk result (λ pins. pins.items ≡ all_pins board.now plan.now (length board.now.nets)) }
 {

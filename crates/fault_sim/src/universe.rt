@@ -1,4 +1,4 @@
-// The single faults of a board, by their places.
+// The numbered places of a board's single faults.
 ghost use Rattle.std.specs.Prelude.{◌≡◌, ◌+◌, ◌-◌, ◌<◌, ◌≤◌, true, length, slice_get, slice_index_or, IfOk, Some};
 ghost use Rattle.std.specs.List.{flat_map};
 ghost use Rattle.board_defs.specs.declared.board.RawBoard.{RawBoard};
@@ -21,8 +21,8 @@ use std::alloc::{AllocError, Global};
 use std::marker::Model;
 use tap_defs::board_law::codes_number_covered;
 
-/// The places of a board: two for each covered net, two for each tested pin and four for each pair of covered nets, in
-/// the order of the single faults.
+/// The numbered places of a board's single faults, in the order of these faults. Each covered net has two places, each tested pin has two,
+/// and each pair of covered nets has four. If no pass observes both nets of a pair, the places of the pair have no fault.
 #[derive(Drop)]
 pub struct Universe {
     lists: FaultLists,
@@ -36,7 +36,7 @@ impl Model for Universe {
     ghost view = { λ a. a.lists };
 }
 
-// Returns for each of `nets` nets the number of its first pair with a later net, and after these the number of all pairs.
+// Returns, for each of `nets` nets, the number of its first pair with a later net. The last item of the result is the number of all pairs.
 fn pair_starts(alloc: Global, nets: u32) -> Result<Vec<u64>, AllocError>
     requires { nets ≤ most_nets }
     ensures { IfOk result (λ starts. AreStarts nets starts.items) }
@@ -51,7 +51,7 @@ fn pair_starts(alloc: Global, nets: u32) -> Result<Vec<u64>, AllocError>
     Ok(starts)
 }
 
-// Returns true only if pair `k` is one of the pairs of the net at place `row` with later nets.
+// Returns true only if pair `k` is a pair of the net at place `row` with a later net.
 fn holds_pair(starts: &[u64], row: usize, k: u64) -> bool
     ensures within { result ≡ true → row + 1 < length starts.now }
     ensures low { result ≡ true → slice_index_or starts.now row 0 ≤ k }
@@ -63,7 +63,7 @@ fn holds_pair(starts: &[u64], row: usize, k: u64) -> bool
     k < start_at(starts, row.saturating_add(1))
 }
 
-// Returns the place of the net that has pair `k` among its pairs with later nets. This is a binary search.
+// Returns the place of the net whose pairs with later nets include pair `k`. The search is binary.
 fn halved_row(starts: &[u64], k: u64) -> usize
     requires some { 0 < length starts.now }
     requires first { slice_index_or starts.now 0 0 ≤ k }
@@ -85,7 +85,8 @@ fn halved_row(starts: &[u64], k: u64) -> usize
     low
 }
 
-// Like `halved_row`, but first tries `near`, the place of the last look-up, and the next one: the pairs that are asked for mostly rise.
+// Like `halved_row`, but first tries the places `near` and `near + 1`. `near` is the place that the last look-up found. Callers mostly ask
+// for rising pairs, so one of these two places is mostly the right one.
 fn row_of(starts: &[u64], k: u64, near: usize) -> usize
     requires some { 0 < length starts.now }
     requires first { slice_index_or starts.now 0 0 ≤ k }
@@ -111,7 +112,8 @@ fn pair_count(lists: &FaultLists) -> u64
     start_at(lists.starts.as_slice(), lists.nets.len())
 }
 
-/// Returns the number of the first pair of net `a` with a later net, and 0 past the last place.
+/// Returns item `a` of `starts`: the number of the first pair of the net at place `a` with a later net. The last item is the number of all
+/// pairs. Returns 0 past the last item.
 pub fn start_at(starts: &[u64], a: usize) -> u64
     ensures { result ≡ slice_index_or starts.now a 0 }
 {
@@ -139,7 +141,7 @@ fn pin_at(pins: &[PinRef], k: usize) -> Option<PinRef>
     }
 }
 
-// Returns fault `i` among the faults of these nets when they are stuck.
+// Returns fault `i` in the list of these nets' stuck faults. Each net has two such faults, stuck at 0 first.
 fn stuck_at(nets: &[u32], i: u64) -> Option<Single>
     ensures { result ≡ slice_get (flat_map stuck_faults nets.now) i }
 {
@@ -152,7 +154,7 @@ fn stuck_at(nets: &[u32], i: u64) -> Option<Single>
     }
 }
 
-// Returns fault `i` among the faults of these pins when they are open.
+// Returns fault `i` in the list of these pins' open faults. Each pin has two such faults, the one with value 0 first.
 fn open_at(pins: &[PinRef], i: u64) -> Option<Single>
     ensures { result ≡ slice_get (flat_map open_faults pins.now) i }
 {
@@ -165,8 +167,8 @@ fn open_at(pins: &[PinRef], i: u64) -> Option<Single>
     }
 }
 
-// Returns pair `k` of the covered nets, the lower net first. `near` is the place among these nets at which the last look-up ended, and
-// becomes the place at which this one ends.
+// Returns pair `k` of the covered nets, with the lower net first. `near` is the place of the first net that the last look-up found. This
+// look-up sets `near` to the place of its own first net.
 fn pair_at(lists: &FaultLists, k: u64, near: &mut usize) -> Option<(u32, u32)>
     ensures { result ≡ slice_get (pairs_within lists.now.nets) k }
 {
@@ -196,7 +198,8 @@ fn kind_at(k: u64) -> Kind
     }
 }
 
-// Returns fault `k` of the shorts of all pairs of covered nets, even if no pass observes both nets.
+// Returns short `k` in the list of the shorts of all pairs of covered nets. Each pair has four shorts. The short is returned even if no
+// pass observes both nets.
 fn short_at(lists: &FaultLists, k: u64, near: &mut usize) -> Option<Single>
     ensures { (plan : PlanTables) → listed_at (flat_map (number_places plan) (pairs_within lists.now.nets)) k ≡ where_observed plan result }
 {
@@ -206,7 +209,7 @@ fn short_at(lists: &FaultLists, k: u64, near: &mut usize) -> Option<Single>
     Some(Single::Short { a, b, kind })
 }
 
-// Returns the fault at place `i`. If it is a short, it is returned even if no pass observes both nets.
+// Returns the fault at place `i`. A short is returned even if no pass observes both of its nets.
 fn place_at(lists: &FaultLists, i: u64, near: &mut usize) -> Option<Single>
     ensures { (plan : PlanTables) → listed_at (listed_places plan lists.now) i ≡ where_observed plan result }
 {
@@ -221,7 +224,7 @@ fn place_at(lists: &FaultLists, i: u64, near: &mut usize) -> Option<Single>
     }
 }
 
-// Returns the fault, if there is one and some pass observes all its nets.
+// Returns `fault`, or `None` if no pass observes all nets of the fault.
 fn where_observed(plan: &Plan, fault: Option<Single>) -> Option<Single>
     ensures { result ≡ where_observed plan.now fault }
 {
@@ -238,7 +241,7 @@ fn where_observed(plan: &Plan, fault: Option<Single>) -> Option<Single>
 }
 
 impl Universe {
-    /// Returns the places of a board. The plan must be made of the board's passes.
+    /// Returns the places of a board. The plan must be built from the board's passes.
     pub fn new(alloc: Global, board: &Board, plan: &Plan) -> Result<Universe, AllocError>
         requires plan { IsPlanOf board.now plan.now }
         requires passes { plan.now.passes ≡ passes_of board.now }
@@ -273,8 +276,8 @@ impl Universe {
         2 * nets + (2 * pins + 4 * pair_count(&self.lists))
     }
 
-    /// Returns the single fault at place `i`, which must be below the number of places. Returns `None` exactly if the place is one of two
-    /// covered nets that are not paired. The plan must be that of the universe. Allocates nothing.
+    /// Returns the single fault at place `i`. `i` must be below the number of places. Returns `None` exactly if the place belongs to a pair
+    /// of covered nets and no pass observes both. The plan must be the one that the universe was built with. Allocates nothing.
     pub fn at(&self, plan: &Plan, i: u64) -> Option<Single>
         requires { i < place_count self.now }
         ensures { (board : RawBoard) → IsBoard board → IsPlanOf board plan.now → plan.now.passes ≡ passes_of board → IsUniverse board self.now → slice_get (places_of board) i ≡ Some result }
@@ -284,9 +287,10 @@ impl Universe {
         where_observed(plan, self.candidate(i, &mut near))
     }
 
-    /// Returns the fault at place `i`. For a place of two covered nets, this is their short even if they are not paired. `near` only speeds
-    /// up the look-up of a pair: it is the place among the covered nets at which the last look-up ended, and 0 at first. This look-up
-    /// sets it anew. If the places rise, nearly each of them is found at once. Allocates nothing.
+    /// Returns the fault at place `i`. A place of a pair of covered nets has a short here, even if no pass observes both nets. `near` only
+    /// speeds up the look-up of a pair. Pass a variable that is 0 at first, and pass it again to later look-ups. Each look-up of a pair
+    /// sets it to the place of the pair's first net among the covered nets. If the places rise, nearly every look-up then needs no search.
+    /// Allocates nothing.
     pub fn candidate(&self, i: u64, near: &mut usize) -> Option<Single>
         ensures { (plan : PlanTables) → listed_at (listed_places plan self.now) i ≡ where_observed plan result }
     {
@@ -295,8 +299,8 @@ impl Universe {
 }
 
 impl<'a> BoardTest<'a> {
-    /// Returns whether some pass observes all nets of a fault at a place. A short needs a pass that observes both nets. The one net of any
-    /// other fault at a place is always observed.
+    /// Returns whether some pass observes all nets of a fault at a place. For a short, one pass must observe both nets. Returns true for
+    /// any other fault, since the net of a stuck net or open pin at a place is always observed.
     pub fn observes(&self, fault: Single) -> bool
         ensures { result ≡ observes_fault self.now.plan fault }
     {

@@ -1,4 +1,4 @@
-// What two nets get in a pass, as words of 32 bits. Bit `j` of a word is for row `j` of the pass.
+// The bits of a net and of two shorted nets in the rows of a pass, as words of 32 bits. Bit `j` of a word is for row `j` of the pass.
 ghost use Rattle.std.specs.Prelude.{◌≡◌, ◌<◌, ℕ, if◌then◌else◌, ◌||◌, None, Some, unwrap_or};
 ghost use Rattle.tap_defs.specs.board.SingleBits.{shorted};
 ghost use Rattle.fault_sim.specs.Effects.{feed_bit, source_bit, unless_off};
@@ -8,21 +8,21 @@ use crate::effect::shorted;
 use crate::feed::{FedNet, Feed, Source};
 use board_defs::Kind;
 
-/// What a net is driven to: the rows in which it is driven, and its bits in these rows.
+/// The rows in which a net is driven, and the bits that the net is driven to. Bits of `value` in other rows have no meaning.
 #[derive(Clone, Copy)]
 pub struct FeedWords {
     pub driven: u32,
     pub value: u32,
 }
 
-/// What a net gets in a pass.
+/// A net in a pass: the bits that the net is driven to, and the value that it is pulled to, if any.
 #[derive(Clone, Copy)]
 pub struct FedWords {
     pub feed: FeedWords,
     pub pull: Option<bool>,
 }
 
-// Returns the word that has this bit in all rows.
+// Returns the word that has `bit` in all rows.
 #[inline]
 fn all_rows(bit: bool) -> u32
     ensures { (j : ℕ) → j < 32 → word_bit result j ≡ bit }
@@ -30,7 +30,7 @@ fn all_rows(bit: bool) -> u32
     if bit { u32::MAX } else { 0 }
 }
 
-// Returns the bits of `inside` in these rows, and those of `outside` in the others.
+// Returns the word that has the bits of `inside` in `rows`, and the bits of `outside` in the other rows.
 #[inline]
 fn choose(rows: u32, inside: u32, outside: u32) -> u32
     ensures { (j : ℕ) → j < 32 → word_bit result j ≡ (if word_bit rows j then word_bit inside j else word_bit outside j) }
@@ -38,7 +38,7 @@ fn choose(rows: u32, inside: u32, outside: u32) -> u32
     inside & rows | outside & !rows
 }
 
-// Returns the bits of a driver's cell.
+// Returns the bits of a driver's cell, as a word.
 #[inline]
 fn source_word(source: Source) -> u32
     ensures { (j : ℕ) → j < 32 → word_bit result j ≡ source_bit source j }
@@ -49,7 +49,8 @@ fn source_word(source: Source) -> u32
     }
 }
 
-// Returns the rows in which a driver is on. `value` has its cell's bits. A driver that is off at one bit is on in the rows with the other.
+// Returns the rows in which a driver is on. `value` has the bits of the driver's cell. `off` is the bit of this cell that switches the
+// driver off, or `None` if the driver is always on.
 #[inline]
 fn rows_on(off: Option<bool>, value: u32) -> u32
     ensures { (j : ℕ) → j < 32 → (if word_bit result j then Some (word_bit value j) else None) ≡ unless_off off (word_bit value j) }
@@ -60,7 +61,7 @@ fn rows_on(off: Option<bool>, value: u32) -> u32
     }
 }
 
-// Returns what a pass drives a net to.
+// Returns the rows in which a feed drives its net, and the bits that the net is driven to.
 #[inline]
 fn feed_words(feed: Option<Feed>) -> FeedWords
     ensures { (j : ℕ) → j < 32 → driven_bit result j ≡ feed_bit feed j }
@@ -80,7 +81,7 @@ fn feed_words(feed: Option<Feed>) -> FeedWords
     }
 }
 
-/// Returns what a net gets in a pass, as words.
+/// Returns a net in a pass, as words.
 #[inline]
 pub fn fed_words(fed: FedNet) -> FedWords
     ensures { AreWordsOf fed result }
@@ -91,7 +92,7 @@ pub fn fed_words(fed: FedNet) -> FedWords
     }
 }
 
-// Returns the bits of two shorted nets. They are right in the rows in which at least one of the nets is driven.
+// Returns the common bits of two shorted nets. In rows in which neither net is driven, the result has no meaning.
 #[inline]
 fn shorted_value(kind: Kind, first: FeedWords, second: FeedWords) -> u32
     ensures { (j : ℕ) → j < 32 → (if word_bit first.driven j || word_bit second.driven j then Some (word_bit result j) else None) ≡ shorted kind (driven_bit first j) (driven_bit second j) }
@@ -105,7 +106,7 @@ fn shorted_value(kind: Kind, first: FeedWords, second: FeedWords) -> u32
     }
 }
 
-// Returns what two shorted nets are driven to.
+// Returns the rows in which at least one of two shorted nets is driven, and the bits that both nets are then driven to.
 #[inline]
 fn shorted_words(kind: Kind, first: FeedWords, second: FeedWords) -> FeedWords
     ensures { (j : ℕ) → j < 32 → driven_bit result j ≡ shorted kind (driven_bit first j) (driven_bit second j) }
@@ -116,7 +117,8 @@ fn shorted_words(kind: Kind, first: FeedWords, second: FeedWords) -> FeedWords
     }
 }
 
-// Returns what an undriven net shows: the value that it is pulled to, or the expected bits if it has no pull.
+// Returns the bits of a net in rows in which nothing drives the net: the value that the net is pulled to, or the bits of `code` if the net
+// has no pull.
 #[inline]
 fn undriven_word(pull: Option<bool>, code: u32) -> u32
     ensures { (j : ℕ) → j < 32 → word_bit result j ≡ unwrap_or pull (word_bit code j) }
@@ -127,7 +129,8 @@ fn undriven_word(pull: Option<bool>, code: u32) -> u32
     }
 }
 
-/// Returns the bits of two shorted nets in the rows of a pass. `code` has the expected bits.
+/// Returns the common bits of two shorted nets in the rows of a pass. A row in which neither net is driven has the bit that the nets are
+/// pulled to. Without any pull it has the expected bit, which is that of `code`.
 #[inline]
 pub fn short_word(kind: Kind, first: FedWords, second: FedWords, code: u32) -> u32
     ensures { (j : ℕ) → j < 32 → word_bit result j ≡ short_word_bit kind first second code j }
