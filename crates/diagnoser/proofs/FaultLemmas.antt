@@ -1,4 +1,4 @@
--- The faults at the suspects' places that explain a log are all faults that explain it.
+-- The faults at the suspects' places that explain a log are all single faults that explain the log.
 use Rattle.std.proofs.Common.{◌≡◌, ℕ, zero, suc, Bool, true, false, ◌==◌, ◌&&◌, List, length, Result, Ok, Err, Some, ◌⊎◌, inl, inr, get_or, ◌<◌, refl, sym, ap, ◌∙◌, subst}
 use Rattle.std.specs.Prelude.{filter, filter_map, slice_get, All, IfOk}
 use Rattle.std.specs.List.{list_any}
@@ -44,7 +44,7 @@ kind_back Or = refl
 kind_back First = refl
 kind_back Second = refl
 
--- whether two faults are the same
+-- true if two faults are equal
 abbrev same_single : Single → Single → Bool
 same_single (StuckNet n v) (StuckNet m w) = (n == m) && is_same v w
 same_single (StuckNet n v) (OpenPin q w) = false
@@ -89,14 +89,14 @@ module _ (board : RawBoard) (rules : IsBoard board) (plan : PlanTables) (lists :
   abbrev candidates : List Single
   candidates = filter_map (fault_at board) suspects
 
-  -- each single fault that explains the log is at some suspect's place
+  -- each single fault that explains the log is at the place of some suspect
   has_candidate : (single : Single) → Has (singles board) single → Explains board single log → Has candidates single
   has_candidate single listed explains =
       let test : Single → Bool = λ other. same_single other single in
       let kept = suffice board plan lists log suspects rules are test (λ other is on. subst (λ (s : Single). Explains board s log) (sym (same_one other single on)) explains) in
       (filter_has test candidates single (subst (λ (l : List Single). Has l single) kept (has_filter test (singles board) single listed (one_same single)))).0
 
-  -- the candidates that explain the log are the single faults that explain it
+  -- the candidates' faults that explain the log are the single faults that explain it
   pub candidates_explain : (faults : List Single) → Picks (λ single. Explains board single log) candidates faults → AreExplaining board log faults
   candidates_explain faults those =
       subst (λ (l : List Single). AreExplaining board log l) whole
@@ -118,12 +118,12 @@ module _ (board : RawBoard) (rules : IsBoard board) (plan : PlanTables) (lists :
           suffice board plan lists log suspects rules are test (λ single is on. only single on)
           ∙ those_filter (λ single. Explains board single log) test candidates faults (λ single candidate on. only single on) (λ single candidate explains. all single candidate explains) those
 
-  -- what is found among all candidates
+  -- the faults found among all candidates are the single faults that explain the log
   pub all_found : {V E : Type 0} (view : V → List Single) (result : Result V E) → IfOk result (λ v. Picks (λ single. Explains board single log) (filter_map (fault_at board) (items_between suspects 0 (length suspects))) (view v)) → IfOk result (λ v. AreExplaining board log (view v))
   all_found view (Err e) found = tt
   all_found view (Ok v) found = candidates_explain (view v) (subst (λ (l : List ℕ). Picks (λ single. Explains board single log) (filter_map (fault_at board) l) (view v)) (range_whole suspects) found)
 
--- the faults that explain a log name nets and pins of the board
+-- the nets and the pin of a single fault are on the board
 pub single_named : (board : RawBoard) (single : Single) → IsSingle board single → IsNamed board single
 single_named board (StuckNet net value) is = (nets_there board (StuckNet net value) is).0
 single_named board (OpenPin pin value) is = ((nets_there board (OpenPin pin value) is).0, by_use is)

@@ -6,7 +6,7 @@ use Rattle.board_defs.specs.declared.fault.Kind.TheVariants.{And, Or, First, Sec
 use Rattle.board_defs.specs.declared.fault.Single.TheVariants.{StuckNet, OpenPin, Short}
 use Rattle.diagnoser.specs.DiagText.{diag_text, fault_line}
 
--- two nets, the first of a driver and a receiver
+-- a board with two nets, of which the first has a driver and a receiver
 abbrev board : RawBoard
 board = record {
   chain = [];
@@ -29,7 +29,7 @@ and_short = refl
 or_short : fault_line board (Short 0 1 Or) ≡ line (codes "short OR A B")
 or_short = refl
 
--- the net that dominates comes first
+-- the name of the net that dominates comes first
 first_dominates : fault_line board (Short 0 1 First) ≡ line (codes "short DOM A B")
 first_dominates = refl
 

@@ -18,7 +18,7 @@ abbrev pub bit_word : Bool → List ℕ
 bit_word false = codes "0"
 bit_word true = codes "1"
 
--- the name of a net
+-- the name of a net, or no text if there is no such net
 abbrev pub name_of : Option Net → List ℕ
 name_of None = []
 name_of (Some net) = net.name
@@ -26,16 +26,16 @@ name_of (Some net) = net.name
 abbrev pub net_name : RawBoard → ℕ → List ℕ
 net_name board n = name_of (slice_get board.nets n)
 
--- the line of a stuck net
+-- the line of a stuck net, with its name and the value that it is stuck at
 abbrev pub stuck_line : List ℕ → Bool → List ℕ
 stuck_line name value = line_of (codes "stuck " ∷ name ∷ codes " " ∷ bit_word value ∷ [])
 
--- the line of an open pin
+-- the line of an open pin, with the pin and the value that it reads
 abbrev pub open_line : Option NetPin → Bool → List ℕ
 open_line None value = []
 open_line (Some pin) value = line_of (codes "open " ∷ pin.part ∷ codes "." ∷ pin.pin ∷ codes " " ∷ bit_word value ∷ [])
 
--- the line of a short of two nets; the net that dominates comes first
+-- the line of a short of two nets; if one net dominates the other, its name comes first
 abbrev pub pair_line : List ℕ → List ℕ → List ℕ → List ℕ
 pair_line word x y = line_of (codes "short " ∷ word ∷ codes " " ∷ x ∷ codes " " ∷ y ∷ [])
 
@@ -51,7 +51,7 @@ fault_line board (StuckNet net value) = stuck_line (net_name board net) value
 fault_line board (OpenPin pin value) = open_line (pin_at board pin) value
 fault_line board (Short a b kind) = short_line kind (net_name board a) (net_name board b)
 
--- the line with the number of faults
+-- the line `FAIL` with the number of faults
 abbrev pub fail_line : ℕ → List ℕ
 fail_line count = line_of (codes "FAIL " ∷ decimal count ∷ [])
 
@@ -60,8 +60,8 @@ unfoldable pub diag_text : RawBoard → Bool → List Single → List ℕ
 diag_text board true faults = line_of (codes "PASS" ∷ [])
 diag_text board false faults = fail_line (length faults) ++ flat_map (fault_line board) faults
 
--- the diagnosis of a log of the board's test: it passes exactly if every compared bit is the expected one, and the faults are the single
--- faults that explain it
+-- `text` is the diagnosis of a log of the board's test; `pass` is true exactly if every compared bit is the expected bit; `faults` are the
+-- single faults that explain the log
 pub record IsDiagText (board : RawBoard) (log : List (List Bool)) (text : List ℕ) : Type 0 where
   pub pass : Bool
   pub passes : IsTrue pass ↔ (IsExpected board (svf_row_scans board) log)

@@ -9,7 +9,7 @@ use Rattle.tap_defs.specs.board.Explaining.{Explains, IsExpected}
 use Rattle.diagnoser.specs.Diagnosis.{AreExplaining}
 use Rattle.diagnoser.specs.DiagText.{IsDiagText}
 
--- the faults are exactly the single faults that explain the log, each once and in order
+-- `faults` are exactly the single faults that explain the log, each once and in order
 pub record ListsExplaining (board : RawBoard) (log : List (List Bool)) (faults : List Single) : Type 0 where
   pub exactly : (single : Single) → Contains faults single ↔ (IsSingle board single × Explains board single log)
   pub in_order : AllPairs SinglePrecedes faults
@@ -17,15 +17,15 @@ pub record ListsExplaining (board : RawBoard) (log : List (List Bool)) (faults :
 abbrev pub ExplainingListed : Type 0
 ExplainingListed = (board : RawBoard) (log : List (List Bool)) (faults : List Single) → IsBoard board → AreExplaining board log faults → ListsExplaining board log faults
 
--- at most one list of faults explains a log
+-- at most one list has the single faults that explain a log in order
 abbrev pub OneList : Type 0
 OneList = (board : RawBoard) (log : List (List Bool)) (faults others : List Single) → AreExplaining board log faults → AreExplaining board log others → faults ≡ others
 
--- a log has at most one diagnosis
+-- a log has at most one text of a diagnosis
 abbrev pub OneDiagnosis : Type 0
 OneDiagnosis = (board : RawBoard) (log : List (List Bool)) (text other : List ℕ) → IsDiagText board log text → IsDiagText board log other → text ≡ other
 
--- if every compared bit is the expected one, no single fault explains the log
+-- if every compared bit of a log is the expected bit, no single fault explains the log
 abbrev pub PassingUnexplained : Type 0
 PassingUnexplained =
     (board : RawBoard) (log : List (List Bool)) (faults : List Single) → IsBoard board → IsExpected board (svf_row_scans board) log → AreExplaining board log faults → faults ≡ []

@@ -1,4 +1,4 @@
-// The single faults that explain a log.
+// Finds the single faults that explain a log.
 ghost use Rattle.std.specs.Prelude.{◌≡◌, ◌*◌, ◌≤◌, length, All, IfOk};
 ghost use Rattle.board_defs.specs.Passes.{passes_of};
 ghost use Rattle.board_defs.specs.Pins.{data_bits};
@@ -17,14 +17,14 @@ use scan_planner::Plan;
 use std::alloc::{AllocError, Global};
 use std::thread::Threads;
 
-/// Returns the single faults of a board that explain a log of its test, each once and in order. Neither the number of workers nor
-/// the gate changes the result. The plan must be made of the board's passes, and the log must have its rows, each as long as a
-/// data scan.
+/// Returns the single faults of a board that explain a log of its test, each once and in order. Neither the number of workers nor the gate
+/// changes the result. The plan must be built from the board's passes. The log must have the plan's rows, each as long as a data scan.
+/// There must be 1 to 64 workers.
 ///
-/// The candidates are the suspects' places. They are cut into as many pieces as there are workers, from 1 to 64, whose sizes
-/// differ by at most one candidate. Directly before a piece tries a candidate, it enters the gate with its own number, from
-/// 0, and the candidate's place in the universe. Halves of the pieces run side by side, down to one piece. If memory is
-/// refused in any piece, it is refused for the whole.
+/// The candidates are the places of the suspects. They are cut into as many pieces as there are workers. The sizes of the pieces differ by
+/// at most one candidate. Directly before a piece tries a candidate, it enters the gate. It passes its own number, counted from 0, and the
+/// candidate's place in the universe. The first and the second half of the pieces run side by side. Each half is halved again, down to
+/// single pieces. If memory is refused in any piece, the call returns the error.
 pub fn diagnose<R: Threads + Sync, G: Gate>(
     rt: &R,
     alloc: Global,
@@ -65,7 +65,7 @@ pub fn diagnose_logged<R: Threads + Sync, G: Gate>(
     diagnose_in(rt, alloc, logged, &universe, nets, workers, gate)
 }
 
-/// Like `diagnose_logged`, but takes the universe of the board, which many logs of one test can share.
+/// Like `diagnose_logged`, but also takes the universe of the board, which many logs of one test can share.
 pub fn diagnose_in<R: Threads + Sync, G: Gate>(
     rt: &R,
     alloc: Global,

@@ -1,7 +1,6 @@
-//! The diagnosis of a board: which of its single faults explain a log of its test.
+//! The diagnosis of a log of a board's test: the single faults of the board that explain the log, and the text that lists them.
 //!
-//! The faults that may explain the log are tried in pieces, which run side by side. The result does not depend on the number
-//! of pieces.
+//! Faults that may explain the log are tried in pieces, which run side by side. The result does not depend on the number of pieces.
 #![tactic(auto)]
 
 mod diagnosis;

@@ -15,8 +15,8 @@ use side_by_side::{Piece, in_pieces};
 use std::alloc::{AllocError, Global};
 use std::thread::Threads;
 
-/// A log with its test, the nets that differ in it, the first of these nets in the pass that exposes it, and the candidates: the places of
-/// the faults that may explain the log.
+/// A log with its test, the nets that differ in the log, and the candidates. The candidates are the places of the faults that may explain
+/// the log. `telling` is the first net that differs, in the first pass in which it shows an unexpected bit.
 #[derive(Clone, Copy)]
 pub struct Search<'a, 'b> {
     pub logged: &'a LoggedTest<'b>,
@@ -26,7 +26,7 @@ pub struct Search<'a, 'b> {
     pub suspects: &'a Suspects,
 }
 
-// Returns true only if the first net that differs rules the fault out, in the pass that exposes this net.
+// Returns true only if the telling net rules the fault out. If the fault is a single fault of the board, it then does not explain the log.
 fn is_ruled_out(search: Search<'_, '_>, fault: Single) -> bool
     requires { IsSearch search }
     ensures { result ≡ true → IsSingle search.entry.logged.now.test.board fault → Explains search.entry.logged.now.test.board fault search.entry.logged.now.log → ⊥ }
@@ -37,8 +37,8 @@ fn is_ruled_out(search: Search<'_, '_>, fault: Single) -> bool
     }
 }
 
-// Returns whether a candidate's fault explains the log, and some pass observes its nets, so that it is a single fault of the board. The
-// first net that differs rules out most candidates.
+// Returns whether some pass observes all nets of a candidate's fault and the fault explains the log. A fault at a place is a single fault
+// of the board if some pass observes all its nets. The telling net is asked first, since it rules out most candidates.
 fn explains(search: Search<'_, '_>, fault: Single) -> bool
     requires search { IsSearch search }
     requires fault { observes_fault search.logged.now.test.plan fault ≡ true → IsSingle search.logged.now.test.board fault }
@@ -53,7 +53,8 @@ fn explains(search: Search<'_, '_>, fault: Single) -> bool
     search.logged.matches_by(fault, search.nets)
 }
 
-// Tries candidate `i` for a piece, and returns its fault if that explains the log. `near` is the place at which the last look-up ended.
+// Enters the gate for a piece, and then returns the fault of candidate `i` if it explains the log. `near` speeds up the look-up of the
+// fault, as in `Universe::candidate`.
 fn try_candidate<G: Gate>(
     search: Search<'_, '_>,
     piece: u32,
@@ -87,7 +88,7 @@ fn push_some(faults: &mut Vec<Single>, fault: Option<Single>) -> Result<(), Allo
     Ok(())
 }
 
-// Returns the faults that a piece finds.
+// Returns the faults of a piece's candidates that explain the log, in order.
 fn search_piece<G: Gate>(
     alloc: Global,
     search: Search<'_, '_>,
@@ -108,7 +109,7 @@ fn search_piece<G: Gate>(
     Ok(faults)
 }
 
-/// Returns the faults that explain the log, in order. The candidates are cut into as many pieces as there are workers, which run side
+/// Returns the faults that explain the log, in order. The candidates are cut into as many pieces as there are workers. The pieces run side
 /// by side.
 pub fn search_pieces<R: Threads + Sync, G: Gate>(
     rt: &R,

@@ -10,7 +10,7 @@ pub struct Workers {
 }
 
 impl Workers {
-    /// Returns this number of workers, which must be from 1 to 64.
+    /// Returns `number` workers. `number` must be from 1 to 64.
     pub fn of(number: u32) -> Workers
         requires some { 1 ≤ number }
         requires few { number ≤ 64 }
@@ -19,7 +19,7 @@ impl Workers {
         Workers { number }
     }
 
-    /// Returns the number of the workers.
+    /// Returns the number of workers.
     pub fn number(self) -> u32
         ensures value { result ≡ self.number }
         ensures some { 1 ≤ result }

@@ -1,4 +1,5 @@
--- A log of a board's test has one diagnosis: each single fault explains one response, and a comparison with it decides.
+-- A log of a board's test has one diagnosis. Each single fault explains some log, and a comparison with this log decides if the fault
+-- explains the given log.
 use Rattle.std.proofs.Common.{◌≡◌, ℕ, zero, suc, ◌==◌, Bool, true, false, cond, ◌&&◌, inl, inr, List, [], ◌∷◌, length, Option, Some, None, Decides, refl, sym, ap, ◌∙◌, subst, arith}
 use Rattle.std.specs.Prelude.{slice_get, filter, count_by}
 use Rattle.std.specs.Bool.{beq}
@@ -25,7 +26,7 @@ use Rattle.tap_defs.proofs.board.SingleLemmas.{single_observable, single_no_open
 use Rattle.tap_defs.proofs.board.ResponseLogLemmas.{explained_by_rows, logs_agree, some_log, own_in_turn}
 use Rattle.fault_sim.specs.Diagnosis.{Picks, IsDiagnosis}
 
--- some test decides the statement
+-- some boolean test decides the statement
 abbrev IsDecided : Type 0 → Type 0
 IsDecided P = (t : Bool) × Decides t P
 
@@ -35,7 +36,7 @@ both h k = (h.0 && k.0, Decides-and h.0 k.0 h.1 k.1)
 same : {P Q : Type 0} → (P → Q) → (Q → P) → IsDecided P → IsDecided Q
 same to back h = (h.0, Decides-like h.0 to back h.1)
 
--- what a list of items picks
+-- if P is decided for each item of a list, the list of the items for which P holds exists and is unique
 module _ {A : Type 0} (P : A → Type 0) where
   some_picked : (xs : List A) → ((x : A) → Has xs x → IsDecided (P x)) → (picked : List A) × Picks P xs picked
   some_picked [] each = ([], refl)
@@ -60,7 +61,7 @@ module _ {A : Type 0} (P : A → Type 0) where
       by_test true d picks = inl (filter test xs, d.0 refl, refl, picks)
       by_test false d picks = inr (not_from_Decides false d refl, picks)
 
--- bits that agree if they are compared
+-- two bits that must agree only if a bit is expected, and then two rows of such bits
 agree_at : (o : Option Bool) (x y : Bool) → IsDecided (AgreeAt o x y)
 agree_at None x y = (true, (λ e. tt, λ h. refl))
 agree_at (Some v) x y = (beq x y, booleans_Decides x y)
@@ -122,7 +123,7 @@ module _ (board : RawBoard) where
         same (λ h. record { shape = h.0; bits = h.1 }) (λ e. (e.shape, e.bits))
         (both shape_decided (are_expected (filter is_compared (board_scans board scans)) log, (λ e. e, λ e. e)))
 
-    -- a log of the right shape is explained if it agrees with an explained log
+    -- a log of the right shape is explained if its compared bits agree with those of an explained log
     module _ (rules : IsBoard board) (faults : FaultSet) (turn : AreInTurn board scans) (other : List (List Bool)) (explained : ExplainedBy board faults scans other) where
       explained_with : HasShape board scans log × AgreeOn board scans log other → ExplainedBy board faults scans log
       explained_with (shape, agree) = (explained_by_rows board rules faults scans turn.follow log).1 (shape, captures)
@@ -153,18 +154,18 @@ module _ (board : RawBoard) (log : List (List Bool)) (rules : IsBoard board) whe
   listed : (single : Single) → Has (singles board) single → IsSingle board single
   listed single has = single_is board rules single (has_contains (singles board) single has)
 
-  -- a log has a diagnosis
+  -- each log has a diagnosis
   pub some_diagnosis : (pass : Bool) × (faults : List Single) × IsDiagnosis board log pass faults
   some_diagnosis =
       let passes = expected_decided board (svf_row_scans board) log in
       let picked = some_picked Explaining (singles board) (λ single has. single_decided single (listed single has)) in
       (passes.0, picked.0, record { passes = passes.1; list = picked.1 })
 
-  -- if a test decides what the faults explain, those that pass it are the faults of the diagnosis
+  -- if a test decides for each single fault whether it explains the log, the faults that pass the test are those of the diagnosis
   pub explaining_picked : (test : Single → Bool) → ((single : Single) → IsSingle board single → Decides (test single) (Explains board single log)) → Picks Explaining (singles board) (filter test (singles board))
   explaining_picked test decides = filter_picks Explaining test (singles board) (λ single has. decides single (listed single has))
 
--- a log has no second diagnosis
+-- a log has at most one diagnosis
 pub one_diagnosis : (board : RawBoard) (log : List (List Bool)) (pass other_pass : Bool) (faults others : List Single) → IsDiagnosis board log pass faults → IsDiagnosis board log other_pass others →
     (pass ≡ other_pass) × (faults ≡ others)
 one_diagnosis board log pass other_pass faults others h k =

@@ -36,7 +36,7 @@ module _ (board : RawBoard) (plan : PlanTables) (log : List (List Bool)) where
   abbrev Expected : ℕ → Type 0
   Expected n = ShowsOn board plan None log n
 
-  -- the nets below a number that differ, in net order
+  -- `nets` are the nets below `count` that differ, in net order
   pub record DifferBelow (count : ℕ) (nets : List ℕ) : Type 0 where
     pub rising : InOrder (λ (a b : ℕ). a < b) nets
     pub each : (n : ℕ) → Has nets n → (n < count) × (Expected n → ⊥)
@@ -45,7 +45,7 @@ module _ (board : RawBoard) (plan : PlanTables) (log : List (List Bool)) where
   pub differ_none : DifferBelow 0 []
   differ_none = record { rising = tt; each = λ n has. absurd has; others = λ n less. absurd (omega (arith, less)) }
 
-  -- one net more is looked at
+  -- the list stays right after the next net is checked
   pub differ_more : (count : ℕ) (nets : List ℕ) (shown : Bool) → Decides shown (Expected count) → DifferBelow count nets → DifferBelow (count + 1) (nets ++ cond (not shown) (count ∷ []) [])
   differ_more count nets true decides below = subst (λ (l : List ℕ). DifferBelow (count + 1) l) (sym (append-nil nets)) (record {
     rising = below.rising;
@@ -85,7 +85,7 @@ module _ (board : RawBoard) (plan : PlanTables) (log : List (List Bool)) where
           by_earlier (inl has) = inl (has_left nets (count ∷ []) n has)
           by_earlier (inr shows) = inr shows
 
-  -- those below the number of nets are those of the board
+  -- the differing nets below the number of nets are all differing nets of the board
   pub differ_all : (count : ℕ) (nets : List ℕ) → count ≡ length board.nets → DifferBelow count nets → AreDiffering board plan log nets
   differ_all count nets all below = record {
     rising = order_pairs (λ (a b : ℕ). a < b) nets below.rising;
@@ -107,19 +107,19 @@ module _ (board : RawBoard) (plan : PlanTables) (log : List (List Bool)) where
           by_hidden (inl has) = has_contains nets n has
           by_hidden (inr shows) = absurd (hidden shows)
 
--- a net is not in an empty list
+-- no net is in an empty list
 not_among : {P : Type 0} (n : ℕ) (nets : List ℕ) → length nets ≡ 0 → Contains nets n ⊎ P → P
 not_among n [] e (inl has) = absurd (contains_has [] n has)
 not_among n [] e (inr p) = p
 not_among n (m ∷ nets) e s = absurd (omega (arith, e))
 
--- no net differs exactly if all show the expected bits
+-- no net differs exactly if all nets show the expected bits
 pub none_decides : (board : RawBoard) (plan : PlanTables) (log : List (List Bool)) (nets : List ℕ) → AreDiffering board plan log nets → (P : Type 0) → (P → ShowsAll board plan None log) → (ShowsAll board plan None log → P) → (r : Bool) → r ≡ (length nets == 0) → Decides r P
 none_decides board plan log [] differ P to back r is = (λ e. back (λ x less n within. not_among n [] refl (differ.others n within) x less), λ p. is)
 none_decides board plan log (n ∷ nets) differ P to back r is =
     (λ e. absurd (both_ways r (is ∙ ne_eqb (length (n ∷ nets)) 0 (λ z. omega (arith, z))) e), λ p. let d = (differ.exactly n).0 (has_contains (n ∷ nets) n (inl refl)) in absurd (d.1 (λ x less. to p x less n d.0)))
 
--- the place of a net among those that pass a test
+-- the place of a net among the nets that pass a test is the number of earlier nets that pass it
 place_in_filter : (g : Net → Bool) (a : ℕ) (nets : List Net) (n : ℕ) (net : Net) → slice_get nets n ≡ Some net → g net ≡ true →
     slice_get (map (λ (m : Numbered). m.0) (filter (λ (m : Numbered). g m.1) (enumerate_from a nets))) (count_by g (take n nets)) ≡ Some (a + n)
 place_in_filter g a [] n net e on = cc e
@@ -184,7 +184,7 @@ module _ (board : RawBoard) (rules : IsBoard board) (plan : PlanTables) (p : IsP
       by_test true e = refl
       by_test false e = absurd (hidden (unobserved_shows n net is_net e))
 
-  -- the nets that have a code, by what passes observe
+  -- the nets that have a code are the nets that some pass observes
   coded_observed : coded_nets plan (length board.nets) ≡ map (λ (m : Numbered). m.0) (filter (λ (m : Numbered). is_observed board plan.passes m.1) (enumerate_from 0 board.nets))
   coded_observed =
       filter_numbers (λ n. nat_lt 0 (code_in plan n)) (is_observed board plan.passes) 0 board.nets

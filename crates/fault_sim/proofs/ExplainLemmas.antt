@@ -1,4 +1,4 @@
--- The suspects for a log: every place whose fault explains it is among them.
+-- Every place whose fault explains the log is among the suspects.
 use Rattle.std.proofs.Common.{◌≡◌, ◌≢◌, ◌⊎◌, inl, inr, ℕ, zero, suc, ◌+◌, ◌-◌, ◌*◌, ◌/◌, ◌%◌, ◌<◌, ◌≤◌, ◌==◌, Bool, true, false, cond, ◌||◌, List, [], ◌∷◌, ◌++◌, length, drop, get_or, Option, Some, None, refl, sym, ap, ◌∙◌, subst, arith, length-append}
 use Rattle.std.specs.Prelude.{◌↔◌, slice_get, count_by, All, Contains}
 use Rattle.std.specs.List.{flat_map, list_all, range_with_len}
@@ -49,21 +49,21 @@ use Rattle.fault_sim.proofs.OrderLemmas.{place_single}
 use Rattle.fault_sim.proofs.DifferLemmas.{differing_observed, covered_there}
 use Rattle.fault_sim.proofs.SuspectLemmas.{PairAt, pair_at, net_order, net_below, has_stuck, has_open, has_earlier, has_later, pair_order, pair_below, has_pair}
 
--- the nets are at their places among the covered nets, in order
+-- the nets are covered nets, and two nets are in the order of their places among the covered nets
 abbrev pub CanSuspect : PlanTables → FaultLists → List ℕ → Type 0
 CanSuspect plan lists [] = Unit {0}
 CanSuspect plan lists (n ∷ []) = covered_place plan n < length lists.nets
 CanSuspect plan lists (m ∷ n ∷ []) = (covered_place plan m < covered_place plan n) × (covered_place plan n < length lists.nets)
 CanSuspect plan lists (m ∷ n ∷ o ∷ nets) = Unit {0}
 
--- the place of a fault
+-- the place of a stuck net, of an open pin or of a short
 pub data PlaceOf (lists : FaultLists) (i : ℕ) (single : Single) : Type 0 where
   at_stuck : (m r net : ℕ) (value : Bool) → slice_get lists.nets m ≡ Some net → r < 2 → i ≡ 2 * m + r → StuckNet net value ≡ single → PlaceOf lists i single
   at_open : (m r : ℕ) (pin : PinRef) (value : Bool) → slice_get lists.pins m ≡ Some pin → r < 2 → i ≡ first_open lists + (2 * m + r) → OpenPin pin value ≡ single → PlaceOf lists i single
   at_short : (a b r x y : ℕ) (kind : Kind) → a < b → slice_get lists.nets a ≡ Some x → slice_get lists.nets b ≡ Some y → r < 4 → i ≡ first_short lists + (4 * pair_number lists a b + r) → Short x y kind ≡ single →
       PlaceOf lists i single
 
--- what is at a place of some faults
+-- a place that `placed` gives some faults has the fault of this number
 placed_at : (faults : List Single) (i : ℕ) (single : Single) → slice_get (placed faults) i ≡ Some (Some single) → slice_get faults i ≡ Some single
 placed_at [] i single e = cc e
 placed_at (fault ∷ faults) zero single e = let two : Some fault ≡ Some single = cc e in two
@@ -143,7 +143,7 @@ module _ (plan : PlanTables) (lists : FaultLists) (starts : AreStarts (length li
         by_first (inl less) = by_stuck less
         by_first (inr above) = by_second above (cases_lt i (2 * length lists.nets + 2 * length lists.pins))
 
--- a number is at only one place of a rising list
+-- a rising list has each number only once
 stands_once : (xs : List ℕ) → InOrder (λ (x y : ℕ). x < y) xs → (a b x y : ℕ) → slice_get xs a ≡ Some x → slice_get xs b ≡ Some y → x ≡ y → a ≡ b
 stands_once [] order a b x y ea eb same = cc ea
 stands_once (z ∷ xs) order zero zero x y ea eb same = refl
@@ -151,7 +151,7 @@ stands_once (z ∷ xs) order zero (suc b) x y ea eb same = let first : z ≡ x =
 stands_once (z ∷ xs) order (suc a) zero x y ea eb same = let first : z ≡ y = cc eb in absurd (omega (arith, first, same, order.0 x (has_at xs a x ea)))
 stands_once (z ∷ xs) order (suc a) (suc b) x y ea eb same = ap suc (stands_once xs order.1 a b x y ea eb same)
 
--- and its places rise with its numbers
+-- the numbers of a rising list rise with their places
 places_order : (xs : List ℕ) → InOrder (λ (x y : ℕ). x < y) xs → (a b x y : ℕ) → slice_get xs a ≡ Some x → slice_get xs b ≡ Some y → a < b → x < y
 places_order [] order a b x y ea eb less = cc ea
 places_order (z ∷ xs) order zero zero x y ea eb less = absurd (omega (arith, less))
@@ -159,7 +159,7 @@ places_order (z ∷ xs) order zero (suc b) x y ea eb less = let first : z ≡ x 
 places_order (z ∷ xs) order (suc a) zero x y ea eb less = absurd (omega (arith, less))
 places_order (z ∷ xs) order (suc a) (suc b) x y ea eb less = places_order xs order.1 a b x y ea eb (omega (arith, less))
 
--- a fault of other nets has no effect on a net
+-- a fault has no effect on a net that is none of the fault's own nets
 plain_effect : (board : RawBoard) (plan : PlanTables) (pass : List Ctl) (single : Single) (n : ℕ) → n ≢ first_net single → n ≢ second_net single → effect_of board plan pass single n ≡ Plain
 plain_effect board plan pass (StuckNet net value) n a b = ap (λ (t : Bool). cond t (Constant value) Plain) (ne_eqb n net a)
 plain_effect board plan pass (OpenPin pin value) n a b = ap (λ (t : Bool). cond t (open_effect (place_of_driver (driver_in plan pass n)) pin.place value (pull_in board n)) Plain) (ne_eqb n pin.net a)
@@ -173,12 +173,12 @@ others_show board plan log single n within show a b x less =
     subst (λ (effect : Effect). ShowBy log (x * plan.width) plan.width (code_in plan n) (readers_in plan n) effect (place_of_driver (driver_in plan (get_or plan.passes x []) n)))
     (plain_effect board plan (get_or plan.passes x []) single n a b) (show x less n within)
 
--- if the nets that differ are the fault's own, its effect is shown on all nets exactly if it is shown on its own
+-- if only the fault's own nets differ, the log shows the fault on all nets exactly if it shows the fault on these nets
 module _ (board : RawBoard) (plan : PlanTables) (log : List (List Bool)) (single : Single) (a b : ℕ) (first : a ≡ first_net single) (second : b ≡ second_net single) (nets : List ℕ) (differ : AreDiffering board plan log nets) where
   is_one : ℕ → Bool
   is_one n = (n == a) || (n == b)
 
-  -- the nets that differ are the fault's own, if its effect is shown on all nets
+  -- if the log shows the fault on all nets, only the fault's own nets differ
   pub are_own : ShowsAll board plan (Some single) log → list_all (λ n. (n == a) || (n == b)) nets ≡ true
   are_own show = all_from (λ n. (n == a) || (n == b)) nets (λ i n at. by_first n (has_contains nets n (has_at nets i n at)) (cases_eq n a))
     where
@@ -218,11 +218,11 @@ module _ (board : RawBoard) (plan : PlanTables) (lists : FaultLists) (starts : A
     (listed : listed_places plan lists ≡ places_of board)
     (singles : (i : ℕ) (single : Single) → slice_get (places_of board) i ≡ Some (Some single) → IsSingle board single) where
   module _ (nets : List ℕ) (differ : AreDiffering board plan log nets) where
-    -- the differing nets are among the covered nets
+    -- each net that differs is at its place among the covered nets
     stands : (n : ℕ) → Contains nets n → slice_get lists.nets (covered_place plan n) ≡ Some n
     stands n h = let e = (differ.exactly n).0 h in there n e.0 e.1
 
-    -- and they are the own nets of each fault that explains the log
+    -- each net that differs is one of the own nets of every fault that explains the log
     is_of : (single : Single) → IsSingle board single → Explains board single log → (n : ℕ) → Contains nets n → (n ≡ first_net single) ⊎ (n ≡ second_net single)
     is_of single is_single explains n h = by_first (cases_eq n (first_net single))
       where
@@ -263,7 +263,7 @@ module _ (board : RawBoard) (plan : PlanTables) (lists : FaultLists) (starts : A
               lower le ne = grind arith
   can_suspect (m ∷ n ∷ o ∷ nets) differ = tt
 
-  -- the places whose faults explain the log
+  -- each place whose fault explains the log is a suspect
   module _ (i : ℕ) (single : Single) (at : slice_get (places_of board) i ≡ Some (Some single)) (explains : Explains board single log) where
     is_single : IsSingle board single
     is_single = singles i single at
@@ -458,7 +458,7 @@ module _ (board : RawBoard) (plan : PlanTables) (lists : FaultLists) (starts : A
         count_is = suspects_counted nets can;
       }
 
--- the same for the log of a board's test
+-- the suspects of a log of a board's test, found by the differing nets
 module _ (board : RawBoard) (rules : IsBoard board) (plan : PlanTables) (p : IsPlanOf board plan) (passes : plan.passes ≡ passes_of board) (log : List (List Bool))
     (rows : length log ≡ length plan.passes * plan.width) (bits : All (λ row. length row ≡ data_bits board) log)
     (compared : CompareRows (code_row board (passes_of board)) (code_width (observed_count board (passes_of board))) (passes_of board) (compared_scans board (svf_row_scans board)))

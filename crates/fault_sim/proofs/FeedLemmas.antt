@@ -1,4 +1,4 @@
--- What a pass drives a net to, by the tables of a plan.
+-- The bit that a pass drives a net to, found in the tables of a plan.
 use Rattle.std.proofs.Common.{◌≡◌, ℕ, ◌+◌, ◌==◌, Bool, true, false, cond, not, ◌&&◌, List, [], map, get_or, Option, Some, None, is_some, unwrap_or, refl, sym, ap, ◌∙◌, subst}
 use Rattle.std.specs.Prelude.{slice_get, option_map, option_and_then}
 use Rattle.std.specs.List.{list_any}
@@ -54,7 +54,7 @@ module _ (board : RawBoard) (rules : IsBoard board) (plan : PlanTables) (p : IsP
       ∙ get_or_from_slice_get (map (λ (x : Net). readers_of board x.pins) board.nets) n (readers_of board net.pins) []
       (slice_get-map (λ (x : Net). readers_of board x.pins) board.nets n ∙ ap (λ (o : Option Net). option_map (λ (x : Net). readers_of board x.pins) o) is_net)
 
-  -- a net that a pass observes has its code
+  -- the plan's code of a net that a pass observes is the code of the net on the board
   pub code_is : (x : ℕ) (pass : List Ctl) (place : ℕ) → slice_get plan.passes x ≡ Some pass → observing_driver board (holds pass) net ≡ Some place →
       code_in plan n ≡ code_of_net board plan.passes n
   code_is x pass place stands observing =
@@ -73,7 +73,7 @@ module _ (board : RawBoard) (rules : IsBoard board) (plan : PlanTables) (p : IsP
         subst (λ (l : List NetDriver). FirstOn board (holds pass) 0 net.pins (enabled_in (holds pass) l)) (sym (drivers_are ∙ pins_are))
         (first_on board (holds pass) 0 net.pins)
 
-    -- the enabled driver
+    -- facts about the enabled driver
     module _ (d : NetDriver) (enabled : driver_in plan pass n ≡ Some d) where
       pub first_place : first_enabled board (holds pass) 0 net.pins ≡ Some d.place
       first_place = (subst (λ (o : Option NetDriver). FirstOn board (holds pass) 0 net.pins o) enabled first_is).0
@@ -105,7 +105,7 @@ module _ (board : RawBoard) (rules : IsBoard board) (plan : PlanTables) (p : IsP
       ctl_is : d.ctl ≡ option_map (λ (control : Control). let c : Ctl = record { part = at.part; cell = control.cell } in c) entry.ctl
       ctl_is = sym (ap (λ (y : NetDriver). y.ctl) on.driver_is)
 
-      -- whether the pass observes the net by it
+      -- the pass observes the net exactly if a cell reads another pin of the net
       pub observing_is : observing_driver board (holds pass) net ≡ cond (is_read_beside (readers_in plan n) d) (Some d.place) None
       observing_is =
           ap (λ (b : Bool). cond b None (observing_driver_by board net (first_enabled board (holds pass) 0 net.pins))) unguarded
@@ -128,7 +128,7 @@ module _ (board : RawBoard) (rules : IsBoard board) (plan : PlanTables) (p : IsP
         abbrev safe_value : Bool
         safe_value = unwrap_or (safe_bit t.device entry.num) false
 
-        -- the cell's bit if it carries no net's bit
+        -- the bit of the driver's cell if this cell carries no net's code
         quiet_is : get_or plan.quiet.bits d.position false ≡ cond controls off safe_value
         quiet_is =
             ap (λ (l : List Bool). get_or l d.position false)
@@ -178,7 +178,7 @@ module _ (board : RawBoard) (rules : IsBoard board) (plan : PlanTables) (p : IsP
                 ap (λ (o : Option ℕ). unwrap_or (data_observed (row.carried n) d.place o) (steady_bit board (holds pass) at.part t.device entry.num)) e
                 ∙ steady_is
 
-        -- a driver that its own cell controls is off at the net's pull
+        -- a driver that its own cell controls is off at the bit that the net is pulled to
         pull_is : (control : Control) → entry.ctl ≡ Some control → control.cell ≡ entry.num → net.pull ≡ Some control.disable
         pull_is control e same = by_rules (((board_rules board rules).nets n net is_net).pins d.place on.pin on.is_pin)
           where
@@ -233,7 +233,7 @@ module _ (board : RawBoard) (rules : IsBoard board) (plan : PlanTables) (p : IsP
             ∙ feeds_is
             ∙ ap (λ (b : Bool). unless_off (cond (is_own d.own d.ctl) net.pull None) b) bit_is
 
-    -- the bit that the net is driven to
+    -- the bit that the net is driven to is the bit of its feed
     pub driven_is : (j : ℕ) → driven_to board (code_row board plan.passes pass j) (Some net) ≡ feed_bit (net_feed board plan pass n) j
     driven_is j =
         by_driver (driver_in plan pass n) refl first_is

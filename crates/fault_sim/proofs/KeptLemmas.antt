@@ -1,4 +1,4 @@
--- What is kept of the passes of a test, and what a look-up finds in it.
+-- The kept passes of a test, and the results of look-ups in them.
 use Rattle.std.proofs.Common.{◌≡◌, ℕ, ◌<◌, Bool, true, false, ◌&&◌, cond, List, [], length, get_or, Option, Some, None, refl, subst}
 use Rattle.std.specs.Prelude.{option_map, slice_get}
 use Rattle.std.proofs.lemmas.Bool.{both_ways}
@@ -16,7 +16,7 @@ use Rattle.fault_sim.specs.Kept.{AreDrivers, AreRows, IsRow, KeepDrivers, KeepRo
 use Rattle.fault_sim.specs.inner.Kept.{drivers_of, feed_of, is_code, kept_drivers, kept_rows, observes_coded, rows_of}
 use Rattle.fault_sim.specs.inner.Tested.{observes_by, observes_in, paired_in}
 
--- what is kept of a pass is right
+-- the kept drivers of a pass, and then its kept rows, are those of the pass
 pub drivers_kept : (plan : PlanTables) (kept : List KeptPass) → KeepDrivers plan kept → (x : ℕ) → AreDrivers plan (get_or plan.passes x []) (kept_drivers kept x)
 drivers_kept plan kept keep x n driver = by_pass (slice_get kept x) refl
   where
@@ -32,7 +32,7 @@ rows_kept board plan kept keep x j row = by_pass (slice_get kept x) refl
     by_pass (Some pass) at e = keep x pass at j row e
 
 module _ (plan : PlanTables) (pass : List Ctl) (n : ℕ) where
-  -- the place of its pin, and what it gives its net
+  -- the place of the enabled driver's pin, and the feed that the driver gives its net
   pub place_is : option_map (λ d. d.place) (enabled_driver plan pass n) ≡ place_of_driver (driver_in plan pass n)
   place_is = by_driver (driver_in plan pass n)
     where
@@ -47,7 +47,7 @@ module _ (plan : PlanTables) (pass : List Ctl) (n : ℕ) where
       by_driver None = refl
       by_driver (Some d) = refl
 
-  -- its cell has the code exactly if the pass observes the net
+  -- the driver's cell has the net's code exactly if the pass observes the net
   pub observes_is : observes_coded (enabled_driver plan pass n) ≡ observes_in plan pass n
   observes_is = by_driver (driver_in plan pass n)
     where

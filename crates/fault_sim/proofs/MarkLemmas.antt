@@ -1,4 +1,4 @@
--- Marks of digits. A net whose digits have no marks shows the expected bits.
+-- Marks of digits. A net shows the expected bits if none of the digits of its cells is marked.
 use Rattle.std.proofs.Common.{◌≡◌, ◌⊎◌, inl, inr, ℕ, suc, ◌+◌, ◌*◌, ◌/◌, ◌%◌, ◌<◌, ◌≤◌, ◌==◌, Bool, true, false, not, ◌||◌, List, [], length, get_or, set, min, max, Option, Some, None, is_some, unwrap_or, refl, sym, ap, ◌∙◌, subst, arith}
 use Rattle.std.specs.Prelude.{slice_get}
 use Rattle.std.specs.List.{list_all}
@@ -35,7 +35,7 @@ use Rattle.fault_sim.specs.Kept.{compared_in, expected_in}
 use Rattle.fault_sim.specs.inner.Marks.{HasExpected, MarkRows, AreMarks, are_marked}
 use Rattle.fault_sim.proofs.ShowLemmas.{ComparedCell, compared_cell}
 
--- numbers that agree at each bit at which a third has a 1
+-- if two digits agree under a mask, they agree at each bit at which the mask has a 1
 masked_same : (a b mask k : ℕ) → bit_and (bit_xor a b) mask ≡ 0 → digit_bit mask k ≡ true → digit_bit a k ≡ digit_bit b k
 masked_same a b mask k none on =
     let one : bit_at mask k ≡ 1 = eqb-true (bit_at mask k) 1 on in
@@ -45,14 +45,14 @@ masked_same a b mask k none on =
     let same : bit_at a k ≡ bit_at b k = omega (arith, sum, bit_at-lt a k, bit_at-lt b k) in
     ap (λ (n : ℕ). n == 1) same
 
--- neither of two numbers has a 1 at a bit at which their union has none
+-- if the union of two numbers is 0, both numbers are 0
 pub or_zeros : (a b : ℕ) → bit_or a b ≡ 0 → (a ≡ 0) × (b ≡ 0)
 or_zeros a b none = (same_from_bits a 0 (λ i. omega (arith, union i, bit_at-zero i)), same_from_bits b 0 (λ i. omega (arith, union i, bit_at-zero i)))
   where
     union : (i : ℕ) → max (bit_at a i) (bit_at b i) ≡ 0
     union i = sym (bit_at_or a b i) ∙ ap (λ (n : ℕ). bit_at n i) none ∙ bit_at-zero i
 
--- one digit more is marked
+-- the marks stay right after digit k is marked
 module _ (start marks : List ℕ) (wrong : ℕ → ℕ) (k : ℕ) (left : (i : ℕ) → k ≤ i → get_or marks i 0 ≡ get_or start i 0) where
   pub marked_more : k < length marks → ((i : ℕ) → i < k → get_or marks i 0 ≡ 0 → (get_or start i 0 ≡ 0) × (wrong i ≡ 0)) → (i : ℕ) → i < k + 1 → get_or (set marks k (bit_or (get_or marks k 0) (wrong k))) i 0 ≡ 0 →
       (get_or start i 0 ≡ 0) × (wrong i ≡ 0)
@@ -71,7 +71,7 @@ module _ (start marks : List ℕ) (wrong : ℕ → ℕ) (k : ℕ) (left : (i : �
   pub unmarked_left : (mark i : ℕ) → k + 1 ≤ i → get_or (set marks k mark) i 0 ≡ get_or start i 0
   unmarked_left mark i le = get_or-set_other marks k i mark 0 (λ same. omega (arith, le, same)) ∙ left i (omega (arith, le))
 
--- a row of a pass is one of the log
+-- each row of a pass is a row of the log
 pub row_there : (passes width x j rows : ℕ) → rows ≡ passes * width → x < passes → j < width → x * width + j < rows
 row_there passes width x j rows count x_less j_less = omega (arith, mul-add-lt x width j passes x_less j_less, commute width passes, count)
   where
@@ -79,14 +79,14 @@ row_there passes width x j rows count x_less j_less = omega (arith, mul-add-lt x
     commute a b = grind arith
 
 module _ (board : RawBoard) (plan : PlanTables) where
-  -- what is compared is as long as a scan of data
+  -- the expected bits of a row, and the flags of its compared bits, are as long as a data scan
   pub length-expected : (x j : ℕ) → length (expected_in board plan x j) ≡ data_bits board
   length-expected x j = ap length (tdo_laid board (scan_of_pass board plan x (suc j))) ∙ length-laid _ board
 
   pub length-compared : (x j : ℕ) → length (compared_in board plan x j) ≡ data_bits board
   length-compared x j = ap length (mask_laid board (scan_of_pass board plan x (suc j))) ∙ length-laid _ board
 
-  -- a digit that is right has the expected bits
+  -- if a digit has no wrong compared bit, the log has the expected bit at each compared position of this digit
   pub digit_expected : (log : List (List Bool)) (x j at : ℕ) (tdo mask : List Bool) (digits : List ℕ) → tdo ≡ expected_in board plan x j → mask ≡ compared_in board plan x j → AreRowDigits (get_or log (x * plan.width + j) []) digits → at < data_bits board →
       length (get_or log (x * plan.width + j) []) ≡ data_bits board →
       bit_and (bit_xor (get_or digits (at / 4) 0) (get_or (digits_of tdo) (at / 4) 0)) (get_or (digits_of mask) (at / 4) 0) ≡ 0 → HasExpected board plan log x j at
@@ -98,7 +98,7 @@ module _ (board : RawBoard) (plan : PlanTables) where
       ∙ ap (λ (l : List Bool). get_or l at false) tdo_is
 
 module _ (board : RawBoard) (rules : IsBoard board) (plan : PlanTables) (p : IsPlanOf board plan) (log : List (List Bool)) (marks : List ℕ) (are : AreMarks board plan log (length plan.passes) marks) where
-  -- the cells of an unmarked net that row j of a pass compares have the bit of its code
+  -- if a net is unmarked, each of its cells that row j of pass x compares has the bit of the net's code
   module _ (n : ℕ) (unmarked : are_marked marks (readers_in plan n) ≡ false) (x : ℕ) (less : x < length plan.passes) (net : Net) (is_net : slice_get board.nets n ≡ Some net) (pass : List Ctl) (stands : slice_get plan.passes x ≡ Some pass) (d : NetDriver) (enabled : driver_in plan pass n ≡ Some d) (j : ℕ) (j_less : j < plan.width) where
     module _ (reader : ReaderCell) (has : Has (readers_in plan n) reader) (differs : (reader.place == d.place) ≡ false) where
       c : ComparedCell board plan pass j n net reader
@@ -146,7 +146,7 @@ module _ (board : RawBoard) (rules : IsBoard board) (plan : PlanTables) (p : IsP
         by_place y has true e = refl
         by_place y has false e = is_same_of_same (bit_in log (x * plan.width + j) y.position) (code_bit (code_in plan n) j) (bit_is y has e)
 
-  -- a net shows the expected bits if none of the digits of its cells has a mark
+  -- a net shows the expected bits if none of the digits of its cells is marked
   unmarked_within : (n : ℕ) → n < length board.nets → are_marked marks (readers_in plan n) ≡ false → ShowsOn board plan None log n
   unmarked_within n within unmarked x less =
       let net = item_there board.nets n within in
@@ -159,7 +159,7 @@ module _ (board : RawBoard) (rules : IsBoard board) (plan : PlanTables) (p : IsP
       by_driver net is_net pass stands None e = tt
       by_driver net is_net pass stands (Some d) e = λ j j_less. cells_expected n unmarked x less net is_net pass stands d e j j_less
 
-  -- the same for a number that no net has
+  -- this also holds for a number that no net has
   pub unmarked_shows : (n : ℕ) → are_marked marks (readers_in plan n) ≡ false → ShowsOn board plan None log n
   unmarked_shows n unmarked = by_side (cases_lt n (length board.nets))
     where
@@ -173,7 +173,7 @@ module _ (board : RawBoard) (rules : IsBoard board) (plan : PlanTables) (p : IsP
           by_driver x None = tt
           by_driver x (Some d) = λ j less. refl
 
--- one pass more is marked
+-- the marks stay right after pass x is checked
 pub pass_more : (board : RawBoard) (plan : PlanTables) (log : List (List Bool)) (x : ℕ) (old new : List ℕ) → AreMarks board plan log x old → MarkRows board plan log x plan.width old new → AreMarks board plan log (x + 1) new
 pass_more board plan log x old new are more at within unmarked pass less = by_pass (cases_eq pass x)
   where

@@ -12,7 +12,7 @@ pub suspects_are_places : SuspectsArePlaces
 suspects_are_places board plan lists log suspects universe are =
     subst (λ (n : ℕ). All (λ i. i < n) suspects) (sym (places_counted board lists universe)) are.below
 
--- 0 before 1
+-- the value 0 comes before the value 1, and 1 does not come before 0
 bits_one_way : (v w : Bool) → v ≡ false → w ≡ true → w ≡ false → ⊥
 bits_one_way v w zero one other = cc
 

@@ -1,4 +1,4 @@
--- If places rise and leave out no fault that passes a test, the faults at them that pass it are all that pass it.
+-- If places rise and include every fault that passes a test, filtering the faults at these places gives all faults that pass.
 use Rattle.std.proofs.Common.{◌≡◌, ◌⊎◌, inl, inr, ℕ, zero, suc, ◌+◌, ◌-◌, ◌<◌, ◌≤◌, Bool, true, false, cond, List, [], ◌∷◌, ◌++◌, length, Option, Some, None, refl, sym, ap, ◌∙◌, subst, arith, length-append}
 use Rattle.std.specs.Prelude.{slice_get, filter, filter_map, option_and_then}
 use Rattle.std.specs.List.{flat_map, cons_option}
@@ -18,7 +18,7 @@ use Rattle.fault_sim.specs.Starts.{pairs_before}
 use Rattle.fault_sim.specs.Laws.{PlacesCounted, SuspectsSuffice}
 use Rattle.fault_sim.proofs.PlaceLemmas.{length-flat, length-pairs, places_are}
 
--- the places are as many as the lists say
+-- the number of places is the one that the lists give
 pub places_counted : PlacesCounted
 places_counted board lists universe =
     let nets : length lists.nets ≡ length (covered_nets board) = ap (λ (l : List ℕ). length l) universe.nets ∙ length-map (covered_nets board) (λ (net : Numbered). net.0) in
@@ -44,7 +44,7 @@ places_counted board lists universe =
         by_test true = refl
         by_test false = refl
 
--- a fault at a place is a single fault of the board
+-- the fault at a place is in the list of the faults of all places
 pub fault_listed : (places : List (Option Single)) (i : ℕ) (single : Single) → slice_get places i ≡ Some (Some single) → Has (filter_map (λ place. place) places) single
 fault_listed [] i single e = cc e
 fault_listed (None ∷ places) zero single e = let bad : Some None ≡ Some (Some single) = e in cc bad
@@ -56,7 +56,7 @@ pub place_single : (board : RawBoard) → IsBoard board → (i : ℕ) (single : 
 place_single board rules i single e =
     single_is board rules single (has_contains (singles board) single (subst (λ (l : List Single). Has l single) (places_are board) (fault_listed (places_of board) i single e)))
 
--- the faults at the places `numbers`; the first item of the list is at place `first`
+-- the faults at the places `numbers`, if the first item of the list is at place `first`
 abbrev pub faults_from : List (Option Single) → ℕ → List ℕ → List Single
 faults_from places first numbers = filter_map (λ i. option_and_then (λ place. place) (slice_get places (i - first))) numbers
 
@@ -65,7 +65,7 @@ module _ (test : Single → Bool) where
   none_here first [] = refl
   none_here first (i ∷ numbers) = none_here first numbers
 
-  -- one place more in front, below all numbers
+  -- a further place in front, below all numbers, changes none of the faults
   moved : (place : Option Single) (places : List (Option Single)) (first : ℕ) (numbers : List ℕ) → ((i : ℕ) → Has numbers i → first + 1 ≤ i) → faults_from (place ∷ places) first numbers ≡ faults_from places (first + 1) numbers
   moved place places first [] above = refl
   moved place places first (i ∷ numbers) above =
@@ -151,7 +151,7 @@ from_first board (i ∷ numbers) =
     ap (λ (k : ℕ). cons_option (fault_at board k) (faults_from (places_of board) 0 numbers)) same
     ∙ ap (λ (l : List Single). cons_option (fault_at board i) l) (from_first board numbers)
 
--- the suspects that pass are all that pass
+-- the faults of suspects that pass the test are all single faults that pass it
 pub suffice : SuspectsSuffice
 suffice board plan lists log suspects rules are test only =
     sym (ap (λ (l : List Single). filter test l) (places_are board))

@@ -1,4 +1,4 @@
--- The places of a board as a list.
+-- The list of a board's places, and the fault at each place.
 use Rattle.std.proofs.Common.{◌≡◌, ◌⊎◌, inl, inr, ℕ, zero, suc, ◌+◌, ◌-◌, ◌*◌, ◌<◌, ◌≤◌, ◌==◌, Bool, true, false, cond, ◌&&◌, List, [], ◌∷◌, ◌++◌, length, map, get_or, Option, Some, None, refl, sym, ap, ◌∙◌, arith, length-append}
 use Rattle.std.specs.Prelude.{slice_get, filter, filter_map, option_and_then, option_map}
 use Rattle.std.specs.List.{flat_map}
@@ -29,7 +29,7 @@ use Rattle.fault_sim.specs.Laws.{PlacesAre}
 use Rattle.fault_sim.specs.Places.{placed, pair_places, stuck_places, open_places, short_places, number_places, listed_at, listed_places, place_count, where_observed}
 use Rattle.fault_sim.specs.Starts.{pairs_before, AreStarts}
 
--- what is at the places of some faults
+-- the faults at the places that `placed` gives some faults are these faults
 placed_faults : (faults : List Single) → filter_map (λ place. place) (placed faults) ≡ faults
 placed_faults [] = refl
 placed_faults (fault ∷ faults) = ap (λ (l : List Single). fault ∷ l) (placed_faults faults)
@@ -40,7 +40,7 @@ flat_places g (x ∷ xs) =
     filter_map-append (λ place. place) (g x) (flat_map g xs)
     ∙ ap (λ (l : List Single). filter_map (λ place. place) (g x) ++ l) (flat_places g xs)
 
--- the faults of the items that pass a test
+-- if items that fail a test give no faults, only the items that pass it give faults
 flat_filter : {X : Type 0} (q : X → Bool) (f g : X → List Single) → ((x : X) → g x ≡ cond (q x) (f x) []) → (xs : List X) → flat_map g xs ≡ flat_map f (filter q xs)
 flat_filter q f g same [] = refl
 flat_filter {X} q f g same (x ∷ xs) = ap (λ (l : List Single). l ++ flat_map g xs) (same x) ∙ by_test (q x) (flat_filter q f g same xs)
@@ -49,7 +49,7 @@ flat_filter {X} q f g same (x ∷ xs) = ap (λ (l : List Single). l ++ flat_map 
     by_test true rest = ap (λ (l : List Single). f x ++ l) rest
     by_test false rest = rest
 
--- pairs that pass a test are of items that pass theirs
+-- if both items of a pair pass a test whenever the pair passes one, the pairs can be taken from the passing items alone
 module _ {X : Type 0} (c : X → Bool) (q : X × X → Bool) (parts : (x y : X) → q (x, y) ≡ true → (c x ≡ true) × (c y ≡ true)) where
   second_covered : (x : X) (ys : List X) → filter q (map (λ y. let p : X × X = (x, y) in p) (filter c ys)) ≡ filter q (map (λ y. let p : X × X = (x, y) in p) ys)
   second_covered x [] = refl
@@ -86,7 +86,7 @@ module _ {X : Type 0} (c : X → Bool) (q : X × X → Bool) (parts : (x y : X) 
           ∙ sym (filter-append q (map (λ y. let p : X × X = (x, y) in p) xs) (pairs_within xs)
           ∙ ap (λ (l : List (X × X)). l ++ filter q (pairs_within xs)) (first_uncovered x e xs))
 
--- paired nets are covered
+-- two nets that are paired are both covered
 pub paired_covered : (board : RawBoard) (a b : Net) → are_paired board a b ≡ true → (is_covered board a ≡ true) × (is_covered board b ≡ true)
 paired_covered board a b e =
     let i = below_place (length a.pins) (λ i. any_below (length b.pins) (pairs_at board a b i)) e in
@@ -95,7 +95,7 @@ paired_covered board a b e =
     let u = and_parts (is_tested_driver board a i.number) (is_tested_driver board b j.number) t.0 in
     (below_at (length a.pins) (is_tested_driver board a) i.number i.below u.0, below_at (length b.pins) (is_tested_driver board b) j.number j.below u.1)
 
--- the faults at the places are the single faults
+-- the faults at the places of a board are its single faults
 pub places_are : PlacesAre
 places_are board =
     filter_map-append (λ place. place) (stuck_places board) (open_places board ++ short_places board)
@@ -131,7 +131,7 @@ places_are board =
         ∙ ap (λ (l : List (Numbered × Numbered)). flat_map (λ pair. short_faults pair.0.0 pair.1.0) l)
         (pairs_covered (λ (net : Numbered). is_covered board net.1) q (λ x y on. paired_covered board x.1 y.1 on) (numbered_nets board))
 
--- the item at a place, if each of the list's items gives the same number of places
+-- the item at place i of a list that joins lists of equal length w
 pub flat_at : {X Y : Type 0} (f : X → List Y) (w : ℕ) → ((x : X) → length (f x) ≡ w) → (xs : List X) (m : ℕ) (x : X) → slice_get xs m ≡ Some x → (r i : ℕ) → r < w → i ≡ m * w + r →
     slice_get (flat_map f xs) i ≡ slice_get (f x) r
 flat_at f w each [] m x e r i less at = cc e
@@ -149,7 +149,7 @@ pub length-flat : {X Y : Type 0} (f : X → List Y) (w : ℕ) → ((x : X) → l
 length-flat f w each [] = omega arith
 length-flat f w each (x ∷ xs) = omega (arith, length-append (f x) (flat_map f xs), each x, length-flat f w each xs, suc-mul (length xs) w)
 
--- and past the last of them
+-- a number at which a list has no item is not below the length of the list
 pub past_end : {X : Type 0} (xs : List X) (m : ℕ) → None ≡ slice_get xs m → length xs ≤ m
 past_end xs m none = by_side (cases_lt m (length xs))
   where
@@ -160,7 +160,7 @@ past_end xs m none = by_side (cases_lt m (length xs))
 pub flat_past : {X Y : Type 0} (f : X → List Y) (w : ℕ) → ((x : X) → length (f x) ≡ w) → (xs : List X) (m i : ℕ) → None ≡ slice_get xs m → m * w ≤ i → slice_get (flat_map f xs) i ≡ None
 flat_past f w each xs m i none low = slice_get_past (flat_map f xs) i (omega (arith, length-flat f w each xs, mul-le (length xs) w m w (past_end xs m none) (omega arith), low))
 
--- the pairs of a list, by the places of their items
+-- the pair of the items at places a and b, with its number among the pairs of a list
 pub pair_there : {X : Type 0} (xs : List X) (a b k : ℕ) (x y : X) → a < b → slice_get xs a ≡ Some x → slice_get xs b ≡ Some y → k + suc a ≡ pairs_before (length xs) a + b →
     slice_get (pairs_within xs) k ≡ Some (x, y)
 pair_there [] a b k x y less ea eb at = cc ea
@@ -186,7 +186,7 @@ length-pairs {X} (x ∷ xs) =
     length-append (map (λ v. let p : X × X = (x, v) in p) xs) (pairs_within xs)
     ∙ omega (arith, length-map xs (λ v. let p : X × X = (x, v) in p), length-pairs xs)
 
--- the numbers of pairs
+-- the number of pairs before those of the next net
 pub before_more : (nets a : ℕ) → a < nets → pairs_before nets (suc a) + suc a ≡ pairs_before nets a + nets
 before_more zero a less = absurd (omega (arith, less))
 before_more (suc nets) zero less = by_nets nets
@@ -207,7 +207,7 @@ square_most n few = mul-le n n most_nets most_nets few few
 pub before_few : (nets a : ℕ) → nets ≤ most_nets → pairs_before nets a ≤ most_nets * most_nets
 before_few nets a few = omega (arith, before_most nets a, square_most nets few)
 
--- a start is one of these numbers, or 0
+-- each item of `starts` is limited, also past its end
 pub start_few : (nets : ℕ) (starts : List ℕ) → AreStarts nets starts → nets ≤ most_nets → (a : ℕ) → get_or starts a 0 ≤ most_nets * most_nets
 start_few nets starts are few a = by_side (cases_lt a (length starts))
   where
@@ -215,7 +215,7 @@ start_few nets starts are few a = by_side (cases_lt a (length starts))
     by_side (inl less) = omega (arith, are.each a (omega (arith, less, are.count)), before_few nets a few)
     by_side (inr past) = omega (arith, get_or_past starts a 0 past)
 
--- one start more
+-- `starts` stays right with one more item
 pub starts_more : (nets a : ℕ) (starts : List ℕ) (next : ℕ) → a < nets → length starts ≡ a + 1 → ((k : ℕ) → k ≤ a → get_or starts k 0 ≡ pairs_before nets k) → next ≡ pairs_before nets (a + 1) →
     (k : ℕ) → k ≤ a + 1 → get_or (starts ++ next ∷ []) k 0 ≡ pairs_before nets k
 starts_more nets a starts next less long each is k le = by_side (cases_lt k (a + 1))
@@ -234,7 +234,7 @@ next_start nets a start less e =
     let next : suc a ≡ a + 1 = omega arith in
     omega (arith, before_more nets a less, e, less, ap (λ (i : ℕ). pairs_before nets i) next)
 
--- the place of a pair in the list, by the start of its row
+-- the second net of pair k, if the pair's first net is at place `low`
 pub pair_within : (nets : ℕ) (starts s : List ℕ) → s ≡ starts → AreStarts nets starts → (low k start : ℕ) → low + 1 < length s → get_or s low 0 ≤ k → k < get_or s (low + 1) 0 → start ≡ get_or s low 0 →
     (low + 1 + (k - start) < nets) × (k + suc low ≡ pairs_before nets low + (low + 1 + (k - start)))
 pair_within nets starts s same are low k start within above below is =
@@ -246,7 +246,7 @@ pair_within nets starts s same are low k start within above below is =
     let moved : pairs_before nets (suc low) ≡ pairs_before nets (low + 1) = ap (λ (i : ℕ). pairs_before nets i) step in
     (omega (arith, above, below, is, first, next, more, moved, within, rows), omega (arith, above, below, is, first, next, more, moved))
 
--- the faults of a net, of a pin and of two nets
+-- the two faults of a stuck net, the two of an open pin and the four of two nets
 pub stuck_fault : (net r : ℕ) → r < 2 → slice_get (stuck_faults net) r ≡ Some (StuckNet net (r == 1))
 stuck_fault net zero less = refl
 stuck_fault net (suc zero) less = refl
@@ -277,11 +277,11 @@ length-four plan pair = by_test (paired_in plan pair.0 pair.1)
     by_test true = refl
     by_test false = refl
 
--- the fault of a place, if it has one
+-- the fault of a place, if there is such a place and it has a fault
 abbrev pub at_once : Option (Option Single) → Option Single
 at_once place = option_and_then (λ fault. fault) place
 
--- it is the one of the list of faults
+-- the fault at place i of some placed faults is fault i of the list
 placed_there : (faults : List Single) (i : ℕ) → listed_at (placed faults) i ≡ slice_get faults i
 placed_there faults i = ap at_once (slice_get-map (λ f. Some f) faults i) ∙ by_fault (slice_get faults i)
   where
@@ -289,7 +289,7 @@ placed_there faults i = ap at_once (slice_get-map (λ f. Some f) faults i) ∙ b
     by_fault None = refl
     by_fault (Some fault) = refl
 
--- the net of a stuck net or an open pin that is at a place is observed
+-- the net of a stuck net or an open pin is always observed, so each such place keeps its fault
 stuck_observed : (plan : PlanTables) (nets : List ℕ) (i : ℕ) → where_observed plan (slice_get (flat_map stuck_faults nets) i) ≡ slice_get (flat_map stuck_faults nets) i
 stuck_observed plan [] i = refl
 stuck_observed plan (n ∷ nets) zero = refl
@@ -302,7 +302,7 @@ open_observed plan (pin ∷ pins) zero = refl
 open_observed plan (pin ∷ pins) (suc zero) = refl
 open_observed plan (pin ∷ pins) (suc (suc i)) = open_observed plan pins i
 
--- two nets have the faults of their short if some pass observes both
+-- the places of two nets have the faults of their shorts if some pass observes both nets
 pub short_there : (plan : PlanTables) (a b r : ℕ) (kind : Kind) → r < 4 → kind_rank kind ≡ r → at_once (slice_get (number_places plan (a, b)) r) ≡ where_observed plan (Some (Short a b kind))
 short_there plan a b r kind less rank = by_test (paired_in plan a b)
   where
@@ -310,11 +310,11 @@ short_there plan a b r kind less rank = by_test (paired_in plan a b)
     by_test true = ap at_once (slice_get-map (λ f. Some f) (short_faults a b) r ∙ ap (λ (o : Option Single). option_map (λ f. Some f) o) (short_fault a b r kind rank))
     by_test false = ap at_once (no_fault r less)
 
--- each place has one fault or none
+-- a place within the list has the fault that `listed_at` gives, or no fault
 pub listed_there : (places : List (Option Single)) (i : ℕ) (fault : Option Single) → i < length places → fault ≡ listed_at places i → slice_get places i ≡ Some fault
 listed_there places i fault less e = let place = item_there places i less in place.1 ∙ ap Some (sym (e ∙ ap at_once place.1))
 
--- the places by the lists
+-- the fault at each place that follows from the lists of covered nets and tested pins
 module _ (plan : PlanTables) (lists : FaultLists) where
   abbrev stuck : List (Option Single)
   stuck = placed (flat_map stuck_faults lists.nets)

@@ -1,4 +1,4 @@
--- A range with one number more.
+-- Ranges that are one number longer.
 use Rattle.std.proofs.Common.{◌≡◌, ℕ, zero, suc, ◌+◌, ◌≤◌, Bool, true, false, cond, List, [], ◌∷◌, ◌++◌, length, map, refl, sym, ap, ◌∙◌, arith, add-one}
 use Rattle.std.specs.Prelude.{filter}
 use Rattle.std.specs.List.{flat_map, range_with_len}
@@ -25,7 +25,7 @@ map_filter_more {X} f p n =
     by_test true = refl
     by_test false = refl
 
--- a filter keeps at most all
+-- a filter keeps at most all items of a range
 pub filter_most : (p : ℕ → Bool) (a n : ℕ) → length (filter p (range_with_len a n)) ≤ n
 filter_most p a zero = omega arith
 filter_most p a (suc n) = by_test (p a) (filter_most p (a + 1) n)

@@ -1,4 +1,4 @@
--- What drivers give their nets and what effects make of compared cells, row by row, worked by hand.
+-- The bits that drivers give their nets and the bits of compared cells under faults, row by row, worked by hand.
 use Rattle.std.proofs.Common.{◌≡◌, Bool, true, false, [], ◌∷◌, map, Option, Some, None, refl}
 use Rattle.board_defs.specs.declared.fault.Kind.{Kind}
 use Rattle.board_defs.specs.declared.fault.Kind.TheVariants.{And, Or, First, Second}
@@ -7,33 +7,33 @@ use Rattle.fault_sim.specs.declared.feed.Feed.{Feed}
 use Rattle.fault_sim.specs.declared.effect.Effect.TheVariants.{AtPin, Shorted}
 use Rattle.fault_sim.specs.Effects.{feed_bit, effect_bit}
 
--- a net with code 2, which carries 0 in row 0 and 1 in row 1
+-- the feed of a net with code 2, which carries 0 in row 0 and 1 in row 1
 abbrev driven : Feed
 driven = record { source = Code 2; off = None }
 
--- a driver that holds 1 in all rows
+-- the feed of a driver that holds 1 in all rows
 abbrev high : Feed
 high = record { source = Fixed true; off = None }
 
--- the bit that a cell of two shorted nets reads in row 0, if 1 is expected
+-- the bit that a cell of two shorted nets reads in row 0 if 1 is expected
 abbrev short_bit : Option Feed → Option Feed → Option Bool → Kind → Bool
 short_bit first second pull kind = effect_bit (Shorted kind first second pull) 0 0 true
 
--- two driven nets read a bit that depends on the kind of their short
+-- if both nets are driven, the bit depends on the kind of their short
 both_driven : map (short_bit (Some driven) (Some high) None) (And ∷ Or ∷ First ∷ Second ∷ []) ≡ false ∷ true ∷ false ∷ true ∷ []
 both_driven = refl
 
--- one driven net gives its bit, and none the pull
+-- if one net is driven, its bit is read; if neither net is driven, the pull is read
 one_driven : short_bit (Some driven) None (Some true) Second ≡ false
 one_driven = refl
 
 none_driven : short_bit None None (Some false) First ≡ false
 none_driven = refl
 
--- a driver that its own cell switches off at 0, the pull of its net
+-- a driver is off in row 0, where its own cell has the bit 0 that switches it off
 switching : map (feed_bit (Some (record { source = Code 2; off = Some false }))) (0 ∷ 1 ∷ []) ≡ None ∷ Some true ∷ []
 switching = refl
 
--- an open pin has its value at its own cells alone
+-- the value of an open pin is read only by the cells of this pin
 open_pin : map (λ place. effect_bit (AtPin 3 false) 0 place true) (3 ∷ 2 ∷ []) ≡ false ∷ true ∷ []
 open_pin = refl

@@ -1,4 +1,5 @@
--- The suspects of small boards, worked by hand: places, two for each covered net, two for each tested pin and four for each pair.
+-- The suspects of small boards, worked by hand. A board has two places for each covered net, two for each tested pin and four for each
+-- pair.
 use Rattle.std.proofs.Common.{◌≡◌, ◌≤◌, ℕ, zero, suc, [], ◌∷◌, get_or, refl, arith}
 use Rattle.fault_sim.specs.declared.fault_lists.FaultLists.{FaultLists}
 use Rattle.fault_sim.specs.Places.{place_count}
@@ -15,7 +16,7 @@ two_starts = record { count = refl; each = each }
     each (suc (suc zero)) le = refl
     each (suc (suc (suc a))) le = absurd (omega (arith, le))
 
--- two nets, each of a driver and a receiver
+-- two nets, each with a driver and a receiver
 abbrev two_nets : FaultLists
 two_nets = record { nets = 0 ∷ 1 ∷ []; pins = record { net = 0; place = 0 } ∷ record { net = 0; place = 1 } ∷ record { net = 1; place = 0 } ∷ record { net = 1; place = 1 } ∷ []; starts = 0 ∷ 1 ∷ 1 ∷ []; few = omega arith; few_pins = omega arith; starts_are = two_starts }
 
@@ -25,21 +26,21 @@ two_nets_places = refl
 none_differs : suspect_count two_nets [] ≡ 0
 none_differs = refl
 
--- its stuck faults, its two pins, and the shorts of the one pair
+-- if only net 0 differs, the suspects are the places of its stuck faults, of its two pins, and of the shorts of the only pair
 one_differs : net_suspects two_nets 0 0 ≡ 0 ∷ 1 ∷ 4 ∷ 5 ∷ 6 ∷ 7 ∷ 12 ∷ 13 ∷ 14 ∷ 15 ∷ []
 one_differs = refl
 
 one_differs_count : suspect_count two_nets (0 ∷ []) ≡ 10
 one_differs_count = refl
 
--- the shorts of the one pair alone
+-- if both nets differ, the suspects are the places of the shorts of the pair
 both_differ : pair_suspects two_nets 0 1 ≡ 12 ∷ 13 ∷ 14 ∷ 15 ∷ []
 both_differ = refl
 
 both_differ_count : suspect_count two_nets (0 ∷ 1 ∷ []) ≡ 4
 both_differ_count = refl
 
--- no single fault changes three nets
+-- if three nets differ, there is no suspect, since no single fault changes three nets
 three_differ_count : suspect_count two_nets (0 ∷ 1 ∷ 2 ∷ []) ≡ 0
 three_differ_count = refl
 
@@ -53,7 +54,7 @@ three_starts = record { count = refl; each = each }
     each (suc (suc (suc zero))) le = refl
     each (suc (suc (suc (suc a)))) le = absurd (omega (arith, le))
 
--- three covered nets, the second and third without a tested pin: their pairs are numbered 0 and 1, 0 and 2, 1 and 2
+-- three covered nets, of which the second and the third have no tested pin; their pairs in order are 0 and 1, 0 and 2, 1 and 2
 abbrev three_nets : FaultLists
 three_nets = record { nets = 3 ∷ 5 ∷ 8 ∷ []; pins = record { net = 3; place = 1 } ∷ []; starts = 0 ∷ 2 ∷ 3 ∷ 3 ∷ []; few = omega arith; few_pins = omega arith; starts_are = three_starts }
 

@@ -48,7 +48,7 @@ use Rattle.fault_sim.specs.Fits.{bit_in, cell_shows, ShowBy, NetShows, Shows, Sh
 use Rattle.fault_sim.proofs.FeedLemmas.{drivers_are, readers_are, code_is, first_is, observing_is}
 use Rattle.fault_sim.proofs.EffectLemmas.{IsFault, effect_is}
 
--- the place of a row among those of passes
+-- the pass of a row of the log, and the number of the row in this pass
 pub record RowOf (passes width y : ℕ) : Type 0 where
   pub pass : ℕ
   pub bit : ℕ
@@ -72,7 +72,8 @@ row_of (suc passes) width y less = by_side (cases_lt y (passes * width)) (row_of
       row_is = omega (arith, above);
     }
 
--- a cell that reads a net beside the driver that a pass enables: row j of the pass compares it with the bit of the net's code
+-- a cell that reads a net at a pin other than that of the enabled driver; row j of the pass compares the cell with the bit of the net's
+-- code
 pub record ComparedCell (board : RawBoard) (plan : PlanTables) (pass : List Ctl) (j n : ℕ) (net : Net) (reader : ReaderCell) : Type 0 where
   pub part : ℕ
   pub device : RawDevice
@@ -151,7 +152,7 @@ module _ (board : RawBoard) (rules : IsBoard board) (plan : PlanTables) (p : IsP
 module _ (board : RawBoard) (rules : IsBoard board) (plan : PlanTables) (p : IsPlanOf board plan) (fault : Option Single) (is_fault : IsFault board fault) (log : List (List Bool))
     (rows : length log ≡ length plan.passes * plan.width) (bits : All (λ row. length row ≡ data_bits board) log)
     (scans : List RowScan) (compare : CompareRows (code_row board plan.passes) plan.width plan.passes (compared_scans board scans)) where
-  -- row j of pass x
+  -- facts about row j of pass x
   module _ (x : ℕ) (pass : List Ctl) (stands : slice_get plan.passes x ≡ Some pass) (j : ℕ) (less : j < plan.width) where
     abbrev row : TestRow
     row = code_row board plan.passes pass j
@@ -171,7 +172,7 @@ module _ (board : RawBoard) (rules : IsBoard board) (plan : PlanTables) (p : IsP
         grind-times : (a b : ℕ) → a * b ≡ b * a
         grind-times a b = grind arith
 
-    -- a cell of the row, and its bit in the log
+    -- a cell, and its position in this row of the log
     module _ (logged : List Bool) (is_logged : slice_get log number ≡ Some logged) (part : ℕ) (device : RawDevice) (cell : ℕ) (is_device : device_at board part ≡ Some device) (below : cell < device.boundary) where
       abbrev position : ℕ
       position = first_position board part + cell
@@ -184,13 +185,13 @@ module _ (board : RawBoard) (rules : IsBoard board) (plan : PlanTables) (p : IsP
           slice_get-get_or logged position false within
           ∙ ap (λ (l : List Bool). Some (get_or l position false)) (sym (get_or_from_slice_get log number logged [] is_logged))
 
-    -- net n and its driver
+    -- net n and the driver that the pass enables on it
     module _ (n : ℕ) (net : Net) (is_net : slice_get board.nets n ≡ Some net) (unguarded : guarded board net ≡ false) (d : NetDriver) (enabled : driver_in plan pass n ≡ Some d) where
       module _ (place : ℕ) (other : place ≢ d.place) (expected : Bool) where
         value_is : effect_bit (effect_in board plan pass fault n) j place expected ≡ fault_bit board fault row (record { number = n; net = net; place = place }) expected
         value_is = effect_is board rules plan p x pass stands n net is_net unguarded d enabled place other j expected fault is_fault
 
-    -- what the log shows is the bit of each compared cell
+    -- if the log shows the fault on every net, each compared cell has the bit that the fault gives it
     module _ (show : (n : ℕ) → n < length board.nets → Shows board plan fault log x n) (logged : List Bool) (is_logged : slice_get log number ≡ Some logged) (part : ℕ) (device : RawDevice) (cell : ℕ) (place : Place) (expected : Bool)
         (c : IsCompared board row part device cell place expected) where
       r : ReadsPlace board row part device cell place expected
@@ -279,7 +280,7 @@ module _ (board : RawBoard) (rules : IsBoard board) (plan : PlanTables) (p : IsP
           by_enabled (driver_in plan pass n) refl
           (subst (λ (q : List Ctl). NetShows board plan fault log (x * plan.width) q n) (get_or_from_slice_get plan.passes x pass [] stands) (show n (slice_get_within board.nets n net is_net)))
 
-    -- and the bit of each compared cell is shown
+    -- if each compared cell has the bit that the fault gives it, the log shows the fault on every net
     module _ (shows : ShowsBits board scans (fault_bit board fault) log) (n : ℕ) (net : Net) (is_net : slice_get board.nets n ≡ Some net) (d : NetDriver) (enabled : driver_in plan pass n ≡ Some d) where
       module _ (reader : ReaderCell) (has : Has (readers_in plan n) reader) (differs : (reader.place == d.place) ≡ false) where
         abbrev expected : Bool
@@ -333,7 +334,7 @@ module _ (board : RawBoard) (rules : IsBoard board) (plan : PlanTables) (p : IsP
       by_driver pass stands v is_v None e = tt
       by_driver pass stands v is_v (Some d) e = λ j less. cells_are_shown x pass stands j less shows n v is_v d e
 
--- the cells that read a net have positions in a data scan; no cell reads a number that no net has
+-- each cell that reads a net has a position in a data scan; a number that no net has is read by no cell
 pub readers_inside : (board : RawBoard) → IsBoard board → (plan : PlanTables) → IsPlanOf board plan → (n : ℕ) → All (λ r. r.position < data_bits board) (readers_in plan n)
 readers_inside board rules plan p n = by_side (cases_lt n (length plan.readers))
   where

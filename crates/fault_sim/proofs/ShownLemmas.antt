@@ -1,4 +1,4 @@
--- What the compared cells of a net show, as words.
+-- The bits that the compared cells of a net show, as words.
 use Rattle.std.proofs.Common.{◌≡◌, ◌⊎◌, inl, inr, ℕ, zero, suc, ◌+◌, ◌-◌, ◌<◌, ◌≤◌, ◌^◌, ◌==◌, ltb, Bool, true, false, not, ◌&&◌, ◌||◌, List, [], get_or, Option, Some, None, refl, sym, ap, ◌∙◌, arith}
 use Rattle.std.specs.Prelude.{bit_and, bit_or, option_and_then, slice_get}
 use Rattle.std.specs.Int.{bit_at}
@@ -13,7 +13,7 @@ use Rattle.fault_sim.specs.Fits.{bit_in}
 use Rattle.fault_sim.specs.inner.Words.{AgreesWith, word_bit}
 use Rattle.fault_sim.proofs.WordLemmas.{and_word, not_word, or_word}
 
--- the rows in which some cell shows a bit other than the word's
+-- the rows in which some cell shows a bit other than the bit of the word
 abbrev pub clashes : ShownWords → ℕ → ℕ
 clashes shown word = bit_or (bit_and shown.ones (4294967295 - word)) (bit_and shown.zeros word)
 
@@ -73,7 +73,7 @@ clashes_nowhere shown word fits agrees = same_from_bits (clashes shown word) 0 (
         ∙ ap (λ k. (word_bit shown.ones j && false) || (word_bit shown.zeros j && (k == 1))) (bit_at_above word 32 j fits past)
         ∙ above (word_bit shown.ones j) (word_bit shown.zeros j))
 
--- one more row of a cell
+-- the word of a cell's bits after row j is added
 pub row_more : (bits : ℕ → Bool) (i j : ℕ) (bit : Bool) → bits j ≡ bit → ((ltb i j && bits i) || ((i == j) && bit)) ≡ (ltb i (j + 1) && bits i)
 row_more bits i j bit is = by_place (cases_lt i j) (cases_eq i j)
   where
@@ -93,7 +93,7 @@ row_more bits i j bit is = by_place (cases_lt i j) (cases_eq i j)
         ∙ ap (λ (b : Bool). b && bit) (ne_eqb i j other)
         ∙ sym (ap (λ (b : Bool). b && bits i) (le-ltb i (j + 1) (omega (arith, past, other))))
 
--- the bit that a log was asked for
+-- the bit that a look-up in the log returns
 pub bit_is : (log : List (List Bool)) (row at : ℕ) (bit : Bool) → log_bit log row at ≡ Some bit → bit_in log row at ≡ bit
 bit_is log row at bit is = by_row (slice_get log row) refl is
   where
@@ -101,7 +101,7 @@ bit_is log row at bit is = by_row (slice_get log row) refl is
     by_row None e found = let bad : None ≡ Some bit = found in cc bad
     by_row (Some bits) e found = ap (λ (l : List Bool). get_or l at false) (get_or_from_slice_get log row bits [] e) ∙ get_or_from_slice_get bits at bit false found
 
--- a cell alone, if it does not read the driver's own pin
+-- the bits that one cell shows, if the cell does not read the driver's own pin
 pub one_shown : (within same bit : Bool) → same ≡ false → (within && bit) ≡ (within && ((not same && is_same bit true) || false))
 one_shown false same bit p = refl
 one_shown true true bit p = absurd (both_ways true p refl)

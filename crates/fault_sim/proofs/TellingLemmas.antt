@@ -1,4 +1,4 @@
--- What a pass of a log shows of a net of a fault, if the fault explains the log.
+-- If a fault explains a log, each pass of the log shows the bits that the fault gives its nets.
 use Rattle.std.proofs.Common.{◌≡◌, ◌⊎◌, inl, inr, ℕ, ◌+◌, ◌<◌, ◌==◌, ltb, Bool, true, false, not, ◌&&◌, ◌||◌, List, [], ◌∷◌, length, Option, Some, None, refl, sym, ◌∙◌, arith}
 use Rattle.std.specs.List.{list_all, list_any}
 use Rattle.std.proofs.lemmas.Bool.{and_parts, both_ways, ltb-true}
@@ -18,14 +18,14 @@ use Rattle.fault_sim.specs.inner.Telling.{IsTellingNet, IsWordOn}
 use Rattle.fault_sim.specs.inner.Words.{AgreesWith, AreRowsOf, AreShown, shows_beside, some_shows, word_bit}
 use Rattle.fault_sim.proofs.MatchLemmas.{nets_there}
 
--- if a row is in the word of those in which some cell has a bit, it is a row of the pass, and some cell has the bit in it
+-- if a word has the rows in which some cell has a bit, each row of the word is a row of the pass in which some cell has this bit
 row_there : (rows : RowsOfNet) (bit : Bool) (driver : Option ℕ) (word : ℕ) → AreRowsOf rows bit driver word → (j : ℕ) → j < 32 → word_bit word j ≡ true →
     (j < rows.width) × (some_shows rows.log (rows.first + j) bit rows.readers driver ≡ true)
 row_there rows bit driver word are j less on =
     let parts = and_parts (ltb j rows.width) (some_shows rows.log (rows.first + j) bit rows.readers driver) (sym (are j less) ∙ on) in
     (ltb-true j rows.width parts.0, parts.1)
 
--- if some cell has a bit, and all cells have that of an effect, the two bits are equal
+-- if some cell has a bit, and all cells have the bit of an effect, the two bits are equal
 bit_shown : (log : List (List Bool)) (row driver j : ℕ) (effect : Effect) (expected bit value : Bool) → ((place : ℕ) → value ≡ effect_bit effect j place expected) → (readers : List ReaderCell) →
     list_any (shows_beside log row bit driver) readers ≡ true → list_all (cell_shows log row driver effect j expected) readers ≡ true → value ≡ bit
 bit_shown log row driver j effect expected bit value gives [] some all = absurd (both_ways false refl some)
@@ -48,7 +48,7 @@ bit_shown log row driver j effect expected bit value gives (r ∷ readers) some 
     by_first true e some others = gives r.place ∙ by_bits (r.place == driver) (bit_in log row r.position) (effect_bit effect j r.place expected) e all_parts.0
     by_first false e some others = others some
 
--- if the cells have the bits of an effect, they show those of its word
+-- if the cells have the bits of an effect, they show the bits of the word of this effect
 shown_agrees : (rows : RowsOfNet) (code : ℕ) (effect : Effect) (driver : Option ℕ) (shown : ShownWords) (word : ℕ) → AreShown rows driver shown →
     ((j : ℕ) → j < 32 → (place : ℕ) → word_bit word j ≡ effect_bit effect j place (code_bit code j)) → ShowBy rows.log rows.first rows.width code rows.readers effect driver → AgreesWith shown word
 shown_agrees rows code effect None shown word are gives show j less =
@@ -60,7 +60,7 @@ shown_agrees rows code effect (Some driver) shown word are gives show j less = (
       bit_shown rows.log (rows.first + j) driver j effect (code_bit code j) false (word_bit word j) (gives j less) rows.readers there.1 (show j there.0),
 )
 
--- if a log shows a fault, what it shows of the net agrees with the bits that the fault gives the net
+-- if a log shows a fault on all nets, the bits that it shows on net n agree with the bits that the fault gives this net
 pub agrees_there : (n : NetInPass) (fault : Single) (code : ℕ) (fed : FedWords) (shown : ShownWords) (word : ℕ) → IsTellingNet n code fed shown → IsWordOn n fault word → IsSingle n.pass.logged.test.board fault →
     n.pass.number < length n.pass.logged.test.plan.passes → ShowsAll n.pass.logged.test.board n.pass.logged.test.plan (Some fault) n.pass.logged.log → AgreesWith shown word
 agrees_there n fault code fed shown word telling short single pass all =

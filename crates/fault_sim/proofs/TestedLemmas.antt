@@ -1,4 +1,4 @@
--- The passes of a plan test exactly what some safe setting tests.
+-- The passes of a plan test exactly the nets and pins that some safe setting tests.
 use Rattle.std.proofs.Common.{◌≡◌, ◌≢◌, ◌⊎◌, inl, inr, ℕ, zero, suc, ◌+◌, ◌<◌, ◌≤◌, Bool, true, false, cond, ◌&&◌, List, [], ◌∷◌, ◌++◌, length, map, get_or, set, replicate, Option, Some, None, refl, sym, ap, ◌∙◌, subst, arith, length-append}
 use Rattle.std.specs.Prelude.{slice_get, sum_by, filter, fold, nat_lt}
 use Rattle.std.specs.List.{list_all, list_any, flat_map, enumerate_from, range_with_len}
@@ -43,7 +43,7 @@ use Rattle.fault_sim.specs.inner.Tested.{coded_nets, observes_by, observes_in, p
 use Rattle.fault_sim.proofs.FeedLemmas.{drivers_are, readers_are, first_is, observing_is as observing_here}
 
 module _ (plan : PlanTables) (n : ℕ) where
-  -- the places that a pass marks
+  -- the places of the pins that a pass marks
   abbrev marks_by : Option NetDriver → List ℕ
   marks_by None = []
   marks_by (Some d) = cond (is_read_beside (readers_in plan n) d) (d.place ∷ map (λ (r : ReaderCell). r.place) (readers_in plan n)) []
@@ -94,7 +94,7 @@ module _ (board : RawBoard) (rules : IsBoard board) (plan : PlanTables) (p : IsP
           cc bad
 
   module _ (x : ℕ) (pass : List Ctl) (stands : slice_get plan.passes x ≡ Some pass) where
-    -- the driver by which a pass observes the net
+    -- the pass enables a driver on the net at this place, and observes the net
     pub record ObservedBy (place : ℕ) : Type 0 where
       pub driver : NetDriver
       pub enabled : driver_in plan pass n ≡ Some driver
@@ -125,7 +125,7 @@ module _ (board : RawBoard) (rules : IsBoard board) (plan : PlanTables) (p : IsP
         by_driver (Some d) e f =
             by_test d e (is_read_beside (readers_in plan n) d) refl (sym (observing_here board rules plan p n net is_net x pass stands o.open_net d e) ∙ observing)
 
-    -- whether a pass observes the net
+    -- `observes_in` is true exactly if the pass observes the net
     pub observes_is : observes_in plan pass n ≡ true → ObservesNet board (holds pass) n
     observes_is e = by_driver (driver_in plan pass n) refl e
       where
@@ -136,7 +136,7 @@ module _ (board : RawBoard) (rules : IsBoard board) (plan : PlanTables) (p : IsP
     pub is_observing : (place : ℕ) → ObservesBy board (holds pass) net place → observes_in plan pass n ≡ true
     is_observing place o = let d = driver_there place o in ap (λ (w : Option NetDriver). observes_by w (readers_in plan n)) d.enabled ∙ d.beside
 
-  -- a pin that receives has a cell that reads it
+  -- for each pin that receives, some cell reads the pin
   pub reader_there : (place : ℕ) (pin : NetPin) → slice_get net.pins place ≡ Some pin → receives board pin ≡ true → (r : ReaderCell) × Has (readers_in plan n) r × (r.place ≡ place)
   reader_there place pin stands rec = by_at pin.at refl rec
     where
@@ -172,7 +172,7 @@ module _ (board : RawBoard) (rules : IsBoard board) (plan : PlanTables) (p : IsP
       by_at None a e = cc e
       by_at (Some at) a e = by_device at a e (device_at board at.part) refl e
 
-  -- a flag says whether the pin is tested
+  -- the flag of a pin is set exactly if the pin is tested
   module _ (are : ArePasses board plan.passes) (place : ℕ) (within : place < length net.pins) where
     abbrev flags : List Bool
     flags = tested_flags plan (length net.pins) n
@@ -268,7 +268,7 @@ module _ (board : RawBoard) (rules : IsBoard board) (plan : PlanTables) (p : IsP
     pub flag_is : get_or flags place false ≡ is_tested_pin board net place
     flag_is = Rattle.std.specs.Cmp.both_ways (get_or flags place false) (is_tested_pin board net place) flag_tested tested_flag
 
--- a net has few pins
+-- a net has at most `most_pins` pins
 pub pin_count_most : (board : RawBoard) → IsBoard board → (n : ℕ) → pin_count board n ≤ most_pins
 pin_count_most board rules n = by_net (slice_get board.nets n) refl
   where
@@ -278,7 +278,7 @@ pin_count_most board rules n = by_net (slice_get board.nets n) refl
         let most = pins_most board rules n net (slice_get_within board.nets n net e) in
         subst (λ (v : Net). length v.pins ≤ most_pins) (get_or_from_slice_get board.nets n net net e) most
 
--- and so have all nets
+-- all nets together have at most as many tested pins as pins
 pins_few : (board : RawBoard) (a : ℕ) (nets : List Net) → length (flat_map (tested_pins_in board) (enumerate_from a nets)) ≤ sum_by (λ net. length net.pins) nets
 pins_few board a [] = omega arith
 pins_few board a (net ∷ nets) =
@@ -294,14 +294,14 @@ pins_few board a (net ∷ nets) =
 pub tested_few : (board : RawBoard) → IsBoard board → length (tested_pins board) ≤ most_pins
 tested_few board rules = omega (arith, pins_few board 0 board.nets, rules.pins_most)
 
--- what a filter keeps of a range, by tests that agree there
+-- if two tests agree on the numbers of a range, filters by them keep equal lists
 filter_range : (p q : ℕ → Bool) (a n : ℕ) → ((k : ℕ) → a ≤ k → k < a + n → p k ≡ q k) → filter p (range_with_len a n) ≡ filter q (range_with_len a n)
 filter_range p q a zero same = refl
 filter_range p q a (suc n) same =
     ap (λ (b : Bool). cond b (a ∷ filter p (range_with_len (a + 1) n)) (filter p (range_with_len (a + 1) n))) (same a (omega arith) (omega arith))
     ∙ ap (λ (l : List ℕ). cond (q a) (a ∷ l) l) (filter_range p q (a + 1) n (λ k low high. same k (omega (arith, low)) (omega (arith, high))))
 
--- what is gathered from the numbers of nets is what is gathered from the numbered nets
+-- two lists of equal items are gathered, from the numbers of the nets and from the numbered nets
 flat_numbers : {Y : Type 0} (f : ℕ → List Y) (g : Numbered → List Y) (a : ℕ) (nets : List Net) → ((k : ℕ) (net : Net) → slice_get nets k ≡ Some net → f (a + k) ≡ g (a + k, net)) →
     flat_map f (range_with_len a (length nets)) ≡ flat_map g (enumerate_from a nets)
 flat_numbers f g a [] same = refl
@@ -329,7 +329,7 @@ filter_numbers f g a (net ∷ nets) same =
     by_test false = refl
 
 module _ (board : RawBoard) (rules : IsBoard board) (plan : PlanTables) (p : IsPlanOf board plan) (are : ArePasses board plan.passes) where
-  -- the pins that passes test are the tested pins
+  -- the pins that the passes test are the tested pins of the board
   pub pins_are : all_pins board plan (length board.nets) ≡ tested_pins board
   pins_are = flat_numbers (net_pins board plan) (tested_pins_in board) 0 board.nets (λ k net e. let z : 0 + k ≡ k = omega arith in subst (λ (i : ℕ). net_pins board plan i ≡ tested_pins_in board (i, net)) (sym z) (each k net e))
     where
@@ -343,7 +343,7 @@ module _ (board : RawBoard) (rules : IsBoard board) (plan : PlanTables) (p : IsP
           ∙ filter_range (λ place. get_or flags place false) (is_tested_pin board net) 0 (length net.pins)
           (λ place low high. flag_is board rules plan p n net is_net are place (omega (arith, high))))
 
-  -- the nets that have a code are the covered nets
+  -- the nets that have a code are the covered nets of the board
   module _ (observed : (n : ℕ) (net : Net) → slice_get board.nets n ≡ Some net → is_observed board plan.passes net ≡ is_covered board net) where
     pub nets_are : coded_nets plan (length board.nets) ≡ map (λ (m : Numbered). m.0) (covered_nets board)
     nets_are =
@@ -357,7 +357,7 @@ module _ (board : RawBoard) (rules : IsBoard board) (plan : PlanTables) (p : IsP
         each : (n : ℕ) (net : Net) → slice_get board.nets n ≡ Some net → nat_lt 0 (code_in plan n) ≡ is_covered board net
         each n net e = ap (λ (k : ℕ). nat_lt 0 k) (p.codes_are n net e) ∙ above (is_observed board plan.passes net) _ ∙ observed n net e
 
-  -- two nets that one pass observes are paired
+  -- two nets are paired exactly if one pass observes both
   pub paired_in_is : (a b : ℕ) (one two : Net) → slice_get board.nets a ≡ Some one → slice_get board.nets b ≡ Some two → a ≢ b → paired_in plan a b ≡ are_paired board one two
   paired_in_is a b one two ea eb differ = Rattle.std.specs.Cmp.both_ways (paired_in plan a b) (are_paired board one two) to from
     where
@@ -380,7 +380,7 @@ module _ (board : RawBoard) (rules : IsBoard board) (plan : PlanTables) (p : IsP
               (is_observing board rules plan p a one ea x pass stands i (subst (λ (u : Net). ObservesBy board (holds pass) u i) (net_same board a one v ea ev) o))
               (is_observing board rules plan p b two eb x pass stands j (subst (λ (u : Net). ObservesBy board (holds pass) u j) (net_same board b two w eb ew) q)))
 
--- flags that are all set stay as they are
+-- setting one more flag changes nothing if all flags are set
 set_kept : (flags : List Bool) (i : ℕ) → list_all (λ flag. flag) flags ≡ true → set flags i true ≡ flags
 set_kept [] i all = refl
 set_kept (true ∷ flags) zero all = refl

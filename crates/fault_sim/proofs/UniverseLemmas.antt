@@ -1,4 +1,4 @@
--- The places that the lists of a universe give are the places of the board.
+-- The places that follow from the lists of a universe are the places of the board.
 use Rattle.std.proofs.Common.{◌≡◌, ◌≢◌, ◌⊎◌, inl, inr, ℕ, ◌<◌, Bool, cond, List, [], ◌∷◌, ◌++◌, map, Option, Some, None, refl, sym, ap, ◌∙◌, subst, arith}
 use Rattle.std.specs.Prelude.{slice_get}
 use Rattle.std.specs.List.{flat_map}
@@ -37,7 +37,7 @@ pairs_over (x ∷ xs) =
     ∙ ap (λ (l : List (ℕ × ℕ)). map numbers (map (λ y. let p : Numbered × Numbered = (x, y) in p) xs) ++ l) (pairs_over xs)
     ∙ sym (map-append numbers (map (λ y. let p : Numbered × Numbered = (x, y) in p) xs) (pairs_within xs))
 
--- the first of a pair of a list in order comes before the second
+-- if a list of numbered nets is in order, the first net of each pair has the lower number
 pub pairs_rise : (xs : List Numbered) → InOrder (λ (p q : Numbered). p.0 < q.0) xs → (pair : Numbered × Numbered) → Has (pairs_within xs) pair → pair.0.0 < pair.1.0
 pairs_rise [] order pair h = absurd h
 pairs_rise (x ∷ xs) order pair h = by_part (has_append (map (λ y. let p : Numbered × Numbered = (x, y) in p) xs) (pairs_within xs) pair h) (pairs_rise xs order.1 pair)

@@ -21,7 +21,7 @@ use Rattle.fault_sim.specs.declared.feed.FedNet.{FedNet}
 use Rattle.fault_sim.specs.declared.effect.Effect.{Effect}
 use Rattle.fault_sim.specs.declared.effect.Effect.TheVariants.{Plain, Constant, AtPin, Shorted}
 
--- the first net of a fault; a stuck net or an open pin has only one
+-- the first net of a short, or the only net of any other fault
 abbrev pub first_net : Single → ℕ
 first_net (StuckNet net value) = net
 first_net (OpenPin pin value) = pin.net
@@ -33,30 +33,32 @@ second_net (StuckNet net value) = net
 second_net (OpenPin pin value) = pin.net
 second_net (Short a b kind) = b
 
--- the bit in row j
+-- the bit of a driver's cell in row j
 abbrev pub source_bit : Source → ℕ → Bool
 source_bit (Code code) j = code_bit code j
 source_bit (Fixed bit) j = bit
 
--- the bit, unless the driver is off at it
+-- the bit that a driver gives its net, or `None` if the driver is off; `off` is the bit of the driver's own cell that switches the driver
+-- off, if there is one
 abbrev pub unless_off : Option Bool → Bool → Option Bool
 unless_off None bit = Some bit
 unless_off (Some off) bit = cond (is_same bit off) None (Some bit)
 
--- the bit that a net is driven to in row j, if it is driven
+-- the bit that a net is driven to in row j, or `None` if the net is not driven in this row
 abbrev pub feed_bit : Option Feed → ℕ → Option Bool
 feed_bit None j = None
 feed_bit (Some feed) j = unless_off feed.off (source_bit feed.source j)
 
--- the driver is controlled by its own cell
+-- true if a driver's own cell controls the driver
 abbrev pub is_own : Ctl → Option Ctl → Bool
 is_own own None = false
 is_own own (Some c) = same_ctl c own
 
--- the drivers and the compared cells of a net
+-- the drivers of a net
 abbrev pub drivers_in : PlanTables → ℕ → List NetDriver
 drivers_in plan n = slice_index_or plan.drivers n []
 
+-- the compared cells of a net
 abbrev pub readers_in : PlanTables → ℕ → List ReaderCell
 readers_in plan n = slice_index_or plan.readers n []
 
@@ -72,19 +74,21 @@ driver_in plan pass n = enabled_in (holds pass) (drivers_in plan n)
 abbrev pub place_of_driver : Option NetDriver → Option ℕ
 place_of_driver driver = option_map (λ d. d.place) driver
 
--- the bit of a cell that carries no net's bit: that of the quiet row, inverted if the pass holds the cell as a control
+-- the bit of a driver's cell that carries no net's code: the bit of the quiet row, inverted if the pass holds the cell as a control
 abbrev pub steady_in : PlanTables → List Ctl → NetDriver → Bool
 steady_in plan pass d = cond (holds pass d.own) (not (slice_index_or plan.quiet.bits d.position false)) (slice_index_or plan.quiet.bits d.position false)
 
--- the bits of an enabled driver's cell: those of the net's code if a cell reads another pin of the net, as then the pass observes the net
+-- the bits of an enabled driver's cell; if some cell reads another pin of the net, the pass observes the net, and the bits are those of the
+-- net's code
 abbrev pub source_in : PlanTables → List Ctl → ℕ → NetDriver → Source
 source_in plan pass n d = cond (is_read_beside (readers_in plan n) d) (Code (code_in plan n)) (Fixed (steady_in plan pass d))
 
--- what an enabled driver gives its net; a driver that its own cell controls is off at the net's pull
+-- the feed that an enabled driver gives its net; if the driver's own cell controls the driver, it is off at the bit that the net is pulled
+-- to
 abbrev pub feed_by : PlanTables → List Ctl → ℕ → Option Bool → NetDriver → Feed
 feed_by plan pass n pull d = record { source = source_in plan pass n d; off = cond (is_own d.own d.ctl) pull None }
 
--- what a pass drives a net with this pull to
+-- the feed that a pass gives a net with this pull, if the pass enables a driver on the net
 abbrev pub feed_in : PlanTables → List Ctl → ℕ → Option Bool → Option Feed
 feed_in plan pass n pull = option_map (feed_by plan pass n pull) (driver_in plan pass n)
 
@@ -92,24 +96,25 @@ feed_in plan pass n pull = option_map (feed_by plan pass n pull) (driver_in plan
 abbrev pub pull_in : RawBoard → ℕ → Option Bool
 pull_in board n = pulled_to (slice_get board.nets n)
 
--- what a pass drives a net of the board to
+-- the feed that a pass gives a net of the board, if the pass enables a driver on the net
 abbrev pub net_feed : RawBoard → PlanTables → List Ctl → ℕ → Option Feed
 net_feed board plan pass n = feed_in plan pass n (pull_in board n)
 
--- what a net gets in a pass of the board: what drives it, and its pull
+-- a net in a pass of the board: its feed and its pull
 abbrev pub fed_net : RawBoard → PlanTables → List Ctl → ℕ → FedNet
 fed_net board plan pass n = record { feed = net_feed board plan pass n; pull = pull_in board n }
 
--- the effect of an open pin on its net: it is on all cells if the pin is the enabled driver's, and else on the cells of the pin
+-- the effect of an open pin on its net; if the pin is the enabled driver's, all cells of the net have one bit, and otherwise only the cells
+-- of the pin are affected
 abbrev pub open_effect : Option ℕ → ℕ → Bool → Option Bool → Effect
 open_effect None place value pull = AtPin place value
 open_effect (Some driver) place value pull = cond (driver == place) (Constant (unwrap_or pull value)) (AtPin place value)
 
--- the effect of a short, from what both nets get
+-- the effect of a short on its two nets
 abbrev pub shorted_effect : Kind → FedNet → FedNet → Effect
 shorted_effect kind first second = Shorted kind first.feed second.feed (shorted kind first.pull second.pull)
 
--- the effect of a short on its nets
+-- the effect of a short of nets a and b on both nets
 abbrev pub effect_of_short : RawBoard → PlanTables → List Ctl → ℕ → ℕ → Kind → Effect
 effect_of_short board plan pass a b kind = shorted_effect kind (fed_net board plan pass a) (fed_net board plan pass b)
 
@@ -119,12 +124,12 @@ effect_of board plan pass (StuckNet net value) n = cond (n == net) (Constant val
 effect_of board plan pass (OpenPin pin value) n = cond (n == pin.net) (open_effect (place_of_driver (driver_in plan pass n)) pin.place value (pull_in board n)) Plain
 effect_of board plan pass (Short a b kind) n = cond ((n == a) || (n == b)) (effect_of_short board plan pass a b kind) Plain
 
--- the same, or no effect if there is no fault
+-- the effect of a fault on net n in the rows of a pass; without a fault, the cells have the expected bits
 abbrev pub effect_in : RawBoard → PlanTables → List Ctl → Option Single → ℕ → Effect
 effect_in board plan pass None n = Plain
 effect_in board plan pass (Some single) n = effect_of board plan pass single n
 
--- the bit of the compared cell of the pin at this place in row j
+-- the bit that the effect gives the compared cells of the pin at this place in row j
 abbrev pub effect_bit : Effect → ℕ → ℕ → Bool → Bool
 effect_bit Plain j place expected = expected
 effect_bit (Constant bit) j place expected = bit

@@ -1,4 +1,4 @@
--- When a log shows the effect of a single fault on a test.
+-- Says when a log shows the effect of a single fault of a board.
 use Rattle.std.specs.Prelude.{◌≡◌, ℕ, ◌+◌, ◌*◌, ◌<◌, ◌==◌, Bool, true, false, ◌||◌, List, [], length, Option, Some, None, slice_index_or}
 use Rattle.std.specs.List.{list_all}
 use Rattle.board_defs.specs.declared.board.Ctl.{Ctl}
@@ -11,52 +11,54 @@ use Rattle.plan_tables.specs.declared.tables.PlanTables.{PlanTables}
 use Rattle.fault_sim.specs.declared.effect.Effect.{Effect}
 use Rattle.fault_sim.specs.Effects.{driver_in, place_of_driver, readers_in, code_in, effect_in, effect_bit, first_net, second_net}
 
--- the bit of a log at this position of a row
+-- the bit at this position of a row of a log
 abbrev pub bit_in : List (List Bool) → ℕ → ℕ → Bool
 bit_in log row at = slice_index_or (slice_index_or log row []) at false
 
--- a cell of a net has the bit that the effect gives it in row j of a pass, which is this row of the log, or it reads the driver's own pin
+-- a cell of a net has the bit that the effect gives it in row j of a pass; `row` is the number of this row in the log; a cell that reads
+-- the driver's own pin is not checked
 abbrev pub cell_shows : List (List Bool) → ℕ → ℕ → Effect → ℕ → Bool → ReaderCell → Bool
 cell_shows log row driver effect j expected r = (r.place == driver) || is_same (bit_in log row r.position) (effect_bit effect j r.place expected)
 
--- all of these cells do so in each row of a pass whose rows begin at row `first` of the log
+-- in every row of a pass, these cells have the bits that the effect gives them; the rows of the pass begin at row `first` of the log
 abbrev pub ShowRows : List (List Bool) → ℕ → ℕ → ℕ → List ReaderCell → Effect → ℕ → Type 0
 ShowRows log first width code readers effect driver = (j : ℕ) → j < width → list_all (cell_shows log (first + j) driver effect j (code_bit code j)) readers ≡ true
 
--- the same for the place of the enabled driver's pin; without an enabled driver nothing is required
+-- like `ShowRows`, but takes the place of the enabled driver's pin, if there is one; without an enabled driver nothing is required
 abbrev pub ShowBy : List (List Bool) → ℕ → ℕ → ℕ → List ReaderCell → Effect → Option ℕ → Type 0
 ShowBy log first width code readers effect None = Unit {0}
 ShowBy log first width code readers effect (Some driver) = ShowRows log first width code readers effect driver
 
--- the log shows an effect on net n in pass x; `driver` is the place of the pin of the driver that the pass enables on the net
+-- pass x of the log shows an effect on net n; `driver` is the place of the enabled driver's pin, if the pass enables a driver on the net
 abbrev pub ShowsEffect : PlanTables → List (List Bool) → ℕ → ℕ → Effect → Option ℕ → Type 0
 ShowsEffect plan log x n effect driver = ShowBy log (x * plan.width) plan.width (code_in plan n) (readers_in plan n) effect driver
 
--- the log shows the effect of the fault on net n in this pass, whose rows begin at row `first`
+-- this pass of the log shows the effect of the fault on net n; the rows of the pass begin at row `first` of the log; without a fault, the
+-- effect is the expected bits
 abbrev pub NetShows : RawBoard → PlanTables → Option Single → List (List Bool) → ℕ → List Ctl → ℕ → Type 0
 NetShows board plan fault log first pass n =
     ShowBy log first plan.width (code_in plan n) (readers_in plan n) (effect_in board plan pass fault n) (place_of_driver (driver_in plan pass n))
 
--- the same for pass x
+-- like `NetShows`, but takes the number of the pass
 abbrev pub Shows : RawBoard → PlanTables → Option Single → List (List Bool) → ℕ → ℕ → Type 0
 Shows board plan fault log x n = NetShows board plan fault log (x * plan.width) (slice_index_or plan.passes x []) n
 
--- the log shows the effect of a single fault on its own nets in pass x
+-- pass x of the log shows the effect of a single fault on the fault's own nets
 abbrev pub ShowsOwnIn : RawBoard → PlanTables → Single → List (List Bool) → ℕ → Type 0
 ShowsOwnIn board plan single log x = Shows board plan (Some single) log x (first_net single) × Shows board plan (Some single) log x (second_net single)
 
--- on its own nets in each pass
+-- every pass of the log shows the effect of a single fault on the fault's own nets
 abbrev pub ShowsOwn : RawBoard → PlanTables → Single → List (List Bool) → Type 0
 ShowsOwn board plan single log = (x : ℕ) → x < length plan.passes → ShowsOwnIn board plan single log x
 
--- on net n in each pass
+-- every pass of the log shows the effect of the fault on net n
 abbrev pub ShowsOn : RawBoard → PlanTables → Option Single → List (List Bool) → ℕ → Type 0
 ShowsOn board plan fault log n = (x : ℕ) → x < length plan.passes → Shows board plan fault log x n
 
--- on each net in pass x
+-- pass x of the log shows the effect of the fault on every net
 abbrev pub ShowsIn : RawBoard → PlanTables → Option Single → List (List Bool) → ℕ → Type 0
 ShowsIn board plan fault log x = (n : ℕ) → n < length board.nets → Shows board plan fault log x n
 
--- on each net in each pass
+-- every pass of the log shows the effect of the fault on every net
 abbrev pub ShowsAll : RawBoard → PlanTables → Option Single → List (List Bool) → Type 0
 ShowsAll board plan fault log = (x : ℕ) → x < length plan.passes → ShowsIn board plan fault log x

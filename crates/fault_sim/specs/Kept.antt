@@ -1,4 +1,4 @@
--- What is kept of a test for many logs, and a log with its test.
+-- The kept passes of a test, and a log of a test.
 use Rattle.std.specs.Prelude.{◌≡◌, ℕ, suc, ◌*◌, ◌<◌, Bool, List, [], length, Option, Some, option_map, slice_get, slice_index_or}
 use Rattle.board_defs.specs.declared.board.Ctl.{Ctl}
 use Rattle.board_defs.specs.declared.board.RawBoard.{RawBoard}
@@ -15,52 +15,57 @@ use Rattle.fault_sim.specs.declared.kept.KeptPass.{KeptPass}
 use Rattle.fault_sim.specs.Effects.{driver_in, source_in, is_own}
 use Rattle.fault_sim.specs.Planned.{IsPlanned, PlanPass, PlannedBoard, plan_pass, planned_board}
 
--- the bits of TDO and MASK in the scan that compares row j of pass x
+-- the bits that the test expects in row j of pass x: those of TDO in the scan that compares this row
 abbrev pub expected_in : RawBoard → PlanTables → ℕ → ℕ → List Bool
 expected_in board plan x j = tdo_bits (joined (row_bits board (scan_of_pass board plan x (suc j))))
 
+-- the flags of the bits that the test compares in row j of pass x: those of MASK in the scan that compares this row
 abbrev pub compared_in : RawBoard → PlanTables → ℕ → ℕ → List Bool
 compared_in board plan x j = mask_bits (joined (row_bits board (scan_of_pass board plan x (suc j))))
 
--- what the test expects and compares of row j of pass x
+-- `row` has the expected bits of row j of pass x, and the flags of the bits that the test compares there
 pub record IsRow (board : RawBoard) (plan : PlanTables) (x j : ℕ) (row : ComparedRow) : Type 0 where
   pub tdo : row.tdo.bits ≡ expected_in board plan x j
   pub mask : row.mask.bits ≡ compared_in board plan x j
 
--- the driver that a pass enables on a net: the place of its pin, the bits of its cell, and whether this cell controls it
+-- an enabled driver of net n: the place of the driver's pin, the bits of the driver's cell, and a flag that is true if this cell controls
+-- the driver
 abbrev pub enabled_by : PlanTables → List Ctl → ℕ → NetDriver → EnabledDriver
 enabled_by plan pass n d = record { place = d.place; source = source_in plan pass n d; own = is_own d.own d.ctl }
 
+-- the driver that a pass enables on net n, if there is one
 abbrev pub enabled_driver : PlanTables → List Ctl → ℕ → Option EnabledDriver
 enabled_driver plan pass n = option_map (enabled_by plan pass n) (driver_in plan pass n)
 
--- the kept rows of pass x are its first rows; the kept drivers of a pass are those that it enables on the first nets
+-- `rows` are the first rows of pass x, with their expected bits
 abbrev pub AreRows : RawBoard → PlanTables → ℕ → List ComparedRow → Type 0
 AreRows board plan x rows = (j : ℕ) (row : ComparedRow) → slice_get rows j ≡ Some row → IsRow board plan x j row
 
+-- `drivers` has, for each of the first nets, the driver that the pass enables on the net
 abbrev pub AreDrivers : PlanTables → List Ctl → List (Option EnabledDriver) → Type 0
 AreDrivers plan pass drivers = (n : ℕ) (driver : Option EnabledDriver) → slice_get drivers n ≡ Some driver → driver ≡ enabled_driver plan pass n
 
--- what is kept of the first passes, in order, is right
+-- the kept passes are the first passes of the plan, in order, and the kept rows are the rows of these passes
 abbrev pub KeepRows : RawBoard → PlanTables → List KeptPass → Type 0
 KeepRows board plan kept = (x : ℕ) (pass : KeptPass) → slice_get kept x ≡ Some pass → AreRows board plan x pass.rows
 
+-- the kept passes are the first passes of the plan, in order, and the kept drivers are the drivers of these passes
 abbrev pub KeepDrivers : PlanTables → List KeptPass → Type 0
 KeepDrivers plan kept = (x : ℕ) (pass : KeptPass) → slice_get kept x ≡ Some pass → AreDrivers plan (slice_index_or plan.passes x []) pass.drivers
 
--- the plan of a board's test, and what is kept of the passes
+-- the plan is built from the board's passes, and the kept passes are those of the plan
 pub record IsBoardTest (board : RawBoard) (plan : PlanTables) (kept : List KeptPass) : Type 0 where
   pub planned : IsPlanned (planned_board board plan)
   pub rows : KeepRows board plan kept
   pub drivers : KeepDrivers plan kept
 
--- pass x of a board's test, with the drivers of the pass and its kept rows
+-- pass x of a board's test, with the kept drivers and the kept rows of the pass
 pub record IsTestPass (board : RawBoard) (plan : PlanTables) (x : ℕ) (drivers : PlanPass) (rows : List ComparedRow) : Type 0 where
   pub within : x < length plan.passes
   pub planned : IsPlanned (planned_board board plan)
   pub drivers_are : drivers ≡ plan_pass plan (slice_index_or plan.passes x [])
   pub rows_are : AreRows board plan x rows
 
--- a log with the rows of a test, each as long as a data scan
+-- the log has the rows of the test, each as long as a data scan
 abbrev pub IsLogOf : PlannedBoard → List (List Bool) → Type 0
 IsLogOf test log = HasSize (length test.plan.passes * test.plan.width) (data_bits test.board) log

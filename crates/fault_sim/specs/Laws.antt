@@ -14,11 +14,12 @@ use Rattle.fault_sim.specs.Suspects.{AreSuspects}
 abbrev pub PlacesAre : Type 0
 PlacesAre = (board : RawBoard) → filter_map (λ place. place) (places_of board) ≡ singles board
 
--- a board has this many places
+-- `place_count` is the number of a board's places
 abbrev pub PlacesCounted : Type 0
 PlacesCounted = (board : RawBoard) (lists : FaultLists) → IsUniverse board lists → length (places_of board) ≡ place_count lists
 
--- if a test passes only faults that explain the log, the single faults that pass it are those at the suspects' places that pass it
+-- if a test passes only faults that explain the log, filtering all single faults by the test gives the same list as filtering the faults at
+-- the suspects' places
 abbrev pub SuspectsSuffice : Type 0
 SuspectsSuffice =
     (board : RawBoard) (plan : PlanTables) (lists : FaultLists) (log : List (List Bool)) (suspects : List ℕ) → IsBoard board → AreSuspects board plan lists log suspects →
@@ -31,6 +32,6 @@ SuspectsArePlaces =
     (board : RawBoard) (plan : PlanTables) (lists : FaultLists) (log : List (List Bool)) (suspects : List ℕ) → IsUniverse board lists → AreSuspects board plan lists log suspects →
     All (λ i. i < length (places_of board)) suspects
 
--- no two single faults each come before the other, so only one list of the same faults is in their order
+-- if one single fault comes before another, the other does not come before it; therefore only one list of these faults is in order
 abbrev pub OneOrder : Type 0
 OneOrder = (one other : Single) → SinglePrecedes one other → SinglePrecedes other one → ⊥

@@ -1,4 +1,5 @@
--- The places of a board. Each has a single fault, or none if it is one of two covered nets that are not paired.
+-- The places of a board. Each place has a single fault, unless it belongs to a pair of covered nets that are not paired. Such a place has
+-- no fault.
 use Rattle.std.specs.Prelude.{◌≡◌, ℕ, ◌+◌, ◌*◌, Bool, true, List, [], ◌∷◌, ◌++◌, map, cond, length, slice_get, Option, Some, None, option_and_then}
 use Rattle.std.specs.List.{flat_map}
 use Rattle.board_defs.specs.declared.board.RawBoard.{RawBoard}
@@ -12,21 +13,23 @@ use Rattle.fault_sim.specs.declared.fault_lists.FaultLists.{FaultLists}
 use Rattle.fault_sim.specs.Starts.{pairs_before}
 use Rattle.fault_sim.specs.inner.Tested.{paired_in}
 
--- a place for each of these faults
+-- one place for each of these faults
 abbrev pub placed : List Single → List (Option Single)
 placed faults = map (λ fault. Some fault) faults
 
--- the places of two covered nets
+-- the four places of a pair of covered nets
 abbrev pub pair_places : RawBoard → Numbered × Numbered → List (Option Single)
 pair_places board pair = cond (are_paired board pair.0.1 pair.1.1) (placed (short_faults pair.0.0 pair.1.0)) (None ∷ None ∷ None ∷ None ∷ [])
 
--- the places of stuck nets, of open pins and of shorts
+-- the places of stuck nets
 abbrev pub stuck_places : RawBoard → List (Option Single)
 stuck_places board = placed (flat_map (λ net. stuck_faults net.0) (covered_nets board))
 
+-- the places of open pins
 abbrev pub open_places : RawBoard → List (Option Single)
 open_places board = placed (flat_map open_faults (tested_pins board))
 
+-- the places of shorts
 abbrev pub short_places : RawBoard → List (Option Single)
 short_places board = flat_map (pair_places board) (pairs_within (covered_nets board))
 
@@ -34,35 +37,36 @@ short_places board = flat_map (pair_places board) (pairs_within (covered_nets bo
 abbrev pub places_of : RawBoard → List (Option Single)
 places_of board = stuck_places board ++ (open_places board ++ short_places board)
 
--- the fault at one of some places, if there is one
+-- the fault at place i of these places, if there is one
 abbrev pub listed_at : List (Option Single) → ℕ → Option Single
 listed_at places i = option_and_then (λ place. place) (slice_get places i)
 
--- the fault at a place of a board, if there is one
+-- the fault at place i of a board, if there is one
 abbrev pub fault_at : RawBoard → ℕ → Option Single
 fault_at board i = listed_at (places_of board) i
 
--- the covered nets and the tested pins of a board
+-- `lists` has the covered nets and the tested pins of the board
 pub record IsUniverse (board : RawBoard) (lists : FaultLists) : Type 0 where
   pub nets : lists.nets ≡ map (λ net. net.0) (covered_nets board)
   pub pins : lists.pins ≡ tested_pins board
 
--- the places of two nets, by what the passes of a plan observe
+-- the four places of two nets; they have faults if some pass of the plan observes both nets
 abbrev pub number_places : PlanTables → ℕ × ℕ → List (Option Single)
 number_places plan pair = cond (paired_in plan pair.0 pair.1) (placed (short_faults pair.0 pair.1)) (None ∷ None ∷ None ∷ None ∷ [])
 
--- the places that the lists of covered nets and tested pins give
+-- the places that follow from the lists of covered nets and tested pins, and from the plan
 abbrev pub listed_places : PlanTables → FaultLists → List (Option Single)
 listed_places plan lists =
     placed (flat_map stuck_faults lists.nets) ++ (placed (flat_map open_faults lists.pins) ++ flat_map (number_places plan) (pairs_within lists.nets))
 
--- some pass observes all nets of a fault at a place: both of a short; the one net of another fault at a place is always observed
+-- true if some pass observes all nets of a fault at a place; for a short, one pass must observe both nets; the one net of any other fault
+-- at a place is always observed
 abbrev pub observes_fault : PlanTables → Single → Bool
 observes_fault plan (StuckNet net value) = true
 observes_fault plan (OpenPin pin value) = true
 observes_fault plan (Short a b kind) = paired_in plan a b
 
--- the fault of a place, if it has one and some pass observes all its nets
+-- the fault, or `None` if there is none or no pass observes all its nets
 abbrev pub where_observed : PlanTables → Option Single → Option Single
 where_observed plan None = None
 where_observed plan (Some fault) = cond (observes_fault plan fault) (Some fault) None

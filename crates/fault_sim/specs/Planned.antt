@@ -4,15 +4,15 @@ use Rattle.board_defs.specs.declared.board.Ctl.{Ctl}
 use Rattle.board_defs.specs.Passes.{passes_of}
 use Rattle.plan_tables.specs.declared.tables.PlanTables.{PlanTables}
 use Rattle.scan_planner.specs.Plans.{IsPlanOf}
--- a board with a plan, and a pass with its number
+-- a board with its plan, and a pass of this plan by its number
 pub use Rattle.scan_planner.specs.Planned.{PlannedBoard, planned_board, PlannedPass, planned_pass}
 
--- the plan is one of the board, and has the board's passes
+-- the plan is built from the board's passes
 pub record IsPlanned (test : PlannedBoard) : Type 0 where
   pub plan : IsPlanOf test.board test.plan
   pub passes : test.plan.passes ≡ passes_of test.board
 
--- a plan with the controls that one of its passes holds
+-- a plan with one of its passes, given by the controls that the pass holds
 pub record PlanPass : Type 0 where
   pub plan : PlanTables
   pub pass : List Ctl
@@ -20,7 +20,7 @@ pub record PlanPass : Type 0 where
 abbrev pub plan_pass : PlanTables → List Ctl → PlanPass
 plan_pass plan pass = record { plan = plan; pass = pass }
 
--- a board with a plan, and a log of its test
+-- a log with the board and the plan of its test
 pub record LoggedBoard : Type 0 where
   pub test : PlannedBoard
   pub log : List (List Bool)
@@ -32,7 +32,7 @@ logged_board test log = record { test = test; log = log }
 abbrev pub controls_of : PlannedPass → List Ctl
 controls_of pass = slice_index_or pass.test.plan.passes pass.number []
 
--- a pass of a log, by its number
+-- a pass of a log, given by its number
 pub record PassOfLog : Type 0 where
   pub logged : LoggedBoard
   pub number : ℕ
@@ -40,7 +40,7 @@ pub record PassOfLog : Type 0 where
 abbrev pub pass_of_log : LoggedBoard → ℕ → PassOfLog
 pass_of_log logged number = record { logged = logged; number = number }
 
--- the controls that the pass holds
+-- the controls that the pass of the log holds
 abbrev pub controls_in : PassOfLog → List Ctl
 controls_in pass = slice_index_or pass.logged.test.plan.passes pass.number []
 

@@ -1,13 +1,13 @@
--- The numbers at which the pairs of each net with later ones begin.
+-- The number of each net's first pair with a later net, if all pairs of nets are numbered in order.
 use Rattle.std.specs.Prelude.{◌≡◌, ℕ, zero, suc, ◌+◌, ◌≤◌, List, length, slice_index_or}
 
--- the number of pairs among `nets` nets that come before the pairs of net a with later ones
+-- the number of pairs among `nets` nets that come before the pairs of net a with later nets
 abbrev pub pairs_before : ℕ → ℕ → ℕ
 pairs_before zero a = 0
 pairs_before (suc nets) zero = 0
 pairs_before (suc nets) (suc a) = nets + pairs_before nets a
 
--- the numbers at which the pairs of each net with later ones begin, and at which the last ones end
+-- item a of `starts` is the number of the first pair of net a with a later net; the last item is the number of all pairs
 pub record AreStarts (nets : ℕ) (starts : List ℕ) : Type 0 where
   pub count : length starts ≡ suc nets
   pub each : (a : ℕ) → a ≤ nets → slice_index_or starts a 0 ≡ pairs_before nets a

@@ -8,20 +8,20 @@ use Rattle.fault_sim.specs.declared.fault_lists.FaultLists.{FaultLists}
 use Rattle.fault_sim.specs.Fits.{ShowsOn}
 use Rattle.fault_sim.specs.Places.{place_count, places_of}
 
--- the nets that differ in a log, in net order: a net differs if some compared cell of it has a bit other than the expected one
+-- `nets` are the nets that differ in the log, in net order; a net differs if some compared cell of it has a bit other than the expected bit
 pub record AreDiffering (board : RawBoard) (plan : PlanTables) (log : List (List Bool)) (nets : List ℕ) : Type 0 where
   pub rising : AllPairs (λ a b. a < b) nets
   pub others : (n : ℕ) → n < length board.nets → Contains nets n ⊎ ShowsOn board plan None log n
   pub exactly : (n : ℕ) → Contains nets n ↔ ((n < length board.nets) × (ShowsOn board plan None log n → ⊥))
 
--- the number of suspects if these nets differ
+-- the number of suspects of a log in which these nets differ
 abbrev pub suspect_count : FaultLists → List ℕ → ℕ
 suspect_count lists [] = 0
 suspect_count lists (n ∷ []) = 2 + (2 * count_by (λ pin. pin.net == n) lists.pins + 4 * (length lists.nets - 1))
 suspect_count lists (m ∷ n ∷ []) = 4
 suspect_count lists (m ∷ n ∷ o ∷ nets) = 0
 
--- the suspects for a log: their places rise, and each place whose single fault explains the log is among them
+-- the suspects of a log, as places that rise; each place whose single fault explains the log is among them
 pub record AreSuspects (board : RawBoard) (plan : PlanTables) (lists : FaultLists) (log : List (List Bool)) (suspects : List ℕ) : Type 0 where
   pub rising : AllPairs (λ i j. i < j) suspects
   pub below : All (λ i. i < place_count lists) suspects

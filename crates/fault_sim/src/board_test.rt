@@ -12,8 +12,8 @@ use response_log::Log;
 use scan_planner::Plan;
 use std::marker::Model;
 
-/// A board with the plan of its test, which has the board's passes, and what is kept of these passes. The model is the board and
-/// the plan.
+/// The test of a board: the board, the plan that is built from the board's passes, and the kept passes of the plan. The model is the board
+/// and the plan.
 #[derive(Drop)]
 pub struct BoardTest<'a> {
     pub(crate) board: &'a Board,
@@ -32,7 +32,7 @@ impl<'a> Model for BoardTest<'a> {
     ghost invariant = { λ a. IsBoardTest a.board.now a.plan.now a.kept.now };
 }
 
-/// A test and a log of it. The model is both.
+/// A log with its test. The model is the test and the log.
 #[derive(Drop)]
 pub struct LoggedTest<'a> {
     pub(crate) test: BoardTest<'a>,
@@ -51,7 +51,7 @@ impl<'a> Model for LoggedTest<'a> {
 }
 
 impl<'a> BoardTest<'a> {
-    /// Returns the test of a board that this plan makes. The plan must be made of the board's passes. No pass is kept.
+    /// Returns the test that a plan gives its board, with no kept passes. The plan must be built from the board's passes.
     pub fn of(board: &'a Board, plan: &'a Plan) -> BoardTest<'a>
         requires plan { IsPlanOf board.now plan.now }
         requires passes { plan.now.passes ≡ passes_of board.now }
@@ -64,7 +64,7 @@ impl<'a> BoardTest<'a> {
         }
     }
 
-    /// Returns the same test with `kept` as what is kept of its passes.
+    /// Returns this test with `kept` as its kept passes. They must be passes of this test.
     pub fn with_kept(&self, kept: &'a [KeptPass]) -> BoardTest<'a>
         requires rows { KeepRows self.now.board self.now.plan kept.now }
         requires drivers { KeepDrivers self.now.plan kept.now }
@@ -93,7 +93,7 @@ impl<'a> BoardTest<'a> {
         self.plan
     }
 
-    /// Returns a log of the test. It must have the test's rows, each as long as a data scan.
+    /// Returns a log of this test. The log must have the test's rows, each as long as a data scan.
     pub fn with_log(&self, log: &'a Log) -> LoggedTest<'a>
         requires { IsLogOf self.now log.now }
         ensures { result ≡ logged_board self.now log.now }
@@ -106,7 +106,7 @@ impl<'a> BoardTest<'a> {
         LoggedTest { test, log }
     }
 
-    /// Returns pass `x`, which must be below the number of passes.
+    /// Returns pass `x`. `x` must be below the number of passes.
     pub(crate) fn pass(&self, x: u32) -> TestPass<'a>
         requires { x < length self.now.plan.passes }
         ensures { result ≡ planned_pass self.now x }
@@ -122,8 +122,8 @@ impl<'a> BoardTest<'a> {
 }
 
 impl<'a> LoggedTest<'a> {
-    /// Returns a log of the board's test that this plan makes. The plan must be made of the board's passes, and the log must have
-    /// the plan's rows, each as long as a data scan. No pass is kept.
+    /// Returns a log with the test that a plan gives its board. The plan must be built from the board's passes. The log must have the
+    /// plan's rows, each as long as a data scan. The test has no kept passes.
     pub fn of(board: &'a Board, plan: &'a Plan, log: &'a Log) -> LoggedTest<'a>
         requires plan { IsPlanOf board.now plan.now }
         requires passes { plan.now.passes ≡ passes_of board.now }
@@ -171,7 +171,7 @@ impl<'a> LoggedTest<'a> {
         self.log
     }
 
-    /// Returns pass `x`, which must be below the number of passes.
+    /// Returns pass `x` of the log. `x` must be below the number of passes.
     pub(crate) fn pass(&self, x: u32) -> LoggedPass<'a>
         requires { x < length self.now.test.plan.passes }
         ensures { result ≡ pass_of_log self.now x }

@@ -20,7 +20,7 @@ use std::alloc::{AllocError, Global};
 use tap_defs::board_law;
 
 impl<'a> LoggedTest<'a> {
-    // Returns whether a net shows the expected bits in each pass. If no digit of its cells has a mark, the cells need not be checked.
+    // Returns whether a net shows the expected bits in every pass. If no digit of the net's cells is marked, the cells are not checked.
     fn shows_expected(&self, marks: &[u8], n: u32) -> bool
         requires { AreMarks self.now.test.board self.now.test.plan self.now.log (length self.now.test.plan.passes) marks.now }
         ensures { IsTrue result ↔ ShowsOn self.now.test.board self.now.test.plan None self.now.log n }
@@ -32,7 +32,7 @@ impl<'a> LoggedTest<'a> {
         self.shows_on(None, n)
     }
 
-    /// Returns the nets that differ in the log, as `differing_nets` does.
+    /// Like the function `differing_nets`, for this test and log.
     pub fn differing(&self, alloc: Global) -> Result<Vec<u32>, AllocError>
         ensures { IfOk result (λ nets. AreDiffering self.now.test.board self.now.test.plan self.now.log nets.items) }
     {
@@ -44,7 +44,7 @@ impl<'a> LoggedTest<'a> {
         Ok(nets)
     }
 
-    /// Returns whether every compared bit of the log is the expected one. `nets` must be the nets that differ in the log.
+    /// Returns whether every compared bit of the log is the expected bit. `nets` must be the nets that differ in the log.
     pub fn none_differs(&self, nets: &[u32]) -> bool
         requires { AreDiffering self.now.test.board self.now.test.plan self.now.log nets.now }
         ensures { IsTrue result ↔ IsExpected self.now.test.board (svf_row_scans self.now.test.board) self.now.log }
@@ -59,9 +59,9 @@ impl<'a> LoggedTest<'a> {
     }
 }
 
-/// Returns the nets that differ in a log, in net order. A net differs if one of its compared cells has a bit other than the expected
-/// one. The plan must be made of the board's passes, and the log must have the plan's rows, each as long as a data scan. The rows are
-/// read once. After that only the cells of the nets that differ and of few others are read.
+/// Returns the nets that differ in a log, in net order. A net differs if one of its compared cells has a bit other than the expected bit.
+/// The plan must be built from the board's passes. The log must have the plan's rows, each as long as a data scan. Reads each row once, and
+/// then only the cells of nets that may differ. These are the nets that differ and few others.
 pub fn differing_nets(
     alloc: Global,
     board: &Board,

@@ -1,4 +1,4 @@
-// Rows and drivers of a test's passes, kept so that many logs of the test can share them.
+// The kept passes of a test, which many logs of the test can share.
 ghost use Rattle.std.specs.Prelude.{◌≡◌, ◌<◌, ◌≤◌, length, slice_get, IfOk};
 ghost use Rattle.fault_sim.specs.Kept.{IsRow, AreRows, AreDrivers, KeepRows, KeepDrivers};
 ghost use Rattle.fault_sim.specs.Planned.{controls_of};
@@ -14,17 +14,17 @@ use bt_bits::Row;
 use scan_planner::Plan;
 use std::alloc::{AllocError, Global};
 
-// The most bytes to keep, roughly.
+// The approximate limit on the bytes of all kept passes.
 const MOST: u64 = 64 << 20;
 
-/// The expected bits of a row of a log, and the positions at which they are compared.
+/// The expected bits of a row, and the positions at which a log is compared with them.
 #[derive(Drop)]
 pub struct ComparedRow {
     pub tdo: Row,
     pub mask: Row,
 }
 
-/// What is kept of a pass: its first rows, and the drivers that it enables on the first nets.
+/// A kept pass: its first rows, and the drivers that it enables on the first nets.
 #[derive(Drop)]
 pub struct KeptPass {
     pub rows: Items<ComparedRow>,
@@ -43,7 +43,7 @@ pub fn empty_row(alloc: Global, board: &Board) -> Result<ComparedRow, AllocError
 }
 
 impl<'a> TestPass<'a> {
-    // Makes row `j` of the pass, in memory of its own.
+    // Returns row `j` of the pass, in newly allocated memory.
     fn new_row(&self, alloc: Global, j: u32) -> Result<ComparedRow, AllocError>
         requires { j < self.now.test.plan.width }
         ensures { IfOk result (IsRow self.now.test.board self.now.test.plan self.now.number j) }
@@ -53,7 +53,7 @@ impl<'a> TestPass<'a> {
         Ok(row)
     }
 
-    // Returns the rows of the pass.
+    // Returns all rows of the pass.
     fn new_rows(&self, alloc: Global) -> Result<Vec<ComparedRow>, AllocError>
         ensures { IfOk result (λ rows. AreRows self.now.test.board self.now.test.plan self.now.number rows.items) }
     {
@@ -75,7 +75,7 @@ impl<'a> TestPass<'a> {
         Ok(drivers)
     }
 
-    // Returns what to keep of the pass: all rows, and the driver of each net.
+    // Returns this pass as a kept pass, with all its rows and the driver of each net.
     fn keep(&self, alloc: Global) -> Result<KeptPass, AllocError>
         ensures rows { IfOk result (λ pass. AreRows self.now.test.board self.now.test.plan self.now.number pass.rows) }
         ensures drivers { IfOk result (λ pass. AreDrivers self.now.test.plan (controls_of self.now) pass.drivers) }
@@ -89,7 +89,7 @@ impl<'a> TestPass<'a> {
     }
 }
 
-// Returns roughly how many bytes a kept pass takes, including the overhead of its lists and rows.
+// Returns the approximate number of bytes of a kept pass, including the overhead of its lists and rows.
 fn pass_bytes(board: &Board, plan: &Plan) -> u64
     ensures { 0 < result }
 {
@@ -97,7 +97,7 @@ fn pass_bytes(board: &Board, plan: &Plan) -> u64
     128 + u64::from(plan.width()) * row + 24 * u64::from(net_count(board))
 }
 
-// Returns the number of passes to keep for `logs` logs. A single log would use each pass once, so none is kept for it.
+// Returns the number of passes to keep for `logs` logs. A single log uses each pass only once, so no pass is kept for it.
 fn kept_count(board: &Board, plan: &Plan, logs: usize) -> u32
     ensures { result ≤ length plan.now.passes }
 {
@@ -109,7 +109,8 @@ fn kept_count(board: &Board, plan: &Plan, logs: usize) -> u32
 }
 
 impl<'a> BoardTest<'a> {
-    /// Returns what to keep of the first passes for `logs` logs, which takes at most about 64 MiB.
+    /// Returns the first passes of the test as kept passes, for use with `logs` logs. They take at most about 64 MiB. For fewer than two
+    /// logs, returns no passes.
     pub fn kept_passes(&self, alloc: Global, logs: usize) -> Result<Vec<KeptPass>, AllocError>
         ensures rows { IfOk result (λ kept. KeepRows self.now.board self.now.plan kept.items) }
         ensures drivers { IfOk result (λ kept. KeepDrivers self.now.plan kept.items) }
@@ -123,7 +124,7 @@ impl<'a> BoardTest<'a> {
     }
 }
 
-/// Returns the kept rows of pass `x`, or none.
+/// Returns the kept rows of pass `x`, or no rows if the pass is not kept.
 pub fn kept_rows(kept: &[KeptPass], x: u32) -> &[ComparedRow]
     ensures { result.now ≡ kept_rows kept.now x }
 {
@@ -133,7 +134,7 @@ pub fn kept_rows(kept: &[KeptPass], x: u32) -> &[ComparedRow]
     }
 }
 
-/// Returns the kept drivers of pass `x`, net by net, or none.
+/// Returns the kept drivers of pass `x`, net by net, or no drivers if the pass is not kept.
 pub fn kept_drivers(kept: &[KeptPass], x: u32) -> &[Option<EnabledDriver>]
     ensures { result.now ≡ kept_drivers kept.now x }
 {
@@ -143,7 +144,8 @@ pub fn kept_drivers(kept: &[KeptPass], x: u32) -> &[Option<EnabledDriver>]
     }
 }
 
-/// Returns the kept entry of a net, if there is one: the driver that the pass enables on it, if it enables any.
+/// Returns the kept driver of a net. The outer `None` says that the pass keeps no entry for the net. The inner `None` says that the pass
+/// enables no driver on the net.
 pub fn kept_driver(kept: &[Option<EnabledDriver>], net: u32) -> Option<Option<EnabledDriver>>
     ensures { result ≡ slice_get kept.now net }
 {

@@ -1,7 +1,7 @@
-//! Decides which single faults of a board explain a log of its test.
+//! Finds the single faults of a board that explain a log of its test.
 //!
-//! No run is simulated. The bit that a compared cell has under a single fault follows from the row in the latches, and only
-//! cells of the faulty nets can differ from the expected bits.
+//! Simulates no run. The bit that a compared cell has under a single fault follows from the row that is in the latches. Only cells of the
+//! faulty nets can differ from the expected bits.
 #![tactic(auto)]
 
 mod board_test;

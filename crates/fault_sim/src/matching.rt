@@ -1,4 +1,4 @@
-// Decides if a single fault explains a log, and if a log has the expected bits.
+// Checks whether a single fault explains a log, and whether a log is the expected one.
 ghost use Rattle.std.specs.Prelude.{◌≡◌, ◌↔◌, ◌*◌, ◌==◌, ◌||◌, length, All, IsTrue};
 ghost use Rattle.std.specs.List.{list_all};
 ghost use Rattle.board_defs.specs.Faults.{IsSingle};
@@ -16,8 +16,8 @@ use response_log::Log;
 use scan_planner::Plan;
 use tap_defs::board_law;
 
-/// Returns whether every compared bit of a log is the expected one. The plan must be made of the board's passes, and the log must
-/// have the plan's rows, each as long as a data scan.
+/// Returns whether every compared bit of a log is the expected bit. The plan must be built from the board's passes. The log must have the
+/// plan's rows, each as long as a data scan.
 pub fn is_pass(board: &Board, plan: &Plan, log: &Log) -> bool
     requires plan { IsPlanOf board.now plan.now }
     requires passes { plan.now.passes ≡ passes_of board.now }
@@ -32,9 +32,9 @@ pub fn is_pass(board: &Board, plan: &Plan, log: &Log) -> bool
     LoggedTest::of(board, plan, log).shows_all(None)
 }
 
-/// Returns whether a single fault of the board explains a log: in every run of the test with this fault alone, each compared bit is
-/// the log's. The plan must be made of the board's passes, and the log must have its rows, each as long as a data scan. The cells
-/// of the fault's own nets are checked first, since they rule out most faults that explain nothing.
+/// Returns whether a single fault of the board explains a log. A fault explains a log if every run of the test with this fault alone gives
+/// the log's compared bits. The plan must be built from the board's passes. The log must have the plan's rows, each as long as a data scan.
+/// Checks the cells of the fault's own nets first, since they rule out most faults that do not explain the log.
 pub fn matches(board: &Board, plan: &Plan, fault: Single, log: &Log) -> bool
     requires plan { IsPlanOf board.now plan.now }
     requires passes { plan.now.passes ≡ passes_of board.now }
@@ -61,7 +61,7 @@ fn are_of(nets: &[u32], a: u32, b: u32) -> bool
     nets.iter().all(|n| *n == a || *n == b)
 }
 
-/// Like `matches`, but takes the nets that differ in the log, and so checks only the cells of the fault's own nets.
+/// Like `matches`, but also takes the nets that differ in the log. With them, only the cells of the fault's own nets need a check.
 pub fn matches_by(board: &Board, plan: &Plan, fault: Single, log: &Log, nets: &[u32]) -> bool
     requires plan { IsPlanOf board.now plan.now }
     requires passes { plan.now.passes ≡ passes_of board.now }

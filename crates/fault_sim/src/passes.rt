@@ -1,4 +1,4 @@
-// The passes of a board's test, and of a log of it.
+// The passes of a board's test, and the passes of a log of the test.
 ghost use Rattle.std.specs.Prelude.{◌≡◌, ◌*◌, ◌<◌, ◌^◌, ◌&&◌, [], length, slice_index_or};
 ghost use Rattle.board_defs.specs.Passes.{passes_of};
 ghost use Rattle.scan_planner.specs.Plans.{IsPlanOf};
@@ -37,7 +37,7 @@ impl<'a> Model for PassDrivers<'a> {
 }
 
 impl<'a> PassDrivers<'a> {
-    /// Returns pass `x` of a plan. `kept` has what is kept of the plan's passes.
+    /// Returns pass `x` of a plan. `kept` holds the kept passes of the plan.
     pub fn of(plan: &'a Plan, kept: &'a [KeptPass], x: u32) -> PassDrivers<'a>
         requires kept { KeepDrivers plan.now kept.now }
         requires pass { x < length plan.now.passes }
@@ -50,7 +50,7 @@ impl<'a> PassDrivers<'a> {
         }
     }
 
-    /// Returns the driver that the pass enables on a net.
+    /// Returns the driver that the pass enables on a net, if there is one.
     fn on(&self, net: u32) -> Option<EnabledDriver>
         ensures { result ≡ enabled_driver self.now.plan self.now.pass net }
     {
@@ -75,7 +75,7 @@ impl<'a> PassDrivers<'a> {
     }
 }
 
-/// A pass of a board's test, with what is kept of it. The model is the test and the number of the pass.
+/// A pass of a board's test, with its kept drivers and kept rows. The model is the test and the number of the pass.
 #[derive(Drop)]
 pub struct TestPass<'a> {
     pub(crate) board: &'a Board,
@@ -122,14 +122,14 @@ impl<'a> TestPass<'a> {
         u64::from(self.number) * u64::from(self.plan.width())
     }
 
-    /// Returns the driver that the pass enables on a net.
+    /// Returns the driver that the pass enables on a net, if there is one.
     pub fn driver(&self, net: u32) -> Option<EnabledDriver>
         ensures { result ≡ enabled_driver self.now.test.plan (controls_of self.now) net }
     {
         self.drivers.on(net)
     }
 
-    /// Returns the place of this driver's pin.
+    /// Returns the place of the pin of the driver that the pass enables on a net, if there is one.
     pub fn driver_place(&self, net: u32) -> Option<u32>
         ensures { result ≡ place_of_driver (driver_in self.now.test.plan (controls_of self.now) net) }
     {
@@ -139,28 +139,28 @@ impl<'a> TestPass<'a> {
         }
     }
 
-    /// Returns the value that a net is pulled to.
+    /// Returns the value that a net is pulled to, or `None` if the net has no pull.
     pub fn pull(&self, net: u32) -> Option<bool>
         ensures { result ≡ pull_in self.now.test.board net }
     {
         pull_in(self.board, net)
     }
 
-    /// Returns what a net gets in the pass.
+    /// Returns a net in this pass: the feed of the net's enabled driver, and the net's pull.
     pub fn fed(&self, net: u32) -> FedNet
         ensures { result ≡ fed_net self.now.test.board self.now.test.plan (controls_of self.now) net }
     {
         net_fed_by(self.driver(net), self.pull(net))
     }
 
-    /// Returns the kept rows of the pass, which are its first ones.
+    /// Returns the kept rows of the pass. They are its first rows.
     pub fn kept_rows(&self) -> &'a [ComparedRow]
         ensures { AreRows self.now.test.board self.now.test.plan self.now.number result.now }
     {
         self.rows
     }
 
-    /// Fills `row` with the bits that the test expects in row `j` of the pass, and with those that it compares.
+    /// Fills `row` with the bits that the test expects in row `j` of the pass, and with the mask of the compared bits.
     pub fn fill_row(&self, j: u32, row: &mut ComparedRow)
         requires row { j < self.now.test.plan.width }
         requires room { HaveRoom self.now.test.board row.old }
@@ -172,7 +172,7 @@ impl<'a> TestPass<'a> {
     }
 }
 
-/// A pass of a log with its test. The model is both, and the number of the pass.
+/// A pass of a log, with its test. The model is the test, the log and the number of the pass.
 #[derive(Drop)]
 pub struct LoggedPass<'a> {
     pub(crate) pass: TestPass<'a>,
@@ -191,8 +191,8 @@ impl<'a> Model for LoggedPass<'a> {
 }
 
 impl<'a> LoggedPass<'a> {
-    /// Does nothing. Its contract has the facts about the pass: the plan has the pass, the plan is one of the board and has the
-    /// board's passes, and the log has the rows of the test.
+    /// Does nothing. Its contract states facts about the pass: the pass is one of the plan's passes, the plan is built from the board's
+    /// passes, and the log has the rows of the test.
     pub fn laws(&self)
         ensures pass { self.now.number < length self.now.logged.test.plan.passes }
         ensures plan { IsPlanOf self.now.logged.test.board self.now.logged.test.plan }
@@ -217,7 +217,7 @@ impl<'a> LoggedPass<'a> {
         self.pass.plan().code(net)
     }
 
-    /// Returns what a net gets in the pass, as words.
+    /// Returns a net in this pass, as words.
     pub fn fed_words(&self, net: u32) -> FedWords
         ensures { AreWordsIn self.now net result }
     {

@@ -19,8 +19,8 @@ use std::marker::Model;
 use tap_defs::board_law;
 use tap_defs::board_law::{codes_number_covered, singles_observable};
 
-/// The places of a universe whose faults may explain a log. The model is their list. A single fault changes only compared cells of
-/// its own net or nets, so every suspect is a fault that involves all nets that differ in the log.
+/// The places of a universe whose faults may explain a log. The model is the list of these places. A single fault changes only compared
+/// cells of its own nets, so every suspect is the place of a fault that involves all nets that differ in the log.
 #[derive(Drop)]
 pub struct Suspects {
     places: Vec<u64>,
@@ -54,7 +54,7 @@ fn push_four(places: &mut Vec<u64>, place: u64) -> Result<(), AllocError>
     Ok(())
 }
 
-// Returns the number of the pair of covered nets at places `a` and `b`.
+// Returns the number of the pair of the covered nets at places `a` and `b`. `a` must be below `b`.
 fn pair_number(lists: &FaultLists, a: u32, b: u32) -> u64
     ensures number { result ≡ pair_number lists.now a b }
     ensures few { result < 2 ^ 34 }
@@ -98,7 +98,7 @@ fn push_pins(places: &mut Vec<u64>, lists: &FaultLists, n: u32) -> Result<(), Al
     Ok(())
 }
 
-// Adds the places of the shorts of the covered net at place `k` with earlier ones.
+// Adds the places of all shorts of the covered net at place `k` with an earlier covered net.
 fn push_earlier(places: &mut Vec<u64>, lists: &FaultLists, k: u32) -> Result<(), AllocError>
     ensures { OnOk result (places.new.items ≡ places.old.items ++ flat_map (λ a. pair_suspects lists.now a k) (range_with_len 0 k)) }
 {
@@ -108,7 +108,7 @@ fn push_earlier(places: &mut Vec<u64>, lists: &FaultLists, k: u32) -> Result<(),
     Ok(())
 }
 
-// Adds the places of the shorts of the covered net at place `k` with later ones.
+// Adds the places of all shorts of the covered net at place `k` with a later covered net.
 fn push_later(places: &mut Vec<u64>, lists: &FaultLists, k: u32) -> Result<(), AllocError>
     ensures { OnOk result (places.new.items ≡ places.old.items ++ flat_map (λ b. pair_suspects lists.now k b) (range_with_len (suc k) (length lists.now.nets - suc k))) }
 {
@@ -118,14 +118,14 @@ fn push_later(places: &mut Vec<u64>, lists: &FaultLists, k: u32) -> Result<(), A
     Ok(())
 }
 
-// Returns the place among the covered nets of a net with a code. The codes number the covered nets from 1.
+// Returns the place of a net among the covered nets. The net must have a code. The codes number the covered nets from 1.
 fn covered_place(plan: &Plan, n: u32) -> u32
     ensures { result ≡ covered_place plan.now n }
 {
     plan.code(n).saturating_sub(1)
 }
 
-// Returns the places of all faults of net `n`.
+// Returns the places of all faults of covered net `n`.
 fn net_suspects(
     alloc: Global,
     plan: &Plan,
@@ -143,7 +143,7 @@ fn net_suspects(
     Ok(places)
 }
 
-// Returns the places of the shorts of nets `m` and `n`.
+// Returns the places of the shorts of covered nets `m` and `n`.
 fn pair_suspects(
     alloc: Global,
     plan: &Plan,
@@ -163,7 +163,7 @@ fn pair_suspects(
     Ok(places)
 }
 
-// Returns the suspects of a log in which `nets` are the nets that differ.
+// Returns the suspects of a log. `nets` are the nets that differ in the log.
 fn suspects_of(
     alloc: Global,
     plan: &Plan,
@@ -180,9 +180,9 @@ fn suspects_of(
 }
 
 impl Suspects {
-    /// Returns the places of a universe whose faults may explain a log. If one net differs in the log, they are those of all faults of
-    /// this net. If two nets differ, they are those of their shorts. Otherwise there are none. The plan must be made of the board's passes,
-    /// the universe must be that of the board, and the log must have the plan's rows, each as long as a data scan.
+    /// Returns the places of a universe whose faults may explain a log. If one net differs in the log, these are the places of all faults
+    /// of this net. If two nets differ, these are the places of the shorts of both nets. Otherwise there are none. The plan must be built
+    /// from the board's passes, and the universe must be the board's. The log must have the plan's rows, each as long as a data scan.
     pub fn new(
         alloc: Global,
         board: &Board,
@@ -209,7 +209,7 @@ impl Suspects {
         self.places.len() as u64
     }
 
-    /// Returns suspect `i` as a place of the universe; `i` must be below their number. The places rise with `i`.
+    /// Returns the place of suspect `i` in the universe. `i` must be below the number of suspects. The places rise with `i`.
     pub fn place(&self, i: u64) -> u64
         requires { i < length self.now }
         ensures { slice_get self.now i ≡ Some result }
@@ -226,8 +226,7 @@ fn place_at(places: &[u64], i: usize) -> u64
 }
 
 impl<'a> LoggedTest<'a> {
-    /// Returns the suspects, as `Suspects::new` does. `nets` must be the nets that differ in the log, and the universe must be that of
-    /// the board.
+    /// Like `Suspects::new`, for this test and log. `nets` must be the nets that differ in the log, and the universe must be the board's.
     pub fn suspects(
         &self,
         alloc: Global,

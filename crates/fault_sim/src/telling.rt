@@ -1,4 +1,4 @@
-// A net that differs in a log, in the first pass that exposes it.
+// A net that differs in a log, in the first pass in which it shows an unexpected bit.
 ghost use Rattle.std.specs.Prelude.{◌≡◌, IfSome, true};
 ghost use Rattle.board_defs.specs.Faults.{IsSingle};
 ghost use Rattle.tap_defs.specs.board.Explaining.{Explains};
@@ -13,8 +13,8 @@ use board_defs::{Single, law};
 use std::marker::Model;
 use tap_defs::board_law;
 
-/// A net in a pass of a log, with what the net gets in the pass and what its cells show. Both are computed once for all faults that are
-/// tried. The model is the pass and the net.
+/// A net in a pass of a log, with the bits that the net gets in the pass and the bits that its cells show. These bits are computed once,
+/// and serve all faults that are tried. The model is the pass and the net.
 #[derive(Drop)]
 pub struct TellingNet<'a> {
     pass: LoggedPass<'a>,
@@ -36,7 +36,7 @@ impl<'a> Model for TellingNet<'a> {
 }
 
 impl<'a> TellingNet<'a> {
-    // Returns the net in a pass of a log.
+    // Returns a net in a pass of a log.
     fn of(pass: LoggedPass<'a>, net: u32) -> TellingNet<'a>
         ensures { result ≡ net_in_pass pass.entry net }
     {
@@ -52,7 +52,7 @@ impl<'a> TellingNet<'a> {
         }
     }
 
-    // Returns the bits that the net has under a short of it with another net, and nothing for another fault.
+    // Returns the bits that `fault` gives this net, if `fault` is a short of this net. Returns `None` for any other fault.
     fn short_word(&self, fault: Single) -> Option<u32>
         ensures { IfSome result (IsWordOn self.now fault) }
     {
@@ -71,8 +71,7 @@ impl<'a> TellingNet<'a> {
         }
     }
 
-    /// Returns true only if the pass shows that a single fault of the board does not explain the log. Rules out only shorts of this
-    /// net with another one.
+    /// Returns true only if the pass shows that a single fault of the board does not explain the log. Rules out only shorts of this net.
     pub fn rules_out(&self, fault: Single) -> bool
         ensures { result ≡ true → IsSingle self.now.pass.logged.test.board fault → Explains self.now.pass.logged.test.board fault self.now.pass.logged.log → ⊥ }
     {
@@ -89,8 +88,8 @@ impl<'a> TellingNet<'a> {
 }
 
 impl<'a> LoggedTest<'a> {
-    /// Returns the first of `nets` in the first pass in which it does not show the expected bits. The pass rules out nearly every short
-    /// of this net that does not explain the log.
+    /// Returns the first net of `nets`, in the first pass in which this net does not show the expected bits. Returns `None` if there is no
+    /// such net or pass. The pass rules out nearly every short of the net that does not explain the log.
     pub fn telling_net(&self, nets: &[u32]) -> Option<TellingNet<'a>>
         ensures { IfSome result (λ telling. telling.pass.logged ≡ self.now) }
     {

@@ -1,4 +1,4 @@
--- What a search for the faults that explain a log has, and what it finds.
+-- The parts of a search for the faults that explain a log, and the faults that the search finds.
 use Rattle.std.specs.Prelude.{◌≡◌, ℕ, List, filter_map, IfSome}
 use Rattle.board_defs.specs.declared.fault.Single.{Single}
 use Rattle.tap_defs.specs.board.Explaining.{Explains}
@@ -19,6 +19,6 @@ pub record IsSearch (s : Search) : Type 0 where
 abbrev pub faults_between : Search → ℕ → ℕ → List Single
 faults_between s from to = filter_map (fault_at s.logged.now.test.board) (items_between s.suspects.now from to)
 
--- those of these faults that explain the log, in order
+-- `faults` are the faults at the candidates `from..to` that explain the log, in order
 abbrev pub Found : Search → ℕ → ℕ → List Single → Type 0
 Found s from to faults = Picks (λ single. Explains s.logged.now.test.board single s.logged.now.log) (faults_between s from to) faults

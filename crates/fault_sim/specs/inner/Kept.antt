@@ -1,4 +1,4 @@
--- Terms for the proofs alone. Looking up the kept passes of a test.
+-- Terms for the proofs alone. Look-ups in the kept passes of a test.
 use Rattle.std.specs.Prelude.{ℕ, Bool, true, false, cond, List, [], Option, Some, None, option_map, slice_get}
 use Rattle.fault_sim.specs.declared.feed.EnabledDriver.{EnabledDriver}
 use Rattle.fault_sim.specs.declared.feed.FedNet.{FedNet}
@@ -8,30 +8,33 @@ use Rattle.fault_sim.specs.declared.feed.Source.TheVariants.{Code, Fixed}
 use Rattle.fault_sim.specs.declared.kept.ComparedRow.{ComparedRow}
 use Rattle.fault_sim.specs.declared.kept.KeptPass.{KeptPass}
 
--- the kept rows of pass x, and its kept drivers
+-- the rows of a kept pass, or no rows if there is no such pass
 abbrev pub rows_of : Option KeptPass → List ComparedRow
 rows_of None = []
 rows_of (Some pass) = pass.rows
 
+-- the kept rows of pass x
 abbrev pub kept_rows : List KeptPass → ℕ → List ComparedRow
 kept_rows kept x = rows_of (slice_get kept x)
 
+-- the drivers of a kept pass, or no drivers if there is no such pass
 abbrev pub drivers_of : Option KeptPass → List (Option EnabledDriver)
 drivers_of None = []
 drivers_of (Some pass) = pass.drivers
 
+-- the kept drivers of pass x
 abbrev pub kept_drivers : List KeptPass → ℕ → List (Option EnabledDriver)
 kept_drivers kept x = drivers_of (slice_get kept x)
 
--- what an enabled driver gives its net, which has this pull
+-- the feed that an enabled driver gives its net; `pull` is the value that the net is pulled to, if any
 abbrev pub feed_of : Option Bool → EnabledDriver → Feed
 feed_of pull d = record { source = d.source; off = cond d.own pull None }
 
--- what a net with this enabled driver and this pull gets
+-- a net in a pass, given the driver that the pass enables on the net and the net's pull
 abbrev pub net_fed_by : Option EnabledDriver → Option Bool → FedNet
 net_fed_by driver pull = record { feed = option_map (feed_of pull) driver; pull = pull }
 
--- the bits are those of the net's code
+-- true if the bits are those of a net's code
 abbrev pub is_code : Source → Bool
 is_code (Code code) = true
 is_code (Fixed bit) = false

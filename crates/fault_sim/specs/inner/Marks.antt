@@ -1,4 +1,5 @@
--- Terms for the proofs alone. Marks of the digits of a log's rows in which some compared bit is not the expected one.
+-- Terms for the proofs alone. Marks of the digits of a log's rows. A digit is marked if, in some row, a compared bit of this digit is not
+-- the expected bit.
 use Rattle.std.specs.Prelude.{◌≡◌, ℕ, ◌+◌, ◌*◌, ◌/◌, ◌<◌, ◌≤◌, ◌==◌, Bool, true, false, not, List, slice_index_or}
 use Rattle.std.specs.List.{list_any}
 use Rattle.board_defs.specs.declared.board.RawBoard.{RawBoard}
@@ -9,30 +10,32 @@ use Rattle.fault_sim.specs.declared.kept.ComparedRow.{ComparedRow}
 use Rattle.fault_sim.specs.Fits.{bit_in}
 use Rattle.fault_sim.specs.Kept.{compared_in, expected_in}
 
--- the row has room for a data scan
+-- both parts of the row have room for a data scan
 pub record HaveRoom (board : RawBoard) (row : ComparedRow) : Type 0 where
   pub tdo : data_bits board ≤ row.tdo.room
   pub mask : data_bits board ≤ row.mask.room
 
--- if row j of pass x is compared at a position, the log has the expected bit there
+-- if the test compares row j of pass x at a position, the log has the expected bit there
 abbrev pub HasExpected : RawBoard → PlanTables → List (List Bool) → ℕ → ℕ → ℕ → Type 0
 HasExpected board plan log x j at = slice_index_or (compared_in board plan x j) at false ≡ true → bit_in log (x * plan.width + j) at ≡ slice_index_or (expected_in board plan x j) at false
 
--- the digit of a position has no mark
+-- the digit of this position is not marked
 abbrev pub IsUnmarked : List ℕ → ℕ → Type 0
 IsUnmarked marks at = slice_index_or marks (at / 4) 0 ≡ 0
 
--- if the digit of a position is unmarked after row j of pass x, it was unmarked before and has the expected bit there; the same for the
--- first rows of the pass, and for the first passes
+-- the marks change from `old` to `new` while row j of pass x is checked: if the digit of a position is unmarked in `new`, it is unmarked in
+-- `old`, and the log has the expected bit at this position of the row
 abbrev pub MarkRow : RawBoard → PlanTables → List (List Bool) → ℕ → ℕ → List ℕ → List ℕ → Type 0
 MarkRow board plan log x j old new = (at : ℕ) → at < data_bits board → IsUnmarked new at → IsUnmarked old at × HasExpected board plan log x j at
 
+-- like `MarkRow`, but for the first `rows` rows of pass x
 abbrev pub MarkRows : RawBoard → PlanTables → List (List Bool) → ℕ → ℕ → List ℕ → List ℕ → Type 0
 MarkRows board plan log x rows old new = (at : ℕ) → at < data_bits board → IsUnmarked new at → IsUnmarked old at × ((j : ℕ) → j < rows → HasExpected board plan log x j at)
 
+-- if the digit of a position is unmarked, the log has the expected bits at this position in all rows of the first `passes` passes
 abbrev pub AreMarks : RawBoard → PlanTables → List (List Bool) → ℕ → List ℕ → Type 0
 AreMarks board plan log passes marks = (at : ℕ) → at < data_bits board → IsUnmarked marks at → (x : ℕ) → x < passes → (j : ℕ) → j < plan.width → HasExpected board plan log x j at
 
--- a digit of some of these cells has a mark
+-- the digit of at least one of these cells is marked
 abbrev pub are_marked : List ℕ → List ReaderCell → Bool
 are_marked marks readers = list_any (λ r. not (slice_index_or marks (r.position / 4) 0 == 0)) readers

@@ -1,10 +1,10 @@
--- Terms for the proofs alone. The rows of a log in a pass, with the compared cells of a net.
+-- Terms for the proofs alone. The rows of a pass of a log, with the compared cells of a net.
 use Rattle.std.specs.Prelude.{ℕ, ◌+◌, ◌*◌, ◌<◌, ◌≤◌, ◌^◌, Bool, List, length, All}
 use Rattle.net_pins.specs.declared.nets.ReaderCell.{ReaderCell}
 use Rattle.fault_sim.specs.Effects.{readers_in}
 use Rattle.fault_sim.specs.Planned.{PassOfLog}
 
--- `width` rows of a log, from row `first` on, and the cells that are read in each
+-- `width` rows of a log, from row `first` on, and the compared cells of a net
 pub record RowsOfNet : Type 0 where
   pub log : List (List Bool)
   pub first : ℕ
@@ -14,11 +14,11 @@ pub record RowsOfNet : Type 0 where
 abbrev pub rows_of_net : List (List Bool) → ℕ → ℕ → List ReaderCell → RowsOfNet
 rows_of_net log first width readers = record { log = log; first = first; width = width; readers = readers }
 
--- the rows of a pass, with the cells of a net
+-- the rows of a pass of a log, with the compared cells of a net
 abbrev pub net_rows_in : PassOfLog → ℕ → RowsOfNet
 net_rows_in pass net = rows_of_net pass.logged.log (pass.number * pass.logged.test.plan.width) pass.logged.test.plan.width (readers_in pass.logged.test.plan net)
 
--- the log has these rows, they are fewer than the bits of a word, and each row of the log has a bit for each of the cells
+-- the log has these rows, they are fewer than the bits of a word, and every row of the log has a bit for each of the cells
 pub record AreNetRows (rows : RowsOfNet) : Type 0 where
   pub within : rows.first + rows.width ≤ length rows.log
   pub fits : rows.first + rows.width < 2 ^ 64

@@ -6,21 +6,23 @@ use Rattle.plan_tables.specs.declared.tables.PlanTables.{PlanTables}
 use Rattle.fault_sim.specs.declared.fault_lists.FaultLists.{FaultLists}
 use Rattle.fault_sim.specs.Effects.{code_in}
 
--- the places of a stuck net or an open pin, and those of a short, which begin at this place
+-- the places of a stuck net or an open pin, of which `place` is the first
 abbrev pub two_from : ℕ → List ℕ
 two_from place = place ∷ (place + 1) ∷ []
 
+-- the places of the shorts of two nets, of which `place` is the first
 abbrev pub four_from : ℕ → List ℕ
 four_from place = place ∷ (place + 1) ∷ (place + 2) ∷ (place + 3) ∷ []
 
--- the first place of an open pin, and the first place of a short
+-- the first place of an open pin
 abbrev pub first_open : FaultLists → ℕ
 first_open lists = 2 * length lists.nets
 
+-- the first place of a short
 abbrev pub first_short : FaultLists → ℕ
 first_short lists = 2 * length lists.nets + 2 * length lists.pins
 
--- the number of the pair of covered nets at places a and b
+-- the number of the pair of the covered nets at places a and b, for a below b
 abbrev pub pair_number : FaultLists → ℕ → ℕ → ℕ
 pair_number lists a b = slice_index_or lists.starts a 0 + (b - suc a)
 
@@ -28,7 +30,7 @@ pair_number lists a b = slice_index_or lists.starts a 0 + (b - suc a)
 abbrev pub pair_suspects : FaultLists → ℕ → ℕ → List ℕ
 pair_suspects lists a b = four_from (first_short lists + 4 * pair_number lists a b)
 
--- the net of a pin
+-- the net of a pin, if there is a pin
 abbrev pub pin_net : Option PinRef → Option ℕ
 pin_net None = None
 pin_net (Some pin) = Some pin.net
@@ -37,11 +39,11 @@ abbrev pub is_net : ℕ → Option ℕ → Bool
 is_net n None = false
 is_net n (Some net) = net == n
 
--- the places of pin i, if it is a pin of net n
+-- the places of tested pin i, if it is a pin of net n, and otherwise none
 abbrev pub pin_suspects : FaultLists → ℕ → ℕ → List ℕ
 pin_suspects lists n i = cond (is_net n (pin_net (slice_get lists.pins i))) (two_from (first_open lists + 2 * i)) []
 
--- the places of the faults of net n, which is at place k among the covered nets
+-- the places of all faults of net n, which is at place k among the covered nets
 abbrev pub net_suspects : FaultLists → ℕ → ℕ → List ℕ
 net_suspects lists n k =
     two_from (2 * k)
@@ -49,11 +51,11 @@ net_suspects lists n k =
     ++ (flat_map (λ a. pair_suspects lists a k) (range_with_len 0 k)
     ++ flat_map (λ b. pair_suspects lists k b) (range_with_len (suc k) (length lists.nets - suc k))))
 
--- the place of a net among the covered nets, which the codes number from 1
+-- the place of a net among the covered nets; the codes number the covered nets from 1
 abbrev pub covered_place : PlanTables → ℕ → ℕ
 covered_place plan n = code_in plan n - 1
 
--- the suspects of a log in which these nets differ
+-- the suspects of a log; the list has the nets that differ in the log
 abbrev pub suspects_of : PlanTables → FaultLists → List ℕ → List ℕ
 suspects_of plan lists [] = []
 suspects_of plan lists (n ∷ []) = net_suspects lists n (covered_place plan n)

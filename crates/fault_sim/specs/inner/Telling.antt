@@ -1,4 +1,4 @@
--- Terms for the proofs alone. What a pass of a log says about a net and its shorts.
+-- Terms for the proofs alone. The bits of a net in a pass of a log, and the bits that a fault gives the net.
 use Rattle.std.specs.Prelude.{◌≡◌, ◌⊎◌, ℕ, ◌<◌, Some}
 use Rattle.board_defs.specs.declared.fault.Single.{Single}
 use Rattle.tap_defs.specs.board.TestRows.{code_bit}
@@ -9,21 +9,21 @@ use Rattle.fault_sim.specs.Planned.{NetInPass, PassOfLog, controls_in}
 use Rattle.fault_sim.specs.inner.NetRows.{net_rows_in}
 use Rattle.fault_sim.specs.inner.Words.{AreShown, AreWordsOf, word_bit}
 
--- what the log shows of the net in the rows of the pass
+-- the rows of the pass in which the net's cells show 1, and those in which they show 0
 abbrev pub IsShownIn : NetInPass → ShownWords → Type 0
 IsShownIn n shown = AreShown (net_rows_in n.pass n.net) (place_of_driver (driver_in n.pass.logged.test.plan (controls_in n.pass) n.net)) shown
 
--- the words of what the net gets in the pass
+-- these are the words of the net in the pass
 abbrev pub AreWordsIn : PassOfLog → ℕ → FedWords → Type 0
 AreWordsIn pass net words = AreWordsOf (fed_net pass.logged.test.board pass.logged.test.plan (controls_in pass) net) words
 
--- the code of the net, what it gets in the pass, and what the log shows of it
+-- the code of the net, its words in the pass, and the rows in which its cells show 1 and 0
 pub record IsTellingNet (n : NetInPass) (code : ℕ) (fed : FedWords) (shown : ShownWords) : Type 0 where
   pub code_is : code ≡ code_in n.pass.logged.test.plan n.net
   pub fed_is : AreWordsIn n.pass n.net fed
   pub shown_is : IsShownIn n shown
 
--- the net is one of the fault's own nets, and the fault gives each compared cell of it the bits of this word
+-- the net is one of the fault's own nets, and the fault gives each compared cell of this net the bits of this word
 pub record IsWordOn (n : NetInPass) (fault : Single) (word : ℕ) : Type 0 where
   pub is_own : (n.net ≡ first_net fault) ⊎ (n.net ≡ second_net fault)
   pub bits : (j : ℕ) → j < 32 → (place : ℕ) →

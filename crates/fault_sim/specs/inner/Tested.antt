@@ -1,4 +1,4 @@
--- What the passes of a plan say about its nets and pins.
+-- The nets that the passes of a plan observe, and the pins that these passes test.
 use Rattle.std.specs.Prelude.{ℕ, nat_lt, Bool, false, true, ◌&&◌, cond, List, [], ◌∷◌, length, map, filter, fold, replicate, slice_index_or, slice_get, slice_set, Option, Some, None}
 use Rattle.std.specs.List.{list_any, flat_map, range_with_len}
 use Rattle.board_defs.specs.declared.board.Ctl.{Ctl}
@@ -16,46 +16,50 @@ use Rattle.fault_sim.specs.Effects.{driver_in, readers_in, code_in}
 abbrev pub coded_nets : PlanTables → ℕ → List ℕ
 coded_nets plan count = filter (λ n. nat_lt 0 (code_in plan n)) (range_with_len 0 count)
 
--- a pass that enables this driver, if any, observes the net
+-- true if a pass that enables this driver on a net observes the net
 abbrev pub observes_by : Option NetDriver → List ReaderCell → Bool
 observes_by None readers = false
 observes_by (Some d) readers = is_read_beside readers d
 
+-- true if the pass observes net n
 abbrev pub observes_in : PlanTables → List Ctl → ℕ → Bool
 observes_in plan pass n = observes_by (driver_in plan pass n) (readers_in plan n)
 
--- some pass observes both nets
+-- true if some pass observes both nets
 abbrev pub paired_in : PlanTables → ℕ → ℕ → Bool
 paired_in plan a b = list_any (λ pass. observes_in plan pass a && observes_in plan pass b) plan.passes
 
--- the flags, with those of the pins that are read set
+-- the flags, with the flags of all pins that these cells read set
 abbrev pub marked_readers : List Bool → List ReaderCell → List Bool
 marked_readers flags readers = assigned (λ r. r.place) (λ r. true) flags readers
 
--- the flags, with those of the pins that a pass tests set: the pin of the driver by which it observes the net, and those that are read
+-- the flags, with the flags of the pins that a pass tests set; if the pass observes the net, these are the pin of the enabled driver and
+-- all pins that the cells read
 abbrev pub marked_by : Option NetDriver → List ReaderCell → List Bool → List Bool
 marked_by None readers flags = flags
 marked_by (Some d) readers flags = cond (is_read_beside readers d) (marked_readers (slice_set flags d.place true) readers) flags
 
+-- like `marked_by`, for the driver that the pass enables on net n and the cells that read this net
 abbrev pub marked_in : PlanTables → ℕ → List Bool → List Ctl → List Bool
 marked_in plan n flags pass = marked_by (driver_in plan pass n) (readers_in plan n) flags
 
--- the flags of the first `count` pins of a net: whether some pass tests them
+-- a flag for each of the first `count` pins of a net, true if some pass tests the pin
 abbrev pub tested_flags : PlanTables → ℕ → ℕ → List Bool
 tested_flags plan count n = fold (marked_in plan n) (replicate count false) plan.passes
 
--- the pin, if it is tested
+-- the pin if it is tested, and otherwise none
 abbrev pub pin_where : Bool → ℕ → ℕ → List PinRef
 pin_where is_tested n place = cond is_tested (record { net = n; place = place } ∷ []) []
 
--- the pins of a net whose flags are set
+-- the pins of a net whose flags are set, among the first `count` pins
 abbrev pub flagged_before : ℕ → List Bool → ℕ → List PinRef
 flagged_before n flags count = map (λ place. record { net = n; place = place }) (filter (λ place. slice_index_or flags place false) (range_with_len 0 count))
 
+-- the pins of a net whose flags are set
 abbrev pub flagged_pins : ℕ → List Bool → List PinRef
 flagged_pins n flags = flagged_before n flags (length flags)
 
--- the number of pins of a net
+-- the number of pins of a net, or 0 if there is no such net
 abbrev pub pins_of_net : Option Net → ℕ
 pins_of_net None = 0
 pins_of_net (Some net) = length net.pins
@@ -67,6 +71,6 @@ pin_count board n = pins_of_net (slice_get board.nets n)
 abbrev pub net_pins : RawBoard → PlanTables → ℕ → List PinRef
 net_pins board plan n = flagged_pins n (tested_flags plan (pin_count board n) n)
 
--- the same for the first `count` nets
+-- the pins of the first `count` nets that some pass tests
 abbrev pub all_pins : RawBoard → PlanTables → ℕ → List PinRef
 all_pins board plan count = flat_map (net_pins board plan) (range_with_len 0 count)

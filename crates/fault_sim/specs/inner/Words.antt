@@ -15,42 +15,43 @@ use Rattle.fault_sim.specs.Effects.{feed_bit}
 use Rattle.fault_sim.specs.Fits.{bit_in}
 use Rattle.fault_sim.specs.inner.NetRows.{RowsOfNet}
 
--- bit j of a word is on
+-- true if bit j of a word is 1
 abbrev pub word_bit : ℕ → ℕ → Bool
 word_bit word j = bit_at word j == 1
 
--- the bit that a net is driven to in row j, if it is driven
+-- the bit that a net is driven to in row j, or `None` if the net is not driven in this row
 abbrev pub driven_bit : FeedWords → ℕ → Option Bool
 driven_bit words j = if word_bit words.driven j then Some (word_bit words.value j) else None
 
--- the bit of two shorted nets in row j; `code` has the expected bit
+-- the common bit of two shorted nets in row j; `code` has the expected bit
 abbrev pub short_word_bit : Kind → FedWords → FedWords → ℕ → ℕ → Bool
 short_word_bit kind first second code j =
     unwrap_or (or_else (shorted kind (driven_bit first.feed j) (driven_bit second.feed j)) (shorted kind first.pull second.pull)) (word_bit code j)
 
--- these are the words of what a net gets
+-- `words` has the bits of a net in a pass, as words
 pub record AreWordsOf (fed : FedNet) (words : FedWords) : Type 0 where
   pub feed_is : (j : ℕ) → j < 32 → driven_bit words.feed j ≡ feed_bit fed.feed j
   pub pull_is : words.pull ≡ fed.pull
 
--- a cell has this bit in a row of a log, and does not read the driver's pin
+-- true if a cell has this bit in a row of a log, and does not read the driver's pin
 abbrev pub shows_beside : List (List Bool) → ℕ → Bool → ℕ → ReaderCell → Bool
 shows_beside log row bit driver r = not (r.place == driver) && is_same (bit_in log row r.position) bit
 
--- there is a driver, and some cell of the net does so
+-- true if there is a driver, and some cell has this bit in the row and does not read the driver's pin
 abbrev pub some_shows : List (List Bool) → ℕ → Bool → List ReaderCell → Option ℕ → Bool
 some_shows log row bit readers None = false
 some_shows log row bit readers (Some driver) = list_any (shows_beside log row bit driver) readers
 
--- the word has the rows of a pass in which some cell of the net has this bit and does not read the driver's pin; none without a driver
+-- the word has exactly the rows of a pass in which some cell has this bit and does not read the driver's pin; without a driver there are no
+-- such rows
 abbrev pub AreRowsOf : RowsOfNet → Bool → Option ℕ → ℕ → Type 0
 AreRowsOf rows bit driver word = (j : ℕ) → j < 32 → word_bit word j ≡ (nat_lt j rows.width && some_shows rows.log (rows.first + j) bit rows.readers driver)
 
--- the rows in which the cells show a 1, and those in which they show a 0
+-- the rows in which some cell shows 1, and the rows in which some cell shows 0
 pub record AreShown (rows : RowsOfNet) (driver : Option ℕ) (shown : ShownWords) : Type 0 where
   pub ones : AreRowsOf rows true driver shown.ones
   pub zeros : AreRowsOf rows false driver shown.zeros
 
--- the cells show no other bits than those of the word
+-- every bit that the cells show is the bit of the word
 abbrev pub AgreesWith : ShownWords → ℕ → Type 0
 AgreesWith shown word = (j : ℕ) → j < 32 → (word_bit shown.ones j ≡ true → word_bit word j ≡ true) × (word_bit shown.zeros j ≡ true → word_bit word j ≡ false)
