@@ -6,7 +6,7 @@ use Rattle.board_defs.specs.declared.fault.Kind.TheVariants.{And, Or, First, Sec
 use Rattle.board_defs.specs.declared.fault.Single.TheVariants.{StuckNet, OpenPin, Short}
 use Rattle.diagnoser.specs.DiagText.{diag_text, fault_line}
 
--- a board with two nets, of which the first has a driver and a receiver
+-- a board with net A, which has the pins U1.7 and U2.3, and net B, which has no pins
 abbrev board : RawBoard
 board = record {
   chain = [];

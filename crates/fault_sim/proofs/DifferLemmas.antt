@@ -45,7 +45,7 @@ module _ (board : RawBoard) (plan : PlanTables) (log : List (List Bool)) where
   pub differ_none : DifferBelow 0 []
   differ_none = record { rising = tt; each = λ n has. absurd has; others = λ n less. absurd (omega (arith, less)) }
 
-  -- the list stays right after the next net is checked
+  -- adding net `count` if it differs gives the differing nets below `count + 1`
   pub differ_more : (count : ℕ) (nets : List ℕ) (shown : Bool) → Decides shown (Expected count) → DifferBelow count nets → DifferBelow (count + 1) (nets ++ cond (not shown) (count ∷ []) [])
   differ_more count nets true decides below = subst (λ (l : List ℕ). DifferBelow (count + 1) l) (sym (append-nil nets)) (record {
     rising = below.rising;

@@ -49,21 +49,21 @@ use Rattle.fault_sim.proofs.OrderLemmas.{place_single}
 use Rattle.fault_sim.proofs.DifferLemmas.{differing_observed, covered_there}
 use Rattle.fault_sim.proofs.SuspectLemmas.{PairAt, pair_at, net_order, net_below, has_stuck, has_open, has_earlier, has_later, pair_order, pair_below, has_pair}
 
--- the nets are covered nets, and two nets are in the order of their places among the covered nets
+-- one or two differing nets are covered nets, and two are in the order of their places among the covered nets
 abbrev pub CanSuspect : PlanTables → FaultLists → List ℕ → Type 0
 CanSuspect plan lists [] = Unit {0}
 CanSuspect plan lists (n ∷ []) = covered_place plan n < length lists.nets
 CanSuspect plan lists (m ∷ n ∷ []) = (covered_place plan m < covered_place plan n) × (covered_place plan n < length lists.nets)
 CanSuspect plan lists (m ∷ n ∷ o ∷ nets) = Unit {0}
 
--- the place of a stuck net, of an open pin or of a short
+-- place i has this fault; it is a place of a stuck net, of an open pin or of a short
 pub data PlaceOf (lists : FaultLists) (i : ℕ) (single : Single) : Type 0 where
   at_stuck : (m r net : ℕ) (value : Bool) → slice_get lists.nets m ≡ Some net → r < 2 → i ≡ 2 * m + r → StuckNet net value ≡ single → PlaceOf lists i single
   at_open : (m r : ℕ) (pin : PinRef) (value : Bool) → slice_get lists.pins m ≡ Some pin → r < 2 → i ≡ first_open lists + (2 * m + r) → OpenPin pin value ≡ single → PlaceOf lists i single
   at_short : (a b r x y : ℕ) (kind : Kind) → a < b → slice_get lists.nets a ≡ Some x → slice_get lists.nets b ≡ Some y → r < 4 → i ≡ first_short lists + (4 * pair_number lists a b + r) → Short x y kind ≡ single →
       PlaceOf lists i single
 
--- a place that `placed` gives some faults has the fault of this number
+-- the fault at place i of some placed faults is fault i of the list
 placed_at : (faults : List Single) (i : ℕ) (single : Single) → slice_get (placed faults) i ≡ Some (Some single) → slice_get faults i ≡ Some single
 placed_at [] i single e = cc e
 placed_at (fault ∷ faults) zero single e = let two : Some fault ≡ Some single = cc e in two
@@ -458,7 +458,7 @@ module _ (board : RawBoard) (plan : PlanTables) (lists : FaultLists) (starts : A
         count_is = suspects_counted nets can;
       }
 
--- the suspects of a log of a board's test, found by the differing nets
+-- for a log of a board's test, the places that `suspects_of` gives for the differing nets are the suspects of the log
 module _ (board : RawBoard) (rules : IsBoard board) (plan : PlanTables) (p : IsPlanOf board plan) (passes : plan.passes ≡ passes_of board) (log : List (List Bool))
     (rows : length log ≡ length plan.passes * plan.width) (bits : All (λ row. length row ≡ data_bits board) log)
     (compared : CompareRows (code_row board (passes_of board)) (code_width (observed_count board (passes_of board))) (passes_of board) (compared_scans board (svf_row_scans board)))

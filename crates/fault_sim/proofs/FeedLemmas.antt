@@ -105,7 +105,7 @@ module _ (board : RawBoard) (rules : IsBoard board) (plan : PlanTables) (p : IsP
       ctl_is : d.ctl ≡ option_map (λ (control : Control). let c : Ctl = record { part = at.part; cell = control.cell } in c) entry.ctl
       ctl_is = sym (ap (λ (y : NetDriver). y.ctl) on.driver_is)
 
-      -- the pass observes the net exactly if a cell reads another pin of the net
+      -- the pass observes the net exactly if some cell reads a pin of the net other than the driver's
       pub observing_is : observing_driver board (holds pass) net ≡ cond (is_read_beside (readers_in plan n) d) (Some d.place) None
       observing_is =
           ap (λ (b : Bool). cond b None (observing_driver_by board net (first_enabled board (holds pass) 0 net.pins))) unguarded

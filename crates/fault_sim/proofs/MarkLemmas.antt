@@ -52,7 +52,7 @@ or_zeros a b none = (same_from_bits a 0 (λ i. omega (arith, union i, bit_at-zer
     union : (i : ℕ) → max (bit_at a i) (bit_at b i) ≡ 0
     union i = sym (bit_at_or a b i) ∙ ap (λ (n : ℕ). bit_at n i) none ∙ bit_at-zero i
 
--- the marks stay right after digit k is marked
+-- once digit k is checked, each unmarked digit up to k was unmarked at the start and has no wrong bit
 module _ (start marks : List ℕ) (wrong : ℕ → ℕ) (k : ℕ) (left : (i : ℕ) → k ≤ i → get_or marks i 0 ≡ get_or start i 0) where
   pub marked_more : k < length marks → ((i : ℕ) → i < k → get_or marks i 0 ≡ 0 → (get_or start i 0 ≡ 0) × (wrong i ≡ 0)) → (i : ℕ) → i < k + 1 → get_or (set marks k (bit_or (get_or marks k 0) (wrong k))) i 0 ≡ 0 →
       (get_or start i 0 ≡ 0) × (wrong i ≡ 0)
@@ -173,7 +173,7 @@ module _ (board : RawBoard) (rules : IsBoard board) (plan : PlanTables) (p : IsP
           by_driver x None = tt
           by_driver x (Some d) = λ j less. refl
 
--- the marks stay right after pass x is checked
+-- once pass x is checked too, the marks are right for the first x + 1 passes
 pub pass_more : (board : RawBoard) (plan : PlanTables) (log : List (List Bool)) (x : ℕ) (old new : List ℕ) → AreMarks board plan log x old → MarkRows board plan log x plan.width old new → AreMarks board plan log (x + 1) new
 pass_more board plan log x old new are more at within unmarked pass less = by_pass (cases_eq pass x)
   where

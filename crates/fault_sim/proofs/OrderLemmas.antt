@@ -65,7 +65,7 @@ module _ (test : Single → Bool) where
   none_here first [] = refl
   none_here first (i ∷ numbers) = none_here first numbers
 
-  -- a further place in front, below all numbers, changes none of the faults
+  -- a further place in front of the list changes none of the faults, since all numbers are above this place
   moved : (place : Option Single) (places : List (Option Single)) (first : ℕ) (numbers : List ℕ) → ((i : ℕ) → Has numbers i → first + 1 ≤ i) → faults_from (place ∷ places) first numbers ≡ faults_from places (first + 1) numbers
   moved place places first [] above = refl
   moved place places first (i ∷ numbers) above =

@@ -40,7 +40,7 @@ flat_places g (x ∷ xs) =
     filter_map-append (λ place. place) (g x) (flat_map g xs)
     ∙ ap (λ (l : List Single). filter_map (λ place. place) (g x) ++ l) (flat_places g xs)
 
--- if items that fail a test give no faults, only the items that pass it give faults
+-- if g gives the faults of f for each item that passes a test, and no faults for the others, g gives the faults of f for the filtered list
 flat_filter : {X : Type 0} (q : X → Bool) (f g : X → List Single) → ((x : X) → g x ≡ cond (q x) (f x) []) → (xs : List X) → flat_map g xs ≡ flat_map f (filter q xs)
 flat_filter q f g same [] = refl
 flat_filter {X} q f g same (x ∷ xs) = ap (λ (l : List Single). l ++ flat_map g xs) (same x) ∙ by_test (q x) (flat_filter q f g same xs)
@@ -49,7 +49,7 @@ flat_filter {X} q f g same (x ∷ xs) = ap (λ (l : List Single). l ++ flat_map 
     by_test true rest = ap (λ (l : List Single). f x ++ l) rest
     by_test false rest = rest
 
--- if both items of a pair pass a test whenever the pair passes one, the pairs can be taken from the passing items alone
+-- test q accepts a pair only if test c accepts both of its items; filtering the items by c first therefore loses no pair that q accepts
 module _ {X : Type 0} (c : X → Bool) (q : X × X → Bool) (parts : (x y : X) → q (x, y) ≡ true → (c x ≡ true) × (c y ≡ true)) where
   second_covered : (x : X) (ys : List X) → filter q (map (λ y. let p : X × X = (x, y) in p) (filter c ys)) ≡ filter q (map (λ y. let p : X × X = (x, y) in p) ys)
   second_covered x [] = refl
@@ -131,7 +131,7 @@ places_are board =
         ∙ ap (λ (l : List (Numbered × Numbered)). flat_map (λ pair. short_faults pair.0.0 pair.1.0) l)
         (pairs_covered (λ (net : Numbered). is_covered board net.1) q (λ x y on. paired_covered board x.1 y.1 on) (numbered_nets board))
 
--- the item at place i of a list that joins lists of equal length w
+-- if f gives w items for each item of a list, item `m * w + r` of the joined lists is item r of the list for item m
 pub flat_at : {X Y : Type 0} (f : X → List Y) (w : ℕ) → ((x : X) → length (f x) ≡ w) → (xs : List X) (m : ℕ) (x : X) → slice_get xs m ≡ Some x → (r i : ℕ) → r < w → i ≡ m * w + r →
     slice_get (flat_map f xs) i ≡ slice_get (f x) r
 flat_at f w each [] m x e r i less at = cc e
@@ -160,7 +160,7 @@ past_end xs m none = by_side (cases_lt m (length xs))
 pub flat_past : {X Y : Type 0} (f : X → List Y) (w : ℕ) → ((x : X) → length (f x) ≡ w) → (xs : List X) (m i : ℕ) → None ≡ slice_get xs m → m * w ≤ i → slice_get (flat_map f xs) i ≡ None
 flat_past f w each xs m i none low = slice_get_past (flat_map f xs) i (omega (arith, length-flat f w each xs, mul-le (length xs) w m w (past_end xs m none) (omega arith), low))
 
--- the pair of the items at places a and b, with its number among the pairs of a list
+-- the items at places a and b of a list are its pair k, if k is the number of this pair
 pub pair_there : {X : Type 0} (xs : List X) (a b k : ℕ) (x y : X) → a < b → slice_get xs a ≡ Some x → slice_get xs b ≡ Some y → k + suc a ≡ pairs_before (length xs) a + b →
     slice_get (pairs_within xs) k ≡ Some (x, y)
 pair_there [] a b k x y less ea eb at = cc ea
@@ -186,7 +186,7 @@ length-pairs {X} (x ∷ xs) =
     length-append (map (λ v. let p : X × X = (x, v) in p) xs) (pairs_within xs)
     ∙ omega (arith, length-map xs (λ v. let p : X × X = (x, v) in p), length-pairs xs)
 
--- the number of pairs before those of the next net
+-- the number of pairs before those of the next net, and the largest such number
 pub before_more : (nets a : ℕ) → a < nets → pairs_before nets (suc a) + suc a ≡ pairs_before nets a + nets
 before_more zero a less = absurd (omega (arith, less))
 before_more (suc nets) zero less = by_nets nets
@@ -207,7 +207,7 @@ square_most n few = mul-le n n most_nets most_nets few few
 pub before_few : (nets a : ℕ) → nets ≤ most_nets → pairs_before nets a ≤ most_nets * most_nets
 before_few nets a few = omega (arith, before_most nets a, square_most nets few)
 
--- each item of `starts` is limited, also past its end
+-- no item of `starts` is above the square of `most_nets`
 pub start_few : (nets : ℕ) (starts : List ℕ) → AreStarts nets starts → nets ≤ most_nets → (a : ℕ) → get_or starts a 0 ≤ most_nets * most_nets
 start_few nets starts are few a = by_side (cases_lt a (length starts))
   where
@@ -215,7 +215,7 @@ start_few nets starts are few a = by_side (cases_lt a (length starts))
     by_side (inl less) = omega (arith, are.each a (omega (arith, less, are.count)), before_few nets a few)
     by_side (inr past) = omega (arith, get_or_past starts a 0 past)
 
--- `starts` stays right with one more item
+-- with one more item, `starts` has the right numbers up to net a + 1
 pub starts_more : (nets a : ℕ) (starts : List ℕ) (next : ℕ) → a < nets → length starts ≡ a + 1 → ((k : ℕ) → k ≤ a → get_or starts k 0 ≡ pairs_before nets k) → next ≡ pairs_before nets (a + 1) →
     (k : ℕ) → k ≤ a + 1 → get_or (starts ++ next ∷ []) k 0 ≡ pairs_before nets k
 starts_more nets a starts next less long each is k le = by_side (cases_lt k (a + 1))
@@ -234,7 +234,7 @@ next_start nets a start less e =
     let next : suc a ≡ a + 1 = omega arith in
     omega (arith, before_more nets a less, e, less, ap (λ (i : ℕ). pairs_before nets i) next)
 
--- the second net of pair k, if the pair's first net is at place `low`
+-- if pair k is a pair of the net at place `low` with a later net, the later net is at place `low + 1 + (k - start)`
 pub pair_within : (nets : ℕ) (starts s : List ℕ) → s ≡ starts → AreStarts nets starts → (low k start : ℕ) → low + 1 < length s → get_or s low 0 ≤ k → k < get_or s (low + 1) 0 → start ≡ get_or s low 0 →
     (low + 1 + (k - start) < nets) × (k + suc low ≡ pairs_before nets low + (low + 1 + (k - start)))
 pair_within nets starts s same are low k start within above below is =
@@ -310,7 +310,7 @@ short_there plan a b r kind less rank = by_test (paired_in plan a b)
     by_test true = ap at_once (slice_get-map (λ f. Some f) (short_faults a b) r ∙ ap (λ (o : Option Single). option_map (λ f. Some f) o) (short_fault a b r kind rank))
     by_test false = ap at_once (no_fault r less)
 
--- a place within the list has the fault that `listed_at` gives, or no fault
+-- if a place is below the length of the list, the item at this place is the result of `listed_at`
 pub listed_there : (places : List (Option Single)) (i : ℕ) (fault : Option Single) → i < length places → fault ≡ listed_at places i → slice_get places i ≡ Some fault
 listed_there places i fault less e = let place = item_there places i less in place.1 ∙ ap Some (sym (e ∙ ap at_once place.1))
 

@@ -73,7 +73,7 @@ clashes_nowhere shown word fits agrees = same_from_bits (clashes shown word) 0 (
         ∙ ap (λ k. (word_bit shown.ones j && false) || (word_bit shown.zeros j && (k == 1))) (bit_at_above word 32 j fits past)
         ∙ above (word_bit shown.ones j) (word_bit shown.zeros j))
 
--- the word of a cell's bits after row j is added
+-- adding the bit of row j to the bits of the first j rows gives the bits of the first j + 1 rows
 pub row_more : (bits : ℕ → Bool) (i j : ℕ) (bit : Bool) → bits j ≡ bit → ((ltb i j && bits i) || ((i == j) && bit)) ≡ (ltb i (j + 1) && bits i)
 row_more bits i j bit is = by_place (cases_lt i j) (cases_eq i j)
   where
@@ -101,7 +101,7 @@ bit_is log row at bit is = by_row (slice_get log row) refl is
     by_row None e found = let bad : None ≡ Some bit = found in cc bad
     by_row (Some bits) e found = ap (λ (l : List Bool). get_or l at false) (get_or_from_slice_get log row bits [] e) ∙ get_or_from_slice_get bits at bit false found
 
--- the bits that one cell shows, if the cell does not read the driver's own pin
+-- if a cell does not read the driver's own pin, it shows 1 in the rows of its word, and 0 in the other rows of the pass
 pub one_shown : (within same bit : Bool) → same ≡ false → (within && bit) ≡ (within && ((not same && is_same bit true) || false))
 one_shown false same bit p = refl
 one_shown true true bit p = absurd (both_ways true p refl)

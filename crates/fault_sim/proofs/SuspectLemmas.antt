@@ -68,7 +68,7 @@ four_order first = (λ y h. after_first y h, (λ y h. after_second y h, (λ y h.
     after_first y (inr (inr (inl e))) = omega (arith, e)
     after_first y (inr (inr (inr none))) = absurd none
 
--- the number of pairs before net a rises with a
+-- the number of pairs before those of net a rises with a
 pub before_rises : (nets a b : ℕ) → a ≤ b → b ≤ nets → pairs_before nets a ≤ pairs_before nets b
 before_rises nets a zero le within = let e : a ≡ 0 = omega (arith, le) in omega (arith, ap (λ (i : ℕ). pairs_before nets i) e)
 before_rises nets a (suc b) le within = by_side (cases_eq a (suc b)) (λ below. before_rises nets a b below (omega (arith, within)))
@@ -127,7 +127,7 @@ module _ (lists : FaultLists) (starts : AreStarts (length lists.nets) lists.star
   abbrev nets : ℕ
   nets = length lists.nets
 
-  -- each pair has a lower number than the pairs of later nets
+  -- the number of a pair of net a is below the numbers of the pairs of later nets
   module _ (a b : ℕ) (order : a < b) (within : b < nets) where
     number_is : pair_number lists a b ≡ pairs_before nets a + (b - suc a)
     number_is = ap (λ (n : ℕ). n + (b - suc a)) (starts.each a (omega (arith, order, within)))
@@ -148,7 +148,7 @@ module _ (lists : FaultLists) (starts : AreStarts (length lists.nets) lists.star
   pub number_below : (a b : ℕ) → a < b → b < nets → pair_number lists a b < pairs_before nets nets
   number_below a b ab b_in = omega (arith, number_high a b ab b_in, before_rises nets (suc a) nets (omega (arith, ab, b_in)) (omega arith))
 
-  -- the suspects if one net differs: their order and their number
+  -- the suspects if one net differs; they rise and are places of the board
   module _ (n k : ℕ) (k_in : k < nets) where
     abbrev pins : List ℕ
     pins = flat_map (pin_suspects lists n) (range_with_len 0 (length lists.pins))

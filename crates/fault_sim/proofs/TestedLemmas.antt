@@ -94,7 +94,7 @@ module _ (board : RawBoard) (rules : IsBoard board) (plan : PlanTables) (p : IsP
           cc bad
 
   module _ (x : ℕ) (pass : List Ctl) (stands : slice_get plan.passes x ≡ Some pass) where
-    -- the pass enables a driver on the net at this place, and observes the net
+    -- the pass enables the driver of the pin at this place, and some cell reads another pin of the net
     pub record ObservedBy (place : ℕ) : Type 0 where
       pub driver : NetDriver
       pub enabled : driver_in plan pass n ≡ Some driver
@@ -136,7 +136,7 @@ module _ (board : RawBoard) (rules : IsBoard board) (plan : PlanTables) (p : IsP
     pub is_observing : (place : ℕ) → ObservesBy board (holds pass) net place → observes_in plan pass n ≡ true
     is_observing place o = let d = driver_there place o in ap (λ (w : Option NetDriver). observes_by w (readers_in plan n)) d.enabled ∙ d.beside
 
-  -- for each pin that receives, some cell reads the pin
+  -- each pin that receives has a cell that reads it
   pub reader_there : (place : ℕ) (pin : NetPin) → slice_get net.pins place ≡ Some pin → receives board pin ≡ true → (r : ReaderCell) × Has (readers_in plan n) r × (r.place ≡ place)
   reader_there place pin stands rec = by_at pin.at refl rec
     where
@@ -278,7 +278,7 @@ pin_count_most board rules n = by_net (slice_get board.nets n) refl
         let most = pins_most board rules n net (slice_get_within board.nets n net e) in
         subst (λ (v : Net). length v.pins ≤ most_pins) (get_or_from_slice_get board.nets n net net e) most
 
--- all nets together have at most as many tested pins as pins
+-- a list of nets has at most as many tested pins as pins
 pins_few : (board : RawBoard) (a : ℕ) (nets : List Net) → length (flat_map (tested_pins_in board) (enumerate_from a nets)) ≤ sum_by (λ net. length net.pins) nets
 pins_few board a [] = omega arith
 pins_few board a (net ∷ nets) =
@@ -294,14 +294,14 @@ pins_few board a (net ∷ nets) =
 pub tested_few : (board : RawBoard) → IsBoard board → length (tested_pins board) ≤ most_pins
 tested_few board rules = omega (arith, pins_few board 0 board.nets, rules.pins_most)
 
--- if two tests agree on the numbers of a range, filters by them keep equal lists
+-- if two tests agree on all numbers of a range, they keep equal parts of the range
 filter_range : (p q : ℕ → Bool) (a n : ℕ) → ((k : ℕ) → a ≤ k → k < a + n → p k ≡ q k) → filter p (range_with_len a n) ≡ filter q (range_with_len a n)
 filter_range p q a zero same = refl
 filter_range p q a (suc n) same =
     ap (λ (b : Bool). cond b (a ∷ filter p (range_with_len (a + 1) n)) (filter p (range_with_len (a + 1) n))) (same a (omega arith) (omega arith))
     ∙ ap (λ (l : List ℕ). cond (q a) (a ∷ l) l) (filter_range p q (a + 1) n (λ k low high. same k (omega (arith, low)) (omega (arith, high))))
 
--- two lists of equal items are gathered, from the numbers of the nets and from the numbered nets
+-- f takes the number of a net, and g takes a net with its number; if both give equal lists for each net, they give equal lists for all nets
 flat_numbers : {Y : Type 0} (f : ℕ → List Y) (g : Numbered → List Y) (a : ℕ) (nets : List Net) → ((k : ℕ) (net : Net) → slice_get nets k ≡ Some net → f (a + k) ≡ g (a + k, net)) →
     flat_map f (range_with_len a (length nets)) ≡ flat_map g (enumerate_from a nets)
 flat_numbers f g a [] same = refl
@@ -357,7 +357,7 @@ module _ (board : RawBoard) (rules : IsBoard board) (plan : PlanTables) (p : IsP
         each : (n : ℕ) (net : Net) → slice_get board.nets n ≡ Some net → nat_lt 0 (code_in plan n) ≡ is_covered board net
         each n net e = ap (λ (k : ℕ). nat_lt 0 k) (p.codes_are n net e) ∙ above (is_observed board plan.passes net) _ ∙ observed n net e
 
-  -- two nets are paired exactly if one pass observes both
+  -- two different nets are paired exactly if some pass of the plan observes both
   pub paired_in_is : (a b : ℕ) (one two : Net) → slice_get board.nets a ≡ Some one → slice_get board.nets b ≡ Some two → a ≢ b → paired_in plan a b ≡ are_paired board one two
   paired_in_is a b one two ea eb differ = Rattle.std.specs.Cmp.both_ways (paired_in plan a b) (are_paired board one two) to from
     where

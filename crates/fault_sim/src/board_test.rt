@@ -51,7 +51,7 @@ impl<'a> Model for LoggedTest<'a> {
 }
 
 impl<'a> BoardTest<'a> {
-    /// Returns the test that a plan gives its board, with no kept passes. The plan must be built from the board's passes.
+    /// Returns the test of `board` that `plan` describes, with no kept passes. The plan must be built from the board's passes.
     pub fn of(board: &'a Board, plan: &'a Plan) -> BoardTest<'a>
         requires plan { IsPlanOf board.now plan.now }
         requires passes { plan.now.passes ≡ passes_of board.now }
@@ -122,7 +122,7 @@ impl<'a> BoardTest<'a> {
 }
 
 impl<'a> LoggedTest<'a> {
-    /// Returns a log with the test that a plan gives its board. The plan must be built from the board's passes. The log must have the
+    /// Returns a log with the test of `board` that `plan` describes. The plan must be built from the board's passes. The log must have the
     /// plan's rows, each as long as a data scan. The test has no kept passes.
     pub fn of(board: &'a Board, plan: &'a Plan, log: &'a Log) -> LoggedTest<'a>
         requires plan { IsPlanOf board.now plan.now }
