@@ -35,7 +35,7 @@ abbrev pub open_line : Option NetPin → Bool → List ℕ
 open_line None value = []
 open_line (Some pin) value = line_of (codes "open " ∷ pin.part ∷ codes "." ∷ pin.pin ∷ codes " " ∷ bit_word value ∷ [])
 
--- the line of a short of two nets; if one net dominates the other, its name comes first
+-- the line of a short of two nets; if one net dominates, the name of that net comes first
 abbrev pub pair_line : List ℕ → List ℕ → List ℕ → List ℕ
 pair_line word x y = line_of (codes "short " ∷ word ∷ codes " " ∷ x ∷ codes " " ∷ y ∷ [])
 

@@ -17,11 +17,11 @@ pub record ListsExplaining (board : RawBoard) (log : List (List Bool)) (faults :
 abbrev pub ExplainingListed : Type 0
 ExplainingListed = (board : RawBoard) (log : List (List Bool)) (faults : List Single) → IsBoard board → AreExplaining board log faults → ListsExplaining board log faults
 
--- at most one list has the single faults that explain a log in order
+-- a log has at most one list of the single faults that explain the log, in order
 abbrev pub OneList : Type 0
 OneList = (board : RawBoard) (log : List (List Bool)) (faults others : List Single) → AreExplaining board log faults → AreExplaining board log others → faults ≡ others
 
--- a log has at most one text of a diagnosis
+-- a log has at most one diagnosis text
 abbrev pub OneDiagnosis : Type 0
 OneDiagnosis = (board : RawBoard) (log : List (List Bool)) (text other : List ℕ) → IsDiagText board log text → IsDiagText board log other → text ≡ other
 

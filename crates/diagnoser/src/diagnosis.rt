@@ -22,9 +22,9 @@ use std::thread::Threads;
 /// There must be 1 to 64 workers.
 ///
 /// The candidates are the places of the suspects. They are cut into as many pieces as there are workers. The sizes of the pieces differ by
-/// at most one candidate. Directly before a piece tries a candidate, it enters the gate. It passes its own number, counted from 0, and the
-/// candidate's place in the universe. The first and the second half of the pieces run side by side. Each half is halved again, down to
-/// single pieces. If memory is refused in any piece, the call returns the error.
+/// at most one candidate. Directly before a piece tries a candidate, the piece enters the gate with two numbers: the number of the piece,
+/// from 0, and the candidate's place in the universe. The first and the second half of the pieces run side by side. Each half is halved
+/// again, down to single pieces. If memory is refused in any piece, the call returns the error.
 pub fn diagnose<R: Threads + Sync, G: Gate>(
     rt: &R,
     alloc: Global,

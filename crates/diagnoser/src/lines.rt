@@ -100,7 +100,7 @@ fn put_pair<K: Sink>(
     put_line(&[b"short ".as_slice(), word, b" ", x, b" ", y], line, out)
 }
 
-/// Writes the line of a short of the nets named `a` and `b`. If one net dominates the other, its name comes first.
+/// Writes the line of a short of the nets named `a` and `b`. If one net dominates, the name of that net comes first.
 pub fn put_short<K: Sink>(
     kind: Kind,
     a: &[u8],

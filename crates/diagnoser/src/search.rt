@@ -16,7 +16,7 @@ use std::alloc::{AllocError, Global};
 use std::thread::Threads;
 
 /// A log with its test, the nets that differ in the log, and the candidates. The candidates are the places of the faults that may explain
-/// the log. `telling` is the first net that differs, in the first pass in which it shows an unexpected bit.
+/// the log. `telling` is the first net that differs, in the first pass in which this net shows an unexpected bit.
 #[derive(Clone, Copy)]
 pub struct Search<'a, 'b> {
     pub logged: &'a LoggedTest<'b>,
@@ -26,7 +26,7 @@ pub struct Search<'a, 'b> {
     pub suspects: &'a Suspects,
 }
 
-// Returns true only if the telling net rules the fault out. If the fault is a single fault of the board, it then does not explain the log.
+// Returns true only if the telling net rules the fault out. A single fault of the board that is ruled out does not explain the log.
 fn is_ruled_out(search: Search<'_, '_>, fault: Single) -> bool
     requires { IsSearch search }
     ensures { result ≡ true → IsSingle search.entry.logged.now.test.board fault → Explains search.entry.logged.now.test.board fault search.entry.logged.now.log → ⊥ }
@@ -53,8 +53,8 @@ fn explains(search: Search<'_, '_>, fault: Single) -> bool
     search.logged.matches_by(fault, search.nets)
 }
 
-// Enters the gate for a piece, and then returns the fault of candidate `i` if it explains the log. `near` speeds up the look-up of the
-// fault, as in `Universe::candidate`.
+// Enters the gate for a piece, and then returns the fault of candidate `i` if this fault explains the log. `near` speeds up the look-up of
+// the fault, as in `Universe::candidate`.
 fn try_candidate<G: Gate>(
     search: Search<'_, '_>,
     piece: u32,

@@ -83,8 +83,8 @@ steady_in plan pass d = cond (holds pass d.own) (not (slice_index_or plan.quiet.
 abbrev pub source_in : PlanTables → List Ctl → ℕ → NetDriver → Source
 source_in plan pass n d = cond (is_read_beside (readers_in plan n) d) (Code (code_in plan n)) (Fixed (steady_in plan pass d))
 
--- the feed that an enabled driver gives its net; if the driver's own cell controls the driver, it is off at the bit that the net is pulled
--- to
+-- the feed that an enabled driver gives its net; if the driver's own cell controls the driver, the driver is off at the bit that the net is
+-- pulled to
 abbrev pub feed_by : PlanTables → List Ctl → ℕ → Option Bool → NetDriver → Feed
 feed_by plan pass n pull d = record { source = source_in plan pass n d; off = cond (is_own d.own d.ctl) pull None }
 
@@ -104,8 +104,8 @@ net_feed board plan pass n = feed_in plan pass n (pull_in board n)
 abbrev pub fed_net : RawBoard → PlanTables → List Ctl → ℕ → FedNet
 fed_net board plan pass n = record { feed = net_feed board plan pass n; pull = pull_in board n }
 
--- the effect of an open pin on its net; if the pin is the enabled driver's, all cells of the net have one bit, and otherwise only the cells
--- of the pin are affected
+-- the effect of an open pin on its net; if the enabled driver is at this pin, all cells of the net have one bit; otherwise only the cells
+-- of this pin are affected
 abbrev pub open_effect : Option ℕ → ℕ → Bool → Option Bool → Effect
 open_effect None place value pull = AtPin place value
 open_effect (Some driver) place value pull = cond (driver == place) (Constant (unwrap_or pull value)) (AtPin place value)

@@ -1,4 +1,4 @@
--- Says when a log shows the effect of a single fault of a board.
+-- The conditions under which a log shows the effect of a single fault.
 use Rattle.std.specs.Prelude.{◌≡◌, ℕ, ◌+◌, ◌*◌, ◌<◌, ◌==◌, Bool, true, false, ◌||◌, List, [], length, Option, Some, None, slice_index_or}
 use Rattle.std.specs.List.{list_all}
 use Rattle.board_defs.specs.declared.board.Ctl.{Ctl}
@@ -34,7 +34,7 @@ abbrev pub ShowsEffect : PlanTables → List (List Bool) → ℕ → ℕ → Eff
 ShowsEffect plan log x n effect driver = ShowBy log (x * plan.width) plan.width (code_in plan n) (readers_in plan n) effect driver
 
 -- this pass of the log shows the effect of the fault on net n; the rows of the pass begin at row `first` of the log; without a fault, the
--- effect is the expected bits
+-- cells must show the expected bits
 abbrev pub NetShows : RawBoard → PlanTables → Option Single → List (List Bool) → ℕ → List Ctl → ℕ → Type 0
 NetShows board plan fault log first pass n =
     ShowBy log first plan.width (code_in plan n) (readers_in plan n) (effect_in board plan pass fault n) (place_of_driver (driver_in plan pass n))

@@ -15,11 +15,11 @@ use Rattle.fault_sim.specs.declared.kept.KeptPass.{KeptPass}
 use Rattle.fault_sim.specs.Effects.{driver_in, source_in, is_own}
 use Rattle.fault_sim.specs.Planned.{IsPlanned, PlanPass, PlannedBoard, plan_pass, planned_board}
 
--- the bits that the test expects in row j of pass x: those of TDO in the scan that compares this row
+-- the bits that the test expects in row j of pass x, that is, the TDO bits of the scan that compares this row
 abbrev pub expected_in : RawBoard → PlanTables → ℕ → ℕ → List Bool
 expected_in board plan x j = tdo_bits (joined (row_bits board (scan_of_pass board plan x (suc j))))
 
--- the flags of the bits that the test compares in row j of pass x: those of MASK in the scan that compares this row
+-- the flags of the bits that the test compares in row j of pass x, that is, the MASK bits of the scan that compares this row
 abbrev pub compared_in : RawBoard → PlanTables → ℕ → ℕ → List Bool
 compared_in board plan x j = mask_bits (joined (row_bits board (scan_of_pass board plan x (suc j))))
 

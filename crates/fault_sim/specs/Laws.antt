@@ -32,6 +32,6 @@ SuspectsArePlaces =
     (board : RawBoard) (plan : PlanTables) (lists : FaultLists) (log : List (List Bool)) (suspects : List ℕ) → IsUniverse board lists → AreSuspects board plan lists log suspects →
     All (λ i. i < length (places_of board)) suspects
 
--- if one single fault comes before another, the other does not come before it; therefore only one list of these faults is in order
+-- if single fault A comes before single fault B, then B does not come before A; therefore only one list of given faults is in order
 abbrev pub OneOrder : Type 0
 OneOrder = (one other : Single) → SinglePrecedes one other → SinglePrecedes other one → ⊥

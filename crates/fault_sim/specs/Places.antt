@@ -50,7 +50,7 @@ pub record IsUniverse (board : RawBoard) (lists : FaultLists) : Type 0 where
   pub nets : lists.nets ≡ map (λ net. net.0) (covered_nets board)
   pub pins : lists.pins ≡ tested_pins board
 
--- the four places of two nets; they have faults if some pass of the plan observes both nets
+-- the four places of two nets; they have faults exactly if some pass of the plan observes both nets
 abbrev pub number_places : PlanTables → ℕ × ℕ → List (Option Single)
 number_places plan pair = cond (paired_in plan pair.0 pair.1) (placed (short_faults pair.0 pair.1)) (None ∷ None ∷ None ∷ None ∷ [])
 
@@ -66,7 +66,7 @@ observes_fault plan (StuckNet net value) = true
 observes_fault plan (OpenPin pin value) = true
 observes_fault plan (Short a b kind) = paired_in plan a b
 
--- the fault, or `None` if there is none or no pass observes all its nets
+-- the fault, if there is one and some pass observes all its nets, and otherwise `None`
 abbrev pub where_observed : PlanTables → Option Single → Option Single
 where_observed plan None = None
 where_observed plan (Some fault) = cond (observes_fault plan fault) (Some fault) None

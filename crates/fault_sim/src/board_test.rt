@@ -64,7 +64,7 @@ impl<'a> BoardTest<'a> {
         }
     }
 
-    /// Returns this test with `kept` as its kept passes. They must be passes of this test.
+    /// Returns this test with `kept` as its kept passes. `kept` must hold the first passes of this test, in order.
     pub fn with_kept(&self, kept: &'a [KeptPass]) -> BoardTest<'a>
         requires rows { KeepRows self.now.board self.now.plan kept.now }
         requires drivers { KeepDrivers self.now.plan kept.now }

@@ -1,4 +1,4 @@
-// Checks whether a log shows the effect of a fault on the compared cells.
+// Compares the cells of a log with the effect of a fault.
 ghost use Rattle.std.specs.Prelude.{◌≡◌, ◌↔◌, ◌<◌, [], length, slice_index_or, All, IsTrue};
 ghost use Rattle.std.specs.List.{list_all};
 ghost use Rattle.tap_defs.specs.board.TestRows.{code_bit};

@@ -1,4 +1,4 @@
-// The kept passes of a test, which many logs of the test can share.
+// Rows and drivers of a test's passes, kept so that many logs of the test can share them.
 ghost use Rattle.std.specs.Prelude.{◌≡◌, ◌<◌, ◌≤◌, length, slice_get, IfOk};
 ghost use Rattle.fault_sim.specs.Kept.{IsRow, AreRows, AreDrivers, KeepRows, KeepDrivers};
 ghost use Rattle.fault_sim.specs.Planned.{controls_of};

@@ -13,7 +13,7 @@ pub fn places_are_the_singles()
     ensures { PlacesAre }
 {}
 
-/// The number of a board's places is the one that the board's universe counts.
+/// The universe of a board counts as many places as the board has.
 pub fn places_counted()
     ensures { PlacesCounted }
 {}
@@ -29,7 +29,7 @@ pub fn suspects_are_places()
     ensures { SuspectsArePlaces }
 {}
 
-/// If one single fault comes before another, the other does not come before the first.
+/// If single fault A comes before single fault B, then B does not come before A.
 pub fn singles_have_one_order()
     ensures { OneOrder }
 {}

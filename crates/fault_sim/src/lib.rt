@@ -1,7 +1,7 @@
-//! Finds the single faults of a board that explain a log of its test.
+//! Decides which single faults of a board explain a log of its test.
 //!
-//! Simulates no run. The bit that a compared cell has under a single fault follows from the row that is in the latches. Only cells of the
-//! faulty nets can differ from the expected bits.
+//! The crate simulates no run. The bit that a compared cell has under a single fault follows from the row that is in the latches. Only
+//! cells of the faulty nets can differ from the expected bits.
 #![tactic(auto)]
 
 mod board_test;

@@ -1,4 +1,4 @@
-// Checks whether a single fault explains a log, and whether a log is the expected one.
+// Decides if a single fault explains a log, and if a log has the expected bits.
 ghost use Rattle.std.specs.Prelude.{◌≡◌, ◌↔◌, ◌*◌, ◌==◌, ◌||◌, length, All, IsTrue};
 ghost use Rattle.std.specs.List.{list_all};
 ghost use Rattle.board_defs.specs.Faults.{IsSingle};

@@ -153,7 +153,7 @@ impl<'a> TestPass<'a> {
         net_fed_by(self.driver(net), self.pull(net))
     }
 
-    /// Returns the kept rows of the pass. They are its first rows.
+    /// Returns the kept rows of the pass, which are the first rows of the pass.
     pub fn kept_rows(&self) -> &'a [ComparedRow]
         ensures { AreRows self.now.test.board self.now.test.plan self.now.number result.now }
     {

@@ -1,4 +1,4 @@
-// A net that differs in a log, in the first pass in which it shows an unexpected bit.
+// A net that differs in a log, in the first pass in which the net shows an unexpected bit.
 ghost use Rattle.std.specs.Prelude.{◌≡◌, IfSome, true};
 ghost use Rattle.board_defs.specs.Faults.{IsSingle};
 ghost use Rattle.tap_defs.specs.board.Explaining.{Explains};

@@ -130,7 +130,7 @@ fn undriven_word(pull: Option<bool>, code: u32) -> u32
 }
 
 /// Returns the common bits of two shorted nets in the rows of a pass. A row in which neither net is driven has the bit that the nets are
-/// pulled to. Without any pull it has the expected bit, which is that of `code`.
+/// pulled to. If neither net has a pull, the row has the expected bit, that is, the bit of `code`.
 #[inline]
 pub fn short_word(kind: Kind, first: FedWords, second: FedWords, code: u32) -> u32
     ensures { (j : ℕ) → j < 32 → word_bit result j ≡ short_word_bit kind first second code j }

@@ -9,11 +9,11 @@ use Rattle.fault_sim.specs.Planned.{NetInPass, PassOfLog, controls_in}
 use Rattle.fault_sim.specs.inner.NetRows.{net_rows_in}
 use Rattle.fault_sim.specs.inner.Words.{AreShown, AreWordsOf, word_bit}
 
--- the rows of the pass in which the net's cells show 1, and those in which they show 0
+-- `shown` has the rows of the pass in which the net's cells show 1, and the rows in which they show 0
 abbrev pub IsShownIn : NetInPass → ShownWords → Type 0
 IsShownIn n shown = AreShown (net_rows_in n.pass n.net) (place_of_driver (driver_in n.pass.logged.test.plan (controls_in n.pass) n.net)) shown
 
--- these are the words of the net in the pass
+-- `words` are the words of the net in the pass
 abbrev pub AreWordsIn : PassOfLog → ℕ → FedWords → Type 0
 AreWordsIn pass net words = AreWordsOf (fed_net pass.logged.test.board pass.logged.test.plan (controls_in pass) net) words
 

@@ -29,12 +29,12 @@ observes_in plan pass n = observes_by (driver_in plan pass n) (readers_in plan n
 abbrev pub paired_in : PlanTables → ℕ → ℕ → Bool
 paired_in plan a b = list_any (λ pass. observes_in plan pass a && observes_in plan pass b) plan.passes
 
--- the flags, with the flags of all pins that these cells read set
+-- `flags`, with the flag of each pin that these cells read set to true
 abbrev pub marked_readers : List Bool → List ReaderCell → List Bool
 marked_readers flags readers = assigned (λ r. r.place) (λ r. true) flags readers
 
--- the flags, with the flags of the pins that a pass tests set; if the pass observes the net, these are the pin of the enabled driver and
--- all pins that the cells read
+-- `flags`, with the flag of each pin that a pass tests set to true; if the pass observes the net, these are the pin of the enabled driver
+-- and all pins that the cells read
 abbrev pub marked_by : Option NetDriver → List ReaderCell → List Bool → List Bool
 marked_by None readers flags = flags
 marked_by (Some d) readers flags = cond (is_read_beside readers d) (marked_readers (slice_set flags d.place true) readers) flags
@@ -51,11 +51,11 @@ tested_flags plan count n = fold (marked_in plan n) (replicate count false) plan
 abbrev pub pin_where : Bool → ℕ → ℕ → List PinRef
 pin_where is_tested n place = cond is_tested (record { net = n; place = place } ∷ []) []
 
--- the pins of a net whose flags are set, among the first `count` pins
+-- the first `count` pins of a net, without those whose flags are false
 abbrev pub flagged_before : ℕ → List Bool → ℕ → List PinRef
 flagged_before n flags count = map (λ place. record { net = n; place = place }) (filter (λ place. slice_index_or flags place false) (range_with_len 0 count))
 
--- the pins of a net whose flags are set
+-- the pins of a net, without those whose flags are false
 abbrev pub flagged_pins : ℕ → List Bool → List PinRef
 flagged_pins n flags = flagged_before n flags (length flags)
 
@@ -71,6 +71,6 @@ pin_count board n = pins_of_net (slice_get board.nets n)
 abbrev pub net_pins : RawBoard → PlanTables → ℕ → List PinRef
 net_pins board plan n = flagged_pins n (tested_flags plan (pin_count board n) n)
 
--- the pins of the first `count` nets that some pass tests
+-- the pins that some pass tests, of the first `count` nets
 abbrev pub all_pins : RawBoard → PlanTables → ℕ → List PinRef
 all_pins board plan count = flat_map (net_pins board plan) (range_with_len 0 count)

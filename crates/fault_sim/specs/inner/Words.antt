@@ -28,7 +28,7 @@ abbrev pub short_word_bit : Kind → FedWords → FedWords → ℕ → ℕ → B
 short_word_bit kind first second code j =
     unwrap_or (or_else (shorted kind (driven_bit first.feed j) (driven_bit second.feed j)) (shorted kind first.pull second.pull)) (word_bit code j)
 
--- `words` has the bits of a net in a pass, as words
+-- `words` has the bits of a net in a pass
 pub record AreWordsOf (fed : FedNet) (words : FedWords) : Type 0 where
   pub feed_is : (j : ℕ) → j < 32 → driven_bit words.feed j ≡ feed_bit fed.feed j
   pub pull_is : words.pull ≡ fed.pull
@@ -42,12 +42,13 @@ abbrev pub some_shows : List (List Bool) → ℕ → Bool → List ReaderCell �
 some_shows log row bit readers None = false
 some_shows log row bit readers (Some driver) = list_any (shows_beside log row bit driver) readers
 
--- the word has exactly the rows of a pass in which some cell has this bit and does not read the driver's pin; without a driver there are no
--- such rows
+-- bit j of the word is 1 exactly if, in row j of the pass, some cell has this bit and does not read the driver's pin; without a driver the
+-- word has no such rows
 abbrev pub AreRowsOf : RowsOfNet → Bool → Option ℕ → ℕ → Type 0
 AreRowsOf rows bit driver word = (j : ℕ) → j < 32 → word_bit word j ≡ (nat_lt j rows.width && some_shows rows.log (rows.first + j) bit rows.readers driver)
 
--- the rows in which some cell shows 1, and the rows in which some cell shows 0
+-- `shown` has the rows in which some cell shows 1, and the rows in which some cell shows 0; cells that read the driver's pin are not
+-- counted
 pub record AreShown (rows : RowsOfNet) (driver : Option ℕ) (shown : ShownWords) : Type 0 where
   pub ones : AreRowsOf rows true driver shown.ones
   pub zeros : AreRowsOf rows false driver shown.zeros
