@@ -37,7 +37,7 @@ pub found_nothing : (s : Search) (i : ℕ) → Found s i i []
 found_nothing s i =
     subst (λ (l : List ℕ). Picks (λ single. Explains s.logged.now.test.board single s.logged.now.log) (filter_map (fault_at s.logged.now.test.board) l) []) (sym (range_none s.suspects.now i)) refl
 
--- the fault of a single candidate
+-- the range of one candidate has the fault of this candidate, if there is one
 one_candidate : (s : Search) (i place : ℕ) → slice_get s.suspects.now i ≡ Some place → faults_between s i (i + 1) ≡ cons_option (fault_at s.logged.now.test.board place) []
 one_candidate s i place at =
     ap (filter_map (fault_at s.logged.now.test.board)) (range_one s.suspects.now i place (slice_get_within s.suspects.now i place at) (sym (get_or_from_slice_get s.suspects.now i place place at)))

@@ -45,7 +45,7 @@ masked_same a b mask k none on =
     let same : bit_at a k ≡ bit_at b k = omega (arith, sum, bit_at-lt a k, bit_at-lt b k) in
     ap (λ (n : ℕ). n == 1) same
 
--- if the union of two numbers is 0, both numbers are 0
+-- if the bitwise or of two numbers is 0, both numbers are 0
 pub or_zeros : (a b : ℕ) → bit_or a b ≡ 0 → (a ≡ 0) × (b ≡ 0)
 or_zeros a b none = (same_from_bits a 0 (λ i. omega (arith, union i, bit_at-zero i)), same_from_bits b 0 (λ i. omega (arith, union i, bit_at-zero i)))
   where

@@ -186,7 +186,7 @@ length-pairs {X} (x ∷ xs) =
     length-append (map (λ v. let p : X × X = (x, v) in p) xs) (pairs_within xs)
     ∙ omega (arith, length-map xs (λ v. let p : X × X = (x, v) in p), length-pairs xs)
 
--- the number of pairs before those of the next net, and the largest such number
+-- the number of pairs before those of net a + 1, and bounds of such numbers
 pub before_more : (nets a : ℕ) → a < nets → pairs_before nets (suc a) + suc a ≡ pairs_before nets a + nets
 before_more zero a less = absurd (omega (arith, less))
 before_more (suc nets) zero less = by_nets nets

@@ -16,7 +16,7 @@ two_starts = record { count = refl; each = each }
     each (suc (suc zero)) le = refl
     each (suc (suc (suc a))) le = absurd (omega (arith, le))
 
--- two nets, each with a driver and a receiver
+-- two covered nets, each with two tested pins
 abbrev two_nets : FaultLists
 two_nets = record { nets = 0 ∷ 1 ∷ []; pins = record { net = 0; place = 0 } ∷ record { net = 0; place = 1 } ∷ record { net = 1; place = 0 } ∷ record { net = 1; place = 1 } ∷ []; starts = 0 ∷ 1 ∷ 1 ∷ []; few = omega arith; few_pins = omega arith; starts_are = two_starts }
 
