@@ -4,24 +4,39 @@ ghost use Rattle.batch_diag.specs.declared.fault.BatchFault.TheVariants.{Memory}
 
 use response_log::LogFault;
 use std::alloc::{AllocError, AllocFailed};
-use thiserror::Error;
+use std::error::Error;
+use std::fmt;
 
 /// The first line that is not allowed where it is, or else the first block whose lines are no log, or a refusal of memory. Lines
 /// are those of the whole text, numbered from 1.
-#[derive(Debug, Drop, Error)]
+#[derive(Debug, Drop)]
 pub enum BatchFault {
     /// The line has words and comes before the first line that begins a block.
-    #[error("line {0}: no board yet")]
     Start(u32),
     /// The line begins a block, but does not have two words, or the id breaks the word rule.
-    #[error("line {0}: board not allowed")]
     Title(u32),
     /// The block, counted from 1, and why its lines are no log. The fault is never a refusal of memory.
-    #[error("board {board}: {fault}")]
     Inner { board: u32, fault: LogFault },
-    #[error("out of memory")]
     Memory(AllocError),
 }
+
+// The text of a fault is its line of refusal without the name of the file. If rows are missing, the text names the board. Any other
+// fault has the number of its line instead.
+impl fmt::Display for BatchFault {
+    fn fmt<W: fmt::Write>(&self, f: &mut fmt::Formatter<W>) -> fmt::Result {
+        match self {
+            BatchFault::Start(line) => write!(f, "line {line}: no board yet"),
+            BatchFault::Title(line) => write!(f, "line {line}: board not allowed"),
+            BatchFault::Inner { board, fault } => match fault {
+                LogFault::Missing(_) => write!(f, "board {board}: {fault}"),
+                fault => write!(f, "{fault}"),
+            },
+            BatchFault::Memory(_) => write!(f, "out of memory"),
+        }
+    }
+}
+
+impl Error for BatchFault {}
 
 impl From<AllocError> for BatchFault {
     ghost from_gives = { λ e fault. fault ≡ Memory e };

@@ -10,32 +10,42 @@ use std::alloc::{AllocError, AllocFailed};
 pub enum BoardFault {
     #[error("no part in the chain")]
     NoChain,
-    #[error("a part stands twice in the chain")]
+    #[error("line {}: part twice", .0.line)]
     PartTwice(Spot),
-    #[error("an entity is in no text")]
+    #[error("line {}: entity not given", .0.line)]
     NoEntity(Spot),
-    #[error("an entity is in two texts")]
+    #[error("entity given twice")]
     EntityTwice(u32),
-    #[error("a pin is not in its package")]
+    #[error("line {} word {}: no such pin", .0.line, .0.word)]
     NoPin(Spot),
-    #[error("a pin stands in two nets")]
+    #[error("line {} word {}: pin in two nets", .0.line, .0.word)]
     PinTwice(Spot),
-    #[error("a part of the chain is inert")]
+    #[error("line {}: inert part in the chain", .0.line)]
     InertInChain(Spot),
-    #[error("a supply net is not there")]
+    #[error("line {}: supply net not there", .0.line)]
     NoSupplyNet(Spot),
-    #[error("a guarded net has a driver that is always on")]
+    #[error("line {} word {}: driver on a guarded net", .0.line, .0.word)]
     GuardedDriver(Spot),
-    #[error("a net has two drivers that are always on")]
+    #[error("line {} word {}: two drivers always on", .0.line, .0.word)]
     TwoAlwaysOn(Spot),
-    #[error("limit {0}")]
+    #[error("limit: {}", limit_name(*.0))]
     Limit(u32),
     #[error("out of memory")]
     Memory(AllocError),
-    #[error("a pulled net is not there")]
+    #[error("line {}: pulled net not there", .0.line)]
     NoPullNet(Spot),
-    #[error("a net is pulled twice")]
+    #[error("line {}: net pulled twice", .0.line)]
     PullTwice(Spot),
+}
+
+// Returns what the limit with number `which` counts.
+fn limit_name(which: u32) -> &'static str {
+    match which {
+        1 => "chain parts",
+        2 => "boundary bits",
+        3 => "nets",
+        _ => "pins",
+    }
 }
 
 impl From<AllocError> for BoardFault {

@@ -19,10 +19,10 @@ use thiserror::Error;
 #[derive(Clone, Copy, Debug, PartialEq, Eq, Error)]
 pub enum HexFault {
     /// The text has more or fewer digits than the bits need.
-    #[error("wrong number of digits")]
+    #[error("wrong length")]
     Length,
     /// A byte is not a hexadecimal digit, or a bit beyond the length of the row is 1.
-    #[error("wrong digit")]
+    #[error("digit not allowed")]
     Digit,
 }
 

@@ -15,29 +15,29 @@ use thiserror::Error;
 #[derive(Debug, Drop, Error)]
 pub enum InputFault {
     /// The chain file's first faulty line.
-    #[error("chain file: {0}")]
+    #[error("{0}")]
     Chain(LineFault),
     /// The net file's first faulty line.
-    #[error("net file: {0}")]
+    #[error("{0}")]
     Nets(LineFault),
     /// The first bad place of a BSDL text. Texts are numbered from 0 in the order in which they are given.
-    #[error("text {text}: {fault}")]
+    #[error("{fault}")]
     Lex { text: u32, fault: LexFault },
     /// The reason why the tokens of a BSDL text are no entity.
-    #[error("text {text}: {fault}")]
+    #[error("{fault}")]
     Parse { text: u32, fault: ParseFault },
     /// The first board rule that fails.
-    #[error("board: {0}")]
+    #[error("{0}")]
     Board(BoardFault),
     /// The first rule or string of a device that fails, with the number of its text.
-    #[error("text {text}: {fault}")]
+    #[error("{fault}")]
     Device { text: u32, fault: DeviceFault },
     /// The first pin of a LINK line that is in no net.
-    #[error("chain file: {0}")]
+    #[error("{0}")]
     Link(LinkFault),
     /// The line of the chain file's first part without a description. What such a part selects after a
     /// reset isn't known.
-    #[error("chain file: line {0}: part without a description")]
+    #[error("line {0}: part without a description")]
     NoIdent(u32),
     #[error("out of memory")]
     Memory(AllocError),

@@ -47,8 +47,8 @@ static LOGS: [LogText; 20] = [
     (b"0G0", 1, 10, "line 1: digit not allowed"),
     (b"3F#\n3F", 2, 10, "line 1: digit not allowed"),
     (b"3F\n3F#", 2, 10, "line 1: wrong length"),
-    (b"", 2, 10, "only 0 rows"),
-    (b"3FF\n# 3FF\n", 2, 10, "only 1 rows"),
+    (b"", 2, 10, "0 rows"),
+    (b"3FF\n# 3FF\n", 2, 10, "1 rows"),
     (b"\n3FF", 0, 10, "line 2: row too many"),
     (b"3FF\n#\n3FF\n3FF", 1, 10, "line 3: row too many"),
     (b"3FF\nzz zz", 1, 10, "line 2: row too many"),
@@ -105,6 +105,7 @@ fn answer_in<R: Threads + Sync>(
     };
     match read {
         Ok(blocks) => shown(alloc, &blocks),
+        Err(BatchFault::Inner { board, fault }) => format!(in alloc; "board {board}: {fault}"),
         Err(fault) => fault.to_string(alloc),
     }
 }
@@ -149,10 +150,10 @@ static BATCHES: [BatchText; 29] = [
         1,
         "A:10 B:01 C:11 D:00 E:10 ",
     ),
-    (b"BOARD A\n\nBOARD B\n1", 1, "board 1: only 0 rows"),
+    (b"BOARD A\n\nBOARD B\n1", 1, "board 1: 0 rows"),
     (b"BOARD A\n1\nBOARD B\n2\n", 1, "A:10 B:01 "),
-    (b"BOARD A\n1\nBOARD B\n1\n2", 2, "board 1: only 1 rows"),
-    (b"BOARD A\n1\nBOARD B\nzz\nzz", 2, "board 1: only 1 rows"),
+    (b"BOARD A\n1\nBOARD B\n1\n2", 2, "board 1: 1 rows"),
+    (b"BOARD A\n1\nBOARD B\nzz\nzz", 2, "board 1: 1 rows"),
     (b"BOARD A\n1\n11\n", 2, "board 1: line 3: wrong length"),
     (b"BOARD A\n1 2\n", 2, "board 1: line 2: wrong length"),
     (

@@ -16,10 +16,22 @@ pub enum DeviceFault {
     Rule { number: u32, item: u32 },
     /// A string that leaves its grammar: the number of its attribute, or 15 for the pin map of the package, and the
     /// number, from 1, of the entry at which the string leaves the grammar.
-    #[error("attribute {attribute} entry {entry}")]
+    #[error("{} entry {entry}", attribute_name(*.attribute))]
     Text { attribute: u32, entry: u32 },
     #[error("out of memory")]
     Memory(AllocError),
+}
+
+// Returns the name of the attribute with this number, whose string has a grammar of its own.
+fn attribute_name(attribute: u32) -> &'static str {
+    match attribute {
+        7 => "INSTRUCTION_OPCODE",
+        8 => "INSTRUCTION_CAPTURE",
+        10 => "BOUNDARY_REGISTER",
+        12 => "IDCODE_REGISTER",
+        13 => "COMPLIANCE_PATTERNS",
+        _ => "PIN_MAP_STRING",
+    }
 }
 
 impl From<AllocError> for DeviceFault {

@@ -15,7 +15,7 @@ pub enum LogFault {
     #[error("line {0}: wrong length")]
     Length(u32),
     /// No line has an offense, but there are only this many rows.
-    #[error("only {0} rows")]
+    #[error("{0} rows")]
     Missing(u64),
     /// The line with words that comes after the last wanted row, whatever it contains.
     #[error("line {0}: row too many")]

@@ -9,7 +9,7 @@ use std::alloc::{AllocError, AllocFailed};
 #[derive(Debug, Drop, thiserror::Error)]
 pub enum LinkFault {
     /// The place of the pin: the line of the chain file and the number of the word, 3 or 4.
-    #[error("a pin of a LINK line is in no net")]
+    #[error("line {} word {}: link pin not in a net", .0.line, .0.word)]
     NoLinkPin(Spot),
     #[error("out of memory")]
     Memory(AllocError),
