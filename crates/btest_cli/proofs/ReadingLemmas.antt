@@ -1,6 +1,7 @@
 -- Reads of several texts in turn, put together to one reading.
-use Rattle.std.proofs.Common.{◌≡◌, ℕ, suc, ◌+◌, ◌<◌, ◌≤◌, Bool, true, false, List, [], ◌∷◌, ◌++◌, length, map, take, drop, nat_lt, slice_index_or, String, string_bytes, Global, Vec, Option, Some, None, refl, ap, sym, ◌∙◌, subst, arith, append_assoc, append-nil}
+use Rattle.std.proofs.Common.{◌≡◌, ℕ, suc, ◌+◌, ◌<◌, ◌≤◌, Bool, true, false, List, [], ◌∷◌, ◌++◌, length, map, take, drop, nat_lt, slice_index_or, Global, Vec, Option, Some, None, refl, ap, sym, ◌∙◌, subst, arith, append_assoc, append-nil}
 use Rattle.std.specs.Prelude.{if◌then◌else◌, Ok, Err}
+use Rattle.std.specs.Borrow.{Bor}
 use Rattle.std.proofs.lemmas.Grind.{common_steps}
 use Rattle.std.proofs.Math.Seq.{take-suc}
 use Rattle.std.proofs.lemmas.List.{map-append, take-append-drop}
@@ -204,21 +205,25 @@ pub read_two : {first second : Wanted} {held mid held' : Held} {before between n
     → Reads AreAll (first ∷ second ∷ []) held held' before now asked asked' (Ok (one ∷ other ∷ []))
 read_two {one = one} {other = other} first second = read_then AreAll (one ∷ other ∷ []) first second (λ texts more is are. ap (λ (l : List Text). l ++ more) is ∙ ap (λ (l : List Text). one ∷ l) are)
 
--- BSDL texts with these names
-abbrev pub called : List (String Global) → List Wanted
-called names = map text_called (map string_bytes names)
+-- the text that a borrowed name holds
+abbrev pub now_of : Bor Text → Text
+now_of name = name.now
 
-one_more : (names : List (String Global)) (k : ℕ) (d : String Global) (name : Text) → k < length names → name ≡ string_bytes (slice_index_or names k d) → called (take (k + 1) names) ≡ called (take k names) ++ text_called name ∷ []
+-- BSDL texts with these names
+abbrev pub called : List (Bor Text) → List Wanted
+called names = map text_called (map now_of names)
+
+one_more : (names : List (Bor Text)) (k : ℕ) (d : Bor Text) (name : Text) → k < length names → name ≡ now_of (slice_index_or names k d) → called (take (k + 1) names) ≡ called (take k names) ++ text_called name ∷ []
 one_more names k d name within is =
     let next : k + 1 ≡ suc k = omega arith in
-    ap (λ (n : ℕ). called (take n names)) next ∙ ap called (take-suc names k d within) ∙ ap (map text_called) (map-append string_bytes (take k names) (slice_index_or names k d ∷ []))
-    ∙ map-append text_called (map string_bytes (take k names)) (string_bytes (slice_index_or names k d) ∷ []) ∙ ap (λ (n : Text). called (take k names) ++ text_called n ∷ []) (sym is)
+    ap (λ (n : ℕ). called (take n names)) next ∙ ap called (take-suc names k d within) ∙ ap (map text_called) (map-append now_of (take k names) (slice_index_or names k d ∷ []))
+    ∙ map-append text_called (map now_of (take k names)) (now_of (slice_index_or names k d) ∷ []) ∙ ap (λ (n : Text). called (take k names) ++ text_called n ∷ []) (sym is)
 
-cut_at : (names : List (String Global)) (k : ℕ) → called names ≡ called (take k names) ++ called (drop k names)
+cut_at : (names : List (Bor Text)) (k : ℕ) → called names ≡ called (take k names) ++ called (drop k names)
 cut_at names k =
-    sym (ap called (take-append-drop k names)) ∙ ap (map text_called) (map-append string_bytes (take k names) (drop k names)) ∙ map-append text_called (map string_bytes (take k names)) (map string_bytes (drop k names))
+    sym (ap called (take-append-drop k names)) ∙ ap (map text_called) (map-append now_of (take k names) (drop k names)) ∙ map-append text_called (map now_of (take k names)) (map now_of (drop k names))
 
-module _ (names : List (String Global)) (k : ℕ) {held held' : Held} {before now : Text → ℕ} {asked asked' : List Text} where
+module _ (names : List (Bor Text)) (k : ℕ) {held held' : Held} {before now : Text → ℕ} {asked asked' : List Text} where
   -- if the texts of the first k names were not all read, the texts of all names were not all read
   lost_of : {lost : Unread} → Reads AreAll (called (take k names)) held held' before now asked asked' (Err lost) → Reads AreAll (called names) held held' before now asked asked' (Err lost)
   lost_of {lost} reads = subst (λ (wanted : List Wanted). Reads AreAll wanted held held' before now asked asked' (Err lost)) (sym (cut_at names k)) (lost_first (called (drop k names)) AreAll reads)
@@ -228,7 +233,7 @@ module _ (names : List (String Global)) (k : ℕ) {held held' : Held} {before no
   memory_of {found} reads = subst (λ (wanted : List Wanted). Reads AreAll wanted held held' before now asked asked' (Err unread.Memory)) (sym (cut_at names k)) (lost_between (called (drop k names)) AreAll reads)
 
 -- the read of the text with name k, once the texts of the first k names were read
-module _ (names : List (String Global)) (k : ℕ) (d : String Global) (name : Text) (within : k < length names) (is : name ≡ string_bytes (slice_index_or names k d)) {held mid held' : Held} {before between now : Text → ℕ} {asked asked_mid asked' : List Text} {found : List Text}
+module _ (names : List (Bor Text)) (k : ℕ) (d : Bor Text) (name : Text) (within : k < length names) (is : name ≡ now_of (slice_index_or names k d)) {held mid held' : Held} {before between now : Text → ℕ} {asked asked_mid asked' : List Text} {found : List Text}
     (so_far : Reads AreAll (called (take k names)) held mid before between asked asked_mid (Ok found)) where
   pub next_read : {text : Text} → Reads IsOne (text_called name ∷ []) mid held' between now asked_mid asked' (Ok text) → (all : List Text) → all ≡ found ++ text ∷ [] → Reads AreAll (called (take (k + 1) names)) held held' before now asked asked' (Ok all)
   next_read {text} one all are =

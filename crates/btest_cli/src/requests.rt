@@ -15,46 +15,52 @@ use std::alloc::Global;
 /// Reads the texts of a command, in the order of their names.
 pub fn read_request<'a, S: Store>(
     alloc: Global,
-    command: Command<'a>,
+    command: &Command<'a>,
     store: &mut S,
 ) -> Result<Request, Unread<'a>>
-    ensures { Reads (OfRequest (command_view command.entry)) (wanted_of (command_view command.entry)) (S.held store.old) (S.held store.new) (S.faults store.old) (S.faults store.new) (S.asked store.old) (S.asked store.new) result }
+    ensures { Reads (OfRequest (command_view command.now)) (wanted_of (command_view command.now)) (S.held store.old) (S.held store.new) (S.faults store.old) (S.faults store.new) (S.asked store.old) (S.asked store.new) result }
 {
     match command {
         Command::Chain(names) => read_chain(alloc, names, store).map(Request::Chain),
         Command::Ident(names) => read_chain(alloc, names, store).map(Request::Ident),
-        Command::Device { bsdl } => read_text(alloc, bsdl, store).map(Request::Device),
+        Command::Device { bsdl } => read_text(alloc, *bsdl, store).map(Request::Device),
         Command::Cover(names) => read_board(alloc, names, store).map(Request::Cover),
         Command::Svf(names) => read_board(alloc, names, store).map(Request::Svf),
         Command::Walk(names) => read_board(alloc, names, store).map(Request::Walk),
-        Command::Make(parts) => Ok(Request::Make(parts)),
+        Command::Make(parts) => Ok(Request::Make(*parts)),
         Command::Diagnose {
             workers,
             log,
             board,
-        } => read_logs(alloc, log, board, store).map(|texts| Request::Diagnose { workers, texts }),
-        Command::Groups { log, board } => read_logs(alloc, log, board, store).map(Request::Groups),
+        } => {
+            let workers = *workers;
+            read_logs(alloc, *log, board, store).map(|texts| Request::Diagnose { workers, texts })
+        }
+        Command::Groups { log, board } => read_logs(alloc, *log, board, store).map(Request::Groups),
         Command::Batch {
             workers,
             log,
             board,
-        } => read_logs(alloc, log, board, store).map(|texts| Request::Batch { workers, texts }),
+        } => {
+            let workers = *workers;
+            read_logs(alloc, *log, board, store).map(|texts| Request::Batch { workers, texts })
+        }
     }
 }
 
 // Reads the texts of a chain.
 fn read_chain<'a, S: Store>(
     alloc: Global,
-    names: ChainNames<'a>,
+    names: &ChainNames<'a>,
     store: &mut S,
 ) -> Result<ChainTexts, Unread<'a>>
-    ensures { Reads OfChain (map text_called (chain_names (chain_view names.entry))) (S.held store.old) (S.held store.new) (S.faults store.old) (S.faults store.new) (S.asked store.old) (S.asked store.new) result }
+    ensures { Reads OfChain (map text_called (chain_names (chain_view names.now))) (S.held store.old) (S.held store.new) (S.faults store.old) (S.faults store.new) (S.asked store.old) (S.asked store.new) result }
 {
     let chain = match read_text(alloc, names.chain, store) {
         Ok(chain) => chain,
         Err(failure) => return Err(failure),
     };
-    match read_texts(alloc, names.bsdl, store) {
+    match read_texts(alloc, &names.bsdl, store) {
         Ok(bsdl) => Ok(ChainTexts { chain, bsdl }),
         Err(failure) => Err(failure),
     }
@@ -63,10 +69,10 @@ fn read_chain<'a, S: Store>(
 // Reads the texts of a board.
 fn read_board<'a, S: Store>(
     alloc: Global,
-    names: BoardNames<'a>,
+    names: &BoardNames<'a>,
     store: &mut S,
 ) -> Result<BoardTexts, Unread<'a>>
-    ensures { Reads OfBoard (map text_called (board_names (board_view names.entry))) (S.held store.old) (S.held store.new) (S.faults store.old) (S.faults store.new) (S.asked store.old) (S.asked store.new) result }
+    ensures { Reads OfBoard (map text_called (board_names (board_view names.now))) (S.held store.old) (S.held store.new) (S.faults store.old) (S.faults store.new) (S.asked store.old) (S.asked store.new) result }
 {
     let chain = match read_text(alloc, names.chain, store) {
         Ok(chain) => chain,
@@ -76,7 +82,7 @@ fn read_board<'a, S: Store>(
         Ok(nets) => nets,
         Err(failure) => return Err(failure),
     };
-    match read_texts(alloc, names.bsdl, store) {
+    match read_texts(alloc, &names.bsdl, store) {
         Ok(bsdl) => Ok(BoardTexts { chain, nets, bsdl }),
         Err(failure) => Err(failure),
     }
@@ -86,10 +92,10 @@ fn read_board<'a, S: Store>(
 fn read_logs<'a, S: Store>(
     alloc: Global,
     log: &'a str,
-    names: BoardNames<'a>,
+    names: &BoardNames<'a>,
     store: &mut S,
 ) -> Result<LogTexts, Unread<'a>>
-    ensures { Reads OfLog (log_called log.entry.now ∷ map text_called (board_names (board_view names.entry))) (S.held store.old) (S.held store.new) (S.faults store.old) (S.faults store.new) (S.asked store.old) (S.asked store.new) result }
+    ensures { Reads OfLog (log_called log.entry.now ∷ map text_called (board_names (board_view names.now))) (S.held store.old) (S.held store.new) (S.faults store.old) (S.faults store.new) (S.asked store.old) (S.asked store.new) result }
 {
     let log = match read_log(alloc, log, store) {
         Ok(log) => log,

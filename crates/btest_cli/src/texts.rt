@@ -1,5 +1,6 @@
 // Reads texts from a store.
-ghost use Rattle.std.specs.Prelude.{◌≡◌, [], ◌∷◌, map, string_bytes};
+ghost use Rattle.std.specs.Prelude.{◌≡◌, [], ◌∷◌, map};
+ghost use Rattle.command_line.specs.CommandView.{names_view};
 ghost use Rattle.btest_cli.specs.Texts.{log_called, text_called};
 ghost use Rattle.btest_cli.specs.inner.Failures.{wanted_view};
 ghost use Rattle.btest_cli.specs.inner.Reads.{AreAll, IsOne, Reads};
@@ -85,15 +86,15 @@ pub fn read_log<'a, S: Store>(
 /// Reads BSDL texts in order. Stops at the first text that is not read or is too long.
 pub fn read_texts<'a, S: Store>(
     alloc: Global,
-    names: BsdlNames<'a>,
+    names: &BsdlNames<'a>,
     store: &mut S,
 ) -> Result<ShortTexts, Unread<'a>>
-    ensures { Reads AreAll (map text_called (map string_bytes names.entry.names.now)) (S.held store.old) (S.held store.new) (S.faults store.old) (S.faults store.new) (S.asked store.old) (S.asked store.new) result }
+    ensures { Reads AreAll (map text_called (names_view names.now)) (S.held store.old) (S.held store.new) (S.faults store.old) (S.faults store.new) (S.asked store.old) (S.asked store.new) result }
 {
-    let names = names.names;
+    let names = names.names.as_slice();
     let mut texts = Vec::new(alloc);
     for name in names {
-        let text = match read_text(alloc, name.as_str(), store) {
+        let text = match read_text(alloc, *name, store) {
             Ok(text) => text,
             Err(failure) => return Err(failure),
         };

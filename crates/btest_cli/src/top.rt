@@ -80,7 +80,7 @@ pub fn run<R: Threads + Sync, S: Store, K: Sink, N: Sink, G: Gate>(
             let _ = put_usage(notes);
             Status::Usage
         }
-        Ok(Some(command)) => run_command(rt, alloc, command, store, out, notes, gate),
+        Ok(Some(command)) => run_command(rt, alloc, &command, store, out, notes, gate),
     }
 }
 
@@ -88,14 +88,14 @@ pub fn run<R: Threads + Sync, S: Store, K: Sink, N: Sink, G: Gate>(
 fn run_command<R: Threads + Sync, S: Store, K: Sink, N: Sink, G: Gate>(
     rt: &R,
     alloc: Global,
-    command: Command,
+    command: &Command,
     store: &mut S,
     out: &mut K,
     notes: &mut N,
     gate: &G,
 ) -> Status
-    requires number { HasNumber (command_view command) }
-    ensures { IsRunOf (command_view command.entry) (S.held store.old) (S.faults store.old) (S.faults store.new) (S.asked store.old) (S.asked store.new)
+    requires number { HasNumber (command_view command.now) }
+    ensures { IsRunOf (command_view command.now) (S.held store.old) (S.faults store.old) (S.faults store.new) (S.asked store.old) (S.asked store.new)
         (K.shown out.old) (K.shown out.new) (N.shown notes.old) (N.shown notes.new) result }
 {
     let request = match read_request(alloc, command, store) {
@@ -115,27 +115,27 @@ fn run_command<R: Threads + Sync, S: Store, K: Sink, N: Sink, G: Gate>(
 }
 
 // Returns the names of the texts of a command, each name in the place for its kind of text.
-fn roles_of<'a>(command: Command<'a>) -> Names<'a>
-    ensures { names_view result ≡ roles_of (command_view command.entry) }
+fn roles_of<'n, 'a>(command: &'n Command<'a>) -> Names<'n, 'a>
+    ensures { names_view result ≡ roles_of (command_view command.now) }
 {
     match command {
         Command::Chain(names) | Command::Ident(names) => Names {
             log: "",
             chain: names.chain,
             nets: "",
-            bsdl: TextNames::Several(names.bsdl.names),
+            bsdl: TextNames::Several(names.bsdl.names.as_slice()),
         },
         Command::Device { bsdl } => Names {
             log: "",
             chain: "",
             nets: "",
-            bsdl: TextNames::One(bsdl),
+            bsdl: TextNames::One(*bsdl),
         },
         Command::Cover(names) | Command::Svf(names) | Command::Walk(names) => Names {
             log: "",
             chain: names.chain,
             nets: names.nets,
-            bsdl: TextNames::Several(names.bsdl.names),
+            bsdl: TextNames::Several(names.bsdl.names.as_slice()),
         },
         Command::Make(_) => Names {
             log: "",
@@ -146,10 +146,10 @@ fn roles_of<'a>(command: Command<'a>) -> Names<'a>
         Command::Diagnose { log, board, .. }
         | Command::Groups { log, board }
         | Command::Batch { log, board, .. } => Names {
-            log,
+            log: *log,
             chain: board.chain,
             nets: board.nets,
-            bsdl: TextNames::Several(board.bsdl.names),
+            bsdl: TextNames::Several(board.bsdl.names.as_slice()),
         },
     }
 }

@@ -1,7 +1,8 @@
 pub mod PlainLemmas
-pub mod WalkLemmas
+pub mod PlaceLemmas
+pub mod RowLemmas
+pub mod CalledLemmas
 pub mod Parses
 pub mod NumberLemmas
 pub mod RangeLemmas
-pub mod RefusedLemmas
 mod Samples

@@ -1,24 +1,29 @@
--- What `clap` makes of plain words.
-use Rattle.std.proofs.Common.{◌≡◌, refl, sym, ap, subst, ◌∙◌, true, false, Bool, List, [], ◌∷◌, codes, ℕ, cond, Some, None, inl, inr, ◌⊎◌}
-use Rattle.std.specs.Prelude.{fold, is_some, ◌||◌, find, unwrap_or, option_map, if◌then◌else◌, slice_get}
+-- The command that `clap` finds in plain words.
+use Rattle.std.proofs.Common.{◌≡◌, refl, sym, ap, subst, ◌∙◌, true, false, Bool, List, [], ◌∷◌, ◌++◌, codes, ℕ, cond, Option, Some, None, inl, inr, ◌⊎◌, append_assoc, append-nil}
+use Rattle.std.specs.Prelude.{fold, is_some, not, ◌||◌, find, unwrap_or, option_map, option_and_then, length, nat_le, if◌then◌else◌, slice_get}
+use Rattle.std.specs.List.{list_all}
 use Rattle.std.specs.Str.{bytes_eq}
 use Rattle.std.proofs.lemmas.Slice.Eq.{bytes_eq-Decides}
-use Rattle.clap.specs.declared.error.kind.ErrorKind.TheVariants as kind
-use Rattle.clap.specs.Walk.{subcommand_met, subcommand_or_other, word_met, answers_to, Names, Row, Rule, Text, Walk, walk, walked, walk_from, nothing_held, idle, with_default}
-use Rattle.clap.specs.Simple.{label_of, App, Shape, built, names_of, entered, with_subcommand}
-use Rattle.clap.specs.Kinds.{Kinds, IsAmong, or_else}
 use Rattle.clap.specs.declared.error.kind.ErrorKind.{ErrorKind}
-use Rattle.std.specs.List.{list_all}
-use Rattle.clap.specs.Faults.{other_fault, step_fault, fault_of, level_fault, entered_fault, walk_fault, turn_fault, check_fault, is_simple_and_free}
+use Rattle.clap.specs.declared.error.kind.ErrorKind.TheVariants as kind
+use Rattle.clap.specs.Walk.{subcommand_met, subcommand_or_other, word_met, answers_to, rows_after, Names, Row, Text, Walk as Turns, walk, walked, walk_from, nothing_held, idle}
+use Rattle.clap.specs.Simple.{App, Shape, built, names_of, entered, is_simple, subcommand_of, with_subcommand}
+use Rattle.clap.specs.Kinds.{Kinds, IsAmong, or_else}
+use Rattle.clap.specs.Faults.{other_fault, step_fault, fault_of, level_fault, entered_fault, walk_fault, turn_fault, is_simple_and_free}
 use Rattle.clap.proofs.OnLiterals.{clap_on_literals}
-use Rattle.command_line.specs.Words.{is_plain}
-use Rattle.command_line.specs.inner.App.{btest_app, chain_app, single_app, board_app, log_app, groups_app, top_app, names_rule, has_one, has_two, has_three, has_four, is_one, is_accepted}
-use Rattle.command_line.proofs.PlainLemmas.{Plain, AllPlain, all_plain, idle_met, plain_fault, before_one, before_more, one_walked, one_turn, more_walked, more_turn}
-use Rattle.command_line.proofs.WalkLemmas.{stopped_at, stopped_walk, stopped_fault, end_fault, fault_from, level_parts, goes_on, row_of, more_rows, TakesNames, names_fault, no_default_fault, no_default}
+use Rattle.command_line.specs.Words.{most_names, most_workers, number_of, with_names, ChainNames, BoardNames, Command, Chain, Ident, Cover, Svf, Walk, Diagnose, Groups, Batch, is_plain, parsed, board_called, log_called, chain_of, device_of, board_of, make_of, worked_of, groups_of}
+use Rattle.command_line.specs.inner.App.{btest_app, chain_app, single_app, board_app, log_app, groups_app, top_app}
+use Rattle.command_line.specs.inner.Found.{command_in, called_found, board_found, log_found, chain_in, device_in, board_in, make_in, worked_in, groups_in}
+use Rattle.command_line.proofs.PlainLemmas.{Plain, AllPlain, all_plain, met, plain_fault}
+use Rattle.command_line.proofs.PlaceLemmas.{end_fault, if_none, placed_from, answer_placed, row_of, TakesNames, names_placed}
 
-pub is_free : is_simple_and_free btest_app ≡ true
+is_free : is_simple_and_free btest_app ≡ true
 unfolding clap_on_literals
 is_free = refl
+
+simple : is_simple btest_app ≡ true
+unfolding clap_on_literals
+simple = refl
 
 -- the command as built
 abbrev built_app : App
@@ -30,408 +35,220 @@ top = built_app.top
 abbrev names : Names
 names = names_of built_app
 
--- the subcommand of a name, as built
-abbrev shape_of : Text → Shape
-shape_of name = unwrap_or (find (λ s. answers_to name (label_of s)) built_app.subs) top
-
--- the fault of words, by where the walk over them ends
-abbrev whole_fault : Walk → Kinds
-whole_fault w = end_fault top w (is_some (entered built_app w.stopped)) (entered_fault built_app w.stopped)
-
-fault_parts : (words : List Text) → fault_of btest_app words ≡ or_else (walk_fault top names (walk_from nothing_held) words) (whole_fault (walk top.rules names nothing_held words))
-fault_parts words = refl
-
--- a subcommand was met: the faults are those of its level
-entered_at : (name : Text) (rest : List Text) → walk top.rules names nothing_held (name ∷ rest) ≡ stopped_at (walk_from nothing_held) name rest → walk_fault top names (walk_from nothing_held) (name ∷ rest) ≡ [] → whole_fault (stopped_at (walk_from nothing_held) name rest) ≡ or_else (level_fault (shape_of name) [] nothing_held rest false []) [] → fault_of btest_app (name ∷ rest) ≡ or_else (fault_from (shape_of name) (walk_from nothing_held) rest) []
-entered_at name rest walks passes below =
-    fault_parts (name ∷ rest)
-    ∙ ap (λ k. or_else k (whole_fault (walk top.rules names nothing_held (name ∷ rest)))) passes
-    ∙ ap whole_fault walks ∙ below ∙ ap (λ k. or_else k []) (level_parts (shape_of name) nothing_held rest)
+abbrev start : Turns
+start = walk_from nothing_held
 
 -- a subcommand, as built
 abbrev shape_in : App → Shape
 shape_in app = unwrap_or (slice_get (built (with_subcommand top_app app.top)).subs 0) top
 
--- a command of this name is entered with the words behind it
-abbrev IsEntered : Text → Shape → Type 0
-IsEntered name shape = (rest : List Text) → fault_of btest_app (name ∷ rest) ≡ or_else (fault_from shape (walk_from nothing_held) rest) []
+-- the fault of words, by where the walk over them ends
+abbrev whole_fault : Turns → Kinds
+whole_fault w = end_fault top w (is_some (entered built_app w.stopped)) (entered_fault built_app w.stopped)
 
--- a command that is about a chain, whatever its name
+fault_parts : (words : List Text) → fault_of btest_app words ≡ or_else (walk_fault top names start words) (whole_fault (walk top.rules names nothing_held words))
+fault_parts words = refl
+
+-- the command that is found, if `clap` finds no fault
+abbrev answer : List Text → Option Command
+answer words = if_none (fault_of btest_app words) (command_in (subcommand_of btest_app words))
+
+-- once a subcommand is met, the words go to it
+abbrev stopped_at : Text → List Text → Turns
+stopped_at name words = record start { stopped = Some (name, words) }
+
+stopped_walk : (name : Text) (words rest : List Text) → fold (walked top.rules names) (stopped_at name words) rest ≡ stopped_at name (words ++ rest)
+unfolding clap_on_literals
+stopped_walk name words [] = ap (stopped_at name) (sym (append-nil words))
+stopped_walk name words (word ∷ rest) = stopped_walk name (words ++ word ∷ []) rest ∙ ap (stopped_at name) (append_assoc words (word ∷ []) rest)
+
+stopped_fault : (name : Text) (words rest : List Text) → walk_fault top names (stopped_at name words) rest ≡ []
+unfolding clap_on_literals
+stopped_fault name words [] = refl
+stopped_fault name words (word ∷ rest) = stopped_fault name (words ++ word ∷ []) rest
+
+-- the word enters this subcommand
+record Enters (name : Text) (shape : Shape) : Type 0 where
+  met : walked top.rules names start name ≡ stopped_at name []
+  passes : turn_fault top names start name ≡ []
+  below : (rest : List Text) → whole_fault (stopped_at name rest) ≡ or_else (level_fault shape [] nothing_held rest false []) []
+  finds : (rest : List Text) → entered built_app (Some (name, rest)) ≡ Some (name, rows_after shape.rules [] rest)
+  no_trail : list_all (λ a. not a.trailing_var_arg) shape.rules ≡ true
+
+-- this is what is read of the matches of a subcommand, if each word goes to the argument of its place
+abbrev Reads : Shape → (List Row → Option Command) → (List Text → Option Command) → Type 0
+Reads shape read command = (words : List Text) → placed_from shape read start words ≡ command words
+
+-- nothing comes after the words of a level
+alone : (k : Kinds) (command : Option Command) → if_none (or_else k []) command ≡ if_none k command
+alone [] command = refl
+alone (k ∷ ks) command = refl
+
+named_word : (name : Text) (shape : Shape) → Enters name shape → (command : List Text → Option Command) → Reads shape (called_found name) command → (rest : List Text) → AllPlain rest → answer (name ∷ rest) ≡ command rest
+unfolding clap_on_literals
+named_word name shape enters command reads rest all =
+    let ends : walk top.rules names nothing_held (name ∷ rest) ≡ stopped_at name rest = ap (λ (v : Turns). fold (walked top.rules names) v rest) enters.met ∙ stopped_walk name [] rest in
+    let passes : walk_fault top names start (name ∷ rest) ≡ [] =
+    ap (λ (v : Turns). or_else (turn_fault top names start name) (walk_fault top names v rest)) enters.met
+    ∙ ap (λ k. or_else k (walk_fault top names (stopped_at name []) rest)) enters.passes ∙ stopped_fault name [] rest in
+    let fault : fault_of btest_app (name ∷ rest) ≡ or_else (level_fault shape [] nothing_held rest false []) [] =
+    fault_parts (name ∷ rest) ∙ ap (λ k. or_else k (whole_fault (walk top.rules names nothing_held (name ∷ rest)))) passes ∙ ap whole_fault ends ∙ enters.below rest in
+    let found : subcommand_of btest_app (name ∷ rest) ≡ Some (name, rows_after shape.rules [] rest) = ap (λ (v : Turns). entered built_app v.stopped) ends ∙ enters.finds rest in
+    ap (λ k. if_none k (command_in (subcommand_of btest_app (name ∷ rest)))) fault
+    ∙ ap (λ f. if_none (or_else (level_fault shape [] nothing_held rest false []) []) (command_in f)) found
+    ∙ alone (level_fault shape [] nothing_held rest false []) (called_found name (rows_after shape.rules [] rest))
+    ∙ answer_placed shape (called_found name) enters.no_trail rest all nothing_held 1 ∙ reads rest
+
+few_by : {A : Type 0} (of : List Text → A) (bsdl : List Text) (few : Bool) → option_map of (if few then Some bsdl else None) ≡ (if few then Some (of bsdl) else None)
+few_by of bsdl true = refl
+few_by of bsdl false = refl
+
+few_names : {A : Type 0} (of : List Text → A) (bsdl : List Text) → option_map of (with_names bsdl bsdl) ≡ with_names bsdl (of bsdl)
+few_names of bsdl = few_by of bsdl (nat_le (length bsdl) most_names)
+
+-- a command that works on a chain, whatever its name
 abbrev chain_shape : Text → Shape
 chain_shape name = shape_in (chain_app name)
 
-chain_entered : IsEntered (codes "chain") (chain_shape (codes "chain"))
+abbrev chain_rows : Text → List Row
+chain_rows file = row_of (codes "CHAIN") file ∷ []
+
+chain_takes : (name file : Text) → TakesNames (chain_shape name) (chain_rows file) 2
 unfolding clap_on_literals
-chain_entered rest = entered_at (codes "chain") rest (stopped_walk top.rules names (walk_from nothing_held) (codes "chain") [] rest) (stopped_fault top names (walk_from nothing_held) (codes "chain") [] rest) refl
+chain_takes name file [] x = record { step = λ next. refl; passes = refl; ends = refl; rows = refl }
+chain_takes name file (n ∷ ns) x = record { step = λ next. refl; passes = refl; ends = refl; rows = refl }
 
-ident_entered : IsEntered (codes "ident") (chain_shape (codes "ident"))
+chain_read : (name : Text) (command : ChainNames → Command) → Reads (chain_shape name) (λ rows. option_map command (chain_in rows)) (λ words. option_map command (chain_of words))
 unfolding clap_on_literals
-ident_entered rest = entered_at (codes "ident") rest (stopped_walk top.rules names (walk_from nothing_held) (codes "ident") [] rest) (stopped_fault top names (walk_from nothing_held) (codes "ident") [] rest) refl
-
--- where the walk stands after a first name, which is the value of this argument
-abbrev after_one : Text → Text → Walk
-after_one id word = before_one (record { rows = []; pending = Some (id, word ∷ []); skip = 0 }) 2
-
--- where the walk of such a command stands after names
-abbrev chain_names : Text → List Row → Text → Walk
-chain_names file tail x = before_more (record { rows = row_of (codes "CHAIN") file ∷ tail; pending = Some (codes "BSDL", x ∷ []); skip = 0 }) 2
-
-abbrev names_in : Shape → ℕ → Rule
-names_in s place = unwrap_or (slice_get s.rules place) names_rule
-
-chain_takes : (name file : Text) → TakesNames (chain_shape name) (chain_names file)
-unfolding clap_on_literals
-chain_takes name file =
-    let rows : List Row → Text → List Row = λ tail x. row_of (codes "CHAIN") file ∷ more_rows x tail in
-    record {
-      step = λ tail x y p. more_walked (chain_shape name) (chain_names file tail x).held 2 y p;
-      passes = λ tail x y p. more_turn (chain_shape name) (chain_names file tail x).held 2 y p;
-      ends = λ tail x.
-          ap (λ k. or_else (or_else k []) (check_fault (chain_shape name) (with_default (rows tail x) (names_in (chain_shape name) 1)) false)) (no_default_fault (names_in (chain_shape name) 1) (rows tail x) refl)
-          ∙ ap (λ rs. check_fault (chain_shape name) rs false) (no_default (names_in (chain_shape name) 1) (rows tail x) refl);
-    }
-
-chain_none : (name : Text) → fault_from (chain_shape name) (walk_from nothing_held) [] ≡ kind.MissingRequiredArgument ∷ []
-unfolding clap_on_literals
-chain_none name = refl
-
-chain_one : (name file : Text) (rest : List Text) → AllPlain rest → fault_from (chain_shape name) (after_one (codes "CHAIN") file) rest ≡ []
-unfolding clap_on_literals
-chain_one name file [] all = refl
-chain_one name file (x ∷ rest) all =
-    let w : Walk = after_one (codes "CHAIN") file in
-    goes_on (chain_shape name) w (chain_names file [] x) x rest (one_turn (chain_shape name) w.held 2 x all.0) (one_walked (chain_shape name) w.held 2 x all.0)
-    ∙ names_fault (chain_shape name) (chain_names file) (chain_takes name file) [] x rest all.1
-
-chain_file : (name file : Text) (rest : List Text) → Plain file → fault_from (chain_shape name) (walk_from nothing_held) (file ∷ rest) ≡ fault_from (chain_shape name) (after_one (codes "CHAIN") file) rest
-unfolding clap_on_literals
-chain_file name file rest p = goes_on (chain_shape name) (walk_from nothing_held) (after_one (codes "CHAIN") file) file rest (one_turn (chain_shape name) nothing_held 1 file p) (one_walked (chain_shape name) nothing_held 1 file p)
-
--- whether there is no fault
-abbrev passes : Kinds → Bool
-passes [] = true
-passes (k ∷ ks) = false
-
-chain_exact : (name : Text) → IsEntered name (chain_shape name) → (rest : List Text) → AllPlain rest → passes (fault_of btest_app (name ∷ rest)) ≡ has_one rest
-chain_exact name enters [] all = ap passes (enters [] ∙ ap (λ k. or_else k []) (chain_none name))
-chain_exact name enters (file ∷ rest) all = ap passes (enters (file ∷ rest) ∙ ap (λ k. or_else k []) (chain_file name file rest all.0 ∙ chain_one name file rest all.1))
+chain_read name command [] = refl
+chain_read name command (file ∷ []) = refl
+chain_read name command (file ∷ x ∷ rest) = names_placed (chain_shape name) (λ rows. option_map command (chain_in rows)) (chain_rows file) 2 (chain_takes name file) [] x rest
+    ∙ ap (option_map command) (few_names (λ bsdl. record { chain = file; bsdl = bsdl }) (x ∷ rest))
 
 -- a command that takes one word, whatever its name and that of its argument
 abbrev single_shape : Text → Text → Shape
 single_shape name id = shape_in (single_app name id)
 
-device_entered : IsEntered (codes "device") (single_shape (codes "device") (codes "BSDL"))
+device_read : Reads (single_shape (codes "device") (codes "BSDL")) device_in device_of
 unfolding clap_on_literals
-device_entered rest = entered_at (codes "device") rest (stopped_walk top.rules names (walk_from nothing_held) (codes "device") [] rest) (stopped_fault top names (walk_from nothing_held) (codes "device") [] rest) refl
+device_read [] = refl
+device_read (name ∷ []) = refl
+device_read (name ∷ other ∷ others) = refl
 
-make_entered : IsEntered (codes "make") (single_shape (codes "make") (codes "NUMBER"))
+make_read : Reads (single_shape (codes "make") (codes "NUMBER")) make_in make_of
 unfolding clap_on_literals
-make_entered rest = entered_at (codes "make") rest (stopped_walk top.rules names (walk_from nothing_held) (codes "make") [] rest) (stopped_fault top names (walk_from nothing_held) (codes "make") [] rest) refl
+make_read [] = refl
+make_read (number ∷ []) = refl
+make_read (number ∷ other ∷ others) = refl
 
-single_none : (name id : Text) → fault_from (single_shape name id) (walk_from nothing_held) [] ≡ kind.MissingRequiredArgument ∷ []
-unfolding clap_on_literals
-single_none name id = refl
-
-single_first : (name id word : Text) (rest : List Text) → Plain word → fault_from (single_shape name id) (walk_from nothing_held) (word ∷ rest) ≡ fault_from (single_shape name id) (after_one id word) rest
-unfolding clap_on_literals
-single_first name id word rest p = goes_on (single_shape name id) (walk_from nothing_held) (after_one id word) word rest (one_turn (single_shape name id) nothing_held 1 word p) (one_walked (single_shape name id) nothing_held 1 word p)
-
--- one word is all that the command needs
-abbrev TakesOne : Text → Text → Type 0
-TakesOne name id = (word : Text) → fault_from (single_shape name id) (after_one id word) [] ≡ []
-
-device_one : TakesOne (codes "device") (codes "BSDL")
-unfolding clap_on_literals
-device_one word = refl
-
-make_one : TakesOne (codes "make") (codes "NUMBER")
-unfolding clap_on_literals
-make_one word = refl
-
--- another word has no place
-single_more : (name id word x : Text) (rest : List Text) → Plain x → fault_from (single_shape name id) (after_one id word) (x ∷ rest) ≡ kind.UnknownArgument ∷ []
-unfolding clap_on_literals
-single_more name id word x rest p =
-    let s : Shape = single_shape name id in
-    let w : Walk = after_one id word in
-    ap (λ k. or_else (or_else k (walk_fault s [] (walked s.rules [] w x) rest)) (end_fault s (fold (walked s.rules []) (walked s.rules [] w x) rest) false [])) (one_turn s w.held 2 x p)
-
-single_exact : (name id : Text) → IsEntered name (single_shape name id) → TakesOne name id → (rest : List Text) → AllPlain rest → passes (fault_of btest_app (name ∷ rest)) ≡ is_one rest
-single_exact name id enters takes [] all = ap passes (enters [] ∙ ap (λ k. or_else k []) (single_none name id))
-single_exact name id enters takes (word ∷ []) all = ap passes (enters (word ∷ []) ∙ ap (λ k. or_else k []) (single_first name id word [] all.0 ∙ takes word))
-single_exact name id enters takes (word ∷ x ∷ rest) all = ap passes (enters (word ∷ x ∷ rest) ∙ ap (λ k. or_else k []) (single_first name id word (x ∷ rest) all.0 ∙ single_more name id word x rest all.1.0))
-
--- a command that is about a board, whatever its name
+-- a command that works on a board, whatever its name
 abbrev board_shape : Text → Shape
 board_shape name = shape_in (board_app name)
 
--- where the walk stands after two names
-abbrev after_two : Text → Text → Walk
-after_two chain nets = before_one (record { rows = row_of (codes "CHAIN") chain ∷ []; pending = Some (codes "NETS", nets ∷ []); skip = 0 }) 3
+abbrev board_rows : Text → Text → List Row
+board_rows chain nets = row_of (codes "CHAIN") chain ∷ row_of (codes "NETS") nets ∷ []
 
--- where the walk stands after more names
-abbrev board_names : Text → Text → List Row → Text → Walk
-board_names chain nets tail x = before_more (record { rows = row_of (codes "CHAIN") chain ∷ row_of (codes "NETS") nets ∷ tail; pending = Some (codes "BSDL", x ∷ []); skip = 0 }) 3
+abbrev board_of_names : Text → Text → List Text → BoardNames
+board_of_names chain nets bsdl = record { chain = chain; nets = nets; bsdl = bsdl }
 
-board_takes : (name chain nets : Text) → TakesNames (board_shape name) (board_names chain nets)
+few_board : (chain nets : Text) (bsdl : List Text) → option_map (board_of_names chain nets) (with_names bsdl bsdl) ≡ with_names bsdl (board_of_names chain nets bsdl)
+few_board chain nets bsdl = few_names (board_of_names chain nets) bsdl
+
+board_takes : (name chain nets : Text) → TakesNames (board_shape name) (board_rows chain nets) 3
 unfolding clap_on_literals
-board_takes name chain nets =
-    let rows : List Row → Text → List Row = λ tail x. row_of (codes "CHAIN") chain ∷ row_of (codes "NETS") nets ∷ more_rows x tail in
-    record {
-      step = λ tail x y p. more_walked (board_shape name) (board_names chain nets tail x).held 3 y p;
-      passes = λ tail x y p. more_turn (board_shape name) (board_names chain nets tail x).held 3 y p;
-      ends = λ tail x.
-          ap (λ k. or_else (or_else k []) (check_fault (board_shape name) (with_default (rows tail x) (names_in (board_shape name) 2)) false)) (no_default_fault (names_in (board_shape name) 2) (rows tail x) refl)
-          ∙ ap (λ rs. check_fault (board_shape name) rs false) (no_default (names_in (board_shape name) 2) (rows tail x) refl);
-    }
+board_takes name chain nets [] x = record { step = λ next. refl; passes = refl; ends = refl; rows = refl }
+board_takes name chain nets (n ∷ ns) x = record { step = λ next. refl; passes = refl; ends = refl; rows = refl }
 
-board_none : (name : Text) → fault_from (board_shape name) (walk_from nothing_held) [] ≡ kind.MissingRequiredArgument ∷ []
+board_read : (name : Text) (command : BoardNames → Command) → Reads (board_shape name) (λ rows. option_map command (board_in rows)) (λ words. option_map command (board_of words))
 unfolding clap_on_literals
-board_none name = refl
+board_read name command [] = refl
+board_read name command (chain ∷ []) = refl
+board_read name command (chain ∷ nets ∷ []) = refl
+board_read name command (chain ∷ nets ∷ x ∷ rest) = names_placed (board_shape name) (λ rows. option_map command (board_in rows)) (board_rows chain nets) 3 (board_takes name chain nets) [] x rest
+    ∙ ap (option_map command) (few_board chain nets (x ∷ rest))
 
-board_one : (name chain : Text) → fault_from (board_shape name) (after_one (codes "CHAIN") chain) [] ≡ kind.MissingRequiredArgument ∷ []
-unfolding clap_on_literals
-board_one name chain = refl
-
-board_two : (name chain nets : Text) (rest : List Text) → AllPlain rest → fault_from (board_shape name) (after_two chain nets) rest ≡ []
-unfolding clap_on_literals
-board_two name chain nets [] all = refl
-board_two name chain nets (x ∷ rest) all =
-    goes_on (board_shape name) (after_two chain nets) (board_names chain nets [] x) x rest (one_turn (board_shape name) (after_two chain nets).held 3 x all.0) (one_walked (board_shape name) (after_two chain nets).held 3 x all.0)
-    ∙ names_fault (board_shape name) (board_names chain nets) (board_takes name chain nets) [] x rest all.1
-
-board_first : (name chain : Text) (rest : List Text) → Plain chain → fault_from (board_shape name) (walk_from nothing_held) (chain ∷ rest) ≡ fault_from (board_shape name) (after_one (codes "CHAIN") chain) rest
-unfolding clap_on_literals
-board_first name chain rest p = goes_on (board_shape name) (walk_from nothing_held) (after_one (codes "CHAIN") chain) chain rest (one_turn (board_shape name) nothing_held 1 chain p) (one_walked (board_shape name) nothing_held 1 chain p)
-
-board_second : (name chain nets : Text) (rest : List Text) → Plain nets → fault_from (board_shape name) (after_one (codes "CHAIN") chain) (nets ∷ rest) ≡ fault_from (board_shape name) (after_two chain nets) rest
-unfolding clap_on_literals
-board_second name chain nets rest p =
-    let w : Walk = after_one (codes "CHAIN") chain in
-    goes_on (board_shape name) w (after_two chain nets) nets rest (one_turn (board_shape name) w.held 2 nets p) (one_walked (board_shape name) w.held 2 nets p)
-
-cover_entered : IsEntered (codes "cover") (board_shape (codes "cover"))
-unfolding clap_on_literals
-cover_entered rest = entered_at (codes "cover") rest (stopped_walk top.rules names (walk_from nothing_held) (codes "cover") [] rest) (stopped_fault top names (walk_from nothing_held) (codes "cover") [] rest) refl
-
-svf_entered : IsEntered (codes "svf") (board_shape (codes "svf"))
-unfolding clap_on_literals
-svf_entered rest = entered_at (codes "svf") rest (stopped_walk top.rules names (walk_from nothing_held) (codes "svf") [] rest) (stopped_fault top names (walk_from nothing_held) (codes "svf") [] rest) refl
-
-walk_entered : IsEntered (codes "walk") (board_shape (codes "walk"))
-unfolding clap_on_literals
-walk_entered rest = entered_at (codes "walk") rest (stopped_walk top.rules names (walk_from nothing_held) (codes "walk") [] rest) (stopped_fault top names (walk_from nothing_held) (codes "walk") [] rest) refl
-
-board_exact : (name : Text) → IsEntered name (board_shape name) → (rest : List Text) → AllPlain rest → passes (fault_of btest_app (name ∷ rest)) ≡ has_two rest
-board_exact name enters [] all = ap passes (enters [] ∙ ap (λ k. or_else k []) (board_none name))
-board_exact name enters (chain ∷ []) all = ap passes (enters (chain ∷ []) ∙ ap (λ k. or_else k []) (board_first name chain [] all.0 ∙ board_one name chain))
-board_exact name enters (chain ∷ nets ∷ rest) all =
-    ap passes (enters (chain ∷ nets ∷ rest) ∙ ap (λ k. or_else k []) (board_first name chain (nets ∷ rest) all.0 ∙ board_second name chain nets rest all.1.0 ∙ board_two name chain nets rest all.1.1))
-
--- a command that is about a response log, whatever its name
+-- a command that works on a response log, by a number of workers, whatever its name
 abbrev log_shape : Text → Shape
 log_shape name = shape_in (log_app name)
 
--- where the walk stands after two, three and four words
-abbrev log_two : Text → Text → Walk
-log_two workers log = before_one (record { rows = row_of (codes "WORKERS") workers ∷ []; pending = Some (codes "LOG", log ∷ []); skip = 0 }) 3
+abbrev log_rows : Text → Text → Text → Text → List Row
+log_rows workers log chain nets = row_of (codes "WORKERS") workers ∷ row_of (codes "LOG") log ∷ board_rows chain nets
 
-abbrev log_three : Text → Text → Text → Walk
-log_three workers log chain =
-    before_one (record { rows = row_of (codes "WORKERS") workers ∷ row_of (codes "LOG") log ∷ []; pending = Some (codes "CHAIN", chain ∷ []); skip = 0 }) 4
-
--- the rows of the words before the net file, then others
-abbrev log_rows : Text → Text → Text → List Row → List Row
-log_rows workers log chain tail = row_of (codes "WORKERS") workers ∷ row_of (codes "LOG") log ∷ row_of (codes "CHAIN") chain ∷ tail
-
-abbrev log_four : Text → Text → Text → Text → Walk
-log_four workers log chain nets = before_one (record { rows = log_rows workers log chain []; pending = Some (codes "NETS", nets ∷ []); skip = 0 }) 5
-
--- where the walk stands after more words
-abbrev log_names : Text → Text → Text → Text → List Row → Text → Walk
-log_names workers log chain nets tail x =
-    before_more (record { rows = log_rows workers log chain (row_of (codes "NETS") nets ∷ tail); pending = Some (codes "BSDL", x ∷ []); skip = 0 }) 5
-
-log_takes : (name workers log chain nets : Text) → TakesNames (log_shape name) (log_names workers log chain nets)
+log_takes : (name workers log chain nets : Text) → TakesNames (log_shape name) (log_rows workers log chain nets) 5
 unfolding clap_on_literals
-log_takes name workers log chain nets =
-    let rows : List Row → Text → List Row = λ tail x. log_rows workers log chain (row_of (codes "NETS") nets ∷ more_rows x tail) in
-    record {
-      step = λ tail x y p. more_walked (log_shape name) (log_names workers log chain nets tail x).held 5 y p;
-      passes = λ tail x y p. more_turn (log_shape name) (log_names workers log chain nets tail x).held 5 y p;
-      ends = λ tail x.
-          ap (λ k. or_else (or_else k []) (check_fault (log_shape name) (with_default (rows tail x) (names_in (log_shape name) 4)) false)) (no_default_fault (names_in (log_shape name) 4) (rows tail x) refl)
-          ∙ ap (λ rs. check_fault (log_shape name) rs false) (no_default (names_in (log_shape name) 4) (rows tail x) refl);
-    }
+log_takes name workers log chain nets [] x = record { step = λ next. refl; passes = refl; ends = refl; rows = refl }
+log_takes name workers log chain nets (n ∷ ns) x = record { step = λ next. refl; passes = refl; ends = refl; rows = refl }
 
--- fewer than four words are too few
-log_needs_one : (name : Text) → fault_from (log_shape name) (walk_from nothing_held) [] ≡ kind.MissingRequiredArgument ∷ []
+log_read : (name : Text) (command : ℕ → Text → BoardNames → Command) → Reads (log_shape name) (worked_in command) (worked_of command)
 unfolding clap_on_literals
-log_needs_one name = refl
+log_read name command [] = refl
+log_read name command (workers ∷ []) = refl
+log_read name command (workers ∷ log ∷ []) = refl
+log_read name command (workers ∷ log ∷ chain ∷ []) = refl
+log_read name command (workers ∷ log ∷ chain ∷ nets ∷ []) = refl
+log_read name command (workers ∷ log ∷ chain ∷ nets ∷ x ∷ rest) = names_placed (log_shape name) (worked_in command) (log_rows workers log chain nets) 5 (log_takes name workers log chain nets) [] x rest
+    ∙ ap (option_and_then (λ board. option_map (λ number. command number log board) (number_of most_workers workers))) (few_board chain nets (x ∷ rest))
 
-log_needs_two : (name workers : Text) → fault_from (log_shape name) (after_one (codes "WORKERS") workers) [] ≡ kind.MissingRequiredArgument ∷ []
+-- the command that works on a response log, by one worker
+abbrev groups_shape : Shape
+groups_shape = shape_in (groups_app (codes "groups"))
+
+abbrev groups_rows : Text → Text → Text → List Row
+groups_rows log chain nets = row_of (codes "LOG") log ∷ board_rows chain nets
+
+groups_takes : (log chain nets : Text) → TakesNames groups_shape (groups_rows log chain nets) 4
 unfolding clap_on_literals
-log_needs_two name workers = refl
+groups_takes log chain nets [] x = record { step = λ next. refl; passes = refl; ends = refl; rows = refl }
+groups_takes log chain nets (n ∷ ns) x = record { step = λ next. refl; passes = refl; ends = refl; rows = refl }
 
-log_needs_three : (name workers log : Text) → fault_from (log_shape name) (log_two workers log) [] ≡ kind.MissingRequiredArgument ∷ []
+groups_read : Reads groups_shape groups_in groups_of
 unfolding clap_on_literals
-log_needs_three name workers log = refl
+groups_read [] = refl
+groups_read (log ∷ []) = refl
+groups_read (log ∷ chain ∷ []) = refl
+groups_read (log ∷ chain ∷ nets ∷ []) = refl
+groups_read (log ∷ chain ∷ nets ∷ x ∷ rest) = names_placed groups_shape groups_in (groups_rows log chain nets) 4 (groups_takes log chain nets) [] x rest
+    ∙ ap (option_map (Groups log)) (few_board chain nets (x ∷ rest))
 
-log_needs_four : (name workers log chain : Text) → fault_from (log_shape name) (log_three workers log chain) [] ≡ kind.MissingRequiredArgument ∷ []
+chain_word : (rest : List Text) → AllPlain rest → answer (codes "chain" ∷ rest) ≡ option_map Chain (chain_of rest)
 unfolding clap_on_literals
-log_needs_four name workers log chain = refl
+chain_word rest all = named_word (codes "chain") (chain_shape (codes "chain")) (record { met = refl; passes = refl; below = λ rest. refl; finds = λ rest. refl; no_trail = refl }) (λ rest. option_map Chain (chain_of rest)) (chain_read (codes "chain") Chain) rest all
 
-log_more : (name workers log chain nets : Text) (rest : List Text) → AllPlain rest → fault_from (log_shape name) (log_four workers log chain nets) rest ≡ []
+ident_word : (rest : List Text) → AllPlain rest → answer (codes "ident" ∷ rest) ≡ option_map Ident (chain_of rest)
 unfolding clap_on_literals
-log_more name workers log chain nets [] all = refl
-log_more name workers log chain nets (x ∷ rest) all =
-    let w : Walk = log_four workers log chain nets in
-    goes_on (log_shape name) w (log_names workers log chain nets [] x) x rest (one_turn (log_shape name) w.held 5 x all.0) (one_walked (log_shape name) w.held 5 x all.0)
-    ∙ names_fault (log_shape name) (log_names workers log chain nets) (log_takes name workers log chain nets) [] x rest all.1
+ident_word rest all = named_word (codes "ident") (chain_shape (codes "ident")) (record { met = refl; passes = refl; below = λ rest. refl; finds = λ rest. refl; no_trail = refl }) (λ rest. option_map Ident (chain_of rest)) (chain_read (codes "ident") Ident) rest all
 
-log_first : (name workers : Text) (rest : List Text) → Plain workers → fault_from (log_shape name) (walk_from nothing_held) (workers ∷ rest) ≡ fault_from (log_shape name) (after_one (codes "WORKERS") workers) rest
+device_word : (rest : List Text) → AllPlain rest → answer (codes "device" ∷ rest) ≡ device_of rest
 unfolding clap_on_literals
-log_first name workers rest p = goes_on (log_shape name) (walk_from nothing_held) (after_one (codes "WORKERS") workers) workers rest (one_turn (log_shape name) nothing_held 1 workers p) (one_walked (log_shape name) nothing_held 1 workers p)
+device_word rest all = named_word (codes "device") (single_shape (codes "device") (codes "BSDL")) (record { met = refl; passes = refl; below = λ rest. refl; finds = λ rest. refl; no_trail = refl }) (λ rest. device_of rest) (device_read) rest all
 
-log_second : (name workers log : Text) (rest : List Text) → Plain log → fault_from (log_shape name) (after_one (codes "WORKERS") workers) (log ∷ rest) ≡ fault_from (log_shape name) (log_two workers log) rest
-unfolding clap_on_literals
-log_second name workers log rest p =
-    let w : Walk = after_one (codes "WORKERS") workers in
-    goes_on (log_shape name) w (log_two workers log) log rest (one_turn (log_shape name) w.held 2 log p) (one_walked (log_shape name) w.held 2 log p)
+cover_word : (rest : List Text) → AllPlain rest → answer (codes "cover" ∷ rest) ≡ option_map Cover (board_of rest)
+unfolding clap_on_literals board_found
+cover_word rest all = named_word (codes "cover") (board_shape (codes "cover")) (record { met = refl; passes = refl; below = λ rest. refl; finds = λ rest. refl; no_trail = refl }) (λ rest. option_map Cover (board_of rest)) (board_read (codes "cover") Cover) rest all
 
-log_third : (name workers log chain : Text) (rest : List Text) → Plain chain → fault_from (log_shape name) (log_two workers log) (chain ∷ rest) ≡ fault_from (log_shape name) (log_three workers log chain) rest
-unfolding clap_on_literals
-log_third name workers log chain rest p =
-    let w : Walk = log_two workers log in
-    goes_on (log_shape name) w (log_three workers log chain) chain rest (one_turn (log_shape name) w.held 3 chain p) (one_walked (log_shape name) w.held 3 chain p)
+svf_word : (rest : List Text) → AllPlain rest → answer (codes "svf" ∷ rest) ≡ option_map Svf (board_of rest)
+unfolding clap_on_literals board_found
+svf_word rest all = named_word (codes "svf") (board_shape (codes "svf")) (record { met = refl; passes = refl; below = λ rest. refl; finds = λ rest. refl; no_trail = refl }) (λ rest. option_map Svf (board_of rest)) (board_read (codes "svf") Svf) rest all
 
-log_fourth : (name workers log chain nets : Text) (rest : List Text) → Plain nets → fault_from (log_shape name) (log_three workers log chain) (nets ∷ rest) ≡ fault_from (log_shape name) (log_four workers log chain nets) rest
-unfolding clap_on_literals
-log_fourth name workers log chain nets rest p =
-    let w : Walk = log_three workers log chain in
-    goes_on (log_shape name) w (log_four workers log chain nets) nets rest (one_turn (log_shape name) w.held 4 nets p) (one_walked (log_shape name) w.held 4 nets p)
+walk_word : (rest : List Text) → AllPlain rest → answer (codes "walk" ∷ rest) ≡ option_map Walk (board_of rest)
+unfolding clap_on_literals board_found
+walk_word rest all = named_word (codes "walk") (board_shape (codes "walk")) (record { met = refl; passes = refl; below = λ rest. refl; finds = λ rest. refl; no_trail = refl }) (λ rest. option_map Walk (board_of rest)) (board_read (codes "walk") Walk) rest all
 
-diagnose_entered : IsEntered (codes "diagnose") (log_shape (codes "diagnose"))
-unfolding clap_on_literals
-diagnose_entered rest = entered_at (codes "diagnose") rest (stopped_walk top.rules names (walk_from nothing_held) (codes "diagnose") [] rest) (stopped_fault top names (walk_from nothing_held) (codes "diagnose") [] rest) refl
+make_word : (rest : List Text) → AllPlain rest → answer (codes "make" ∷ rest) ≡ make_of rest
+unfolding clap_on_literals board_found
+make_word rest all = named_word (codes "make") (single_shape (codes "make") (codes "NUMBER")) (record { met = refl; passes = refl; below = λ rest. refl; finds = λ rest. refl; no_trail = refl }) (λ rest. make_of rest) (make_read) rest all
 
-batch_entered : IsEntered (codes "batch") (log_shape (codes "batch"))
-unfolding clap_on_literals
-batch_entered rest = entered_at (codes "batch") rest (stopped_walk top.rules names (walk_from nothing_held) (codes "batch") [] rest) (stopped_fault top names (walk_from nothing_held) (codes "batch") [] rest) refl
+diagnose_word : (rest : List Text) → AllPlain rest → answer (codes "diagnose" ∷ rest) ≡ worked_of Diagnose rest
+unfolding clap_on_literals board_found log_found
+diagnose_word rest all = named_word (codes "diagnose") (log_shape (codes "diagnose")) (record { met = refl; passes = refl; below = λ rest. refl; finds = λ rest. refl; no_trail = refl }) (λ rest. worked_of Diagnose rest) (log_read (codes "diagnose") Diagnose) rest all
 
--- whether there is no fault in the words behind the name
-log_fault : (name : Text) (rest : List Text) → AllPlain rest → passes (fault_from (log_shape name) (walk_from nothing_held) rest) ≡ has_four rest
-log_fault name [] all = ap passes (log_needs_one name)
-log_fault name (workers ∷ []) all = ap passes (log_first name workers [] all.0 ∙ log_needs_two name workers)
-log_fault name (workers ∷ log ∷ []) all =
-    ap passes (log_first name workers (log ∷ []) all.0 ∙ log_second name workers log [] all.1.0 ∙ log_needs_three name workers log)
-log_fault name (workers ∷ log ∷ chain ∷ []) all =
-    ap passes (log_first name workers (log ∷ chain ∷ []) all.0 ∙ log_second name workers log (chain ∷ []) all.1.0 ∙ log_third name workers log chain [] all.1.1.0 ∙ log_needs_four name workers log chain)
-log_fault name (workers ∷ log ∷ chain ∷ nets ∷ rest) all =
-    ap passes (
-    log_first name workers (log ∷ chain ∷ nets ∷ rest) all.0 ∙ log_second name workers log (chain ∷ nets ∷ rest) all.1.0 ∙ log_third name workers log chain (nets ∷ rest) all.1.1.0
-    ∙ log_fourth name workers log chain nets rest all.1.1.1.0 ∙ log_more name workers log chain nets rest all.1.1.1.1
-    )
+groups_word : (rest : List Text) → AllPlain rest → answer (codes "groups" ∷ rest) ≡ groups_of rest
+unfolding clap_on_literals board_found log_found
+groups_word rest all = named_word (codes "groups") groups_shape (record { met = refl; passes = refl; below = λ rest. refl; finds = λ rest. refl; no_trail = refl }) (λ rest. groups_of rest) (groups_read) rest all
 
--- nothing comes after the words of a level
-passes_alone : (k : Kinds) → passes (or_else k []) ≡ passes k
-passes_alone [] = refl
-passes_alone (k ∷ ks) = refl
-
-log_exact : (name : Text) → IsEntered name (log_shape name) → (rest : List Text) → AllPlain rest → passes (fault_of btest_app (name ∷ rest)) ≡ has_four rest
-log_exact name enters rest all = ap passes (enters rest) ∙ passes_alone (fault_from (log_shape name) (walk_from nothing_held) rest) ∙ log_fault name rest all
-
--- a command that is about a response log, by one worker
-abbrev groups_shape : Text → Shape
-groups_shape name = shape_in (groups_app name)
-
--- where the walk stands after two and three words
-abbrev groups_two : Text → Text → Walk
-groups_two log chain = before_one (record { rows = row_of (codes "LOG") log ∷ []; pending = Some (codes "CHAIN", chain ∷ []); skip = 0 }) 3
-
--- the rows of the words before the net file, then others
-abbrev groups_rows : Text → Text → List Row → List Row
-groups_rows log chain tail = row_of (codes "LOG") log ∷ row_of (codes "CHAIN") chain ∷ tail
-
-abbrev groups_three : Text → Text → Text → Walk
-groups_three log chain nets = before_one (record { rows = groups_rows log chain []; pending = Some (codes "NETS", nets ∷ []); skip = 0 }) 4
-
--- where the walk stands after more words
-abbrev groups_names : Text → Text → Text → List Row → Text → Walk
-groups_names log chain nets tail x =
-    before_more (record { rows = groups_rows log chain (row_of (codes "NETS") nets ∷ tail); pending = Some (codes "BSDL", x ∷ []); skip = 0 }) 4
-
-groups_takes : (name log chain nets : Text) → TakesNames (groups_shape name) (groups_names log chain nets)
-unfolding clap_on_literals
-groups_takes name log chain nets =
-    let rows : List Row → Text → List Row = λ tail x. groups_rows log chain (row_of (codes "NETS") nets ∷ more_rows x tail) in
-    record {
-      step = λ tail x y p. more_walked (groups_shape name) (groups_names log chain nets tail x).held 4 y p;
-      passes = λ tail x y p. more_turn (groups_shape name) (groups_names log chain nets tail x).held 4 y p;
-      ends = λ tail x.
-          ap (λ k. or_else (or_else k []) (check_fault (groups_shape name) (with_default (rows tail x) (names_in (groups_shape name) 3)) false)) (no_default_fault (names_in (groups_shape name) 3) (rows tail x) refl)
-          ∙ ap (λ rs. check_fault (groups_shape name) rs false) (no_default (names_in (groups_shape name) 3) (rows tail x) refl);
-    }
-
--- fewer than three words are too few
-groups_needs_one : (name : Text) → fault_from (groups_shape name) (walk_from nothing_held) [] ≡ kind.MissingRequiredArgument ∷ []
-unfolding clap_on_literals
-groups_needs_one name = refl
-
-groups_needs_two : (name log : Text) → fault_from (groups_shape name) (after_one (codes "LOG") log) [] ≡ kind.MissingRequiredArgument ∷ []
-unfolding clap_on_literals
-groups_needs_two name log = refl
-
-groups_needs_three : (name log chain : Text) → fault_from (groups_shape name) (groups_two log chain) [] ≡ kind.MissingRequiredArgument ∷ []
-unfolding clap_on_literals
-groups_needs_three name log chain = refl
-
-groups_more : (name log chain nets : Text) (rest : List Text) → AllPlain rest → fault_from (groups_shape name) (groups_three log chain nets) rest ≡ []
-unfolding clap_on_literals
-groups_more name log chain nets [] all = refl
-groups_more name log chain nets (x ∷ rest) all =
-    let w : Walk = groups_three log chain nets in
-    goes_on (groups_shape name) w (groups_names log chain nets [] x) x rest (one_turn (groups_shape name) w.held 4 x all.0) (one_walked (groups_shape name) w.held 4 x all.0)
-    ∙ names_fault (groups_shape name) (groups_names log chain nets) (groups_takes name log chain nets) [] x rest all.1
-
-groups_first : (name log : Text) (rest : List Text) → Plain log → fault_from (groups_shape name) (walk_from nothing_held) (log ∷ rest) ≡ fault_from (groups_shape name) (after_one (codes "LOG") log) rest
-unfolding clap_on_literals
-groups_first name log rest p = goes_on (groups_shape name) (walk_from nothing_held) (after_one (codes "LOG") log) log rest (one_turn (groups_shape name) nothing_held 1 log p) (one_walked (groups_shape name) nothing_held 1 log p)
-
-groups_second : (name log chain : Text) (rest : List Text) → Plain chain → fault_from (groups_shape name) (after_one (codes "LOG") log) (chain ∷ rest) ≡ fault_from (groups_shape name) (groups_two log chain) rest
-unfolding clap_on_literals
-groups_second name log chain rest p =
-    let w : Walk = after_one (codes "LOG") log in
-    goes_on (groups_shape name) w (groups_two log chain) chain rest (one_turn (groups_shape name) w.held 2 chain p) (one_walked (groups_shape name) w.held 2 chain p)
-
-groups_third : (name log chain nets : Text) (rest : List Text) → Plain nets → fault_from (groups_shape name) (groups_two log chain) (nets ∷ rest) ≡ fault_from (groups_shape name) (groups_three log chain nets) rest
-unfolding clap_on_literals
-groups_third name log chain nets rest p =
-    let w : Walk = groups_two log chain in
-    goes_on (groups_shape name) w (groups_three log chain nets) nets rest (one_turn (groups_shape name) w.held 3 nets p) (one_walked (groups_shape name) w.held 3 nets p)
-
-groups_entered : IsEntered (codes "groups") (groups_shape (codes "groups"))
-unfolding clap_on_literals
-groups_entered rest = entered_at (codes "groups") rest (stopped_walk top.rules names (walk_from nothing_held) (codes "groups") [] rest) (stopped_fault top names (walk_from nothing_held) (codes "groups") [] rest) refl
-
-groups_fault : (name : Text) (rest : List Text) → AllPlain rest → passes (fault_from (groups_shape name) (walk_from nothing_held) rest) ≡ has_three rest
-groups_fault name [] all = ap passes (groups_needs_one name)
-groups_fault name (log ∷ []) all = ap passes (groups_first name log [] all.0 ∙ groups_needs_two name log)
-groups_fault name (log ∷ chain ∷ []) all =
-    ap passes (groups_first name log (chain ∷ []) all.0 ∙ groups_second name log chain [] all.1.0 ∙ groups_needs_three name log chain)
-groups_fault name (log ∷ chain ∷ nets ∷ rest) all =
-    ap passes (
-    groups_first name log (chain ∷ nets ∷ rest) all.0 ∙ groups_second name log chain (nets ∷ rest) all.1.0 ∙ groups_third name log chain nets rest all.1.1.0
-    ∙ groups_more name log chain nets rest all.1.1.1
-    )
-
-groups_exact : (name : Text) → IsEntered name (groups_shape name) → (rest : List Text) → AllPlain rest → passes (fault_of btest_app (name ∷ rest)) ≡ has_three rest
-groups_exact name enters rest all = ap passes (enters rest) ∙ passes_alone (fault_from (groups_shape name) (walk_from nothing_held) rest) ∙ groups_fault name rest all
-
--- no word, and another word
-none_fault : fault_of btest_app [] ≡ kind.MissingSubcommand ∷ []
-unfolding clap_on_literals
-none_fault = refl
+batch_word : (rest : List Text) → AllPlain rest → answer (codes "batch" ∷ rest) ≡ worked_of Batch rest
+unfolding clap_on_literals board_found log_found
+batch_word rest all = named_word (codes "batch") (log_shape (codes "batch")) (record { met = refl; passes = refl; below = λ rest. refl; finds = λ rest. refl; no_trail = refl }) (λ rest. worked_of Batch rest) (log_read (codes "batch") Batch) rest all
 
 -- the word is the name of none of these
 abbrev IsOther : Text → Names → Type 0
@@ -445,100 +262,77 @@ none_named w (name ∷ others) other = ap (λ t. cond t (Some name) (find (answe
 no_subcommand : (w : Text) → IsOther w names → subcommand_met names idle w ≡ None
 no_subcommand w other = ap (λ s. option_map (λ (s : Text × List Text). s.0) s) (none_named w names other)
 
-other_turn : (w : Text) → Plain w → IsOther w names → turn_fault top names (walk_from nothing_held) w ≡ kind.UnknownArgument ∷ kind.InvalidSubcommand ∷ []
+other_turn : (w : Text) → Plain w → IsOther w names → turn_fault top names start w ≡ kind.UnknownArgument ∷ kind.InvalidSubcommand ∷ []
 unfolding clap_on_literals
 other_turn w p other =
     ap (λ o. or_else (other_fault top o w nothing_held) (step_fault top 1 (subcommand_or_other top.rules o idle 1 w nothing_held).0 (subcommand_or_other top.rules o idle 1 w nothing_held).1)) (no_subcommand w other)
     ∙ ap (λ k. or_else k (step_fault top 1 (word_met top.rules [] false idle 1 w nothing_held).0 (word_met top.rules [] false idle 1 w nothing_held).1)) (plain_fault top w nothing_held p)
-    ∙ ap (λ m. step_fault top 1 m.0 m.1) (idle_met top.rules 1 w nothing_held p)
+    ∙ ap (λ m. step_fault top 1 m.0 m.1) (met top.rules false 1 w nothing_held p)
 
-other_exact : (w : Text) (rest : List Text) → Plain w → IsOther w names → passes (fault_of btest_app (w ∷ rest)) ≡ false
+other_word : (w : Text) (rest : List Text) → Plain w → IsOther w names → answer (w ∷ rest) ≡ None
 unfolding clap_on_literals
-other_exact w rest p other =
-    ap (λ k. passes (or_else (or_else k (walk_fault top names (walked top.rules names (walk_from nothing_held) w) rest)) (whole_fault (walk top.rules names nothing_held (w ∷ rest))))) (other_turn w p other)
+other_word w rest p other =
+    ap (λ k. if_none (or_else (or_else k (walk_fault top names (walked top.rules names start w) rest)) (whole_fault (walk top.rules names nothing_held (w ∷ rest)))) (command_in (subcommand_of btest_app (w ∷ rest)))) (other_turn w p other)
 
-same_text : (a b : Text) → bytes_eq a b ≡ true → a ≡ b
-same_text a b e = (bytes_eq-Decides a b).0 e
+-- the answer to words that begin with this name, or else to other words
+named_by : (name w : Text) (rest : List Text) (command others : Option Command) (b : Bool) → bytes_eq name w ≡ b → answer (name ∷ rest) ≡ command → (bytes_eq name w ≡ false → answer (w ∷ rest) ≡ others) → answer (w ∷ rest) ≡ (if b then command else others)
+named_by name w rest command others true test is else_is = subst (λ (v : Text). answer (v ∷ rest) ≡ command) ((bytes_eq-Decides name w).0 test) is
+named_by name w rest command others false test is else_is = else_is test
 
--- the words are accepted as this name says, where they begin with it, and else as others say
-abbrev Accepts : Text → List Text → Bool → Type 0
-Accepts w rest accepted = passes (fault_of btest_app (w ∷ rest)) ≡ accepted
-
-named_by : (name w : Text) (rest : List Text) (accepted others : Bool) (b : Bool) → bytes_eq name w ≡ b → Accepts name rest accepted → (bytes_eq name w ≡ false → Accepts w rest others) → Accepts w rest (if b then accepted else others)
-named_by name w rest accepted others true test exact else_exact = subst (λ (v : Text). Accepts v rest accepted) (same_text name w test) exact
-named_by name w rest accepted others false test exact else_exact = else_exact test
-
-named : (name w : Text) (rest : List Text) (accepted others : Bool) → Accepts name rest accepted → (bytes_eq name w ≡ false → Accepts w rest others) → Accepts w rest (if bytes_eq name w then accepted else others)
-named name w rest accepted others exact else_exact = named_by name w rest accepted others (bytes_eq name w) refl exact else_exact
+named : (name w : Text) (rest : List Text) (command others : Option Command) → answer (name ∷ rest) ≡ command → (bytes_eq name w ≡ false → answer (w ∷ rest) ≡ others) → answer (w ∷ rest) ≡ (if bytes_eq name w then command else others)
+named name w rest command others is else_is = named_by name w rest command others (bytes_eq name w) refl is else_is
 
 -- a word that is not a name is not the name of the subcommand either
 no_name : (name w : Text) → bytes_eq name w ≡ false → answers_to w (name, []) ≡ false
 no_name name w e = ap (λ b. b || false) e
 
-first_word : (w : Text) (rest : List Text) → Plain w → AllPlain rest → Accepts w rest (is_accepted (w ∷ rest))
-unfolding clap_on_literals
+first_word : (w : Text) (rest : List Text) → Plain w → AllPlain rest → answer (w ∷ rest) ≡ parsed (w ∷ rest)
+unfolding clap_on_literals board_called log_called
 first_word w rest p all =
-    let is : Text → Bool = λ name. bytes_eq name w in
-    let if_batch : Bool = if is (codes "batch") then has_four rest else false in
-    let if_groups : Bool = if is (codes "groups") then has_three rest else if_batch in
-    let if_diagnose : Bool = if is (codes "diagnose") then has_four rest else if_groups in
-    let if_make : Bool = if is (codes "make") then is_one rest else if_diagnose in
-    let if_walk : Bool = if is (codes "walk") then has_two rest else if_make in
-    let if_svf : Bool = if is (codes "svf") then has_two rest else if_walk in
-    let if_cover : Bool = if is (codes "cover") then has_two rest else if_svf in
-    let if_device : Bool = if is (codes "device") then is_one rest else if_cover in
-    let if_ident : Bool = if is (codes "ident") then has_one rest else if_device in
-    named (codes "chain") w rest (has_one rest) if_ident (chain_exact (codes "chain") chain_entered rest all) (λ chain.
-    named (codes "ident") w rest (has_one rest) if_device (chain_exact (codes "ident") ident_entered rest all) (λ ident.
-    named (codes "device") w rest (is_one rest) if_cover (single_exact (codes "device") (codes "BSDL") device_entered device_one rest all) (λ device.
-    named (codes "cover") w rest (has_two rest) if_svf (board_exact (codes "cover") cover_entered rest all) (λ cover.
-    named (codes "svf") w rest (has_two rest) if_walk (board_exact (codes "svf") svf_entered rest all) (λ svf.
-    named (codes "walk") w rest (has_two rest) if_make (board_exact (codes "walk") walk_entered rest all) (λ walked.
-    named (codes "make") w rest (is_one rest) if_diagnose (single_exact (codes "make") (codes "NUMBER") make_entered make_one rest all) (λ make.
-    named (codes "diagnose") w rest (has_four rest) if_groups (log_exact (codes "diagnose") diagnose_entered rest all) (λ diagnose.
-    named (codes "groups") w rest (has_three rest) if_batch (groups_exact (codes "groups") groups_entered rest all) (λ groups.
-    named (codes "batch") w rest (has_four rest) false (log_exact (codes "batch") batch_entered rest all) (λ batch.
-    other_exact w rest p (
-      no_name (codes "chain") w chain,
-      (
-        no_name (codes "ident") w ident,
-        (
-          no_name (codes "device") w device,
-          (
-            no_name (codes "cover") w cover,
-            (
-              no_name (codes "svf") w svf,
-              (
-                no_name (codes "walk") w walked,
-                (
-                  no_name (codes "diagnose") w diagnose,
-                  (no_name (codes "groups") w groups, (no_name (codes "batch") w batch, (no_name (codes "make") w make, tt))),
-                ),
-              ),
-            ),
-          ),
-        ),
-      ),
-    )))))))))))
+    let if_batch : Option Command = if bytes_eq (codes "batch") w then worked_of Batch rest else None in
+    let if_groups : Option Command = if bytes_eq (codes "groups") w then groups_of rest else if_batch in
+    let if_diagnose : Option Command = if bytes_eq (codes "diagnose") w then worked_of Diagnose rest else if_groups in
+    let if_make : Option Command = if bytes_eq (codes "make") w then make_of rest else if_diagnose in
+    let if_walk : Option Command = if bytes_eq (codes "walk") w then option_map Walk (board_of rest) else if_make in
+    let if_svf : Option Command = if bytes_eq (codes "svf") w then option_map Svf (board_of rest) else if_walk in
+    let if_cover : Option Command = if bytes_eq (codes "cover") w then option_map Cover (board_of rest) else if_svf in
+    let if_device : Option Command = if bytes_eq (codes "device") w then device_of rest else if_cover in
+    let if_ident : Option Command = if bytes_eq (codes "ident") w then option_map Ident (chain_of rest) else if_device in
+    named (codes "chain") w rest (option_map Chain (chain_of rest)) if_ident (chain_word rest all) (λ chain.
+    named (codes "ident") w rest (option_map Ident (chain_of rest)) if_device (ident_word rest all) (λ ident.
+    named (codes "device") w rest (device_of rest) if_cover (device_word rest all) (λ device.
+    named (codes "cover") w rest (option_map Cover (board_of rest)) if_svf (cover_word rest all) (λ cover.
+    named (codes "svf") w rest (option_map Svf (board_of rest)) if_walk (svf_word rest all) (λ svf.
+    named (codes "walk") w rest (option_map Walk (board_of rest)) if_make (walk_word rest all) (λ walk.
+    named (codes "make") w rest (make_of rest) if_diagnose (make_word rest all) (λ make.
+    named (codes "diagnose") w rest (worked_of Diagnose rest) if_groups (diagnose_word rest all) (λ diagnose.
+    named (codes "groups") w rest (groups_of rest) if_batch (groups_word rest all) (λ groups.
+    named (codes "batch") w rest (worked_of Batch rest) None (batch_word rest all) (λ batch.
+    other_word w rest p (no_name (codes "chain") w chain, (no_name (codes "ident") w ident, (no_name (codes "device") w device, (no_name (codes "cover") w cover, (no_name (codes "svf") w svf, (no_name (codes "walk") w walk, (no_name (codes "diagnose") w diagnose, (no_name (codes "groups") w groups, (no_name (codes "batch") w batch, (no_name (codes "make") w make, tt))))))))))))))))))))
 
--- the parse of plain words passes exactly where they are accepted
-pub exact : (ws : List Text) → AllPlain ws → passes (fault_of btest_app ws) ≡ is_accepted ws
-exact [] all = ap passes none_fault
+none_word : answer [] ≡ None
+unfolding clap_on_literals
+none_word = refl
+
+exact : (words : List Text) → AllPlain words → answer words ≡ parsed words
+exact [] all = none_word
 exact (w ∷ rest) all = first_word w rest all.0 all.1
 
--- what an answer of the parse says of the words
-pub accepted_by : (a : App) (ws : List Text) → a ≡ btest_app → list_all is_plain ws ≡ true → (is_simple_and_free a ≡ true → fault_of a ws ≡ []) → true ≡ is_accepted ws
-accepted_by a ws is plain ok =
-    let none : fault_of btest_app ws ≡ [] = subst (λ (x : App). is_simple_and_free x ≡ true → fault_of x ws ≡ []) is ok is_free in
-    sym (ap passes none) ∙ exact ws (all_plain ws plain)
+-- the command in the matches is the one that the words form
+pub found_by : (a : App) (words : List Text) (found : Option (Text × List Row)) → a ≡ btest_app → list_all is_plain words ≡ true → (is_simple_and_free a ≡ true → fault_of a words ≡ []) → (is_simple a ≡ true → found ≡ subcommand_of a words) → command_in found ≡ parsed words
+found_by a words found is plain passes finds =
+    let none : fault_of btest_app words ≡ [] = subst (λ (x : App). is_simple_and_free x ≡ true → fault_of x words ≡ []) is passes is_free in
+    let same : found ≡ subcommand_of btest_app words = subst (λ (x : App). is_simple x ≡ true → found ≡ subcommand_of x words) is finds simple in
+    ap command_in same ∙ ap (λ k. if_none k (command_in (subcommand_of btest_app words))) (sym none) ∙ exact words (all_plain words plain)
 
-among : (k : ErrorKind) (ks : Kinds) → IsAmong k ks → passes ks ≡ false
-among k [] h = absurd h
-among k (x ∷ xs) h = refl
+among : (k : ErrorKind) (ks : Kinds) (command : Option Command) → IsAmong k ks → if_none ks command ≡ None
+among k [] command is = absurd is
+among k (x ∷ xs) command is = refl
 
-pub refused_by : (a : App) (ws : List Text) (k : ErrorKind) → a ≡ btest_app → list_all is_plain ws ≡ true → (is_simple_and_free a ≡ true → (k ≡ kind.OutOfMemory) ⊎ IsAmong k (fault_of a ws)) → (k ≡ kind.OutOfMemory → ⊥) → false ≡ is_accepted ws
-refused_by a ws k is plain err other =
-    elim (subst (λ (x : App). is_simple_and_free x ≡ true → (k ≡ kind.OutOfMemory) ⊎ IsAmong k (fault_of x ws)) is err is_free) [
+-- words that are refused form no command
+pub refused_by : (a : App) (words : List Text) (k : ErrorKind) → a ≡ btest_app → list_all is_plain words ≡ true → (is_simple_and_free a ≡ true → (k ≡ kind.OutOfMemory) ⊎ IsAmong k (fault_of a words)) → (k ≡ kind.OutOfMemory → ⊥) → None ≡ parsed words
+refused_by a words k is plain err other =
+    elim (subst (λ (x : App). is_simple_and_free x ≡ true → (k ≡ kind.OutOfMemory) ⊎ IsAmong k (fault_of x words)) is err is_free) [
       | inl memory ↦ absurd (other memory)
-      | inr one ↦ sym (among k (fault_of btest_app ws) one) ∙ exact ws (all_plain ws plain)
+      | inr one ↦ sym (among k (fault_of btest_app words) (command_in (subcommand_of btest_app words)) one) ∙ exact words (all_plain words plain)
     ]

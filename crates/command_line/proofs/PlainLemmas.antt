@@ -1,4 +1,4 @@
--- Words that are no flags, and what `clap` does with one where an argument by place may stand.
+-- Words that are no flags, and how `clap` gives them to the arguments by place.
 use Rattle.std.proofs.Common.{◌≡◌, ap, ◌∙◌, true, false, Bool, List, [], ◌∷◌, ℕ, nat_eq, Some, None}
 use Rattle.std.specs.Prelude.{option_and_then, if◌then◌else◌}
 use Rattle.std.specs.List.{list_all}
@@ -6,7 +6,7 @@ use Rattle.std.specs.Option.{option_map_or}
 use Rattle.std.specs.Str.{bytes_eq}
 use Rattle.std.proofs.lemmas.Bool.{and_left, and_parts, not-true}
 use Rattle.clap.specs.Lexer.{strip_byte, long_of, long_of_rest, short_of, short_of_rest}
-use Rattle.clap.specs.Walk.{after_step, word_met, value, trailing, long_or_other, short_or_plain, Held, Rule, Text, Walk, walked, idle, positional}
+use Rattle.clap.specs.Walk.{after_step, word_met, value, trailing, long_or_other, short_or_plain, Held, Rule, Text, Waiting, Walk, arg_by_index, to_positional, walked, idle, positional}
 use Rattle.clap.specs.Simple.{Shape}
 use Rattle.clap.specs.Kinds.{or_else}
 use Rattle.clap.specs.Faults.{other_fault, flag_word_fault, bundle_fault, step_fault, turn_fault}
@@ -42,15 +42,17 @@ pub all_plain : (ws : List Text) → list_all is_plain ws ≡ true → AllPlain 
 all_plain [] e = tt
 all_plain (w ∷ ws) e = (is_plain_gives w ((and_parts (is_plain w) (list_all is_plain ws) e).0), all_plain ws ((and_parts (is_plain w) (list_all is_plain ws) e).1))
 
-pub idle_met : (c : List Rule) (position : ℕ) (word : Text) (h : Held) → Plain word → word_met c [] false idle position word h ≡ (h, value)
-idle_met c position word h p =
-    ap (λ (t : Bool). (if t then (h, trailing position) else long_or_other c idle word (long_of word) h)) p.dashes
-    ∙ ap (λ l. long_or_other c idle word l h) p.long ∙ ap (λ s. short_or_plain c idle word s h) p.short
+-- what the walk waits for before an argument by place: a first value of one, or one more value of one that takes many
+abbrev pub waiting_for : Bool → Waiting
+waiting_for many = if many then positional else idle
 
-positional_met : (c : List Rule) (position : ℕ) (word : Text) (h : Held) → Plain word → word_met c [] false positional position word h ≡ (h, value)
-positional_met c position word h p =
+pub met : (c : List Rule) (many : Bool) (position : ℕ) (word : Text) (h : Held) → Plain word → word_met c [] false (waiting_for many) position word h ≡ (h, value)
+met c true position word h p =
     ap (λ (t : Bool). (if t then (h, trailing position) else long_or_other c positional word (long_of word) h)) p.dashes
     ∙ ap (λ l. long_or_other c positional word l h) p.long ∙ ap (λ s. short_or_plain c positional word s h) p.short
+met c false position word h p =
+    ap (λ (t : Bool). (if t then (h, trailing position) else long_or_other c idle word (long_of word) h)) p.dashes
+    ∙ ap (λ l. long_or_other c idle word l h) p.long ∙ ap (λ s. short_or_plain c idle word s h) p.short
 
 pub plain_fault : (s : Shape) (word : Text) (h : Held) → Plain word → other_fault s None word h ≡ []
 plain_fault s word h p =
@@ -58,30 +60,24 @@ plain_fault s word h p =
     ∙ ap (λ l. flag_word_fault s.rules s.args_override_self l word h) p.long
     ∙ ap (λ f. option_map_or (λ flags. bundle_fault s.rules s.args_override_self flags h) f []) p.short
 
--- where the walk stands before an argument by place: a first value of one, or a further value of one that takes many
-abbrev pub before_one : Held → ℕ → Walk
-before_one h position = record { held = h; waiting = idle; position = position; is_trailing = false; stopped = None }
+-- where the walk is before an argument by place
+abbrev pub before : Bool → Held → ℕ → Walk
+before many h position = record { held = h; waiting = waiting_for many; position = position; is_trailing = false; stopped = None }
 
-abbrev pub before_more : Held → ℕ → Walk
-before_more h position = record { held = h; waiting = positional; position = position; is_trailing = false; stopped = None }
+-- the walk gives a word to the argument of its place
+abbrev pub placed : List Rule → Walk → Text → Walk
+placed c w word = to_positional c (arg_by_index c w.position) word w w.held
 
--- a plain word there is a value
-pub one_walked : (s : Shape) (h : Held) (position : ℕ) (word : Text) → Plain word → walked s.rules [] (before_one h position) word ≡ after_step s.rules word (before_one h position) h value
+-- a plain word goes to the argument of its place
+pub plain_walked : (s : Shape) (many : Bool) (h : Held) (position : ℕ) (word : Text) → Plain word → walked s.rules [] (before many h position) word ≡ placed s.rules (before many h position) word
 unfolding clap_on_literals
-one_walked s h position word p = ap (λ m. after_step s.rules word (before_one h position) m.0 m.1) (idle_met s.rules position word h p)
+plain_walked s many h position word p = ap (λ m. after_step s.rules word (before many h position) m.0 m.1) (met s.rules many position word h p)
 
-pub one_turn : (s : Shape) (h : Held) (position : ℕ) (word : Text) → Plain word → turn_fault s [] (before_one h position) word ≡ step_fault s position h value
-unfolding clap_on_literals
-one_turn s h position word p =
-    ap (λ k. or_else k (step_fault s position (word_met s.rules [] false idle position word h).0 (word_met s.rules [] false idle position word h).1)) (plain_fault s word h p)
-    ∙ ap (λ m. step_fault s position m.0 m.1) (idle_met s.rules position word h p)
+turn_by : (s : Shape) (many : Bool) (h : Held) (position : ℕ) (word : Text) → Plain word → or_else (other_fault s None word h) (step_fault s position (word_met s.rules [] false (waiting_for many) position word h).0 (word_met s.rules [] false (waiting_for many) position word h).1) ≡ step_fault s position h value
+turn_by s many h position word p =
+    ap (λ k. or_else k (step_fault s position (word_met s.rules [] false (waiting_for many) position word h).0 (word_met s.rules [] false (waiting_for many) position word h).1)) (plain_fault s word h p)
+    ∙ ap (λ m. step_fault s position m.0 m.1) (met s.rules many position word h p)
 
-pub more_walked : (s : Shape) (h : Held) (position : ℕ) (word : Text) → Plain word → walked s.rules [] (before_more h position) word ≡ after_step s.rules word (before_more h position) h value
-unfolding clap_on_literals
-more_walked s h position word p = ap (λ m. after_step s.rules word (before_more h position) m.0 m.1) (positional_met s.rules position word h p)
-
-pub more_turn : (s : Shape) (h : Held) (position : ℕ) (word : Text) → Plain word → turn_fault s [] (before_more h position) word ≡ step_fault s position h value
-unfolding clap_on_literals
-more_turn s h position word p =
-    ap (λ k. or_else k (step_fault s position (word_met s.rules [] false positional position word h).0 (word_met s.rules [] false positional position word h).1)) (plain_fault s word h p)
-    ∙ ap (λ m. step_fault s position m.0 m.1) (positional_met s.rules position word h p)
+pub plain_turn : (s : Shape) (many : Bool) (h : Held) (position : ℕ) (word : Text) → Plain word → turn_fault s [] (before many h position) word ≡ step_fault s position h value
+plain_turn s true h position word p = turn_by s true h position word p
+plain_turn s false h position word p = turn_by s false h position word p

@@ -1,16 +1,20 @@
 -- A command of the program as a command of the definitions: its words as lists of bytes, without their places in memory.
-use Rattle.std.specs.Prelude.{map, string_bytes}
+use Rattle.std.specs.Prelude.{List, map}
 use Rattle.command_line.specs.declared.command.Command.{Command as Lent}
 use Rattle.command_line.specs.declared.command.Command.TheVariants as lent
 use Rattle.command_line.specs.declared.command.BoardNames.{BoardNames as LentBoard}
+use Rattle.command_line.specs.declared.command.BsdlNames.{BsdlNames as LentNames}
 use Rattle.command_line.specs.declared.command.ChainNames.{ChainNames as LentChain}
-use Rattle.command_line.specs.Words.{ChainNames, BoardNames, Command, Chain, Ident, Device, Cover, Svf, Walk, Make, Diagnose, Groups, Batch}
+use Rattle.command_line.specs.Words.{Text, ChainNames, BoardNames, Command, Chain, Ident, Device, Cover, Svf, Walk, Make, Diagnose, Groups, Batch}
+
+abbrev pub names_view : LentNames → List Text
+names_view names = map (λ name. name.now) names.names.items
 
 abbrev pub chain_view : LentChain → ChainNames
-chain_view names = record { chain = names.chain.now; bsdl = map string_bytes names.bsdl.names.now }
+chain_view names = record { chain = names.chain.now; bsdl = names_view names.bsdl }
 
 abbrev pub board_view : LentBoard → BoardNames
-board_view names = record { chain = names.chain.now; nets = names.nets.now; bsdl = map string_bytes names.bsdl.names.now }
+board_view names = record { chain = names.chain.now; nets = names.nets.now; bsdl = names_view names.bsdl }
 
 abbrev pub command_view : Lent → Command
 command_view (lent.Chain names) = Chain (chain_view names)

@@ -1,2 +1,3 @@
 -- Terms that serve proofs and the contracts of private functions. No public contract cites them.
 pub mod App
+pub mod Found

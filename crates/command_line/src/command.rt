@@ -6,14 +6,14 @@ ghost use Rattle.command_line.specs.Words.{most_names};
 pub const MOST_NAMES: usize = 255;
 
 /// The names of the BSDL files, at most 255.
-#[derive(Clone, Copy)]
+#[derive(Drop)]
 pub struct BsdlNames<'a> {
-    pub names: &'a [String],
-    ghost few: { length names.now ≤ most_names },
+    pub names: Vec<&'a str>,
+    ghost few: { length names.items ≤ most_names },
 }
 
 /// The file names of a chain.
-#[derive(Clone, Copy)]
+#[derive(Drop)]
 pub struct ChainNames<'a> {
     /// The chain file.
     pub chain: &'a str,
@@ -22,7 +22,7 @@ pub struct ChainNames<'a> {
 }
 
 /// The file names of a board.
-#[derive(Clone, Copy)]
+#[derive(Drop)]
 pub struct BoardNames<'a> {
     /// The chain file.
     pub chain: &'a str,
@@ -33,7 +33,7 @@ pub struct BoardNames<'a> {
 }
 
 /// A command, with the names of the files that it reads.
-#[derive(Clone, Copy)]
+#[derive(Drop)]
 pub enum Command<'a> {
     /// Writes the test of the length of a chain.
     Chain(ChainNames<'a>),

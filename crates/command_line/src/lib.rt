@@ -2,6 +2,8 @@
 #![tactic(auto)]
 
 mod command;
+mod found;
+mod grammar;
 mod number;
 mod words;
 

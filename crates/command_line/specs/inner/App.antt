@@ -1,6 +1,5 @@
 -- The program's command as `clap` sees it.
-use Rattle.std.specs.Prelude.{List, [], ◌∷◌, Bool, true, false, codes, Some, if◌then◌else◌}
-use Rattle.std.specs.Str.{bytes_eq}
+use Rattle.std.specs.Prelude.{true, codes, Some}
 use Rattle.clap.specs.Walk.{Rule, Text}
 use Rattle.clap.specs.Simple.{App, new_app, new_rule, on_top, with_rule, with_subcommand}
 use Rattle.clap.specs.declared.builder.action.ArgAction.TheVariants.{Set, Append}
@@ -61,39 +60,3 @@ logs_app =
 -- that command with the subcommand that generates a board, too
 abbrev pub btest_app : App
 btest_app = with_subcommand logs_app (single_app (codes "make") (codes "NUMBER")).top
-
-abbrev pub has_one : List Text → Bool
-has_one [] = false
-has_one (name ∷ names) = true
-
-abbrev pub is_one : List Text → Bool
-is_one [] = false
-is_one (name ∷ []) = true
-is_one (name ∷ other ∷ others) = false
-
-abbrev pub has_two : List Text → Bool
-has_two [] = false
-has_two (name ∷ names) = has_one names
-
-abbrev pub has_three : List Text → Bool
-has_three [] = false
-has_three (name ∷ names) = has_two names
-
-abbrev pub has_four : List Text → Bool
-has_four [] = false
-has_four (name ∷ names) = has_three names
-
--- the words that `clap` accepts
-abbrev pub is_accepted : List Text → Bool
-is_accepted [] = false
-is_accepted (word ∷ rest) =
-    if bytes_eq (codes "chain") word then has_one rest else
-    if bytes_eq (codes "ident") word then has_one rest else
-    if bytes_eq (codes "device") word then is_one rest else
-    if bytes_eq (codes "cover") word then has_two rest else
-    if bytes_eq (codes "svf") word then has_two rest else
-    if bytes_eq (codes "walk") word then has_two rest else
-    if bytes_eq (codes "make") word then is_one rest else
-    if bytes_eq (codes "diagnose") word then has_four rest else
-    if bytes_eq (codes "groups") word then has_three rest else
-    if bytes_eq (codes "batch") word then has_four rest else false

@@ -1,15 +1,10 @@
-use Rattle.std.proofs.Common.{◌∙◌, map, string_bytes, sym}
+use Rattle.std.proofs.Common.{◌∙◌, ap, map, string_bytes, sym}
+use Rattle.std.proofs.lemmas.Result.{IfOk-weaker}
+use Rattle.command_line.specs.inner.Found.{found_in}
 use Rattle.command_line.proofs.RangeLemmas.{command_in_range}
-use Rattle.command_line.proofs.RefusedLemmas.{refused_words, unplain_words}
-use Rattle.command_line.proofs.words.command_of.Goals.{else-are_plain-via-then-are_plain+in_ok-is_accepted+else-branch, else-are_plain-via-else-are_plain}
 use Rattle.command_line.proofs.words.command_of.Goals as goal
 
-pub returns-then-branch-clause-number : goal.returns-then-branch-clause-number
-returns-then-branch-clause-number c = command_in_range (map string_bytes c.args.words.now) c.parsed.result c.parsed.ensures
-
-pub returns-else-are_plain-clause-command : goal.returns-else-are_plain-clause-command
-returns-else-are_plain-clause-command c =
-    elim c.else-are_plain.branch [
-      | else-are_plain-via-then-are_plain+in_ok-is_accepted+else-branch w ↦ sym (refused_words (map string_bytes c.args.words.now) (sym w.in_ok-is_accepted.ensures ∙ w.if-branch.false))
-      | else-are_plain-via-else-are_plain w ↦ sym (unplain_words (map string_bytes c.args.words.now) (sym w.if-are_plain.ensures))
-    ]
+pub returns-in-Ok-Some-clause-number : goal.returns-in-Ok-Some-clause-number
+returns-in-Ok-Some-clause-number c =
+    let words = map string_bytes c.args.words.now in
+    IfOk-weaker c.command_in.result _ _ (λ command is. command_in_range words command (is ∙ sym (ap found_in c.in-Ok-Some.field-0-is) ∙ c.in-Ok-Some.ensures)) c.command_in.ensures

@@ -1,7 +1,7 @@
 use Rattle.std.proofs.Common.{codes}
 use Rattle.clap.specs.Simple.{App, with_rule}
 use Rattle.command_line.specs.inner.App.{name_rule}
-use Rattle.command_line.proofs.words.with_board.Goals as goal
+use Rattle.command_line.proofs.grammar.with_board.Goals as goal
 
 pub returns-clause-app : goal.returns-clause-app
 returns-clause-app c = λ app is.

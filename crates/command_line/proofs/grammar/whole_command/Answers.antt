@@ -1,7 +1,7 @@
 use Rattle.std.proofs.Common.{codes}
 use Rattle.clap.specs.Simple.{App}
 use Rattle.command_line.specs.inner.App.{logs_app, single_app}
-use Rattle.command_line.proofs.words.whole_command.Goals as goal
+use Rattle.command_line.proofs.grammar.whole_command.Goals as goal
 
 pub returns : goal.returns
 returns c =

@@ -1,7 +1,7 @@
 use Rattle.std.proofs.Common.{codes}
 use Rattle.clap.specs.Simple.{App, new_app, with_rule}
 use Rattle.command_line.specs.inner.App.{name_rule}
-use Rattle.command_line.proofs.words.groups_command.Goals as goal
+use Rattle.command_line.proofs.grammar.groups_command.Goals as goal
 
 pub returns-clause-app : goal.returns-clause-app
 returns-clause-app c =

@@ -1,7 +1,7 @@
 use Rattle.std.proofs.Common.{codes}
 use Rattle.clap.specs.Simple.{App, with_subcommand}
 use Rattle.command_line.specs.inner.App.{board_app, parts_app}
-use Rattle.command_line.proofs.words.board_commands.Goals as goal
+use Rattle.command_line.proofs.grammar.board_commands.Goals as goal
 
 pub returns-clause-app : goal.returns-clause-app
 returns-clause-app c =

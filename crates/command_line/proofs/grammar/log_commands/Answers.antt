@@ -1,7 +1,7 @@
 use Rattle.std.proofs.Common.{codes}
 use Rattle.clap.specs.Simple.{App, with_subcommand}
 use Rattle.command_line.specs.inner.App.{boards_app, groups_app, log_app}
-use Rattle.command_line.proofs.words.log_commands.Goals as goal
+use Rattle.command_line.proofs.grammar.log_commands.Goals as goal
 
 pub returns-clause-app : goal.returns-clause-app
 returns-clause-app c =

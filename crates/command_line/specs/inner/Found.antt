@@ -1,0 +1,70 @@
+-- The command in what `clap` found.
+use Rattle.std.specs.Prelude.{ℕ, List, [], codes, Option, None, option_and_then, option_map, unwrap_or, if◌then◌else◌}
+use Rattle.std.specs.Str.{bytes_eq}
+use Rattle.clap.specs.Simple.{subcommand_rows_of}
+use Rattle.clap.specs.Walk.{Row, Text, all_of, first_of}
+use Rattle.clap.specs.declared.parser.matches.ArgMatches.{ArgMatches}
+use Rattle.command_line.specs.Words.{ChainNames, BoardNames, Command, Chain, Ident, Device, Cover, Svf, Walk, Make, Diagnose, Groups, Batch, most_made, most_workers, number_of, with_names}
+
+-- the names of the BSDL files
+abbrev pub bsdl_in : List Row → List Text
+bsdl_in rows = unwrap_or (all_of (codes "BSDL") rows) []
+
+-- those names, if they are not too many
+abbrev pub few_in : List Row → Option (List Text)
+few_in rows = with_names (bsdl_in rows) (bsdl_in rows)
+
+-- the file names of a chain
+abbrev pub chain_in : List Row → Option ChainNames
+chain_in rows = option_and_then (λ chain. option_map (λ bsdl. record { chain = chain; bsdl = bsdl }) (few_in rows)) (first_of (codes "CHAIN") rows)
+
+-- the file names of a board
+abbrev pub board_in : List Row → Option BoardNames
+board_in rows =
+    option_and_then (λ chain. option_and_then (λ nets. option_map (λ bsdl. record { chain = chain; nets = nets; bsdl = bsdl }) (few_in rows)) (first_of (codes "NETS") rows)) (first_of (codes "CHAIN") rows)
+
+-- the commands, from the matches of their subcommands
+abbrev pub device_in : List Row → Option Command
+device_in rows = option_map Device (first_of (codes "BSDL") rows)
+
+abbrev pub make_in : List Row → Option Command
+make_in rows = option_and_then (λ number. option_map Make (number_of most_made number)) (first_of (codes "NUMBER") rows)
+
+abbrev pub workers_in : List Row → Option ℕ
+workers_in rows = option_and_then (number_of most_workers) (first_of (codes "WORKERS") rows)
+
+abbrev pub worked_in : (ℕ → Text → BoardNames → Command) → List Row → Option Command
+worked_in command rows =
+    option_and_then (λ log. option_and_then (λ board. option_map (λ workers. command workers log board) (workers_in rows)) (board_in rows)) (first_of (codes "LOG") rows)
+
+abbrev pub groups_in : List Row → Option Command
+groups_in rows = option_and_then (λ log. option_map (Groups log) (board_in rows)) (first_of (codes "LOG") rows)
+
+-- the command of the subcommand with this name, if it works on a response log
+unfoldable pub log_found : Text → List Row → Option Command
+log_found name rows =
+    if bytes_eq (codes "diagnose") name then worked_in Diagnose rows else
+    if bytes_eq (codes "groups") name then groups_in rows else
+    if bytes_eq (codes "batch") name then worked_in Batch rows else None
+
+-- the command of the subcommand with this name, if it works on a board or a response log
+unfoldable pub board_found : Text → List Row → Option Command
+board_found name rows =
+    if bytes_eq (codes "cover") name then option_map Cover (board_in rows) else
+    if bytes_eq (codes "svf") name then option_map Svf (board_in rows) else
+    if bytes_eq (codes "walk") name then option_map Walk (board_in rows) else
+    if bytes_eq (codes "make") name then make_in rows else log_found name rows
+
+-- the command of the subcommand with this name
+abbrev pub called_found : Text → List Row → Option Command
+called_found name rows =
+    if bytes_eq (codes "chain") name then option_map Chain (chain_in rows) else
+    if bytes_eq (codes "ident") name then option_map Ident (chain_in rows) else
+    if bytes_eq (codes "device") name then device_in rows else board_found name rows
+
+-- the command in the matches
+abbrev pub command_in : Option (Text × List Row) → Option Command
+command_in = option_and_then (λ found. called_found found.0 found.1)
+
+abbrev pub found_in : Option ArgMatches → Option Command
+found_in = option_and_then (λ matches. command_in (subcommand_rows_of matches))

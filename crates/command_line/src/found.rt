@@ -1,0 +1,296 @@
+// Reads the command in what `clap` found.
+ghost use Rattle.std.specs.Prelude.{◌≡◌, map, IfOk, option_map};
+ghost use Rattle.clap.specs.Matches.{found_of};
+ghost use Rattle.clap.specs.Simple.{subcommand_rows_of};
+ghost use Rattle.clap.specs.Walk.{first_of, rows_of};
+ghost use Rattle.command_line.specs.Words.{with_names, Chain, Ident, Cover, Svf, Walk, Diagnose, Batch};
+ghost use Rattle.command_line.specs.CommandView.{names_view, chain_view, board_view, command_view};
+ghost use Rattle.command_line.specs.inner.Found.{command_in, called_found, board_found, log_found, few_in, chain_in, board_in, device_in, make_in, workers_in, worked_in, groups_in};
+
+use crate::command::{BoardNames, BsdlNames, ChainNames, Command, MOST_NAMES};
+use crate::number::number_of;
+use clap::ArgMatches;
+use std::alloc::{AllocError, Global};
+
+// The largest number of parts of a generated board.
+const MOST_MADE: u32 = 255;
+
+// The largest number of workers of a diagnosis.
+const MOST_WORKERS: u32 = 64;
+
+/// Returns the command that `clap` found, or `None` if a number is out of its range, or there are more than 255 BSDL names.
+/// The only error is a lack of memory.
+pub fn command_in<'a>(
+    alloc: Global,
+    matches: &ArgMatches<'a>,
+) -> Result<Option<Command<'a>>, AllocError>
+    ensures { IfOk result (λ c. option_map command_view c ≡ command_in (subcommand_rows_of matches.now)) }
+{
+    match matches.subcommand() {
+        Some((name, found)) => command_called(alloc, name, found),
+        None => Ok(None),
+    }
+}
+
+// Returns the command of the subcommand with this name.
+fn command_called<'a>(
+    alloc: Global,
+    name: &str,
+    found: &ArgMatches<'a>,
+) -> Result<Option<Command<'a>>, AllocError>
+    ensures { IfOk result (λ c. option_map command_view c ≡ called_found name.now (rows_of (found_of found.now))) }
+{
+    if name == "chain" {
+        chain_command(alloc, found)
+    } else if name == "ident" {
+        ident_command(alloc, found)
+    } else if name == "device" {
+        Ok(device_command(found))
+    } else {
+        board_called(alloc, name, found)
+    }
+}
+
+// Returns the command of the subcommand with this name, if it works on a board.
+#[tactic(auto, unfolding(crate::specs::inner::Found::board_found))]
+fn board_called<'a>(
+    alloc: Global,
+    name: &str,
+    found: &ArgMatches<'a>,
+) -> Result<Option<Command<'a>>, AllocError>
+    ensures { IfOk result (λ c. option_map command_view c ≡ board_found name.now (rows_of (found_of found.now))) }
+{
+    if name == "cover" {
+        cover_command(alloc, found)
+    } else if name == "svf" {
+        svf_command(alloc, found)
+    } else if name == "walk" {
+        walk_command(alloc, found)
+    } else if name == "make" {
+        Ok(make_command(found))
+    } else {
+        log_called(alloc, name, found)
+    }
+}
+
+// Returns the command of the subcommand with this name, if it works on a response log.
+#[tactic(auto, unfolding(crate::specs::inner::Found::log_found))]
+fn log_called<'a>(
+    alloc: Global,
+    name: &str,
+    found: &ArgMatches<'a>,
+) -> Result<Option<Command<'a>>, AllocError>
+    ensures { IfOk result (λ c. option_map command_view c ≡ log_found name.now (rows_of (found_of found.now))) }
+{
+    if name == "diagnose" {
+        diagnose_command(alloc, found)
+    } else if name == "groups" {
+        groups_command(alloc, found)
+    } else if name == "batch" {
+        batch_command(alloc, found)
+    } else {
+        Ok(None)
+    }
+}
+
+// Returns the word of an argument.
+#[tactic(auto, using(crate::proofs::RowLemmas::first_row))]
+fn word_in<'a>(found: &ArgMatches<'a>, id: &str) -> Option<&'a str>
+    ensures { option_map (λ word. word.now) result ≡ first_of id.now (rows_of (found_of found.now)) }
+{
+    found.get_str(id)
+}
+
+// Returns the names of the BSDL files, or `None` if there are more than 255.
+#[tactic(auto, using(crate::proofs::RowLemmas::all_rows))]
+fn few_in<'a>(alloc: Global, found: &ArgMatches<'a>) -> Result<Option<BsdlNames<'a>>, AllocError>
+    ensures { IfOk result (λ bsdl. option_map names_view bsdl ≡ few_in (rows_of (found_of found.now))) }
+{
+    match found.get_strs("BSDL") {
+        Some(names) => few_names(alloc, names),
+        None => few_names(alloc, &[]),
+    }
+}
+
+// Returns these names of BSDL files, or `None` if there are more than 255.
+fn few_names<'a>(alloc: Global, names: &[&'a str]) -> Result<Option<BsdlNames<'a>>, AllocError>
+    ensures { IfOk result (λ bsdl. option_map names_view bsdl ≡ with_names (map (λ name. name.now) names.now) (map (λ name. name.now) names.now)) }
+{
+    if names.len() > MOST_NAMES {
+        return Ok(None);
+    }
+    let names = names.to_vec(alloc)?;
+    Ok(Some(BsdlNames { names }))
+}
+
+// Returns the file names of a chain.
+fn chain_in<'a>(alloc: Global, found: &ArgMatches<'a>) -> Result<Option<ChainNames<'a>>, AllocError>
+    ensures { IfOk result (λ names. option_map chain_view names ≡ chain_in (rows_of (found_of found.now))) }
+{
+    let Some(chain) = word_in(found, "CHAIN") else {
+        return Ok(None);
+    };
+    match few_in(alloc, found) {
+        Ok(Some(bsdl)) => Ok(Some(ChainNames { chain, bsdl })),
+        Ok(None) => Ok(None),
+        Err(error) => Err(error),
+    }
+}
+
+// Returns the file names of a board.
+fn board_in<'a>(alloc: Global, found: &ArgMatches<'a>) -> Result<Option<BoardNames<'a>>, AllocError>
+    ensures { IfOk result (λ names. option_map board_view names ≡ board_in (rows_of (found_of found.now))) }
+{
+    let Some(chain) = word_in(found, "CHAIN") else {
+        return Ok(None);
+    };
+    let Some(nets) = word_in(found, "NETS") else {
+        return Ok(None);
+    };
+    match few_in(alloc, found) {
+        Ok(Some(bsdl)) => Ok(Some(BoardNames { chain, nets, bsdl })),
+        Ok(None) => Ok(None),
+        Err(error) => Err(error),
+    }
+}
+
+// Returns the command `chain`.
+fn chain_command<'a>(
+    alloc: Global,
+    found: &ArgMatches<'a>,
+) -> Result<Option<Command<'a>>, AllocError>
+    ensures { IfOk result (λ c. option_map command_view c ≡ option_map Chain (chain_in (rows_of (found_of found.now)))) }
+{
+    match chain_in(alloc, found)? {
+        Some(names) => Ok(Some(Command::Chain(names))),
+        None => Ok(None),
+    }
+}
+
+// Returns the command `ident`.
+fn ident_command<'a>(
+    alloc: Global,
+    found: &ArgMatches<'a>,
+) -> Result<Option<Command<'a>>, AllocError>
+    ensures { IfOk result (λ c. option_map command_view c ≡ option_map Ident (chain_in (rows_of (found_of found.now)))) }
+{
+    match chain_in(alloc, found)? {
+        Some(names) => Ok(Some(Command::Ident(names))),
+        None => Ok(None),
+    }
+}
+
+// Returns the command `device`.
+fn device_command<'a>(found: &ArgMatches<'a>) -> Option<Command<'a>>
+    ensures { option_map command_view result ≡ device_in (rows_of (found_of found.now)) }
+{
+    let bsdl = word_in(found, "BSDL")?;
+    Some(Command::Device { bsdl })
+}
+
+// Returns the command `cover`.
+fn cover_command<'a>(
+    alloc: Global,
+    found: &ArgMatches<'a>,
+) -> Result<Option<Command<'a>>, AllocError>
+    ensures { IfOk result (λ c. option_map command_view c ≡ option_map Cover (board_in (rows_of (found_of found.now)))) }
+{
+    match board_in(alloc, found)? {
+        Some(names) => Ok(Some(Command::Cover(names))),
+        None => Ok(None),
+    }
+}
+
+// Returns the command `svf`.
+fn svf_command<'a>(alloc: Global, found: &ArgMatches<'a>) -> Result<Option<Command<'a>>, AllocError>
+    ensures { IfOk result (λ c. option_map command_view c ≡ option_map Svf (board_in (rows_of (found_of found.now)))) }
+{
+    match board_in(alloc, found)? {
+        Some(names) => Ok(Some(Command::Svf(names))),
+        None => Ok(None),
+    }
+}
+
+// Returns the command `walk`.
+fn walk_command<'a>(
+    alloc: Global,
+    found: &ArgMatches<'a>,
+) -> Result<Option<Command<'a>>, AllocError>
+    ensures { IfOk result (λ c. option_map command_view c ≡ option_map Walk (board_in (rows_of (found_of found.now)))) }
+{
+    match board_in(alloc, found)? {
+        Some(names) => Ok(Some(Command::Walk(names))),
+        None => Ok(None),
+    }
+}
+
+// Returns the command `make`.
+fn make_command<'a>(found: &ArgMatches<'a>) -> Option<Command<'a>>
+    ensures { option_map command_view result ≡ make_in (rows_of (found_of found.now)) }
+{
+    let parts = number_of(MOST_MADE, word_in(found, "NUMBER")?)?;
+    Some(Command::Make(parts))
+}
+
+// Returns the number of workers.
+fn workers_in(found: &ArgMatches) -> Option<u32>
+    ensures { result ≡ workers_in (rows_of (found_of found.now)) }
+{
+    number_of(MOST_WORKERS, word_in(found, "WORKERS")?)
+}
+
+// Returns the command `diagnose`.
+fn diagnose_command<'a>(
+    alloc: Global,
+    found: &ArgMatches<'a>,
+) -> Result<Option<Command<'a>>, AllocError>
+    ensures { IfOk result (λ c. option_map command_view c ≡ worked_in Diagnose (rows_of (found_of found.now))) }
+{
+    let Some(log) = word_in(found, "LOG") else {
+        return Ok(None);
+    };
+    match (board_in(alloc, found)?, workers_in(found)) {
+        (Some(board), Some(workers)) => Ok(Some(Command::Diagnose {
+            workers,
+            log,
+            board,
+        })),
+        _ => Ok(None),
+    }
+}
+
+// Returns the command `groups`.
+fn groups_command<'a>(
+    alloc: Global,
+    found: &ArgMatches<'a>,
+) -> Result<Option<Command<'a>>, AllocError>
+    ensures { IfOk result (λ c. option_map command_view c ≡ groups_in (rows_of (found_of found.now))) }
+{
+    let Some(log) = word_in(found, "LOG") else {
+        return Ok(None);
+    };
+    match board_in(alloc, found)? {
+        Some(board) => Ok(Some(Command::Groups { log, board })),
+        None => Ok(None),
+    }
+}
+
+// Returns the command `batch`.
+fn batch_command<'a>(
+    alloc: Global,
+    found: &ArgMatches<'a>,
+) -> Result<Option<Command<'a>>, AllocError>
+    ensures { IfOk result (λ c. option_map command_view c ≡ worked_in Batch (rows_of (found_of found.now))) }
+{
+    let Some(log) = word_in(found, "LOG") else {
+        return Ok(None);
+    };
+    match (board_in(alloc, found)?, workers_in(found)) {
+        (Some(board), Some(workers)) => Ok(Some(Command::Batch {
+            workers,
+            log,
+            board,
+        })),
+        _ => Ok(None),
+    }
+}
