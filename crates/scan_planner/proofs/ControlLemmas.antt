@@ -1,4 +1,4 @@
--- A control that controls a driver of a net controls a driver of the board.
+-- A control of a driver of a net controls a driver of the board, and a useful control does as well.
 use Rattle.std.proofs.Common.{◌≡◌, ℕ, ◌==◌, Bool, true, false, ◌&&◌, Option, Some, None, refl, sym, ap, ◌∙◌}
 use Rattle.std.specs.Prelude.{length, slice_get, unwrap_or, option_map, option_and_then, if◌then◌else◌}
 use Rattle.std.specs.List.{list_any}
@@ -25,7 +25,7 @@ use Rattle.tap_defs.proofs.board.NetRuleLemmas.{board_rules}
 use Rattle.plan_tables.specs.Plans.{controls_in, controls_some}
 use Rattle.plan_tables.proofs.PinLemmas.{Drives, drives_by, entry_on}
 
--- the control with which the entry of a driver names `c`
+-- the control that the entry of a driver on this part has: it is the cell of `c`, on the part of `c`
 record Names (part : ℕ) (o : Option Control) (c : Ctl) : Type 0 where
   control : Control
   is_control : o ≡ Some control
@@ -47,7 +47,7 @@ names_of board net part cell (Some control) c e = by_own (control.cell == cell.n
     by_own true false k = cc k
     by_own false switched k = named k
 
--- a control of a driving entry that has a pin controls a driver of its device
+-- the control of a driving entry controls a driver of the board if the entry has a pin
 controls_entry : (board : RawBoard) (at : PinAt) (device : RawDevice) (cell : Cell) (c : Ctl) → device_at board at.part ≡ Some device → is_pinned board at ≡ true →
     Drives device at.bit cell → Names at.part cell.ctl c → controls_some board c ≡ true
 controls_entry board at device cell c dev pinned d n =
@@ -90,7 +90,7 @@ net_controls board rules c h =
     let p : Found (λ (q : NetPin). is_by c (drive board n.item q)) n.item.pins = any_place (λ (q : NetPin). is_by c (drive board n.item q)) n.item.pins n.passes in
     controls_pin board rules n.place n.item p.place p.item c n.stands p.stands (by_true c (drive board n.item p.item) p.passes)
 
--- a net with a tested driver of a control has a driver of it
+-- a net with a tested driver that control `c` controls has a driver that `c` controls
 tests_drives : (board : RawBoard) (c : Ctl) (net : Net) → tests_by board c net ≡ true → drives_net board c net ≡ true
 tests_drives board c net h =
     let t : FoundBelow (length net.pins) (tests_by_at board c net) = below_place (length net.pins) (tests_by_at board c net) h in

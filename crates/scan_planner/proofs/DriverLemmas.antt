@@ -1,4 +1,4 @@
--- The bits of the nets that a pass observes, in the cells of their drivers.
+-- A row with the bits of the observed nets in the cells of their drivers is the row of the pass.
 use Rattle.std.proofs.Common.{◌≡◌, ℕ, ◌+◌, ◌==◌, Bool, true, false, List, Option, Some, None, unwrap_or, refl, sym, ap, ◌∙◌, subst, arith, ◌⊎◌, inl, inr}
 use Rattle.std.specs.Prelude.{slice_get, option_and_then}
 use Rattle.std.proofs.lemmas.Bool.{eq-eqb, eqb-true}
@@ -20,11 +20,11 @@ use Rattle.plan_tables.specs.Assigned.{assigned}
 use Rattle.plan_tables.proofs.LaidLemmas.{CellOf, Sets, assigned_laid}
 use Rattle.plan_tables.proofs.PinLemmas.{Standing, standing, wired_at, Drives, drives_by, entry_on, driving_cell_is, driving_entry_is}
 
--- the row of a pass
+-- a row of a pass in which the nets carry these bits
 abbrev pub pass_row : List Ctl → (ℕ → Option Bool) → TestRow
 pass_row pass carried = record { setting = holds pass; carried = carried }
 
--- the bits of a row
+-- the bit that a row puts into a cell of a part
 abbrev pub row_cells : RawBoard → TestRow → ℕ → RawDevice → ℕ → Bool
 row_cells board row part device cell = row_bit board row part device cell
 

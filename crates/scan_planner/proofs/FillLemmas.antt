@@ -1,4 +1,4 @@
--- The rows that a plan's tables fill are those of the scan.
+-- Rows that are filled from a plan's tables hold the scan.
 use Rattle.std.proofs.Common.{◌≡◌, ℕ, suc, ◌+◌, ◌*◌, ◌<◌, ◌≤◌, Bool, true, false, cond, List, [], ◌++◌, length, get_or, set, replicate, Option, Some, is_some, unwrap_or, sym, ap, ◌∙◌, subst, arith}
 use Rattle.std.specs.Prelude.{slice_get, All}
 use Rattle.std.specs.List.{list_any}
@@ -46,7 +46,7 @@ use Rattle.scan_planner.proofs.ReaderLemmas.{Pair, pairs, set_compared_is, tdo_c
 use Rattle.plan_tables.proofs.PassLemmas.{fold_on}
 use Rattle.plan_tables.proofs.SizeLemmas.{IsSized}
 
--- rows with the bits of scan `k` are filled with it
+-- rows with the bits and the shape of scan `k` hold the scan, as `FillsScan` states
 pub fills : (board : RawBoard) (passes : List (List Ctl)) (width k : ℕ) (scan : Scan) (shape : Shape) (tdi tdo mask : List Bool) → slice_get (test_scans board passes width) k ≡ Some scan →
     0 < length scan.bits → length scan.bits ≤ most_bits → AreBitsOf scan.bits tdi tdo mask → shape.ir ≡ scan.ir →
     shape.compare ≡ list_any (λ bit. bit) mask → FillsScan board passes width k shape tdi tdo mask
@@ -61,19 +61,19 @@ fills board passes width k scan shape tdi tdo mask placed some most are is_ir co
       masked = rows_masked are;
     }
 
--- the stored rows of a scan of instructions go into rows with room for one
+-- rows with room for a scan of instructions have room for the stored rows of one
 pub codes_room : (board : RawBoard) (bits : List ScanBit) (stored : StoredRows) (rows : ScanRows) → IsSized bits (instruction_bits board) → AreRowsOf bits stored →
     EachHasRoom (IsRoom board) rows → HaveRoomFor stored rows
 codes_room board bits stored rows s are each = room_for bits stored rows are (each_room (λ room is. omega (arith, s.size_is, is.instructions)) each)
 
--- scans of data
+-- a scan of data has as many bits as the board's boundary-scan registers, from 1 to the most bits of a board
 pub row_sized : (board : RawBoard) → IsBoard board → (scan : RowScan) → IsSized (joined (row_bits board scan)) (data_bits board)
 row_sized board rules scan =
     let size : length (joined (row_bits board scan)) ≡ data_bits board =
     sym (length-map (joined (row_bits board scan)) (λ b. b.tdi)) ∙ ap (λ (l : List Bool). length l) (tdi_laid board scan) ∙ length-laid (λ part device cell. row_bit board scan.now part device cell) board in
     record { some = row_scan_some board rules scan; most = omega (arith, size, rules.data_most); size_is = size }
 
--- the lengths of its rows
+-- each row of a scan of data has the length of the scan
 pub shifted_size : (board : RawBoard) (scan : RowScan) → length (tdi_bits (joined (row_bits board scan))) ≡ data_bits board
 shifted_size board scan = ap length (tdi_laid board scan) ∙ length-laid (λ part device cell. row_bit board scan.now part device cell) board
 
@@ -83,7 +83,7 @@ expected_size board scan = ap length (tdo_laid board scan) ∙ length-laid (λ p
 pub marked_size : (board : RawBoard) (scan : RowScan) → length (mask_bits (joined (row_bits board scan))) ≡ data_bits board
 marked_size board scan = ap length (mask_laid board scan) ∙ length-laid (λ part device cell. is_some (expect_bit board scan.before part device cell)) board
 
--- nothing of the quiet row is compared
+-- a scan after the quiet row compares nothing: its expected bits and its mask are zeros
 pub quiet_tdo : (board : RawBoard) (scan : RowScan) → scan.before ≡ quiet_row → replicate (data_bits board) false ≡ tdo_bits (joined (row_bits board scan))
 quiet_tdo board scan e =
     zeros_laid board
@@ -105,7 +105,7 @@ module _ (board : RawBoard) (rules : IsBoard board) (plan : PlanTables) (p : IsP
   pub quiet_length : length plan.quiet.bits ≡ data_bits board
   quiet_length = ap (λ (l : List Bool). length l) quiet_laid ∙ length-laid (steady board (λ c. false)) board
 
-  -- the quiet row is the same whatever is compared
+  -- every scan that shifts in the quiet row shifts in the plan's quiet row, whatever it compares
   pub quiet_is : (scan : RowScan) → scan.now ≡ quiet_row → plan.quiet.bits ≡ tdi_bits (joined (row_bits board scan))
   quiet_is scan e =
       p.tables.quiet ∙ tdi_laid board first_row_scan
@@ -122,7 +122,7 @@ module _ (board : RawBoard) (rules : IsBoard board) (plan : PlanTables) (p : IsP
   pub readers_within : All (λ cells. All (λ r. r.position < data_bits board) cells) plan.readers
   readers_within = readers_below board rules plan.readers readers_of p.tables.readers_length
 
-  -- the lengths of the rows of all passes
+  -- the rows that all passes share have the length of a data scan
   pub steady_shifted_length : (j : ℕ) → length (steady_shifted plan j) ≡ data_bits board
   steady_shifted_length j = length-assigned (λ (d : DriverCell). d.position) (driver_bit plan.codes j) plan.quiet.bits plan.steady ∙ quiet_length
 
@@ -143,7 +143,7 @@ module _ (board : RawBoard) (rules : IsBoard board) (plan : PlanTables) (p : IsP
     are : ArePassCells board plan.steady pass cells
     are = let t = p.tables.cells x pass stands in subst (λ (v : PassCells). ArePassCells board plan.steady pass v) t.1 t.2
 
-    -- its driver cells
+    -- the driver cells of the pass: the steady ones and its own
     abbrev all : List DriverCell
     all = plan.steady ++ cells.drivers
 
@@ -159,7 +159,7 @@ module _ (board : RawBoard) (rules : IsBoard board) (plan : PlanTables) (p : IsP
     pub controls_there : (setting : List Ctl) → setting ≡ pass → (c : Ctl) → holds setting c ≡ true → c.cell < cell_count (device_at board c.part)
     controls_there setting is c on = control_cells board rules c (p.plannable.controls x pass c stands (sym (ap (λ (q : List Ctl). holds q c) is) ∙ on))
 
-    -- a net carries the bit of its code
+    -- in row `j`, net `n` carries bit `j` of its code
     abbrev carried : ℕ → ℕ → Option Bool
     carried j n = Some (net_code_bit board plan.passes j n)
 
@@ -171,7 +171,7 @@ module _ (board : RawBoard) (rules : IsBoard board) (plan : PlanTables) (p : IsP
         p.codes_are d.net s.net s.is_net ∙ ap (λ (b : Bool). cond b (code_of_net board plan.passes d.net) 0) observed in
         sym (ap (λ (n : ℕ). Some (code_bit n j)) code)
 
-    -- the bits that a row of the pass shifts in, made from those of all passes
+    -- the bits that row `j` of the pass shifts in, made from the row that all passes share
     pub shifted_is : (j : ℕ) → j < plan.width →
         driven board plan (driver_bit plan.codes j) (assigned (λ h. h.position) (λ h. h.bit) (steady_shifted plan j) cells.held) pass ≡ tdi_bits (joined (row_bits board (scan_of_pass board plan x j)))
     shifted_is j within =
@@ -188,7 +188,7 @@ module _ (board : RawBoard) (rules : IsBoard board) (plan : PlanTables) (p : IsP
         ∙ drivers_laid board rules pass (carried j) bit all driver_only every (carries j)
         ∙ sym (tdi_laid board (scan_of_pass board plan x j) ∙ ap (λ (row : TestRow). laid (λ part device cell. row_bit board row part device cell) board) row)
 
-    -- what is compared of it, made from what is compared in all passes
+    -- the row of compared bits that is made from the one that all passes share has the bits of the pass's pairs at their cells
     compared_is : (bit : DriverCell → Bool) →
         compared board plan bit (steady_compared plan bit) pass ≡ assigned (λ (x : Pair). x.1.position) (λ x. bit x.0) (laid (λ part device cell. false) board) (pairs plan.readers all)
     compared_is bit =
@@ -209,7 +209,7 @@ module _ (board : RawBoard) (rules : IsBoard board) (plan : PlanTables) (p : IsP
         ∙ mask_compared board rules pass (carried j) (driver_bit plan.codes j) all driver_only every (carries j) plan.readers readers_of
         ∙ sym (mask_laid board (scan_of_pass board plan x (suc j)))
 
-    -- rows with the bits of scan `j` of the pass are filled with it
+    -- rows with the bits and the shape of scan `j` of the pass hold the scan, as `FillsScan` states
     pub fills_row : (j : ℕ) → j ≤ plan.width → (shape : Shape) (tdi tdo mask : List Bool) → shape.ir ≡ false →
         AreBitsOf (joined (row_bits board (scan_of_pass board plan x j))) tdi tdo mask → shape.compare ≡ list_any (λ bit. bit) mask →
         FillsScan board plan.passes plan.width (3 + (x * suc plan.width + j)) shape tdi tdo mask

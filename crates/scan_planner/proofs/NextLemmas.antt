@@ -1,4 +1,4 @@
--- The mask is the same for all rows of a pass, so the mask of one scan is that of the next.
+-- All rows of a pass have the same mask, so two successive scans that each compare a row of the pass have the same mask.
 use Rattle.std.proofs.Common.{◌≡◌, ℕ, suc, ◌+◌, ◌*◌, ◌-◌, ◌<◌, ◌≤◌, Bool, List, [], length, get_or, Option, Some, None, sym, ap, ◌∙◌, arith}
 use Rattle.std.specs.Prelude.{slice_get}
 use Rattle.std.proofs.lemmas.Option.{slice_get-get_or}

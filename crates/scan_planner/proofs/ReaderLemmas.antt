@@ -51,7 +51,7 @@ has_pair d (s ∷ readers) r (inr h) other = by_test (s.place == d.place) (has_p
     by_test true k = k
     by_test false k = inr k
 
--- the facts about a pair
+-- the pair has this driver, and a cell that reads the driver's net on another pin
 pub record PairOf (d : DriverCell) (readers : List ReaderCell) (x : Pair) : Type 0 where
   pub driver_is : x.0 ≡ d
   pub reader_in : Has readers (x.1)
@@ -69,7 +69,7 @@ pair_has d (s ∷ readers) x h = by_test (pair_has d readers x) (s.place == d.pl
     by_test ih false e (inl same) = subst (λ (y : Pair). PairOf d (s ∷ readers) y) same (record { driver_is = refl; reader_in = inl refl; other = e })
     by_test ih false e (inr k) = later (ih k)
 
--- all compared cells, for the drivers of a pass
+-- all compared cells of a pass with these drivers
 abbrev pub pairs : List (List ReaderCell) → List DriverCell → List Pair
 pairs readers drivers = flat_map (λ d. pairs_of d (get_or readers d.net [])) drivers
 
@@ -97,7 +97,7 @@ module _ (board : RawBoard) (rules : IsBoard board) (pass : List Ctl) (carried :
   abbrev row : TestRow
   row = pass_row pass carried
 
-  -- each pair is a cell that is compared with the bit of its driver
+  -- the cell of the pair is compared with the bit of the pair's driver
   record Expects (x : Pair) : Type 0 where
     at : PinAt
     device : RawDevice
@@ -153,7 +153,7 @@ module _ (board : RawBoard) (rules : IsBoard board) (pass : List Ctl) (carried :
       let r = flat_map_has (λ d. pairs_of d (get_or readers d.net [])) drivers x h in
       expects_by r.0 r.1 x (pair_has r.0 (get_or readers r.0.net []) x r.2)
 
-  -- each compared cell is in a pair
+  -- the cell is not compared, or it is in a pair
   abbrev Covered : ℕ → ℕ → Option Bool → Type 0
   Covered part cell o = (o ≡ None) ⊎ ((x : Pair) × Has (pairs readers drivers) x × (x.1.position ≡ first_position board part + cell))
 
@@ -230,7 +230,7 @@ module _ (board : RawBoard) (rules : IsBoard board) (pass : List Ctl) (carried :
       by_entry None ee = inl refl
       by_entry (Some e) ee = by_role e ee (is_receiving e.role) refl
 
-  -- the rows of what is compared
+  -- zeros with the bit of each pair at the pair's cell are the expected bits, and zeros with a 1 there are the mask
   pub tdo_compared : assigned (λ (x : Pair). x.1.position) (λ x. bit x.0) (laid (λ part device cell. false) board) (pairs readers drivers)
       ≡ laid (λ part device cell. unwrap_or (expect_bit board row part device cell) false) board
   tdo_compared =

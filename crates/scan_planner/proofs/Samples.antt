@@ -1,4 +1,4 @@
--- The rows that all passes share, worked by hand for a bus with two drivers and a receiver; the pass's one driver is steady.
+-- The rows that all passes share, worked by hand for a bus with two drivers and a receiver. The bus has one steady driver or none.
 use Rattle.std.proofs.Common.{◌≡◌, Bool, true, false, List, [], ◌∷◌, map, replicate, refl}
 use Rattle.bt_bits.specs.Rows.{BitRow}
 use Rattle.tap_defs.specs.declared.scan.StoredRows.{StoredRows}
@@ -17,7 +17,8 @@ no_rows = record { tdi = row []; tdo = row []; mask = row [] }
 abbrev quiet : List Bool
 quiet = false ∷ false ∷ true ∷ false ∷ true ∷ []
 
--- a plan in which the net has code 2, is driven from position 3 by its first pin, and is read there and, at its third pin, at position 0
+-- a plan with one net, whose code is 2, and with these steady drivers; the net is read at position 3 on its first pin, and at position 0 on
+-- its third pin
 abbrev plan : List DriverCell → PlanTables
 plan steady = record {
   passes = [] ∷ [];
@@ -36,11 +37,11 @@ plan steady = record {
 abbrev enabled : List DriverCell
 enabled = record { net = 0; place = 0; position = 3 } ∷ []
 
--- bit 0 of the code in row 0, and bit 1 in row 1
+-- the driver's cell has bit 0 of the code in row 0, and bit 1 in row 1
 shifted : map (steady_shifted (plan enabled)) (0 ∷ 1 ∷ []) ≡ (false ∷ false ∷ true ∷ false ∷ true ∷ []) ∷ (false ∷ false ∷ true ∷ true ∷ true ∷ []) ∷ []
 shifted = refl
 
--- these bits are expected at the other pin, and not at the driver's own
+-- the bits of the code are expected at the other pin, and not at the driver's own
 expected : map (λ j. steady_compared (plan enabled) (driver_bit (2 ∷ []) j)) (0 ∷ 1 ∷ []) ≡ replicate 5 false ∷ (true ∷ false ∷ false ∷ false ∷ false ∷ []) ∷ []
 expected = refl
 

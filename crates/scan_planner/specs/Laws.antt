@@ -16,13 +16,13 @@ AreSafe board passes = (x : ℕ) (pass : List Ctl) → slice_get passes x ≡ So
 abbrev pub AreUseful : RawBoard → List (List Ctl) → Type 0
 AreUseful board passes = (x : ℕ) (pass : List Ctl) (c : Ctl) → slice_get passes x ≡ Some pass → holds pass c ≡ true → is_useful board c ≡ true
 
--- A control of a driver of a net controls a driver of the board, and so does each useful control. So a plan can be made from safe passes
--- of useful controls.
+-- Every control of a driver of a net controls a driver of the board. Every useful control does as well. So a plan can be made from safe
+-- passes of useful controls.
 pub record PlansUseful (board : RawBoard) : Type 0 where
   pub of_nets : (c : Ctl) → list_any (drives_net board c) board.nets ≡ true → controls_some board c ≡ true
   pub useful : (c : Ctl) → is_useful board c ≡ true → controls_some board c ≡ true
   pub passes : (passes : List (List Ctl)) → AreSafe board passes → AreUseful board passes → ArePlannable board passes
 
--- this holds for every board
+-- `PlansUseful` holds for every board
 abbrev pub UsefulPlanned : Type 0
 UsefulPlanned = (board : RawBoard) → IsBoard board → PlansUseful board

@@ -26,21 +26,23 @@ pub record HaveRoomFor (others rows : StackedRows) : Type 0 where
   pub expected : length (stacked others.expected 0) ≤ rows.expected.room
   pub mask : length others.mask.bits ≤ rows.mask.room
 
--- the room is unchanged
+-- the new rows have the same room as the old rows
 pub record KeepRoom (old new : StackedRows) : Type 0 where
   pub shifted : new.shifted.room ≡ old.shifted.room
   pub expected : new.expected.room ≡ old.expected.room
   pub mask : new.mask.room ≡ old.mask.room
 
--- row `j` of what all passes shift in: the quiet row, with bit `j` of the code of each steady driver's net in the driver's cell
+-- row `j` of the bits that all passes shift in: the quiet row, in which the cell of each steady driver has bit `j` of the code of the
+-- driver's net
 abbrev pub steady_shifted : PlanTables → ℕ → List Bool
 steady_shifted plan j = assigned (λ d. d.position) (driver_bit plan.codes j) plan.quiet.bits plan.steady
 
--- what is compared of it in all passes: zeros, with a bit of each steady driver at the cells on other pins that read its net
+-- the row of compared bits that all passes share: zeros, with the bit of each steady driver at the cells on other pins that read the
+-- driver's net
 abbrev pub steady_compared : PlanTables → (DriverCell → Bool) → List Bool
 steady_compared plan bit = set_compared bit plan.readers (replicate (length plan.quiet.bits) false) plan.steady
 
--- side by side, these are the rows that all passes of the plan share: the bits that are shifted in, the expected bits, and the mask
+-- the rows, kept side by side, are those that all passes of the plan share: the bits that are shifted in, the expected bits, and the mask
 pub record AreCommonStacks (plan : PlanTables) (rows : StackedRows) : Type 0 where
   pub shifted : (j : ℕ) → j < 16 → stacked rows.shifted j ≡ steady_shifted plan j
   pub expected : (j : ℕ) → j < 16 → stacked rows.expected j ≡ steady_compared plan (driver_bit plan.codes j)
@@ -50,7 +52,8 @@ pub record AreCommonStacks (plan : PlanTables) (rows : StackedRows) : Type 0 whe
 abbrev pub AreFirstRows : Stack → List BitRow → Type 0
 AreFirstRows stack rows = (j : ℕ) (row : BitRow) → slice_get rows j ≡ Some row → row.bits ≡ stacked stack j
 
--- these are the rows that all passes of the plan share, and each row of `expected` by itself has the expected bits of that row
+-- the rows are those that all passes of the plan share; `expected` has one row for each bit of the codes, and its row `j` has the
+-- expected bits of row `j`
 pub record AreCommonRows (plan : PlanTables) (rows : CommonRows) : Type 0 where
   pub stacked : AreCommonStacks plan rows.stacked
   pub count : length rows.expected ≡ plan.width

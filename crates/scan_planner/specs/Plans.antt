@@ -1,4 +1,4 @@
--- The scans that a plan fills rows with.
+-- The scans of a plan's test, and rows that hold one of them.
 use Rattle.std.specs.Prelude.{◌≡◌, ℕ, suc, ◌+◌, ◌*◌, ◌<◌, ◌≤◌, Bool, true, false, List, [], length, Some, slice_get, slice_index_or}
 use Rattle.std.specs.List.{list_any}
 use Rattle.board_defs.specs.Limits.{most_bits}
@@ -10,10 +10,10 @@ use Rattle.tap_defs.specs.chain.Scan.{scan_bits}
 use Rattle.tap_defs.specs.board.TestRows.{TestRow, code_row}
 use Rattle.tap_defs.specs.board.BoardScans.{RowScan, row_now, row_before, test_scans}
 use Rattle.plan_tables.specs.declared.tables.PlanTables.{PlanTables}
--- passes from which a plan can be made, and a plan for the board
+-- `ArePlannable`: a plan can be made from the passes. `IsPlanOf`: the tables are a plan of the board.
 pub use Rattle.plan_tables.specs.Plans.{ArePlannable, IsPlanOf}
 
--- the number of scans: three at the beginning, and then for each pass one for each row and one for the quiet row
+-- the number of scans: three at the beginning, and `width + 1` for each pass, one for each row and one for the quiet row
 abbrev pub scan_count : PlanTables → ℕ
 scan_count plan = 3 + length plan.passes * suc plan.width
 
@@ -22,8 +22,8 @@ pub record IsRoom (board : RawBoard) (room : ℕ) : Type 0 where
   pub instructions : instruction_bits board ≤ room
   pub data_row : data_bits board ≤ room
 
--- The rows are scan `k` of the test, in the form in which it is written. They have one length, from 1 to the most bits of a board. The
--- scan compares something if and only if some bit of the mask is 1. A bit of TDO is 1 only if the bit of the mask is 1.
+-- The rows hold scan `k` of the test, and `shape` is its shape. All three have the same length, from 1 to the most bits of a board. The
+-- scan compares something if and only if some bit of the mask is 1. Bit `i` of TDO is 1 only if bit `i` of the mask is 1.
 pub record FillsScan (board : RawBoard) (passes : List (List Ctl)) (width k : ℕ) (shape : Shape) (tdi tdo mask : List Bool) : Type 0 where
   pub scan : slice_get (test_scans board passes width) k ≡ Some (record { ir = shape.ir; bits = scan_bits tdi tdo mask })
   pub some : 0 < length tdi
@@ -33,7 +33,7 @@ pub record FillsScan (board : RawBoard) (passes : List (List Ctl)) (width k : �
   pub compare : shape.compare ≡ list_any (λ bit. bit) mask
   pub masked : (i : ℕ) → slice_index_or tdo i false ≡ true → slice_index_or mask i false ≡ true
 
--- scan `j` of a pass: the row that is shifted in, and the row before it, which is compared
+-- scan `j` of a pass: the row that the scan shifts in, and the row before, which the scan compares
 abbrev pub scan_of_pass : RawBoard → PlanTables → ℕ → ℕ → RowScan
 scan_of_pass board plan x j =
     let rows : ℕ → TestRow = code_row board plan.passes (slice_index_or plan.passes x []) in

@@ -1,4 +1,4 @@
-// A board with a plan of it, and a pass of the plan.
+// A board with its plan, and a pass of the plan.
 ghost use Rattle.std.specs.Prelude.{◌≡◌, ◌<◌, ◌≤◌, length};
 ghost use Rattle.board_defs.specs.BoardRules.{IsBoard};
 ghost use Rattle.plan_tables.specs.Plans.{IsPlanOf};
@@ -11,7 +11,7 @@ use board_defs::Board;
 use plan_tables::PlanTables;
 use std::marker::Model;
 
-/// A board with the tables of a plan and the rows that all passes share. Contracts see it as the board and the
+/// A board with the tables of its plan and the rows that all passes share. Contracts see only the board and the
 /// tables.
 #[derive(Drop)]
 pub struct BoardPlan<'a> {
@@ -31,7 +31,7 @@ impl<'a> Model for BoardPlan<'a> {
     ghost invariant = { λ a. IsPlanned a.board.now a.tables.now a.common.now };
 }
 
-/// A pass of a board's plan. Contracts see it as the board, the tables and the number of the pass.
+/// A pass of a board's plan. Contracts see only the board, the tables and the number of the pass.
 #[derive(Drop)]
 pub struct PassOfPlan<'a> {
     pub(crate) board: &'a Board,
@@ -52,8 +52,8 @@ impl<'a> Model for PassOfPlan<'a> {
 }
 
 impl<'a> BoardPlan<'a> {
-    /// Returns the board with these tables, which must be those of a plan of it, and with the rows that all
-    /// passes share.
+    /// Returns the board with its plan. The tables must be those of a plan of the board, and `common` must be the
+    /// rows that all passes of the plan share.
     pub fn of(board: &'a Board, tables: &'a PlanTables, common: &'a CommonRows) -> BoardPlan<'a>
         requires { IsPlanned board.now tables.now common.now }
         ensures { result ≡ planned_board board.now tables.now }
@@ -105,8 +105,8 @@ impl<'a> PassOfPlan<'a> {
         self.common
     }
 
-    /// Does nothing. Its contract has the facts about a pass: the board keeps the rules, the plan is a plan of it
-    /// and has the pass, and the rows of the pass fit in one stack.
+    /// Does nothing. The contract states the facts about a pass: the board keeps the rules, the plan is a plan of
+    /// the board and has the pass, and the rows of the pass fit in one stack.
     pub fn laws(&self)
         ensures rules { IsBoard self.now.test.board }
         ensures plan { IsPlanOf self.now.test.board self.now.test.plan }

@@ -1,4 +1,4 @@
-// Rows into which the codes of nets are written: all rows of a pass side by side, a single one, or none.
+// Rows into which the codes of nets are written: all rows of a pass side by side, a single row, or no rows.
 ghost use Rattle.std.specs.Prelude.{◌≡◌, ◌<◌, ℕ, Bool, false, List, [], length, slice_set};
 ghost use Rattle.std.specs.Borrow.{GName};
 ghost use Rattle.bt_bits.specs.Stacks.{column_bit, stacked};
@@ -7,31 +7,31 @@ ghost use Rattle.tap_defs.specs.board.TestRows.{code_bit};
 use bt_bits::{Column, Row, RowStack};
 use counting_codes::bit;
 
-/// Rows of one length into which the codes of nets are written: row `j` gets bit `j` of each code. One call writes a
-/// position in all rows.
+/// Rows of equal length into which the codes of nets are written: row `j` gets bit `j` of each code. One call writes
+/// one position of all rows.
 pub trait CodeRows {
     /// The bits of the rows at one position.
     type Column: Copy;
 
-    // What stays the same while the rows are written.
+    // The property of the rows that no write changes, such as their room.
     ghost Kind: { Type 0 };
 
     ghost kind: { Self → Kind };
 
-    // The numbers of the rows.
+    // True if the rows have one with this number.
     ghost shows: { Kind → ℕ → Type 0 };
 
-    // The bits of a row.
+    // The bits of the row with this number.
     ghost bits: { Self → ℕ → List Bool };
 
-    // The bit of a column in a row.
+    // The bit of a column in the row with this number.
     ghost bit_in: { Self.Column → ℕ → Bool };
 
     /// Returns the column with bit `j` of `number` in row `j`. Bit 0 is the lowest.
     fn code(&self, number: u32) -> Self::Column
         ensures { (j : ℕ) → shows (kind self.now) j → bit_in result j ≡ code_bit number j };
 
-    /// Returns the column with this bit in each row.
+    /// Returns the column with this bit in every row.
     fn same(&self, bit: bool) -> Self::Column
         ensures { (j : ℕ) → shows (kind self.now) j → bit_in result j ≡ bit };
 
@@ -118,7 +118,7 @@ impl CodeRows for RowAt<'_> {
     }
 }
 
-/// No rows. Whatever is written is ignored.
+/// No rows. Ignores every write.
 #[derive(Drop)]
 pub struct NoRows;
 

@@ -8,17 +8,17 @@ use bt_bits::{Row, RowStack};
 use plan_tables::PlanTables;
 use std::alloc::{AllocError, Global};
 
-/// The rows that all passes of a plan share. A pass sets the bits of its own cells in copies of them.
+/// The rows that all passes of a plan share. Each pass sets the bits of its own cells in copies of these rows.
 #[derive(Drop)]
 pub struct CommonRows {
-    /// The rows side by side. All rows of a pass are made from them at once.
+    /// The rows side by side, from which all rows of a pass are made at once.
     pub stacked: StackedRows,
-    /// The expected bits of each row, as a row of its own. Reading one row of a stack costs as much as reading all.
+    /// The expected bits as separate rows. Reading one row of a stack costs as much as reading all its rows.
     pub expected: Items<Row>,
 }
 
 impl CommonRows {
-    /// Makes the rows that all passes of a plan share.
+    /// Creates the rows that all passes of a plan share.
     pub fn of(alloc: Global, tables: &PlanTables) -> Result<CommonRows, AllocError>
         requires { tables.now.width ≤ 14 }
         ensures { IfOk result (AreCommonRows tables.now) }
@@ -44,7 +44,7 @@ fn row_at(rows: &[Row], j: usize) -> &Row
     &rows[j]
 }
 
-// Returns the first `count` rows of a stack, each as a row of its own.
+// Returns the first `count` rows of a stack as separate rows.
 fn first_rows(alloc: Global, stack: &RowStack, count: u32) -> Result<Items<Row>, AllocError>
     requires { count ≤ 14 }
     ensures count { IfOk result (λ rows. length rows ≡ count) }

@@ -1,4 +1,4 @@
-// Fills rows with a scan.
+// Filling rows with a scan of a plan's test.
 ghost use Rattle.std.specs.Prelude.{◌≡◌, ◌+◌, ◌*◌, ◌<◌, ◌≤◌, suc, true, false, List};
 ghost use Rattle.std.specs.List.{list_any};
 ghost use Rattle.board_defs.specs.Pins.{data_bits};
@@ -42,7 +42,7 @@ impl<'a> BoardPlan<'a> {
         tdi.copy_row(&self.tables.quiet);
     }
 
-    /// Fills the rows with zeros, which compare nothing, as in a scan after the quiet row.
+    /// Fills both rows with zeros. A scan after the quiet row compares nothing.
     pub fn compare_nothing(&self, rows: &mut ComparedRows)
         requires { BothHaveRoom (data_bits self.now.board) rows.old }
         ensures bits { (scan : RowScan) → scan.before ≡ quiet_row → HoldCompared (joined (row_bits self.now.board scan)) rows.new }
@@ -72,8 +72,8 @@ impl<'a> BoardPlan<'a> {
         }
     }
 
-    // Fills the rows with one of the first three scans, which shift in the preload codes, the quiet row, and the
-    // EXTEST codes.
+    // Fills the rows with scan `k`, one of the first three scans, and returns its shape. In turn, these scans shift
+    // in the preload codes, the quiet row, and the EXTEST codes.
     fn fill_early(&self, k: u64, rows: &mut ScanRows) -> Shape
         requires early { k < 3 }
         requires room { EachHasRoom (IsRoom self.now.board) rows.old }
@@ -90,7 +90,7 @@ impl<'a> BoardPlan<'a> {
         }
     }
 
-    /// Fills the rows with scan `k`, and returns its shape.
+    /// Fills the rows with scan `k` of the test, and returns its shape.
     pub fn fill(&self, k: u64, rows: &mut ScanRows) -> Shape
         requires scan { k < scan_count self.now.plan }
         requires room { EachHasRoom (IsRoom self.now.board) rows.old }
@@ -108,7 +108,7 @@ impl<'a> BoardPlan<'a> {
 }
 
 impl<'a> PassOfPlan<'a> {
-    /// Fills `tdi` with row `j`.
+    /// Fills `tdi` with row `j` of the pass.
     pub fn shift_row(&self, j: u32, tdi: &mut Row)
         requires row { j < self.now.test.plan.width }
         requires room { data_bits self.now.test.board ≤ tdi.old.room }
@@ -124,7 +124,7 @@ impl<'a> PassOfPlan<'a> {
         self.walk(&mut shifted, &mut NoRows, &mut NoRows);
     }
 
-    /// Fills the rows with the expected bits and the mask of row `j`.
+    /// Fills the rows with the expected bits and the mask of row `j` of the pass.
     pub fn compare_row(&self, j: u32, rows: &mut ComparedRows)
         requires row { j < self.now.test.plan.width }
         requires room { BothHaveRoom (data_bits self.now.test.board) rows.old }
@@ -146,7 +146,7 @@ impl<'a> PassOfPlan<'a> {
         self.walk(&mut NoRows, &mut expected, &mut marks);
     }
 
-    // Fills `tdi` with row `j`, or with the quiet row after the last.
+    // Fills `tdi` with row `j` of the pass, or with the quiet row if the pass has no row `j`.
     fn shift(&self, j: u32, tdi: &mut Row)
         requires { data_bits self.now.test.board ≤ tdi.old.room }
         ensures bits { tdi.new.bits ≡ tdi_bits (bits_of self.now j) }
@@ -159,8 +159,8 @@ impl<'a> PassOfPlan<'a> {
         }
     }
 
-    // Fills the rows with the expected bits and the mask of the row before row `j`, or with zeros for the first
-    // row. Returns whether any bit is compared.
+    // Fills the rows with the expected bits and the mask of row `j - 1`, or with zeros if `j` is 0. Returns whether
+    // any bit is compared.
     fn compare_before(&self, j: u32, rows: &mut ComparedRows) -> bool
         requires row { j ≤ self.now.test.plan.width }
         requires room { BothHaveRoom (data_bits self.now.test.board) rows.old }

@@ -1,8 +1,8 @@
 //! Laws of plans. Each function does nothing, and its contract is the law.
 ghost use Rattle.scan_planner.specs.Laws.{UsefulPlanned};
 
-/// A plan can be made from safe passes whose controls are all useful: a control of a driver of a net controls a
-/// driver of the board.
+/// A plan can be made from safe passes whose controls are all useful. Every useful control, and every control of a
+/// driver of a net, controls a driver of the board.
 pub fn useful_planned()
     ensures { UsefulPlanned }
 {}

@@ -1,8 +1,8 @@
-//! Makes the scans of a board's test one at a time. The tables of a plan, which `plan_tables` makes, fill the rows of
-//! each scan. A plan also answers queries about each net and each position.
+//! Makes the scans of a board's test one at a time, from tables that `plan_tables` makes. A plan also answers queries
+//! about each net and each position.
 //!
-//! The rows that all passes share are made once. One walk over the cells of a pass sets its own bits in copies of
-//! them, in all rows of the pass side by side or in one row.
+//! A plan makes the rows that all passes share once. A walk over the cells of a pass then sets the pass's own bits in
+//! copies of these rows: in all rows side by side, or in one row.
 #![tactic(auto)]
 
 mod board_plan;

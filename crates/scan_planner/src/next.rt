@@ -1,4 +1,4 @@
-// Fills rows that hold a scan with the next scan, from the rows of its pass.
+// Filling rows that hold one scan with the next scan. The rows of a pass are made once, and its scans are copied.
 ghost use Rattle.std.specs.Prelude.{◌≡◌, ◌+◌, ◌*◌, ◌<◌, ◌≤◌, suc};
 ghost use Rattle.std.specs.List.{list_any};
 ghost use Rattle.board_defs.specs.Pins.{data_bits};
@@ -16,7 +16,7 @@ use bt_bits::Row;
 use std::marker::Model;
 use tap_defs::{ScanRows, Shape};
 
-// A pass with its rows, from which each of its scans is copied. Contracts see it as the pass.
+// A pass with its rows, from which the scans of the pass are copied. Contracts see only the pass.
 #[derive(Drop)]
 struct PassWithRows<'a, 'k> {
     pass: PassOfPlan<'a>,
@@ -35,7 +35,7 @@ impl<'a, 'k> Model for PassWithRows<'a, 'k> {
 }
 
 impl<'a, 'k> PassWithRows<'a, 'k> {
-    // Fills `tdi` with row `j`, or with the quiet row after the last.
+    // Fills `tdi` with row `j` of the pass, or with the quiet row if the pass has no row `j`.
     fn shift(&self, j: u32, tdi: &mut Row)
         requires { data_bits self.now.test.board ≤ tdi.old.room }
         ensures bits { tdi.new.bits ≡ tdi_bits (bits_of self.now j) }
@@ -49,7 +49,7 @@ impl<'a, 'k> PassWithRows<'a, 'k> {
         }
     }
 
-    // Fills `tdo` with the expected bits of row `j`.
+    // Fills `tdo` with the expected bits of row `j` of the pass.
     fn expect(&self, j: u32, tdo: &mut Row)
         requires row { j < self.now.test.plan.width }
         requires room { data_bits self.now.test.board ≤ tdo.old.room }
@@ -60,7 +60,7 @@ impl<'a, 'k> PassWithRows<'a, 'k> {
         tdo.copy_stacked(&self.rows.expected, j);
     }
 
-    // Fills `mask` with the mask of row `j`.
+    // Fills `mask` with the mask of row `j` of the pass.
     fn mark(&self, j: u32, mask: &mut Row)
         requires row { j < self.now.test.plan.width }
         requires room { data_bits self.now.test.board ≤ mask.old.room }
@@ -70,9 +70,9 @@ impl<'a, 'k> PassWithRows<'a, 'k> {
         mask.copy_row(&self.rows.mask);
     }
 
-    // Fills the rows with the expected bits and the mask of the row before row `j`, or with zeros for the first
-    // row. Returns whether any bit is compared. The mask is the same for all rows of a pass. So from the second
-    // row on the mask stays, and so does the answer, `told`.
+    // Fills the rows with the expected bits and the mask of row `j - 1`, or with zeros if `j` is 0. Returns whether
+    // any bit is compared. All rows of a pass have the same mask. So if `j` is above 1, the call leaves the mask
+    // unchanged and returns `told`, which must say whether the mask has a bit that is 1.
     fn compare_before(&self, j: u32, told: bool, rows: &mut ComparedRows) -> bool
         requires row { j ≤ self.now.test.plan.width }
         requires stands { 1 < j → (rows.old.mask.now.bits ≡ mask_bits (bits_of self.now j)) × (told ≡ list_any (λ bit. bit) rows.old.mask.now.bits) }
@@ -93,7 +93,8 @@ impl<'a, 'k> PassWithRows<'a, 'k> {
         rows.mask.has_one()
     }
 
-    // Fills the rows with scan `j` of the pass. They must hold the scan before it.
+    // Fills the rows with scan `j` of the pass, and returns its shape. The rows must hold the scan before that
+    // scan, with the shape `before`.
     fn fill(&self, j: u32, before: Shape, rows: &mut ScanRows) -> Shape
         requires row { j ≤ self.now.test.plan.width }
         requires before { FillsRows self.now.test (2 + (self.now.number * suc self.now.test.plan.width + j)) before rows.old }
@@ -118,8 +119,8 @@ impl<'a, 'k> PassWithRows<'a, 'k> {
 }
 
 impl<'a> BoardPlan<'a> {
-    /// Fills the rows with scan `k + 1`. They must hold scan `k`, whose shape is `before`. If the scan belongs to a
-    /// pass, `kept` has the rows of that pass afterwards.
+    /// Fills the rows with scan `k + 1`, and returns its shape. The rows must hold scan `k`, whose shape is
+    /// `before`. If scan `k + 1` belongs to a pass, `kept` has the rows of that pass afterwards.
     pub fn fill_next(
         &self,
         k: u64,

@@ -1,4 +1,4 @@
-// The walk over the cells of a pass, which sets the bits that its rows do not share with those of all passes.
+// The walk over the cells of a pass, which turns the rows that all passes share into the rows of the pass.
 ghost use Rattle.std.specs.Prelude.{◌≡◌, ◌<◌, ℕ, [], suc, true, length, map, slice_index_or};
 ghost use Rattle.board_defs.specs.declared.board.Ctl.{Ctl as ControlRecord};
 ghost use Rattle.board_defs.specs.Pins.{device_at, cell_count, data_bits};
@@ -24,7 +24,8 @@ pub fn pass_at(passes: &[Setting], x: usize) -> &Setting
     &passes[x]
 }
 
-// The setting of a pass, each of whose controls is a cell of its part, with the tables by which the cells are found.
+// The setting of a pass, with the board and the tables that locate its cells. Each control of the setting is a cell of
+// its part.
 #[derive(Drop)]
 struct PassControls<'a> {
     board: &'a Board,
@@ -35,7 +36,8 @@ struct PassControls<'a> {
     ghost cells: { (c : ControlRecord) → holds setting.now c ≡ true → c.cell < cell_count (device_at board.now c.part) },
 }
 
-// Writes a code at the cells that read its net, except those at the driver's place, and marks these cells.
+// Writes a net's code at the cells that read the net, and marks these cells. Skips the cells at `place`, which is the
+// driver's.
 fn expect_net<E: CodeRows, M: CodeRows>(
     readers: &[ReaderCell],
     place: u32,
@@ -57,7 +59,8 @@ fn expect_net<E: CodeRows, M: CodeRows>(
     }
 }
 
-/// Writes the codes of nets at the cells of their drivers, and as expected bits at the cells that read the nets.
+/// Writes the code of each driver's net at the driver's cell, and as expected bits at the cells on other pins that read
+/// the net. Marks the cells that read the net in the mask.
 pub fn drive_nets<S: CodeRows, E: CodeRows, M: CodeRows>(
     drivers: &[DriverCell],
     readers: &[Items<ReaderCell>],
@@ -102,8 +105,8 @@ impl PassControls<'_> {
         }
     }
 
-    // Writes the codes of the nets that the pass's own drivers drive: those drivers that are always on but not
-    // steady, and those of the pass's controls.
+    // Writes the codes of the nets that the pass's own drivers drive. These are the drivers that are always on but
+    // not steady, and the drivers of the pass's controls.
     fn drive<S: CodeRows, E: CodeRows, M: CodeRows>(
         &self,
         shifted: &mut S,

@@ -1,4 +1,4 @@
-// The rows of one pass, made once and kept side by side, so that each scan of the pass is copied from them.
+// The rows of one pass, made once and kept side by side. The scans of the pass are copied from these rows.
 ghost use Rattle.std.specs.Prelude.{◌≡◌, ◌<◌, ◌≤◌, ℕ, length, IfOk};
 ghost use Rattle.board_defs.specs.declared.board.RawBoard.{RawBoard};
 ghost use Rattle.board_defs.specs.Pins.{data_bits};
@@ -18,14 +18,14 @@ use std::alloc::{AllocError, Global};
 pub struct StackedRows {
     /// The bits that are shifted in.
     pub shifted: RowStack,
-    /// The expected bits of each row, which the scan after it compares.
+    /// The expected bits of each row. The next scan compares them.
     pub expected: RowStack,
     /// The mask of the compared bits, which is the same for all rows.
     pub mask: Row,
 }
 
 impl StackedRows {
-    // Creates empty rows, with room for those of scans of `bits` bits.
+    // Creates empty rows, with room for scans of `bits` bits.
     fn with_room(alloc: Global, bits: u32) -> Result<StackedRows, AllocError>
         ensures { IfOk result (HaveRoom bits) }
     {
@@ -36,7 +36,7 @@ impl StackedRows {
         })
     }
 
-    /// Returns the rows that all passes of a plan share, side by side.
+    /// Creates the rows that all passes of a plan share, side by side.
     pub(crate) fn common(alloc: Global, tables: &PlanTables) -> Result<StackedRows, AllocError>
         ensures { IfOk result (AreCommonStacks tables.now) }
     {
@@ -45,7 +45,7 @@ impl StackedRows {
         Ok(rows)
     }
 
-    // Fills the rows with those that all passes of a plan share. There must be room for them.
+    // Fills the rows with those that all passes of a plan share, for which they must have room.
     fn fill_common(&mut self, tables: &PlanTables)
         requires { HaveRoom (length tables.now.quiet.bits) self.old }
         ensures { AreCommonStacks tables.now self.new }
@@ -67,7 +67,7 @@ impl StackedRows {
         );
     }
 
-    // Copies other rows, for which there must be room.
+    // Copies `rows`, for which there must be room.
     fn copy_from(&mut self, rows: &StackedRows)
         requires { HaveRoomFor rows.now self.old }
         ensures shifted { (j : ℕ) → j < 16 → stacked self.new.shifted j ≡ stacked rows.now.shifted j }
@@ -81,16 +81,16 @@ impl StackedRows {
     }
 }
 
-/// The rows of the pass that was filled last.
+/// The rows of one pass at a time, kept from call to call.
 #[derive(Drop)]
 pub struct PassRows {
-    // The pass, counted from 0, if there was one.
+    // The number of the pass, from 0, or `None` before the first pass.
     pass: Option<usize>,
     pub(crate) rows: StackedRows,
 }
 
 impl PassRows {
-    /// Creates the rows of no pass, with room for a board whose data scans have at most `bits` bits.
+    /// Creates rows that belong to no pass yet, with room for a board whose data scans have at most `bits` bits.
     pub fn with_room(alloc: Global, bits: u32) -> Result<PassRows, AllocError>
         ensures { IfOk result (λ kept. (board : RawBoard) (plan : PlanRecord) → data_bits board ≤ bits → AreKept board plan kept) }
     {
@@ -102,7 +102,7 @@ impl PassRows {
 }
 
 impl<'a> PassOfPlan<'a> {
-    // Fills the rows with those of the pass, made from the rows that all passes share.
+    // Fills the rows with those of the pass, starting from a copy of the rows that all passes share.
     fn fill_rows(&self, rows: &mut StackedRows)
         requires { HaveRoom (data_bits self.now.test.board) rows.old }
         ensures rows { ArePassRows self.now.test.board self.now.test.plan self.now.number rows.new }
@@ -117,7 +117,7 @@ impl<'a> PassOfPlan<'a> {
         self.walk(&mut rows.shifted, &mut rows.expected, &mut marks);
     }
 
-    /// Fills the kept rows with those of the pass, unless they have them already.
+    /// Fills the kept rows with those of the pass, unless they belong to this pass already.
     pub fn keep_rows(&self, kept: &mut PassRows)
         requires { AreKept self.now.test.board self.now.test.plan kept.old }
         ensures kept { AreKept self.now.test.board self.now.test.plan kept.new }

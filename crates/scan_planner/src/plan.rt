@@ -1,4 +1,4 @@
-// A plan, and the numbers of its scans and rows.
+// A plan: how it is made, the numbers of its scans and rows, and the calls that fill rows with its scans.
 ghost use Rattle.std.specs.Prelude.{◌≡◌, ◌+◌, ◌*◌, ◌<◌, ◌≤◌, ◌^◌, suc, length, IfOk};
 ghost use Rattle.board_defs.specs.Pins.{data_bits};
 ghost use Rattle.tap_defs.specs.board.BoardScans.{row_bits};
@@ -21,8 +21,8 @@ use std::alloc::{AllocError, Global};
 use std::marker::Model;
 use tap_defs::{ScanRows, Shape};
 
-/// The plan of a board's test: its passes, and the tables from which each scan is made. These have the rows that
-/// all passes share, and the cells in which the rows of a pass differ.
+/// The plan of a board's test: its passes, the tables from which each scan is made, and the rows that all passes
+/// share.
 #[derive(Drop)]
 pub struct Plan {
     pub(crate) tables: PlanTables,
@@ -90,8 +90,8 @@ impl Plan {
     }
 
     /// Returns the number of rows of the test: one for each pass and each bit of the codes. A row of a pass that
-    /// observes a net is compared once. Each pass of a board's own test observes one, so this is the number of
-    /// rows of its log.
+    /// observes a net is compared once. Each pass of a board's own test observes a net, so this is the number of
+    /// rows of the test's log.
     pub fn rows(&self) -> u64
         ensures { result ≡ length self.now.passes * self.now.width }
     {
@@ -116,11 +116,11 @@ impl Plan {
     }
 
     /// Fills the rows with scan `k + 1` of the test, and returns its shape. The rows must hold scan `k`, whose
-    /// shape is `before`. This is faster than `fill` for the scans of a test in turn: the rows of a pass are made
-    /// once and kept in `rows`, and what two successive scans share stays in place. The board must be that of the
-    /// plan, `k + 1` must be below the number of scans, and each row must have room for a scan of instructions
-    /// and for a scan of data. `rows` must have room for a scan of data, and must have no pass yet or come from
-    /// this call for this plan. Allocates nothing.
+    /// shape is `before`. For the scans of a test in turn, this is faster than `fill`: the rows of a pass are made
+    /// once and kept in `rows`, and a mask that two successive scans share is not written again. The board must be
+    /// that of the plan, `k + 1` must be below the number of scans, and each row must have room for a scan of
+    /// instructions and for a scan of data. `rows` must have room for a scan of data. Its contents must belong to no
+    /// pass yet or come from this call for this plan. Allocates nothing.
     pub fn fill_next(
         &self,
         board: &Board,
@@ -161,7 +161,7 @@ impl Plan {
         self.on(board).pass(pass as usize).shift_row(row, tdi);
     }
 
-    /// Fills two rows with what the scan after row `row` of a pass compares: the expected bits and the mask. The
+    /// Fills two rows with the expected bits and the mask of row `row` of a pass, which the next scan compares. The
     /// board must be that of the plan, and each row must have room for a scan of data. Allocates nothing.
     pub fn fill_compared(&self, board: &Board, pass: u32, row: u32, tdo: &mut Row, mask: &mut Row)
         requires plan { IsPlanOf board.now self.now }

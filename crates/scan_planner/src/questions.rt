@@ -73,8 +73,8 @@ impl Plan {
         self.tables.width
     }
 
-    /// Returns the code of a net: its number, from 1, among the nets that some pass observes, and 0 for every
-    /// other net.
+    /// Returns the code of a net: its number, from 1, among the nets that some pass observes, or 0 if no pass
+    /// observes the net.
     pub fn code(&self, net: u32) -> u32
         ensures { result ≡ slice_index_or self.now.codes net 0 }
     {

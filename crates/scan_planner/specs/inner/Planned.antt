@@ -18,12 +18,12 @@ pub record IsPlanned (board : RawBoard) (plan : PlanTables) (common : CommonRows
   pub few : plan.width ≤ 14
   pub rows : AreCommonRows plan common
 
--- this is so, and the plan has pass `x`
+-- `IsPlanned` holds, and the plan has pass `x`
 pub record IsPass (board : RawBoard) (plan : PlanTables) (common : CommonRows) (x : ℕ) : Type 0 where
   pub planned : IsPlanned board plan common
   pub within : x < length plan.passes
 
--- the rows are scan k of the test
+-- the rows hold scan `k` of the test
 abbrev pub FillsRows : PlannedBoard → ℕ → Shape → ScanRows → Type 0
 FillsRows test k shape rows = FillsScan test.board test.plan.passes test.plan.width k shape rows.tdi.now.bits rows.tdo.now.bits rows.mask.now.bits
 
