@@ -1,4 +1,4 @@
--- A block's lines by themselves, and in their place in the text.
+-- The answer for a block's lines in the whole text, from the answer for the block's own text.
 use Rattle.std.proofs.Common.{◌≡◌, ℕ, zero, suc, ◌+◌, ◌≤◌, Bool, true, false, cond, nat_lt, Option, Some, None, Ok, Err, List, [], ◌∷◌, ◌++◌, length, map, take, drop, refl, sym, ap, ◌∙◌, subst, arith}
 use Rattle.std.specs.Prelude.{IfSome, filter_map, ◌==◌, is_some}
 use Rattle.std.specs.List.{slice_split, onto_first, cons_option}
@@ -13,7 +13,7 @@ use Rattle.batch_diag.specs.OwnTexts.{moved_fault}
 use Rattle.batch_diag.specs.inner.Cutting.{rows_from, in_block, moved_inner, IsUpTo}
 use Rattle.batch_diag.proofs.CutLemmas.{rows_at, with_line, worded_line}
 
--- the line after `before` lines
+-- the line with its number in a text that has `before` more lines before it
 abbrev moved_line : ℕ → NumberedLine → NumberedLine
 moved_line before line = record { number = before + line.number; words = line.words }
 
@@ -44,7 +44,7 @@ wanted_moved before rows len lines =
     by_test true = refl
     by_test false = refl
 
--- the answer for a line that must be a row, before the answer for later lines
+-- the answer for a line and the later lines: the line's fault, or the later answer if the line has none
 abbrev front : Option LogFault → LogAnswer → LogAnswer
 front None answer = answer
 front (Some fault) answer = Err fault
@@ -77,7 +77,7 @@ lines_moved before rows len lines =
     ap (λ answer. first_or answer (offenses rows len (map (moved_line before) lines))) (wanted_moved before rows len lines)
     ∙ faults_moved before rows len (wanted_rows rows len lines) lines
 
--- a block's lines give in their place the answer that they give by themselves
+-- the answer for a block's lines in the whole text is the answer for the block's own text, with the line number moved
 pub said_at_place : (own : List ℕ) (before rows len : ℕ) → rows_of_lines rows len (rows_from (before + 1) own) ≡ moved before (log_rows own rows len)
 said_at_place own before rows len =
     ap (rows_of_lines rows len) (rows_moved before 1 (slice_split is_newline own)) ∙ lines_moved before rows len (row_lines own)
@@ -125,7 +125,7 @@ wanted_up_to last rows len lines = by_test (nat_lt (length lines) rows)
     by_test true = tt
     by_test false = tt
 
--- the number of bytes of lines, with a byte after each
+-- the number of bytes of the lines, with one byte more for each line
 abbrev size_of : List (List ℕ) → ℕ
 size_of [] = 0
 size_of (line ∷ lines) = length line + 1 + size_of lines

@@ -13,7 +13,7 @@ use Rattle.batch_diag.specs.declared.fault.BatchFault.TheVariants.{Start, Title,
 use Rattle.batch_diag.specs.Batch.{Answer, IsOfLines, batch_of}
 use Rattle.batch_diag.specs.BatchText.{title_line, batch_text}
 
--- a comment, a title, a row, and a block with the same id and a comment after its title
+-- a comment line; a block with one row; and a block with the same id, whose title has a comment
 two_blocks : batch_of (codes "# 0\nBOARD A\n1\n\r\n BOARD\tA # B\n2") 1 2 ≡ Ok (record { id = codes "A"; log = (true ∷ false ∷ []) ∷ [] } ∷ record { id = codes "A"; log = (false ∷ true ∷ []) ∷ [] } ∷ [])
 unfolding words_of
 two_blocks = refl
@@ -26,17 +26,17 @@ no_board_yet : batch_of (codes "\n1\nBOARD A B") 1 2 ≡ Err (Start 2)
 unfolding words_of
 no_board_yet = refl
 
--- a wrong title comes before the fault of an earlier block
+-- a wrong title is reported rather than the fault of an earlier block
 wrong_title : batch_of (codes "BOARD A\nBOARD B\n1\nBOARD #C\n1") 1 2 ≡ Err (Title 4)
 unfolding words_of
 wrong_title = refl
 
--- the first block counts and not the first line
+-- the fault of the first faulty block is reported, and not that of a later block
 first_block : batch_of (codes "BOARD A\nBOARD B\n4") 1 2 ≡ Err (Inner 1 (Missing 0))
 unfolding words_of
 first_block = refl
 
--- the line counts in the whole text
+-- the line number in a fault is that in the whole text
 line_of_text : batch_of (codes "BOARD A\n1\nBOARD B\n#\n4") 1 2 ≡ Err (Inner 2 (Digit 5))
 unfolding words_of
 line_of_text = refl
@@ -45,7 +45,7 @@ line_of_text = refl
 abbrev of_one_row : List ℕ → Answer
 of_one_row text = batch_of text 1 2
 
--- the block whose log has too few rows is named, and not the first
+-- the fault has the number of the block whose log has too few rows
 second_block : of_one_row (codes "BOARD A\n1\nBOARD B") ≡ Err (Inner 2 (Missing 0))
 unfolding words_of
 second_block = refl
@@ -54,7 +54,7 @@ wrong_logs : map of_one_row (codes "BOARD A\n1\n1" ∷ codes "BOARD A\n11" ∷ c
 unfolding words_of
 wrong_logs = refl
 
--- two ids, none, and one with a byte that no word has
+-- titles with two ids, with none, and with an id that has a byte which no word may have
 wrong_titles : map of_one_row (codes "BOARD A B\n1" ∷ codes "BOARD" ∷ (codes "BOARD " ++ 127 ∷ codes "\n1") ∷ []) ≡ Err (Title 1) ∷ Err (Title 1) ∷ Err (Title 1) ∷ []
 unfolding words_of
 wrong_titles = refl
@@ -67,7 +67,7 @@ no_titles : map of_one_row (codes "board A\n1" ∷ codes "BOARDS A\n1" ∷ []) �
 unfolding words_of
 no_titles = refl
 
--- blocks with logs of no row
+-- a block whose log has no rows
 abbrev rowless : List ℕ → Block
 rowless id = record { id = id; log = [] }
 
@@ -83,7 +83,7 @@ too_long_id : batch_of (codes "BOARD " ++ replicate 256 65) 0 2 ≡ Err (Title 1
 unfolding words_of
 too_long_id = refl
 
--- two nets; of each block of a batch its title comes first, and then its diagnosis
+-- the text of a batch for a board with two nets: the title of each block, followed by its diagnosis
 abbrev named : List ℕ → Net
 named name = record { name = name; supply = false; pull = None; pins = [] }
 
@@ -97,6 +97,6 @@ two_verdicts : batch_text two_nets (rowless (codes "A") ∷ rowless (codes "B") 
 unfolding diag_text digits
 two_verdicts = refl
 
--- the fault of a block is never a refusal of memory
+-- a refusal of memory is not allowed as the fault of a block
 never_memory : IsOfLines (Inner 1 (LogMemory alloc_error)) ≡ ⊥
 never_memory = refl

@@ -1,4 +1,4 @@
--- The blocks of a batch of logs, each with the log of one board.
+-- The blocks of a batch of logs. Each block has the log of one board.
 use Rattle.std.specs.Prelude.{ℕ, ◌+◌, Bool, false, not, ◌&&◌, List, [], ◌∷◌, take_while, Option, Some, None, Result, Ok, Err, codes, if◌then◌else◌}
 use Rattle.std.specs.Str.{bytes_eq}
 use Rattle.text_lines.specs.Words.{Word, is_word}
@@ -9,7 +9,7 @@ use Rattle.batch_diag.specs.declared.block.Block.{Block}
 use Rattle.batch_diag.specs.declared.fault.BatchFault.{BatchFault}
 use Rattle.batch_diag.specs.declared.fault.BatchFault.TheVariants.{Start, Title, Inner, Memory}
 
--- the first word of the line is `BOARD`
+-- true if the first word of the line is `BOARD`
 abbrev pub is_title : List Word → Bool
 is_title [] = false
 is_title (word ∷ words) = bytes_eq word (codes "BOARD")
@@ -21,18 +21,18 @@ abbrev pub first_or_none : List Word → Word
 first_or_none [] = []
 first_or_none (word ∷ words) = word
 
--- the second word of a title is the id of a board
+-- the second word of a title, which is the id of a board, or no bytes if there is none
 abbrev pub id_of : List Word → Word
 id_of [] = []
 id_of (word ∷ words) = first_or_none words
 
--- there is one word, which keeps the word rule
+-- true if there is exactly one word and it keeps the word rule
 abbrev pub is_id : List Word → Bool
 is_id [] = false
 is_id (id ∷ []) = is_word id
 is_id (id ∷ other ∷ words) = false
 
--- an id and nothing else follows the first word of a title
+-- true if exactly one word follows the first word and it keeps the word rule
 abbrev pub names_board : List Word → Bool
 names_board [] = false
 names_board (word ∷ words) = is_id words
@@ -40,26 +40,26 @@ names_board (word ∷ words) = is_id words
 abbrev pub is_wrong_title : NumberedLine → Bool
 is_wrong_title line = begins_block line && not (names_board line.words)
 
--- the fault of the first line with words, if it is no title
+-- the fault of the first line with words, if this line is no title
 abbrev pub start_fault : List NumberedLine → Option BatchFault
 start_fault [] = None
 start_fault (line ∷ lines) = if begins_block line then None else Some (Start line.number)
 
--- the fault of the first title that is wrong
+-- the fault of the first title that has no id, more than an id, or an id that breaks the word rule
 abbrev pub title_fault : List NumberedLine → Option BatchFault
 title_fault [] = None
 title_fault (line ∷ lines) = if is_wrong_title line then Some (Title line.number) else title_fault lines
 
--- the lines up to the first title
+-- the lines before the first title
 abbrev pub up_to_title : List NumberedLine → List NumberedLine
 up_to_title lines = take_while (λ line. not (begins_block line)) lines
 
--- a block: the id of its board, and its lines with words
+-- a block: the id of its board, and the lines of the block that have words
 pub record BlockLines : Type 0 where
   pub id : Word
   pub lines : List NumberedLine
 
--- each title begins a block, whose lines are those up to the next title
+-- each title begins a block, which has the lines between this title and the next title
 abbrev pub blocks_of : List NumberedLine → List BlockLines
 blocks_of [] = []
 blocks_of (line ∷ lines) = if begins_block line then record { id = id_of line.words; lines = up_to_title lines } ∷ blocks_of lines else blocks_of lines
@@ -71,12 +71,12 @@ abbrev pub onto : Block → Answer → Answer
 onto block (Ok blocks) = Ok (block ∷ blocks)
 onto block (Err fault) = Err fault
 
--- the answer for a block and those after it: the block before the later blocks if its lines are a log, or else its fault
+-- the answer for a block and the later blocks: the block's fault if its lines are no log, or else the later answer with the block in front
 abbrev pub block_then : Word → ℕ → Result (List (List Bool)) LogFault → Answer → Answer
 block_then id board (Ok log) later = onto (record { id = id; log = log }) later
 block_then id board (Err fault) later = Err (Inner board fault)
 
--- the blocks with their logs, or the fault of the first block whose lines are no log; the first block has the number `board`
+-- the blocks with their logs, or the fault of the first block whose lines are no log; the first block of the list has the number `board`
 abbrev pub logs_from : ℕ → ℕ → ℕ → List BlockLines → Answer
 logs_from rows len board [] = Ok []
 logs_from rows len board (block ∷ blocks) = block_then block.id board (rows_of_lines rows len block.lines) (logs_from rows len (board + 1) blocks)
@@ -85,21 +85,22 @@ abbrev pub unless : Option BatchFault → Answer → Answer
 unless None answer = answer
 unless (Some fault) answer = Err fault
 
--- the answer for lines with words: the fault of the first line if it is no title, or else of the first title that is wrong, or else of the
--- first block whose lines are no log; blocks are counted from 1, and a line has its number in the whole text
+-- The answer for the lines of a text that have words. If the first line is no title, the answer is the fault of this line. Otherwise it is
+-- the fault of the first wrong title, if there is one. Otherwise it is the fault of the first block whose lines are no log, if there is
+-- one, or else all blocks. Blocks are counted from 1. A line has its number in the whole text.
 abbrev pub blocks_of_lines : ℕ → ℕ → List NumberedLine → Answer
 blocks_of_lines rows len lines = unless (start_fault lines) (unless (title_fault lines) (logs_from rows len 1 (blocks_of lines)))
 
--- the blocks of a text, each with a log of `rows` rows of `len` bits each, or why the text is no such batch
+-- the blocks of a text, each with a log of `rows` rows of `len` bits, or the first fault of the text
 abbrev pub batch_of : List ℕ → ℕ → ℕ → Answer
 batch_of text rows len = blocks_of_lines rows len (row_lines text)
 
--- the fault, or nothing if it is a refusal of memory, since no definition speaks of memory
+-- the fault, or `None` for a refusal of memory, which no definition describes
 abbrev pub batch_told : BatchFault → Option BatchFault
 batch_told (Memory e) = None
 batch_told fault = Some fault
 
--- the fault of a block's lines is never a refusal of memory
+-- if the fault is that of a block, it is not a refusal of memory
 abbrev pub IsOfLines : BatchFault → Type 0
 IsOfLines (Start n) = Unit {0}
 IsOfLines (Title n) = Unit {0}

@@ -14,13 +14,13 @@ title_line id = line_of (codes "BOARD " ∷ id ∷ [])
 abbrev pub block_text : RawBoard → Block → Verdict → List ℕ
 block_text board block verdict = title_line block.id ++ diag_text board verdict.pass verdict.faults
 
--- the texts of blocks with their verdicts, in order
+-- the texts of the blocks with their verdicts, in order
 abbrev pub batch_text : RawBoard → List Block → List Verdict → List ℕ
 batch_text board [] verdicts = []
 batch_text board (block ∷ blocks) [] = []
 batch_text board (block ∷ blocks) (verdict ∷ verdicts) = block_text board block verdict ++ batch_text board blocks verdicts
 
--- the text of a batch: for each block in order its title, and the diagnosis of its log by itself
+-- the text has for each block, in order, its title and the diagnosis of its log
 abbrev pub IsBatchText : RawBoard → List Block → List ℕ → Type 0
 IsBatchText board [] text = text ≡ []
 IsBatchText board (block ∷ blocks) text =

@@ -11,29 +11,29 @@ use Rattle.batch_diag.specs.Batch.{begins_block, is_wrong_title, up_to_title, ba
 use Rattle.batch_diag.specs.Verdicts.{AreVerdicts}
 use Rattle.batch_diag.specs.BatchText.{batch_text, IsBatchText}
 
--- a title and the lines after it, none of which is a title, are a block
+-- the title and these lines are the block: the title has the block's id, none of the lines is a title, and the lines are the block's log
 pub record IsBlockOf (rows len : ℕ) (title : NumberedLine) (lines : List NumberedLine) (block : Block) : Type 0 where
   pub words : title.words ≡ codes "BOARD" ∷ block.id ∷ []
   pub id : is_word block.id ≡ true
   pub inside : All (λ line. begins_block line ≡ false) lines
   pub log : rows_of_lines rows len lines ≡ Ok block.log
 
--- the lines are those of these blocks, in order
+-- the lines are the titles and the lines of these blocks, in order
 abbrev pub AreBlocksOf : ℕ → ℕ → List NumberedLine → List Block → Type 0
 AreBlocksOf rows len lines [] = lines ≡ []
 AreBlocksOf rows len lines (block ∷ blocks) =
     (title : NumberedLine) × (own : List NumberedLine) × (later : List NumberedLine) × IsBlockOf rows len title own block × AreBlocksOf rows len later blocks × (lines ≡ title ∷ (own ++ later))
 
--- a text is a batch exactly if its lines with words are those of blocks
+-- a text is a batch of these blocks exactly if its lines with words are the titles and the lines of the blocks
 abbrev pub BlocksAreTheLines : Type 0
 BlocksAreTheLines = (text : List ℕ) (rows len : ℕ) (blocks : List Block) → (batch_of text rows len ≡ Ok blocks) ↔ AreBlocksOf rows len (row_lines text) blocks
 
--- no title among the lines is wrong
+-- each title among the lines has an id that keeps the word rule, and nothing else
 abbrev pub AreRight : List NumberedLine → Type 0
 AreRight lines = All (λ line. is_wrong_title line ≡ false) lines
 
--- the first line with words, if it is no title; or else the first title that is wrong; or else, after blocks whose lines are logs, the
--- first block whose lines are no log
+-- `Start` is for the first line, if it is no title. `Title` is for the first wrong title, if the first line is a title. `Inner` is for the
+-- first block whose lines are no log, if no title is wrong and each line comes after a title.
 abbrev pub IsFirstFault : ℕ → ℕ → List NumberedLine → BatchFault → Type 0
 IsFirstFault rows len lines (Start n) = (line : NumberedLine) × (later : List NumberedLine) × (begins_block line ≡ false) × (line.number ≡ n) × (lines ≡ line ∷ later)
 IsFirstFault rows len lines (Title n) =
@@ -43,14 +43,14 @@ IsFirstFault rows len lines (Inner board fault) =
     × (begins_block title ≡ true) × All (λ line. begins_block line ≡ false) own × (up_to_title later ≡ []) × (rows_of_lines rows len own ≡ Err fault) × (board ≡ length blocks + 1) × (lines ≡ before ++ title ∷ (own ++ later))
 IsFirstFault rows len lines (Memory e) = ⊥
 
--- a fault is reported for a text exactly if it is the first
+-- the answer for a text is this fault exactly if it is the first fault of the text
 abbrev pub FaultIsTheFirst : Type 0
 FaultIsTheFirst = (text : List ℕ) (rows len : ℕ) (fault : BatchFault) → (batch_of text rows len ≡ Err fault) ↔ IsFirstFault rows len (row_lines text) fault
 
--- verdicts make the text of the batch
+-- the text that is made of the verdicts is the text of the batch
 abbrev pub VerdictsMakeText : Type 0
 VerdictsMakeText = (board : RawBoard) (blocks : List Block) (verdicts : List Verdict) → AreVerdicts board blocks verdicts → IsBatchText board blocks (batch_text board blocks verdicts)
 
--- blocks have at most one such text
+-- a batch has at most one text of its diagnoses
 abbrev pub OneBatchText : Type 0
 OneBatchText = (board : RawBoard) (blocks : List Block) (text other : List ℕ) → IsBatchText board blocks text → IsBatchText board blocks other → text ≡ other

@@ -1,4 +1,4 @@
--- Each block of a batch by itself: the lines below its title, as a text of their own.
+-- Each block of a batch alone: the lines below its title are a text of their own, which holds the block's log.
 use Rattle.std.specs.Prelude.{◌≡◌, ◌↔◌, ℕ, ◌+◌, Bool, true, false, List, [], ◌∷◌, ◌++◌, length, All, Ok, Err, codes}
 use Rattle.std.specs.List.{slice_split, join_with_byte, flat_map}
 use Rattle.text_lines.specs.Words.{is_newline, is_word, words_of}
@@ -13,7 +13,7 @@ use Rattle.batch_diag.specs.Batch.{is_title, id_of, batch_of}
 use Rattle.batch_diag.specs.BatchText.{title_line, IsBatchText}
 use Rattle.batch_diag.specs.Verdicts.{EachPair}
 
--- a block in a text: its title, and the lines below it
+-- a block in a text: its title, and the lines below the title
 pub record BlockText : Type 0 where
   pub title : List ℕ
   pub below : List (List ℕ)
@@ -21,7 +21,7 @@ pub record BlockText : Type 0 where
 abbrev pub lines_of_block : BlockText → List (List ℕ)
 lines_of_block block = block.title ∷ block.below
 
--- the lines below a title, as a text of their own
+-- the text that consists of the lines below a block's title
 abbrev pub own_text : BlockText → List ℕ
 own_text block = join_with_byte 10 block.below
 
@@ -31,14 +31,14 @@ IsTitle line = is_title (words_of line) ≡ true
 abbrev pub IsNoTitle : List ℕ → Type 0
 IsNoTitle line = is_title (words_of line) ≡ false
 
--- a text is lines without words and then these blocks; each block goes from its title up to the next title
+-- the text consists of lines without words, followed by these blocks; each block ends before the next title
 pub record IsCutTo (text : List ℕ) (front : List (List ℕ)) (blocks : List BlockText) : Type 0 where
   pub lines : slice_split is_newline text ≡ front ++ flat_map lines_of_block blocks
   pub blank : All (λ line. words_of line ≡ []) front
   pub titles : All (λ block. IsTitle block.title) blocks
   pub below : All (λ block. All IsNoTitle block.below) blocks
 
--- the title names the board, and the lines below it, as a text of their own, hold the log
+-- the title has the id of the block, and the block's own text holds its log
 pub record HoldsBlock (rows len : ℕ) (text : BlockText) (block : Block) : Type 0 where
   pub words : words_of text.title ≡ codes "BOARD" ∷ block.id ∷ []
   pub id : is_word block.id ≡ true
@@ -50,11 +50,11 @@ pub record HoldsBlocks (text : List ℕ) (rows len : ℕ) (blocks : List Block) 
   pub cut : IsCutTo text front texts
   pub each : EachPair (HoldsBlock rows len) texts blocks
 
--- a text is a batch exactly if its blocks, each by itself, hold the logs
+-- a text is a batch exactly if the own text of each of its blocks holds a log
 abbrev pub BlocksByThemselves : Type 0
 BlocksByThemselves = (text : List ℕ) (rows len : ℕ) (blocks : List Block) → (batch_of text rows len ≡ Ok blocks) ↔ HoldsBlocks text rows len blocks
 
--- the fault of a text that comes after `before` lines of another text, with its line number there
+-- the fault of a text that is part of a longer text, with its line number in the longer text; `before` lines come before the part
 abbrev pub moved_fault : ℕ → LogFault → LogFault
 moved_fault before (Digit n) = Digit (before + n)
 moved_fault before (Length n) = Length (before + n)
@@ -62,7 +62,8 @@ moved_fault before (Missing found) = Missing found
 moved_fault before (Extra n) = Extra (before + n)
 moved_fault before (Memory e) = Memory e
 
--- the blocks before this one hold logs, this one holds none, and this is its fault, with its line number in the whole text
+-- block `board`, counted from 1, is the first whose own text holds no log, and `fault` is the fault of this text, with its line number in
+-- the whole text
 pub record FailsInBlock (text : List ℕ) (rows len board : ℕ) (fault : LogFault) : Type 0 where
   pub front : List (List ℕ)
   pub earlier : List BlockText
@@ -75,23 +76,23 @@ pub record FailsInBlock (text : List ℕ) (rows len board : ℕ) (fault : LogFau
   pub fails : log_rows (own_text block) rows len ≡ Err own
   pub line : fault ≡ moved_fault (length (front ++ flat_map lines_of_block earlier) + 1) own
 
--- the fault of a block is that of its lines as a text of their own
+-- the fault that is reported for a block is the fault of the block's own text
 abbrev pub FaultByItself : Type 0
 FaultByItself = (text : List ℕ) (rows len board : ℕ) (fault : LogFault) → batch_of text rows len ≡ Err (Inner board fault) → FailsInBlock text rows len board fault
 
--- the text of the diagnosis of the log that a text of its own holds
+-- the text holds a log, and `diagnosis` is the text of the log's diagnosis
 pub record IsDiagnosisOf (board : RawBoard) (rows len : ℕ) (text diagnosis : List ℕ) : Type 0 where
   pub log : List (List Bool)
   pub holds : log_rows text rows len ≡ Ok log
   pub is : IsDiagText board log diagnosis
 
--- for each block, in order, its title and the diagnosis of its lines as a text of their own
+-- `out` has for each block, in order, its title and the diagnosis of the log that its own text holds
 abbrev pub AreDiagnosesOf : RawBoard → ℕ → ℕ → List BlockText → List ℕ → Type 0
 AreDiagnosesOf board rows len [] out = out ≡ []
 AreDiagnosesOf board rows len (block ∷ blocks) out =
     (diagnosis : List ℕ) × (later : List ℕ) × IsDiagnosisOf board rows len (own_text block) diagnosis × AreDiagnosesOf board rows len blocks later × (out ≡ title_line (id_of (words_of block.title)) ++ (diagnosis ++ later))
 
--- the text of a batch has below each title the diagnosis of the block's lines as a text of their own
+-- the text of a batch has below each title the diagnosis of the log that the block's own text holds
 abbrev pub DiagnosesByThemselves : Type 0
 DiagnosesByThemselves =
     (board : RawBoard) (text : List ℕ) (rows len : ℕ) (blocks : List Block) (out : List ℕ) → batch_of text rows len ≡ Ok blocks → IsBatchText board blocks out →

@@ -8,21 +8,21 @@ use Rattle.fault_sim.specs.Diagnosis.{IsDiagnosis}
 use Rattle.batch_diag.specs.declared.block.Block.{Block}
 use Rattle.batch_diag.specs.declared.verdict.Verdict.{Verdict}
 
--- two lists have the same length, and R holds of the items at each place
+-- two lists have the same length, and R holds for the two items at each place
 abbrev pub EachPair : {A B : Type 0} → (A → B → Type 0) → List A → List B → Type 0
 EachPair R [] [] = Unit {0}
 EachPair R [] (y ∷ ys) = ⊥
 EachPair R (x ∷ xs) [] = ⊥
 EachPair R (x ∷ xs) (y ∷ ys) = R x y × EachPair R xs ys
 
--- the diagnosis of a block's log: whether it passes, and the single faults that explain it
+-- the verdict is the diagnosis of the block's log: whether the log passes, and the single faults that explain it
 abbrev pub IsVerdict : RawBoard → Block → Verdict → Type 0
 IsVerdict board block verdict = IsDiagnosis board block.log verdict.pass verdict.faults
 
--- a verdict on each block, in order
+-- the verdicts are those on the blocks, in order
 abbrev pub AreVerdicts : RawBoard → List Block → List Verdict → Type 0
 AreVerdicts board blocks verdicts = EachPair (IsVerdict board) blocks verdicts
 
--- the logs have the rows of the test that a plan makes, each as long as a data scan
+-- each log has as many rows as the plan's test has, each as long as a data scan
 abbrev pub AreLogs : RawBoard → PlanTables → List Block → Type 0
 AreLogs board plan blocks = All (λ block. HasSize (length plan.passes * plan.width) (data_bits board) block.log) blocks

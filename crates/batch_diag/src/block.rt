@@ -2,7 +2,7 @@
 use board_defs::Name;
 use response_log::Log;
 
-/// The log of one board. Ids may repeat.
+/// The log of one board, with the board's id. Several blocks may have the same id.
 #[derive(Drop)]
 pub struct Block {
     pub id: Name,

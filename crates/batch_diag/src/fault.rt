@@ -1,4 +1,4 @@
-// Why a text is no batch of logs.
+// The reasons why a text is no batch of logs.
 ghost use Rattle.std.specs.Prelude.{◌≡◌, alloc_error};
 ghost use Rattle.batch_diag.specs.declared.fault.BatchFault.TheVariants.{Memory};
 
@@ -7,15 +7,14 @@ use std::alloc::{AllocError, AllocFailed};
 use std::error::Error;
 use std::fmt;
 
-/// The first line that is not allowed where it is, or else the first block whose lines are no log, or a refusal of memory. Lines
-/// are those of the whole text, numbered from 1.
+/// The reason why a text is no batch of logs, or a refusal of memory. Lines are counted in the whole text, from 1.
 #[derive(Debug, Drop)]
 pub enum BatchFault {
-    /// The line has words and comes before the first line that begins a block.
+    /// This line has words, but comes before the first title.
     Start(u32),
-    /// The line begins a block, but does not have two words, or the id breaks the word rule.
+    /// This line is a title, but does not have exactly two words, or its id breaks the word rule.
     Title(u32),
-    /// The block, counted from 1, and why its lines are no log. The fault is never a refusal of memory.
+    /// The lines of block `board`, counted from 1, are no log. `fault` is never a refusal of memory.
     Inner { board: u32, fault: LogFault },
     Memory(AllocError),
 }

@@ -1,4 +1,4 @@
-// The verdicts on the blocks of a batch, in pieces that run side by side.
+// The verdicts on the blocks of a batch, found in pieces that run side by side.
 ghost use Rattle.std.specs.Prelude.{◌≡◌, ◌+◌, ◌<◌, ◌≤◌, [], ◌∷◌, length, All, IfOk};
 ghost use Rattle.std.specs.Thread.{IsSync};
 ghost use Rattle.board_defs.specs.Passes.{passes_of};
@@ -29,13 +29,14 @@ pub struct Batch<'a, 'b> {
     pub blocks: &'a [Block],
 }
 
-/// Returns a verdict on each block of a batch, in the order of the blocks. Neither the number of workers nor the gate changes the
-/// verdicts. The plan must be made of the board's passes, and each log must have its rows, each as long as a data scan.
+/// Returns the verdict on each block of a batch, in the order of the blocks. Neither the number of workers nor the gate changes
+/// the verdicts. The plan must be made of the board's passes. Each log must have as many rows as the plan's test, and each row
+/// must be as long as a data scan.
 ///
-/// The blocks are cut into as many pieces as there are workers, from 1 to 64, whose sizes differ by at most one block. Directly
-/// before a piece takes a block, it enters the gate with its own number and that of the block, both from 0. Halves of the
-/// pieces run side by side, down to one piece. One worker diagnoses each block. If memory is refused in any piece,
-/// it is refused for the whole.
+/// The blocks are cut into as many pieces as there are workers, from 1 to 64. The sizes of the pieces differ by at most one
+/// block. Directly before a piece takes a block, it enters the gate with its own number and the number of the block, both from
+/// 0. Halves of the pieces run side by side, down to one piece. One worker diagnoses each block. If memory is refused in any
+/// piece, the call fails.
 pub fn diagnose_all<R: Threads + Sync, G: Gate>(
     rt: &R,
     alloc: Global,
@@ -58,7 +59,7 @@ pub fn diagnose_all<R: Threads + Sync, G: Gate>(
     diagnose_blocks(rt, alloc, &test, blocks, Workers::of(workers), gate)
 }
 
-/// Like `diagnose_all`, but takes the board's test.
+/// Like `diagnose_all`, but takes the board and the plan as the board's test.
 pub fn diagnose_blocks<R: Threads + Sync, G: Gate>(
     rt: &R,
     alloc: Global,
@@ -76,7 +77,7 @@ pub fn diagnose_blocks<R: Threads + Sync, G: Gate>(
     judge_kept(rt, alloc, test, &kept, blocks, workers, gate)
 }
 
-// Like `diagnose_blocks`, but takes what is kept of the passes.
+// Like `diagnose_blocks`, but also takes the kept passes, which make the diagnoses faster.
 fn judge_kept<R: Threads + Sync, G: Gate>(
     rt: &R,
     alloc: Global,
@@ -97,7 +98,7 @@ fn judge_kept<R: Threads + Sync, G: Gate>(
     judge_all(rt, alloc, &kept_test, blocks, workers, gate)
 }
 
-// Like `judge_kept`, but takes a test that has the kept passes.
+// Like `judge_kept`, but takes a test that includes the kept passes.
 fn judge_all<R: Threads + Sync, G: Gate>(
     rt: &R,
     alloc: Global,
@@ -120,7 +121,7 @@ fn judge_all<R: Threads + Sync, G: Gate>(
     judge_pieces(rt, alloc, batch, workers, gate)
 }
 
-// Returns the verdict on a log.
+// Returns the verdict on a log, which one worker finds.
 fn verdict_on<R: Threads + Sync>(
     rt: &R,
     alloc: Global,
@@ -147,7 +148,7 @@ fn verdict_on<R: Threads + Sync>(
     })
 }
 
-// Returns the verdict on block `i`, which a piece takes.
+// Returns the verdict on block `i`. First enters the gate for the piece with number `piece`.
 fn judge<R: Threads + Sync, G: Gate>(
     rt: &R,
     alloc: Global,

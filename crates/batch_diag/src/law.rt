@@ -1,36 +1,38 @@
-//! Laws of batches. Each is the contract of a function that does nothing.
+//! Laws of batches. Each function does nothing, and its contract is the law.
 ghost use Rattle.batch_diag.specs.Laws.{BlocksAreTheLines, FaultIsTheFirst, VerdictsMakeText, OneBatchText};
 ghost use Rattle.batch_diag.specs.OwnTexts.{BlocksByThemselves, DiagnosesByThemselves, FaultByItself};
 
 use diagnoser::law::one_diagnosis;
 
-/// A text is a batch exactly if its lines with words are correct titles, each followed by the lines of a log.
+/// A text is a batch exactly if its lines with words are correct titles, each followed by the lines of a log. The batch has a block
+/// for each title.
 pub fn blocks_are_the_lines()
     ensures { BlocksAreTheLines }
 {}
 
-/// The fault that is reported for a text is its first fault, and every first fault is reported: the first line with words, if it is no
-/// title; or else the first wrong title; or else the first block whose lines are no log.
+/// A fault is reported for a text exactly if it is the first fault of the text. This is the fault of the first line with words, if
+/// this line is no title. Otherwise it is the fault of the first wrong title. If no title is wrong, it is the fault of the first
+/// block whose lines are no log.
 pub fn fault_is_the_first()
     ensures { FaultIsTheFirst }
 {}
 
-/// Each block counts by itself. The lines below its title, as a text of their own, hold its log. If they hold none, the reported
-/// fault is that of this text, with its line number in the whole text. What is written below the title is the diagnosis of the
-/// log that this text holds.
+/// Each block is read and diagnosed as if it were alone. The lines below its title are a text that holds its log. If this text
+/// holds no log, the reported fault is the fault of this text, with its line number in the whole text. Below the title, the output
+/// has the diagnosis of the log that this text holds.
 pub fn blocks_stand_by_themselves()
     ensures logs { BlocksByThemselves }
     ensures fault { FaultByItself }
     ensures diagnoses { DiagnosesByThemselves }
 {}
 
-/// The text that is written for blocks and their verdicts has for each block, in order, its title and the diagnosis of its
-/// log by itself.
+/// The text that `write_batch` writes for blocks and their verdicts has for each block, in order, its title and the diagnosis of
+/// its log.
 pub fn verdicts_make_text()
     ensures { VerdictsMakeText }
 {}
 
-/// A batch has at most one such text, so neither the number of workers nor the gate changes it.
+/// A batch has at most one text of its diagnoses, so neither the number of workers nor the gate changes this text.
 pub fn one_batch_text()
     ensures { OneBatchText }
 {

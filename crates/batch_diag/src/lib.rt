@@ -1,7 +1,7 @@
 //! Many logs of one test in one text, diagnosed side by side.
 //!
-//! A line whose first word is `BOARD` begins a block, and its other word is the id of a board. The lines up to the next such
-//! line are the log of that board. Each block is diagnosed as if it were alone.
+//! A line whose first word is `BOARD` is a title. It begins a block, and its second word is the id of a board. The lines between
+//! a title and the next title are the log of that board. Each block is diagnosed as if it were alone.
 #![tactic(auto)]
 
 mod block;

@@ -10,7 +10,7 @@ use crate::fault::BatchFault;
 use std::alloc::{AllocError, Global};
 use text_lines::{first_line, is_blank, is_word, next_word};
 
-/// A line that begins a block: its number, the id in it, and the text after the line.
+/// A line that begins a block: the number of the line, the id in the line, and the text after the line.
 #[derive(Clone, Copy)]
 pub struct Title<'a> {
     pub line: usize,
@@ -18,7 +18,7 @@ pub struct Title<'a> {
     pub behind: &'a [u8],
 }
 
-/// A block whose log has yet to be read: the line number of its title, the id in the title, and the text of its lines.
+/// A block whose log has yet to be read: the line number of its title, the id in the title, and the text below the title.
 #[derive(Clone, Copy)]
 pub struct UnreadBlock<'a> {
     pub line: usize,
@@ -32,7 +32,7 @@ fn has_words(line: &[u8]) -> bool
     next_word(line).is_some()
 }
 
-// Returns whether the line begins with a byte that begins no title. Most rows do, so the rest of them need not be read.
+// Returns whether the line begins with a byte that no title begins with. Most rows begin so, and need not be read further.
 fn begins_row(line: &[u8]) -> bool
     ensures { result ≡ begins_row line.now }
 {
@@ -55,7 +55,7 @@ fn is_title(line: &[u8]) -> bool
     }
 }
 
-// Returns the first word of a line, or no bytes if it has none.
+// Returns the first word of a line, or no bytes if the line has no word.
 fn first_or_none(line: &[u8]) -> &[u8]
     ensures { result.now ≡ first_or_none (words_of line.now) }
 {
@@ -65,7 +65,7 @@ fn first_or_none(line: &[u8]) -> &[u8]
     }
 }
 
-// Returns the second word of a line, or no bytes if it has none.
+// Returns the second word of a line, or no bytes if the line has no second word.
 fn id_of(line: &[u8]) -> &[u8]
     ensures { result.now ≡ id_of (words_of line.now) }
 {
@@ -75,7 +75,7 @@ fn id_of(line: &[u8]) -> &[u8]
     }
 }
 
-// Returns whether the line is an id and nothing else.
+// Returns whether the line has exactly one word and this word keeps the word rule.
 fn is_id(line: &[u8]) -> bool
     ensures { result ≡ is_id (words_of line.now) }
 {
@@ -85,7 +85,7 @@ fn is_id(line: &[u8]) -> bool
     }
 }
 
-// Returns whether an id and nothing else follows the first word of the line.
+// Returns whether exactly one word follows the first word of the line and this word keeps the word rule.
 fn names_board(line: &[u8]) -> bool
     ensures { result ≡ names_board (words_of line.now) }
 {
@@ -95,7 +95,7 @@ fn names_board(line: &[u8]) -> bool
     }
 }
 
-// Returns whether the line is a title, but does not have two words, or its id breaks the word rule.
+// Returns whether the line is a title that does not have exactly two words or whose id breaks the word rule.
 fn is_wrong_title(line: &[u8]) -> bool
     ensures { result ≡ (is_title (words_of line.now) && not (names_board (words_of line.now))) }
 {
@@ -120,7 +120,7 @@ pub fn start_fault(text: &[u8]) -> Option<BatchFault>
     None
 }
 
-// Returns the fault of this line with words, unless it is a title.
+// Returns the fault of this line, which has words, unless it is a title.
 fn no_title(line: &[u8], number: u32) -> Option<BatchFault>
     ensures { result ≡ start_fault (record { number = number; words = words_of line.now } ∷ []) }
 {
@@ -131,7 +131,7 @@ fn no_title(line: &[u8], number: u32) -> Option<BatchFault>
     }
 }
 
-/// Returns the fault of a text's first title that does not have two words or whose id breaks the word rule.
+/// Returns the fault of the first title of a text that does not have exactly two words or whose id breaks the word rule.
 pub fn title_fault(text: &[u8]) -> Option<BatchFault>
     requires { length text.now < 2 ^ 32 }
     ensures { result ≡ title_fault (row_lines text.now) }
@@ -156,7 +156,8 @@ fn or_nothing(text: Option<&[u8]>) -> &[u8]
     text.unwrap_or(b"")
 }
 
-/// Cuts a text at its first title, and returns the text before it, and the title. The first line of the text has the number `number`.
+/// Cuts a text at its first title. Returns the text before the title, and the title. If the text has no title, returns the whole
+/// text. The first line of the text has the number `number`.
 pub fn cut_at_title(text: &[u8], number: usize) -> (&[u8], Option<Title<'_>>)
     requires { number + length text.now < 2 ^ 33 }
     ensures own { up_to_title (rows_from number text.now) ≡ rows_from number result.0.now }
@@ -183,7 +184,7 @@ pub fn cut_at_title(text: &[u8], number: usize) -> (&[u8], Option<Title<'_>>)
     (text, None)
 }
 
-/// Returns the blocks of a text, even if its titles are wrong.
+/// Returns the blocks of a text. Wrong titles begin blocks as well.
 pub fn list_blocks(alloc: Global, text: &[u8]) -> Result<Vec<UnreadBlock<'_>>, AllocError>
     requires { length text.now < 2 ^ 32 }
     ensures blocks { IfOk result (λ unread. blocks_of (row_lines text.now) ≡ map lines_of_unread unread.items) }

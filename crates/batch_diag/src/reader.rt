@@ -1,4 +1,4 @@
-// From a text to the logs of boards.
+// Reading the blocks of a batch from a text.
 ghost use Rattle.std.specs.Prelude.{◌≡◌, ◌+◌, ◌<◌, ◌≤◌, ◌^◌, length, slice_get, All, IfOk, IfErr, IfSome, MatchResult, Err, Some};
 ghost use Rattle.answers.specs.Gives.{Gives};
 ghost use Rattle.response_log.specs.LogRows.{HasSize, rows_of_lines};
@@ -18,10 +18,10 @@ use std::thread::Threads;
 /// Reads the blocks of a batch, each with a log of `rows` rows of `len` bits each. The text may have any bytes. A text
 /// without words has no block.
 ///
-/// If a line with words comes before the first title, the answer is `Start` with the first such line. Otherwise, if a title
-/// does not have two words or its id breaks the word rule, it is `Title` with the first such title. Otherwise, if the lines
-/// of a block are no log, it is `Inner` with the first such block. The blocks take no more memory than the ids and a byte
-/// for each byte of the text.
+/// If a line with words comes before the first title, the error is `Start` with the first such line. Otherwise, if a title
+/// does not have exactly two words or its id breaks the word rule, the error is `Title` with the first such title. Otherwise,
+/// if the lines of a block are no log, the error is `Inner` with the first such block. The blocks take no more memory than
+/// the ids and one byte for each byte of the text.
 pub fn blocks(alloc: Global, bytes: &[u8], rows: u64, len: u32) -> Result<Vec<Block>, BatchFault>
     requires { length bytes.now < 2 ^ 32 }
     ensures read { Gives batch_told (λ blocks. blocks.items) (λ said. batch_of bytes.now rows len ≡ said) result }
@@ -35,9 +35,10 @@ pub fn blocks(alloc: Global, bytes: &[u8], rows: u64, len: u32) -> Result<Vec<Bl
     read_between(alloc, &reading, 0, count(&reading))
 }
 
-/// Like `blocks`, but reads in as many pieces as there are workers, from 1 to 64, whose sizes differ by at most one block. Halves of
-/// the pieces run side by side, down to one piece. If memory is refused for a block and no earlier block has a fault, it is refused for
-/// the whole. If memory is refused for joining what several pieces give, this comes before any fault of a block.
+/// Like `blocks`, but reads the logs in as many pieces as there are workers, at least 1. The sizes of the pieces differ by at most
+/// one block. Halves of the pieces run side by side, down to one piece. If memory is refused for a block and no earlier block has a
+/// fault, the error is `Memory`. If memory is refused for joining the results of pieces, the error is `Memory` as well, even if a
+/// block has a fault.
 pub fn blocks_by<R: Threads + Sync>(
     rt: &R,
     alloc: Global,
@@ -59,7 +60,7 @@ pub fn blocks_by<R: Threads + Sync>(
     read_pieces(rt, alloc, &reading, workers)
 }
 
-/// Blocks whose logs have yet to be read, and the number of rows of each log and of bits in each row.
+/// Blocks whose logs have yet to be read, with the number of rows of each log and the number of bits in each row.
 #[derive(Drop)]
 pub struct Reading<'a> {
     pub unread: Vec<UnreadBlock<'a>>,
@@ -74,7 +75,7 @@ fn count(reading: &Reading<'_>) -> usize
     reading.unread.len()
 }
 
-// Returns the blocks of a text before their logs are read, or the first line that is not allowed where it is.
+// Returns the blocks of a text before their logs are read, or the fault of a line before the first title or of a wrong title.
 fn reading_of(alloc: Global, bytes: &[u8], rows: u64, len: u32) -> Result<Reading<'_>, BatchFault>
     requires { length bytes.now < 2 ^ 32 }
     ensures said { IfOk result (λ reading. batch_of bytes.now rows len ≡ said_of reading) }
@@ -103,7 +104,7 @@ fn unread_at<'a>(reading: &Reading<'a>, i: usize) -> UnreadBlock<'a>
     reading.unread[i]
 }
 
-// Returns the blocks `first..end`, or the fault of the first of them whose lines are no log.
+// Returns the blocks `first..end`, or the fault of the first of these blocks whose lines are no log.
 fn read_between(
     alloc: Global,
     reading: &Reading<'_>,
@@ -127,7 +128,7 @@ fn read_between(
     Ok(found)
 }
 
-// Returns all blocks, which are read in `pieces` pieces.
+// Returns all blocks, read in `pieces` pieces, or the fault of the first block whose lines are no log.
 fn read_pieces<R: Threads + Sync>(
     rt: &R,
     alloc: Global,
@@ -146,7 +147,7 @@ fn read_pieces<R: Threads + Sync>(
     in_pieces(rt, alloc, count, pieces, &read)
 }
 
-// Returns a block with its log. `board` is the number of the block, from 1.
+// Reads the log of a block and returns the block. `board` is the number of the block, from 1.
 fn read_block(
     alloc: Global,
     unread: UnreadBlock<'_>,
@@ -167,7 +168,7 @@ fn read_block(
     })
 }
 
-// Returns the log of block `board`, whose lines come after `before` lines of the text.
+// Reads the log of block `board` from the text `own` below the block's title. `before` lines of the whole text come before `own`.
 fn read_log(
     alloc: Global,
     own: &[u8],
@@ -187,8 +188,8 @@ fn read_log(
     }
 }
 
-// Returns the fault of block `board`, whose lines by themselves have the fault `fault`. They come after `before` lines of the whole
-// text, and `last` is at least the line number in `fault`.
+// Returns the fault of block `board`. `fault` is the fault of the text below the block's title, `before` lines of the whole text come
+// before this text, and `last` is at least the line number in `fault`.
 fn inner(board: u32, before: u32, last: u32, fault: LogFault) -> BatchFault
     requires last { IsUpTo last fault }
     requires few { before + last < 2 ^ 32 }

@@ -1,7 +1,8 @@
 // The verdict on a block of a batch.
 use board_defs::{Items, Single};
 
-/// Whether every compared bit of a log is the expected one, and the single faults that explain the log, in order.
+/// The verdict on a log. `pass` is true if every compared bit of the log is the expected bit. `faults` has the single faults that
+/// explain the log, in order.
 #[derive(Drop)]
 pub struct Verdict {
     pub pass: bool,

@@ -10,11 +10,11 @@ use Rattle.batch_diag.specs.declared.fault.BatchFault.TheVariants.{Inner, Memory
 use Rattle.batch_diag.specs.declared.lines.Title.{Title}
 use Rattle.batch_diag.specs.Batch.{BlockLines, blocks_of, up_to_title}
 
--- the lines with words of a text, whose first line has the number n
+-- the lines of a text that have words; the first line of the text has the number `n`
 abbrev pub rows_from : ℕ → List ℕ → List NumberedLine
 rows_from n text = filter has_words (numbered n (slice_split is_newline text))
 
--- a line begins with a byte that begins no title
+-- true if the line begins with a byte that no title begins with
 abbrev pub begins_row : List ℕ → Bool
 begins_row [] = false
 begins_row (b ∷ bs) = not (b == 66) && not (is_blank b)
@@ -24,19 +24,19 @@ abbrev pub or_nothing : Option (List ℕ) → List ℕ
 or_nothing None = []
 or_nothing (Some text) = text
 
--- the blocks from this title on
+-- the block of this title and the blocks after it, or no blocks if there is no title
 abbrev pub blocks_at : Option Title → List BlockLines
 blocks_at None = []
 blocks_at (Some title) =
     let behind = rows_from (title.line + 1) title.behind.now in
     record { id = title.id.now; lines = up_to_title behind } ∷ blocks_of behind
 
--- the answer for the log of the block with this number, from the answer for its lines
+-- the log of block `board`, or the block's fault, from the answer for the block's lines
 abbrev pub in_block : ℕ → LogAnswer → Result (List (List Bool)) BatchFault
 in_block board (Ok log) = Ok log
 in_block board (Err fault) = Err (Inner board fault)
 
--- the fault of the block with this number, from the fault of its lines by themselves; `before` lines of the text come before them
+-- the fault of block `board`, from the fault of the block's own text; `before` lines of the whole text come before the own text
 abbrev pub moved_inner : ℕ → ℕ → LogFault → BatchFault
 moved_inner board before (Digit n) = Inner board (Digit (before + n))
 moved_inner board before (Length n) = Inner board (Length (before + n))

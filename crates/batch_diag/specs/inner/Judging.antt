@@ -1,4 +1,4 @@
--- How the verdicts on the blocks of a batch are found in pieces.
+-- The verdicts on the blocks of a batch, and on a range of the blocks.
 use Rattle.std.specs.Prelude.{ℕ, List, All}
 use Rattle.fault_sim.specs.Places.{IsUniverse}
 use Rattle.diagnoser.specs.Diagnosis.{IsNamed}
@@ -13,10 +13,10 @@ pub record IsBatch (b : Batch) : Type 0 where
   pub universe : IsUniverse b.test.now.board b.universe.now
   pub logs : AreLogs b.test.now.board b.test.now.plan b.blocks.now
 
--- the verdict on a block, whose faults name nets and pins of the board
+-- the verdict is the one on the block, and its faults name nets and pins of the board
 abbrev pub Judges : Batch → Block → Verdict → Type 0
 Judges b block verdict = IsVerdict b.test.now.board block verdict × All (IsNamed b.test.now.board) verdict.faults
 
--- the verdicts on the blocks `from..to`
+-- the verdicts are those on the blocks `from..to`, in order
 abbrev pub Judged : Batch → ℕ → ℕ → List Verdict → Type 0
 Judged b from to verdicts = EachPair (Judges b) (items_between b.blocks.now from to) verdicts

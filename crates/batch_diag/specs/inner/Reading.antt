@@ -1,4 +1,4 @@
--- How the logs of a batch are read in pieces.
+-- The answer for the blocks of a batch, and for a range of the blocks.
 use Rattle.std.specs.Prelude.{◌≡◌, ℕ, ◌+◌, ◌<◌, ◌^◌, List, length, map, Result, All, IfOk, MatchResult}
 use Rattle.answers.specs.Gives.{Gives}
 use Rattle.response_log.specs.LogRows.{HasSize}
@@ -10,15 +10,15 @@ use Rattle.batch_diag.specs.declared.reader.Reading.{Reading}
 use Rattle.batch_diag.specs.Batch.{Answer, BlockLines, IsOfLines, batch_told, logs_from}
 use Rattle.batch_diag.specs.inner.Cutting.{rows_from}
 
--- the id and the lines of a block
+-- the id and the lines of a block whose log has yet to be read
 abbrev pub lines_of_unread : UnreadBlock → BlockLines
 lines_of_unread block = record { id = block.id.now; lines = rows_from (block.line + 1) block.own.now }
 
--- the blocks are in a text of fewer than 2^32 bytes
+-- there are fewer than 2^32 blocks; for each block, the line number of its title and the length of its text add up to less than 2^32
 abbrev pub AreShort : List UnreadBlock → Type 0
 AreShort blocks = (length blocks < 2 ^ 32) × All (λ block. block.line + length block.own.now < 2 ^ 32) blocks
 
--- the answer for the blocks `from..to`
+-- the answer for the blocks `from..to`: their logs, or the fault of the first block whose lines are no log
 abbrev pub said_between : Reading → ℕ → ℕ → Answer
 said_between r from to = logs_from r.rows r.len (from + 1) (map lines_of_unread (items_between r.unread.items from to))
 
@@ -26,7 +26,7 @@ said_between r from to = logs_from r.rows r.len (from + 1) (map lines_of_unread 
 abbrev pub said_of : Reading → Answer
 said_of r = logs_from r.rows r.len 1 (map lines_of_unread r.unread.items)
 
--- the result is the answer `said`: blocks with logs of this size, or a fault of their lines
+-- the result is the answer `said`, or a refusal of memory; all logs in it have this size, and a fault of a block is a fault of its lines
 abbrev pub IsRead : {V : Type 0} → (V → List Block) → ℕ → ℕ → Answer → Result V BatchFault → Type 0
 IsRead view rows len said result =
     Gives batch_told view (λ answer. said ≡ answer) result × IfOk result (λ v. All (λ block. HasSize rows len block.log) (view v)) × MatchResult result (λ _. Unit {0}) IsOfLines

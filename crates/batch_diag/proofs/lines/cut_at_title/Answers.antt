@@ -1,4 +1,4 @@
--- A line at a time.
+-- The first title of a text, found line by line.
 use Rattle.std.proofs.Common.{◌+◌, ◌≤◌, length, ap, sym, subst, arith}
 use Rattle.std.specs.Prelude.{option_copied}
 use Rattle.text_lines.proofs.LineLemmas.{at_some}

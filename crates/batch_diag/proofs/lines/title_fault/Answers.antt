@@ -1,4 +1,4 @@
--- A line at a time.
+-- The first fault of a title, found line by line.
 use Rattle.std.proofs.Common.{◌+◌, ◌≤◌, length, ap, ◌∙◌, sym, arith}
 use Rattle.std.specs.Prelude.{option_copied}
 use Rattle.text_lines.specs.Words.{words_of}
