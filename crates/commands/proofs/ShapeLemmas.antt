@@ -1,4 +1,4 @@
--- The number of rows of a log of a walking test.
+-- A log of the walking test has a row for each compared SDR statement of the test.
 use Rattle.std.proofs.Common.{◌≡◌, ◌∙◌, ℕ, suc, ◌+◌, Bool, true, false, cond, List, [], ◌∷◌, length, Option, Some, None, refl, ap, sym, arith}
 use Rattle.std.specs.Prelude.{count_by, filter, slice_get}
 use Rattle.std.specs.List.{range_with_len}
@@ -18,7 +18,7 @@ none_kept : (q : ℕ → Bool) (numbers : List ℕ) → ((n : ℕ) → q n ≡ f
 none_kept q [] none = refl
 none_kept q (n ∷ numbers) none = ap (λ (b : Bool). cond b (n ∷ filter q numbers) (filter q numbers)) (none n) ∙ none_kept q numbers none
 
--- `q` keeps the numbers from k on whose items `p` keeps
+-- if `q` holds for each number `k + i` exactly if `p` holds for item `i`, then `q` keeps as many numbers as `p` keeps items
 module _ {X : Type 0} (p : X → Bool) (q : ℕ → Bool) where
   kept_count : (k : ℕ) (xs : List X) → ((i : ℕ) (x : X) → slice_get xs i ≡ Some x → q (k + i) ≡ p x) → length (filter q (range_with_len k (length xs))) ≡ count_by p xs
   kept_count k [] tests = refl
@@ -39,7 +39,7 @@ module _ {X : Type 0} (p : X → Bool) (q : ℕ → Bool) where
 
 module _ (board : RawBoard) (compare : (walk : List Ctl) → CompareRows (walk_row board) (count_by (is_walked board walk) board.nets) (walk ∷ []) (compared_scans board (walk_row_scans board walk)))
     (counted : (rows : List RowScan) → count_by is_compared (board_scans board rows) ≡ length (compared_scans board rows)) where
-  -- one for each compared SDR statement
+  -- a log has one row for each compared SDR statement
   pub walk_rows_compared : walk_rows board ≡ count_by is_compared (board_scans board (walk_row_list board))
   walk_rows_compared = by_setting (walk_setting board) refl
     where
@@ -61,7 +61,7 @@ module _ (board : RawBoard) (compare : (walk : List Ctl) → CompareRows (walk_r
           ∙ sym (counted (walk_row_scans board walk))
           ∙ ap (λ (o : Option (List Ctl)). count_by is_compared (board_scans board (scans_by board o))) (sym is)
 
-  -- so the shape of a log is its size
+  -- a log has the shape of the walking test exactly if it has the test's numbers of rows and bits
   pub walk_shaped : (log : List (List Bool)) → HasSize (walk_rows board) (data_bits board) log → HasShape board (walk_row_list board) log
   walk_shaped log size = record { rows = size.rows ∙ walk_rows_compared; bits = size.bits }
 

@@ -1,4 +1,4 @@
--- The counts of a board, as its summary.
+-- The line with the counts of a board is the board's summary.
 use Rattle.std.proofs.Common.{◌≡◌, ℕ, ◌+◌, List, Option, Some, None, Result, Ok, Err, length, ap, ◌∙◌, sym, inl, inr, arith}
 use Rattle.std.specs.Prelude.{min}
 use Rattle.bt_base.specs.Counts.{Rose, last_count}

@@ -1,4 +1,4 @@
--- What diagnoses and groups say of their logs.
+-- Diagnoses and groups are right for their logs.
 use Rattle.std.proofs.Common.{◌≡◌, ◌↔◌, ℕ, Bool, List, [], ◌∷◌, Option, Some, None, IsTrue, ap, subst}
 use Rattle.board_defs.specs.declared.board.RawBoard.{RawBoard}
 use Rattle.board_defs.specs.declared.fault.Single.{Single}
@@ -19,14 +19,14 @@ module _ (listed : ExplainingListed) (unexplained : PassingUnexplained) (board :
   pub is_right : (rows : List (List Bool)) (pass : Bool) (faults : List Single) → (IsTrue pass ↔ IsExpected board (svf_row_scans board) rows) → AreExplaining board rows faults → IsRight board rows pass faults
   is_right rows pass faults passes explaining = record { passes = passes; lists = listed board rows faults rules explaining; none = λ e. unexplained board rows faults rules (passes.0 e) explaining }
 
-  -- so is each verdict on a block
+  -- each verdict on a block is right
   pub each_right : (blocks : List Block) (verdicts : List Verdict) → AreVerdicts board blocks verdicts → EachPair (λ block verdict. IsRight board block.log verdict.pass verdict.faults) blocks verdicts
   each_right [] [] are = tt
   each_right [] (verdict ∷ verdicts) are = absurd are
   each_right (block ∷ blocks) [] are = absurd are
   each_right (block ∷ blocks) (verdict ∷ verdicts) are = (is_right block.log verdict.pass verdict.faults are.0.passes are.0.list, each_right blocks verdicts are.1)
 
--- the set of groups that was found is exactly the one that explains the log
+-- the set of groups that was found is exactly the set that explains the log
 pub exactly_found : OneSet → (board : RawBoard) → IsBoard board → (rows : List (List Bool)) (found : Option (List (List ℕ))) → AreFound board rows found → (groups : List (List ℕ)) → (found ≡ Some groups) ↔ Explain board rows groups
 exactly_found one board rules rows None none groups = (λ e. absurd cc, λ explains. absurd (none groups explains))
 exactly_found one board rules rows (Some found) explained groups =

@@ -1,4 +1,4 @@
--- How a command answers what it finds in its texts.
+-- The answers of the commands: what a command writes and returns, for what it finds in its texts.
 use Rattle.std.specs.Prelude.{◌≡◌, ℕ, List, take, Result, Ok, Err}
 use Rattle.bt_base.specs.Counts.{Rose}
 use Rattle.bt_base.specs.Puts.{Shown, Takes}
@@ -14,11 +14,11 @@ use Rattle.commands.specs.declared.texts.LogTexts.{LogTexts}
 use Rattle.commands.specs.declared.unput.Unput.{Unput}
 use Rattle.commands.specs.declared.unput.Unput.TheVariants as unput
 
--- nothing more is said
+-- a property of a text that always holds, for a command whose text has no stated property
 abbrev pub Nothing : Text → Type 0
 Nothing text = Unit {0}
 
--- a value was found, and the sink failed after it took some first bytes of the value's text
+-- a value was found, and the sink failed once it had taken some first bytes of the value's text
 pub record IsCutBy {A F : Type 0} (IsFound : Result A F → Type 0) (text_of : A → Text) (old new : Shown) : Type 0 where
   pub rose : Rose old.faults new.faults
   pub value : A
@@ -33,7 +33,8 @@ pub record IsPutBy {A F : Type 0} (IsFound : Result A F → Type 0) (text_of : A
   pub takes : Takes old new (text_of value)
   pub worth : IsWorth (text_of value)
 
--- the answer to what is found in the texts: the text of a value, or a fault
+-- The answer for what is found in the texts. If a value is found, its text is written whole or cut short. If a fault is found, nothing is
+-- written and the fault is returned. If memory runs out, nothing is written.
 abbrev pub Answers : {A : Type 0} → (Result A InputFault → Type 0) → (A → Text) → (Text → Type 0) → Shown → Shown → Result (Unit {0}) Unput → Type 0
 Answers IsFound text_of IsWorth old new (Ok done) = IsPutBy IsFound text_of IsWorth old new
 Answers IsFound text_of IsWorth old new (Err (unput.Input fault)) = IsFound (Err fault) × (new ≡ old)
@@ -42,7 +43,7 @@ Answers IsFound text_of IsWorth old new (Err (unput.Batch rows fault)) = ⊥
 Answers IsFound text_of IsWorth old new (Err unput.Write) = IsCutBy IsFound text_of old new
 Answers IsFound text_of IsWorth old new (Err unput.Memory) = new ≡ old
 
--- like `Answers`, if one of the texts holds logs
+-- like `Answers`, for a command one of whose texts holds logs
 abbrev pub LogAnswers : {A : Type 0} → (Result A TextFault → Type 0) → (A → Text) → (Text → Type 0) → Shown → Shown → Result (Unit {0}) Unput → Type 0
 LogAnswers IsFound text_of IsWorth old new (Ok done) = IsPutBy IsFound text_of IsWorth old new
 LogAnswers IsFound text_of IsWorth old new (Err (unput.Input fault)) = IsFound (Err (Input fault)) × (new ≡ old)
@@ -51,26 +52,26 @@ LogAnswers IsFound text_of IsWorth old new (Err (unput.Batch rows fault)) = IsFo
 LogAnswers IsFound text_of IsWorth old new (Err unput.Write) = IsCutBy IsFound text_of old new
 LogAnswers IsFound text_of IsWorth old new (Err unput.Memory) = new ≡ old
 
--- the answer to what is found in the texts of a chain
+-- the answer for what is found in the texts of a chain
 abbrev pub ChainAnswers : {A : Type 0} → (Text → List Text → Result A InputFault → Type 0) → (A → Text) → (ChainTexts → Text → Type 0) → ChainTexts → Shown → Shown → Result (Unit {0}) Unput → Type 0
 ChainAnswers IsFound text_of IsWorth texts old new result = Answers (IsFound texts.chain texts.bsdl) text_of (IsWorth texts) old new result
 
--- the texts of a board are read as this
+-- `found` is the board that the texts denote, or the first fault of the texts
 abbrev pub IsBoardOf : BoardTexts → Result RawBoard InputFault → Type 0
 IsBoardOf texts found = IsBoardRead texts.chain texts.nets texts.bsdl found
 
--- the answer about the board that the texts denote
+-- the answer of a command whose output is a text about the board that the texts denote
 abbrev pub BoardAnswers : (RawBoard → Text) → (BoardTexts → Text → Type 0) → BoardTexts → Shown → Shown → Result (Unit {0}) Unput → Type 0
 BoardAnswers text_of IsWorth texts old new result = Answers (IsBoardOf texts) text_of (IsWorth texts) old new result
 
--- the answer to what is found in a text of logs, for this board
+-- the answer for what is found for this board in a text of logs
 abbrev pub AnswersOn : {L E A : Type 0} → Judging L E A → (RawBoard × A → Text) → (Text → RawBoard → Text → Type 0) → Text → RawBoard → Shown → Shown → Result (Unit {0}) Unput → Type 0
 AnswersOn judging text_of IsWorth text board old new result = LogAnswers (OnBoard judging text board) (λ found. text_of (board, found)) (IsWorth text board) old new result
 
--- what a text of logs says of the board that the other texts denote
+-- `found` is the board that the other texts denote, with what the text of logs says of the board, or the first fault of the texts
 abbrev pub IsJudgedOf : {L E A : Type 0} → Judging L E A → LogTexts → Result (RawBoard × A) TextFault → Type 0
 IsJudgedOf judging texts found = OnDenoted judging texts.log texts.board.chain texts.board.nets texts.board.bsdl found
 
--- the answer to that
+-- the answer for what a text of logs says of the board that the other texts denote
 abbrev pub JudgedAnswers : {L E A : Type 0} → Judging L E A → (RawBoard × A → Text) → (Text → RawBoard → Text → Type 0) → LogTexts → Shown → Shown → Result (Unit {0}) Unput → Type 0
 JudgedAnswers judging text_of IsWorth texts old new result = LogAnswers (IsJudgedOf judging texts) text_of (OfDenoted (IsWorth texts.log) texts.board) old new result

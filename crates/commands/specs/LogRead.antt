@@ -1,4 +1,4 @@
--- What a text of response logs says of the board that texts denote.
+-- The result of reading and judging a text of response logs of a board that other texts denote.
 use Rattle.std.specs.Prelude.{◌≡◌, ◌⊎◌, ℕ, ◌*◌, Bool, List, length, Option, Result, Ok, Err}
 use Rattle.board_defs.specs.declared.board.RawBoard.{RawBoard}
 use Rattle.board_defs.specs.declared.fault.Single.{Single}
@@ -22,45 +22,46 @@ use Rattle.btest_core.specs.declared.fault.InputFault.{InputFault}
 use Rattle.btest_core.specs.BoardRead.{IsBoardRead, Denotes}
 use Rattle.command_line.specs.Words.{Text}
 
--- the first fault of the texts of a board, of a log, or of a batch of logs. The number is that of the rows that each log must have.
+-- The first fault of the texts of a board, of a log, or of a batch of logs. The number is the number of rows that each log must have.
 pub data TextFault : Type 0 where
   Input : InputFault → TextFault
   Log : ℕ → LogFault → TextFault
   Batch : ℕ → BatchFault → TextFault
 
--- How logs are read and judged. `row_count` is the number of rows of a log of the board. `read` gives what a text holds for a board, or its
--- cause of failure. `wrong` makes a fault of that. `Finds` says what is found in what the text holds.
+-- A way to read and judge logs of a board. `row_count` is the number of rows of a log. `read` gives the contents of a text, or the cause
+-- why the text can't be read. `wrong` makes a fault of the number of rows and the cause. `Finds` holds for contents and what is found in
+-- the contents.
 pub record Judging (L E A : Type 0) : Type 1 where
   pub row_count : RawBoard → ℕ
   pub read : Text → RawBoard → Result L E
   pub wrong : ℕ → E → TextFault
   pub Finds : RawBoard → L → A → Type 0
 
--- the text can be read, and this is found in it
+-- the text can be read for the board, and `found` is found in its contents
 pub record IsJudged {L E A : Type 0} (judging : Judging L E A) (text : Text) (board : RawBoard) (found : A) : Type 0 where
   pub contents : L
   pub holds : judging.read text board ≡ Ok contents
   pub finds : judging.Finds board contents found
 
--- the text can't be read for the board, and this is its fault
+-- the text can't be read for the board, and `fault` is its fault
 pub record IsWrong {L E A : Type 0} (judging : Judging L E A) (text : Text) (board : RawBoard) (fault : TextFault) : Type 0 where
   pub cause : E
   pub fails : judging.read text board ≡ Err cause
   pub is : fault ≡ judging.wrong (judging.row_count board) cause
 
--- what a text says of a board
+-- the result is what is found for the board in the text, or the fault of the text
 abbrev pub OnBoard : {L E A : Type 0} → Judging L E A → Text → RawBoard → Result A TextFault → Type 0
 OnBoard judging text board (Ok found) = IsJudged judging text board found
 OnBoard judging text board (Err fault) = IsWrong judging text board fault
 
--- this is the first fault of texts that denote no board
+-- the texts denote no board, and the fault is their first fault
 abbrev pub IsInputFault : Text → Text → List Text → TextFault → Type 0
 IsInputFault chain nets texts (Input fault) = IsBoardRead chain nets texts (Err fault)
 IsInputFault chain nets texts (Log rows fault) = ⊥
 IsInputFault chain nets texts (Batch rows fault) = ⊥
 
--- what a text says of the board that the other texts denote, together with the board; or the first fault. A fault of the text of logs comes
--- after those of all others.
+-- The result is the board that the other texts denote, together with what is found for the board in the text of logs, or the first fault.
+-- A fault of the other texts comes before a fault of the text of logs.
 abbrev pub OnDenoted : {L E A : Type 0} → Judging L E A → Text → Text → Text → List Text → Result (RawBoard × A) TextFault → Type 0
 OnDenoted judging text chain nets texts (Ok (board, found)) = Denotes chain nets texts board × OnBoard judging text board (Ok found)
 OnDenoted judging text chain nets texts (Err fault) =
@@ -70,22 +71,22 @@ OnDenoted judging text chain nets texts (Err fault) =
 abbrev pub test_rows : RawBoard → ℕ
 test_rows board = length (passes_of board) * code_width (observed_count board (passes_of board))
 
--- the rows of a log of the board's test
+-- the rows of a log of the board's test, or the first fault of the log
 abbrev pub test_log : Text → RawBoard → Result (List (List Bool)) LogFault
 test_log text board = log_rows text (test_rows board) (data_bits board)
 
--- a log of the board's test is judged: whether the board passes, and the single faults that explain the log
+-- the way to judge a log of the board's test: whether the log passes, and the single faults that explain the log
 abbrev pub diagnosing : Judging (List (List Bool)) LogFault (Bool × List Single)
 diagnosing = record { row_count = test_rows; read = test_log; wrong = Log; Finds = λ board rows found. IsDiagnosis board rows found.0 found.1 }
 
 abbrev pub diagnosis_text : RawBoard × (Bool × List Single) → Text
 diagnosis_text (board, found) = diag_text board found.0 found.1
 
--- the blocks of a batch of logs of the board's test
+-- the blocks of a batch of logs of the board's test, or the first fault of the batch
 abbrev pub test_blocks : Text → RawBoard → Result (List Block) BatchFault
 test_blocks text board = batch_of text (test_rows board) (data_bits board)
 
--- a batch of logs of the board's test is judged: a verdict on each log
+-- the way to judge a batch of logs of the board's test: the blocks, and the verdict on each block
 abbrev pub judging_each : Judging (List Block) BatchFault (List Block × List Verdict)
 judging_each = record { row_count = test_rows; read = test_blocks; wrong = Batch; Finds = λ board blocks found. (found.0 ≡ blocks) × AreVerdicts board blocks found.1 }
 
@@ -96,11 +97,11 @@ verdicts_text (board, found) = batch_text board found.0 found.1
 abbrev pub walk_rows : RawBoard → ℕ
 walk_rows board = length (walk_nets board)
 
--- the rows of a log of the board's walking test
+-- the rows of a log of the board's walking test, or the first fault of the log
 abbrev pub walk_log : Text → RawBoard → Result (List (List Bool)) LogFault
 walk_log text board = log_rows text (walk_rows board) (data_bits board)
 
--- a log of the board's walking test is judged: the set of groups that explains it, if there is one
+-- the way to judge a log of the board's walking test: the set of groups that explains the log, if there is one
 abbrev pub grouping : Judging (List (List Bool)) LogFault (Option (List (List ℕ)))
 grouping = record { row_count = walk_rows; read = walk_log; wrong = Log; Finds = AreFound }
 

@@ -1,4 +1,4 @@
--- The commands with their texts.
+-- The commands with the texts that they read.
 use Rattle.std.specs.Prelude.{List, [], ◌∷◌, Option, Some, None}
 use Rattle.command_line.specs.Words.{Text, Command, Chain, Ident, Device, Cover, Svf, Walk, Make, Diagnose, Groups, Batch}
 use Rattle.commands.specs.declared.request.Request.{Request}
@@ -15,11 +15,11 @@ chain_texts chain bsdl = record { chain = chain; bsdl = bsdl }
 abbrev pub board_texts : Text → Text → List Text → BoardTexts
 board_texts chain nets bsdl = record { chain = chain; nets = nets; bsdl = bsdl }
 
--- a text of logs, and the texts of the board that they belong to
+-- a text of logs, and the texts of the board to which the logs belong
 abbrev pub log_texts : Text → Text → Text → List Text → LogTexts
 log_texts log chain nets bsdl = record { log = log; board = board_texts chain nets bsdl }
 
--- a command with its texts: one for each of its file names, in order
+-- the command with these texts, one for each of its file names, in order; `None` if the texts do not fit the command
 abbrev pub request_of : Command → List Text → Option Request
 request_of (Chain names) (chain ∷ bsdl) = Some (request.Chain (chain_texts chain bsdl))
 request_of (Ident names) (chain ∷ bsdl) = Some (request.Ident (chain_texts chain bsdl))

@@ -14,8 +14,8 @@ counts_line devices nets covered passes scans bytes =
     line_of (codes "DEVICES " ∷ decimal devices ∷ codes " NETS " ∷ decimal nets ∷ codes " COVERED " ∷ decimal covered ∷ codes " PASSES " ∷ decimal passes
     ∷ codes " SCANS " ∷ decimal scans ∷ codes " BYTES " ∷ decimal bytes ∷ [])
 
--- the numbers of devices, nets and covered nets of a board, and of passes, scans and bytes of its test. A text that is longer than the
--- largest number of 64 bits counts as that number.
+-- The line with the numbers of devices, nets and covered nets of a board, and of passes, scans and bytes of its test. The number of bytes
+-- is at most the largest number of 64 bits.
 abbrev pub summary_text : RawBoard → Text
 summary_text board =
     counts_line (length board.chain) (length board.nets) (length (covered board)) (length (passes_of board)) (length (svf_scans board)) (min (length (board_text board)) last_count)

@@ -1,4 +1,4 @@
--- What holds for the text that a command writes.
+-- The properties of the texts that the commands write.
 use Rattle.std.specs.Prelude.{◌≡◌, ◌↔◌, ℕ, Bool, true, List, [], Option, Some, Ok, All, IsTrue}
 use Rattle.tap_defs.specs.chain.ChainTest.{IsChainTest}
 use Rattle.tap_defs.specs.board.BoardTest.{IsBoardTest, IsHarmless}
@@ -42,23 +42,23 @@ pub record TestsChain (texts : ChainTexts) (text : Text) : Type 0 where
   pub bounds : AreLengths lengths
   pub tests : IsChainTest lengths text
 
--- the listing is that of the device which the text describes. The device keeps the rules of a device.
+-- The listing is that of the device that the text describes. The device keeps the rules of a device.
 pub record ListsDevice (text listing : Text) : Type 0 where
   pub device : RawDevice
   pub described : IsDeviceText text (Ok device)
   pub rules : IsDevice device
   pub is : listing ≡ device_text device
 
--- the text is a coverage list of the board that these texts denote. The board keeps the rules of a board. What the list says of the nets,
--- pins and pairs is true of all safe settings.
+-- The text is a coverage list of the board that these texts denote. The board keeps the rules of a board. The statements of the list about
+-- nets, pins and pairs are true for all safe settings.
 pub record ListsCover (texts : BoardTexts) (text : Text) : Type 0 where
   pub board : RawBoard
   pub denoted : Denotes texts.chain texts.nets texts.bsdl board
   pub rules : IsBoard board
   pub lists : IsCoverList board text
 
--- the text tests the board that these texts denote. It has a meaning. It passes if nothing is faulty. After its reset it is quiet under
--- every fault set. It fails under every nonempty fault set that is observable.
+-- The text is a test of the board that these texts denote. The text has a meaning. The test passes if nothing is faulty. Once its reset is
+-- done, the test is quiet under every fault set. It fails under every nonempty fault set that is observable.
 pub record TestsBoard (texts : BoardTexts) (text : Text) : Type 0 where
   pub board : RawBoard
   pub denoted : Denotes texts.chain texts.nets texts.bsdl board
@@ -71,21 +71,21 @@ pub record TestsIdents (texts : ChainTexts) (text : Text) : Type 0 where
   pub bounds : ArePatterns patterns
   pub tests : IsIdentTest patterns text
 
--- the text may be applied to the board that these texts denote. It has a meaning. It passes if nothing is faulty. After its reset it is
--- quiet under every fault set.
+-- The text may be applied to the board that these texts denote. The text has a meaning. The test passes if nothing is faulty. Once its
+-- reset is done, the test is quiet under every fault set.
 pub record WalksBoard (texts : BoardTexts) (text : Text) : Type 0 where
   pub board : RawBoard
   pub denoted : Denotes texts.chain texts.nets texts.bsdl board
   pub harmless : IsHarmless board text
 
--- `pass` holds exactly if every compared bit of the log is the expected one, and then no single fault explains the log. The faults are
+-- `pass` is true exactly if every compared bit of the log is the expected bit. If `pass` is true, there are no faults. The faults are
 -- exactly the single faults that explain the log, each once and in order.
 pub record IsRight (board : RawBoard) (rows : List (List Bool)) (pass : Bool) (faults : List Single) : Type 0 where
   pub passes : IsTrue pass ↔ (IsExpected board (svf_row_scans board) rows)
   pub lists : ListsExplaining board rows faults
   pub none : pass ≡ true → faults ≡ []
 
--- the text of the board's test means the clocks of the scans that its logs, and what explains a log, refer to
+-- the text of the board's test means the clocks of its scans; the logs of the test refer to these scans
 abbrev pub TestMeans : RawBoard → Type 0
 TestMeans board = meaning (board_text board) ≡ Some (test_clocks (svf_scans board))
 
@@ -93,14 +93,14 @@ TestMeans board = meaning (board_text board) ≡ Some (test_clocks (svf_scans bo
 abbrev pub WalkMeans : RawBoard → Type 0
 WalkMeans board = meaning (board_walk_text board) ≡ Some (test_clocks (walk_scans board))
 
--- Each single fault of the board has one response to the board's test. It explains some log, and any two logs that it explains have the
--- same compared bits.
+-- Each single fault of the board has one response to the board's test. The fault explains some log, and any two logs that the fault
+-- explains have the same compared bits.
 pub record RespondOnce (board : RawBoard) : Type 0 where
   pub some : (single : Single) → IsSingle board single → (log : List (List Bool)) × Explains board single log
   pub one : (single : Single) (log other : List (List Bool)) → Explains board single log → Explains board single other → AgreeOn board (svf_row_scans board) log other
 
--- The text is the diagnosis of a log of the test of a board. The log has a row for each compared SDR statement of the test, in their order.
--- Each row has a bit for each position.
+-- The text is the diagnosis of a log of the test of a board. The log has a row for each compared SDR statement of the test, in the order of
+-- the statements. Each row has a bit for each position.
 pub record Diagnoses (log : Text) (board : RawBoard) (text : Text) : Type 0 where
   pub means : TestMeans board
   pub respond : RespondOnce board
@@ -112,7 +112,7 @@ pub record Diagnoses (log : Text) (board : RawBoard) (text : Text) : Type 0 wher
   pub right : IsRight board rows pass faults
   pub is : text ≡ diag_text board pass faults
 
--- for each block of a batch of such logs, the text has its title and the diagnosis of its log by itself
+-- Like `Diagnoses`, but for a batch of logs: the text has for each block its title and the diagnosis of its log.
 pub record DiagnosesEach (log : Text) (board : RawBoard) (text : Text) : Type 0 where
   pub means : TestMeans board
   pub respond : RespondOnce board
@@ -123,9 +123,9 @@ pub record DiagnosesEach (log : Text) (board : RawBoard) (text : Text) : Type 0 
   pub right : EachPair (λ block verdict. IsRight board block.log verdict.pass verdict.faults) blocks verdicts
   pub is : text ≡ batch_text board blocks verdicts
 
--- The text names the groups of a log of the walking test of a board. The log has a row for each compared SDR statement of the test. The
--- groups are exactly the set that explains the log, and there are none if no set does. Each set of groups explains some log, and any two
--- logs that it explains have the same compared bits.
+-- The text names the groups that explain a log of the walking test of a board. The log has a row for each compared SDR statement of the
+-- test. `found` is the only set of groups that explains the log, or `None` if no set explains the log. Each set of groups explains some
+-- log, and any two logs that one set explains have the same compared bits.
 pub record FindsGroups (log : Text) (board : RawBoard) (text : Text) : Type 0 where
   pub means : WalkMeans board
   pub rows : List (List Bool)
@@ -137,12 +137,12 @@ pub record FindsGroups (log : Text) (board : RawBoard) (text : Text) : Type 0 wh
   pub one : (groups : List (List ℕ)) (one other : List (List Bool)) → Explain board one groups → Explain board other groups → AgreeOn board (walk_row_list board) one other
   pub is : text ≡ groups_text board found
 
--- P holds for the board that these texts denote
+-- P holds for the text and the board that these texts denote
 abbrev pub OfDenoted : (RawBoard → Text → Type 0) → BoardTexts → Text → Type 0
 OfDenoted P texts text = (board : RawBoard) × Denotes texts.chain texts.nets texts.bsdl board × P board text
 
--- What holds for the text that is written for a request. A test tests something, and what a list says is true. Nothing is stated of a
--- summary.
+-- The property of the text that is written for a request. A test tests what it should, and the statements of a list, a diagnosis or a set
+-- of groups are true. Nothing is stated about a summary.
 abbrev pub IsWorthFor : Request → Text → Type 0
 IsWorthFor (Chain texts) text = TestsChain texts text
 IsWorthFor (Ident texts) text = TestsIdents texts text

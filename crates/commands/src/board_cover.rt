@@ -43,7 +43,7 @@ fn put_cover<K: Sink>(alloc: Global, board: &Board, out: &mut K) -> Result<(), U
     put
 }
 
-// Writes the coverage list of the board, by its classes.
+// Like `put_cover`, but takes the board's classes.
 fn put_list<K: Sink>(
     alloc: Global,
     board: &Board,

@@ -96,19 +96,20 @@ fn net_count(board: &Board) -> u32
     board.raw().nets.len() as u32
 }
 
-// Returns the number of bytes of the text of the board's test. The text is written to a sink that only counts.
+// Returns the number of bytes of the text of the plan's test, or the largest number of 64 bits if there are more. The text is
+// written to a sink that only counts.
 fn text_bytes(alloc: Global, board: &Board, plan: &Plan) -> Result<u64, AllocError>
     requires { IsPlanOf board.now plan.now }
     ensures { IfOk result (λ bytes. bytes ≡ min (length (pass_text board.now plan.now.passes plan.now.width)) last_count) }
 {
     let mut rows = TestRows::for_board(alloc, board)?;
     let mut counter = CountSink::new();
-    // A counter takes each piece that it is given.
+    // A counter never fails.
     let _ = write_test(board, plan, &mut rows, &mut counter);
     Ok(counter.count())
 }
 
-// Counts a board and its test.
+// Returns the counts of a board and its test.
 fn board_counts(alloc: Global, board: &Board) -> Result<Counts, AllocError>
     ensures { IfOk result (λ counts. counts_line counts.devices counts.nets counts.covered counts.passes counts.scans counts.bytes ≡ summary_text board.now) }
 {
@@ -152,7 +153,7 @@ fn planned_counts(
     Ok(counts_of(board, classes, plan, bytes))
 }
 
-// Returns the counts of a board and of the test that a plan makes. The text of the test has `bytes` bytes.
+// Returns the counts of a board and of its plan's test, whose text has `bytes` bytes.
 fn counts_of(board: &Board, classes: &Classes, plan: &Plan, bytes: u64) -> Counts
     requires { AreClasses board.now classes.now }
     ensures devices { result.devices ≡ length board.now.chain }
@@ -172,7 +173,7 @@ fn counts_of(board: &Board, classes: &Classes, plan: &Plan, bytes: u64) -> Count
     }
 }
 
-// Writes the line of counts.
+// Writes the line with these counts.
 fn put_counts<K: Sink>(counts: &Counts, line: &mut Line, out: &mut K) -> Result<(), PutFault>
     ensures { Prints (K.shown out.old) (K.shown out.new) [] []
         (counts_line counts.now.devices counts.now.nets counts.now.covered counts.now.passes counts.now.scans counts.now.bytes) result }

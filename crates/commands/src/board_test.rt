@@ -50,7 +50,7 @@ pub fn svf<K: Sink>(alloc: Global, texts: &BoardTexts, out: &mut K) -> Result<()
     }
 }
 
-// Writes the test of a board by its plan.
+// Writes the test of a board that has its plan already.
 fn put_test<K: Sink>(alloc: Global, planned: &Planned, out: &mut K) -> Result<(), Unput>
     ensures { PutsText (board_text planned.now.board) (K.shown out.old) (K.shown out.new) result }
 {
@@ -67,7 +67,7 @@ fn tests_board(board: &Board)
     board_texts_test();
 }
 
-/// States what the text of any data scans of the board means. Does nothing.
+/// States that the text of any data scans of the board means the clocks of these scans. Does nothing.
 pub fn test_means(board: &Board)
     ensures { (scans : List RowScan) → meaning (svf_text (board_scans board.now scans)) ≡ Some (test_clocks (board_scans board.now scans)) }
 {
@@ -76,7 +76,7 @@ pub fn test_means(board: &Board)
 }
 
 // States that a log with the rows and bits of the board's test has a row for each compared SDR statement of the test, in
-// their order, and that each row has a bit for each position. Does nothing.
+// the order of the statements, and that each row has a bit for each position. Does nothing.
 fn test_logs_shaped(board: &Board)
     ensures { (log : List (List Bool)) → HasSize (test_rows board.now) (data_bits board.now) log → HasShape board.now (svf_row_scans board.now) log }
 {
@@ -94,9 +94,9 @@ fn singles_respond(board: &Board)
     scans_in_turn();
 }
 
-/// States what a diagnosis of the board rests on: the board keeps the rules, any of its texts has a meaning, its logs have the shape
-/// of its test, each of its single faults has one response, the faults of a diagnosis are listed, and no fault explains a log that
-/// passes. Does nothing.
+/// States the laws that the diagnoses of a board rest on. The board keeps the rules. The text of any data scans of the board has a
+/// meaning. A log with the rows and bits of the board's test has the shape of the test. Each single fault of the board has one
+/// response. A diagnosis lists exactly the faults that explain its log. No fault explains a log that passes. Does nothing.
 pub fn judging_laws(board: &Board)
     ensures rules { IsBoard board.now }
     ensures means { (scans : List RowScan) → meaning (svf_text (board_scans board.now scans)) ≡ Some (test_clocks (board_scans board.now scans)) }
@@ -120,7 +120,7 @@ pub fn longest_scan(board: &Board) -> u32
     board.ir_bits().max(board.dr_bits())
 }
 
-/// The rows that the scans of a test are made in, and the rows of a whole pass.
+/// The rows in which the scans of a test are made, and the kept rows of a whole pass.
 #[derive(Drop)]
 pub struct TestRows {
     pub rows: Rows,
@@ -140,7 +140,7 @@ impl TestRows {
     }
 }
 
-/// Writes the test that a plan makes.
+/// Writes the test of a plan.
 pub fn write_test<K: Sink>(
     board: &Board,
     plan: &Plan,
@@ -155,7 +155,7 @@ pub fn write_test<K: Sink>(
     write_scans(board, plan, &mut made.kept, &mut made.rows, out)
 }
 
-// Like `write_test`, but takes the two parts of the rows by themselves.
+// Like `write_test`, but takes the two fields of `TestRows` as separate arguments.
 #[tactic(auto, unfolding(tap_defs::specs::chain::Text::svf_text))]
 fn write_scans<K: Sink>(
     board: &Board,
@@ -178,8 +178,8 @@ fn write_scans<K: Sink>(
     write_tail(out)
 }
 
-// Writes scan `k` of a plan. If `held` has a kind of scan, the rows hold the scan before it, which has that kind. Then the
-// rows hold scan `k`, and `held` has its kind.
+// Writes scan `k` of a plan. If `held` has a shape, the rows must hold scan `k - 1`, and this must be its shape. Afterwards
+// the rows hold scan `k`, and `held` has its shape.
 fn write_scan_at<K: Sink>(
     board: &Board,
     plan: &Plan,
@@ -206,8 +206,8 @@ fn write_scan_at<K: Sink>(
     write_scan(shape, &scan.tdi, &scan.tdo, &scan.mask, line, out)
 }
 
-// Fills the rows with scan `k` of a plan and returns its kind. If `before` has a kind of scan, the rows hold the scan before
-// it, and only what differs is written.
+// Fills the rows with scan `k` of a plan and returns its shape. If `before` has a shape, the rows must hold scan `k - 1`, and
+// this must be its shape. The call is faster in that case.
 fn fill_at(
     board: &Board,
     plan: &Plan,

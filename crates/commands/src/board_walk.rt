@@ -34,7 +34,7 @@ use tap_defs::board_law::{rows_compared, statements_compared};
 use walk_test::Walk;
 use walk_test::law::{scans_counted, walk_harmless};
 
-/// A board and its walking test. Clauses see it as the pair.
+/// A board and its walking test. In contracts, the value is the pair of both.
 #[derive(Drop)]
 pub struct Walked {
     pub board: Board,
@@ -67,7 +67,7 @@ impl Walked {
         self.walk.nets().len() as u64
     }
 
-    /// Returns the number of bits in each row of such a log.
+    /// Returns the number of bits in each row of a log of the board's walking test.
     pub fn log_bits(&self) -> u32
         ensures { result ≡ data_bits self.now.board }
     {
@@ -105,7 +105,7 @@ fn with_walk(alloc: Global, board: Board) -> Result<Walked, AllocError>
 }
 
 /// States that a log with the rows and bits of the board's walking test has a row for each compared SDR statement of the
-/// test, in their order, and that each row has a bit for each position. Does nothing.
+/// test, in the order of the statements, and that each row has a bit for each position. Does nothing.
 pub fn walk_logs_shaped(board: &Board)
     ensures { (log : List (List Bool)) → HasSize (walk_rows board.now) (data_bits board.now) log → HasShape board.now (walk_row_list board.now) log }
 {
@@ -154,7 +154,7 @@ pub fn walk<K: Sink>(alloc: Global, texts: &BoardTexts, out: &mut K) -> Result<(
     }
 }
 
-// Writes the walking test of a board.
+// Writes the walking test of a board that has its test already.
 fn put_walk<K: Sink>(alloc: Global, walked: &Walked, out: &mut K) -> Result<(), Unput>
     ensures { PutsText (board_walk_text walked.now.board) (K.shown out.old) (K.shown out.new) result }
 {
@@ -170,7 +170,7 @@ fn is_harmless(board: &Board)
     walk_harmless();
 }
 
-// Like `put_walk`, but makes the scans in these rows.
+// Like `put_walk`, but takes the rows in which the scans are made.
 #[tactic(auto, unfolding(tap_defs::specs::chain::Text::svf_text))]
 fn write_walk<K: Sink>(walked: &Walked, rows: &mut Rows, out: &mut K) -> Result<(), PutFault>
     requires { EachStoredHasRoom (IsRoom walked.now.board) rows.old.scan }

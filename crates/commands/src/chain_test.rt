@@ -50,7 +50,7 @@ fn tests_length(lengths: &[u32])
     chain_tests();
 }
 
-// Returns the number of bits of the longer scan of the chain test.
+// Returns the number of bits of the longest scan of the chain test.
 fn longest_scan(lengths: &[u32]) -> u32
     requires { AreLengths lengths.now }
     ensures { IsRoom lengths.now result }
@@ -65,7 +65,7 @@ fn instruction_bits(lengths: &[u32]) -> u32
     lengths.iter().sum()
 }
 
-// Like `put_test`, but makes the scans in these rows.
+// Like `put_test`, but takes the rows in which the scans are made.
 #[tactic(auto, unfolding(tap_defs::specs::chain::Text::svf_text))]
 fn write_test<K: Sink>(lengths: &[u32], rows: &mut Rows, out: &mut K) -> Result<(), PutFault>
     requires lengths { AreLengths lengths.now }

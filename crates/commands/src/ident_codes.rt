@@ -20,8 +20,8 @@ use ident_test::law::ident_tests;
 use ident_test::write_ident;
 use std::alloc::Global;
 
-// The largest number of bits of the scan that reads the codes: 32 for each of at most 255 parts (IEEE 1149.1-1990,
-// section 11).
+// The largest number of bits of the scan that reads the codes: 32 for each of at most 255 parts. The length of a code is
+// from section 11 of IEEE 1149.1-1990.
 const MOST_CODE_BITS: u32 = 8160;
 
 /// Writes the test of the identification codes of the parts that the texts describe. All memory is allocated before the
@@ -38,7 +38,7 @@ pub fn ident<K: Sink>(alloc: Global, texts: &ChainTexts, out: &mut K) -> Result<
     }
 }
 
-// Writes the test of these identification codes.
+// Writes the test of the identification codes with these patterns.
 fn put_test<K: Sink>(alloc: Global, patterns: &[Option<Code>], out: &mut K) -> Result<(), Unput>
     requires patterns { ArePatterns patterns.now }
     requires room { length (ident_bits patterns.now) ≤ most_parts * 32 }
@@ -48,7 +48,7 @@ fn put_test<K: Sink>(alloc: Global, patterns: &[Option<Code>], out: &mut K) -> R
     answer_by(write_test(patterns, &mut rows, out))
 }
 
-// Like `put_test`, but makes the scans in these rows.
+// Like `put_test`, but takes the rows in which the scan is made.
 fn write_test<K: Sink>(
     patterns: &[Option<Code>],
     rows: &mut Rows,
@@ -69,7 +69,8 @@ fn write_test<K: Sink>(
     )
 }
 
-// States that the text of the test tests the codes, and how many bits its scan has at most. Does nothing.
+// States that the text of the test tests the codes, and that the scan of the codes has at most 32 bits for each of 255
+// parts. Does nothing.
 fn tests_codes(patterns: &[Option<Code>])
     requires { ArePatterns patterns.now }
     ensures tests { IsIdentTest patterns.now (ident_text patterns.now) }

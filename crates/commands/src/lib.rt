@@ -1,6 +1,8 @@
-//! The commands. Each reads its texts and writes its output, or says why it wrote none or not all of it.
+//! The commands. Each command reads its texts and writes its output. If it writes no output or only a part, it returns the
+//! reason.
 //!
-//! Boards, plans and other large values are dropped by calls of `drop`, which makes the proofs short (docs/PROVING.md, "Time").
+//! Boards, plans and other large values are dropped by explicit calls of `drop`, which makes the proofs short (docs/PROVING.md,
+//! "Time").
 #![tactic(auto)]
 
 mod board_cover;

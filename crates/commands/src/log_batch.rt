@@ -22,8 +22,8 @@ use diagnoser::Workers;
 use std::alloc::Global;
 use std::thread::Threads;
 
-/// Writes the diagnoses of a batch of logs of the test of the board that the texts denote. `workers` threads make them, 1 to
-/// 64. All memory is allocated before the first write.
+/// Writes the diagnoses of a batch of logs of the test of the board that the texts denote. `workers` is the number of threads
+/// that work on the diagnoses, from 1 to 64. All memory is allocated before the first write.
 pub fn batch<R: Threads + Sync, K: Sink, G: Gate>(
     rt: &R,
     alloc: Global,
@@ -39,7 +39,7 @@ pub fn batch<R: Threads + Sync, K: Sink, G: Gate>(
     batch_of(rt, alloc, &texts, Workers::of(workers), gate, out)
 }
 
-// Writes the diagnoses of a batch of logs of the test of the board that the texts denote.
+// Like `batch`, but borrows the texts and takes the number of workers as `Workers`.
 fn batch_of<R: Threads + Sync, K: Sink, G: Gate>(
     rt: &R,
     alloc: Global,
@@ -60,7 +60,7 @@ fn batch_of<R: Threads + Sync, K: Sink, G: Gate>(
     }
 }
 
-// Reads a batch of logs of the board's test and writes their diagnoses.
+// Reads a batch of logs of the board's test and writes the diagnoses.
 fn put_batch<R: Threads + Sync, K: Sink, G: Gate>(
     rt: &R,
     alloc: Global,
@@ -79,7 +79,7 @@ fn put_batch<R: Threads + Sync, K: Sink, G: Gate>(
     }
 }
 
-// Diagnoses the blocks of a batch of logs of the board's test, and writes the diagnoses.
+// Diagnoses the logs in these blocks of a batch, and writes the diagnoses.
 fn put_blocks<R: Threads + Sync, K: Sink, G: Gate>(
     rt: &R,
     alloc: Global,

@@ -23,15 +23,15 @@ use response_log::log_of;
 use std::alloc::{AllocError, Global};
 use std::thread::Threads;
 
-// What is found in a log: whether the board passes, and the single faults that explain the log.
+// The diagnosis of a log. `pass` is true if the log passes. `faults` has the single faults that explain the log.
 #[derive(Drop)]
 struct Found {
     pass: bool,
     faults: Vec<Single>,
 }
 
-/// Writes the diagnosis of a log of the test of the board that the texts denote. `workers` threads make it, 1 to 64. All
-/// memory is allocated before the first write.
+/// Writes the diagnosis of a log of the test of the board that the texts denote. `workers` is the number of threads that work
+/// on the diagnosis, from 1 to 64. All memory is allocated before the first write.
 pub fn diagnosis<R: Threads + Sync, K: Sink, G: Gate>(
     rt: &R,
     alloc: Global,
@@ -48,7 +48,7 @@ pub fn diagnosis<R: Threads + Sync, K: Sink, G: Gate>(
     diagnosis_of(rt, alloc, &board, log, Workers::of(workers), gate, out)
 }
 
-// Writes the diagnosis of a log of the test of the board that the texts denote.
+// Like `diagnosis`, but takes the log and the board's texts as separate arguments, and the workers as `Workers`.
 fn diagnosis_of<R: Threads + Sync, K: Sink, G: Gate>(
     rt: &R,
     alloc: Global,
@@ -70,7 +70,7 @@ fn diagnosis_of<R: Threads + Sync, K: Sink, G: Gate>(
     }
 }
 
-// Reads a log of the board's test and writes its diagnosis. The log is made in the memory of its text.
+// Reads a log of the board's test and writes its diagnosis. The log reuses the memory of the text.
 fn put_diagnosis<R: Threads + Sync, K: Sink, G: Gate>(
     rt: &R,
     alloc: Global,
@@ -111,7 +111,7 @@ fn put_judged<R: Threads + Sync, K: Sink, G: Gate>(
     put_found(alloc, board, &found, out)
 }
 
-// Diagnoses a log of the board's test.
+// Returns the diagnosis of a log of the board's test.
 fn found_in<R: Threads + Sync, G: Gate>(
     rt: &R,
     alloc: Global,
@@ -129,7 +129,7 @@ fn found_in<R: Threads + Sync, G: Gate>(
     Ok(Found { pass, faults })
 }
 
-// Writes what was found in a log.
+// Writes the diagnosis that was found for a log.
 fn put_found<K: Sink>(alloc: Global, board: &Board, found: &Found, out: &mut K) -> Result<(), Unput>
     requires { All (IsNamed board.now) found.now.faults.items }
     ensures { PutsText (diag_text board.now found.now.pass found.now.faults.items) (K.shown out.old) (K.shown out.new) result }

@@ -30,7 +30,7 @@ pub fn groups<K: Sink>(alloc: Global, texts: LogTexts, out: &mut K) -> Result<()
     groups_of(alloc, &board, log, out)
 }
 
-// Writes the groups of a log of the walking test of the board that the texts denote.
+// Like `groups`, but takes the log and the board's texts as separate arguments.
 fn groups_of<K: Sink>(
     alloc: Global,
     texts: &BoardTexts,
@@ -49,7 +49,7 @@ fn groups_of<K: Sink>(
     }
 }
 
-// Lends the groups, if there are any.
+// Borrows the groups, if there are any.
 fn lent(found: &Option<Vec<Group>>) -> Option<&[Group]>
     ensures { option_map (λ groups. groups.now) result ≡ option_map (λ groups. groups.items) found.now }
 {
@@ -59,7 +59,8 @@ fn lent(found: &Option<Vec<Group>>) -> Option<&[Group]>
     }
 }
 
-// Reads a log of the board's walking test and writes its groups. The log is made in the memory of its text.
+// Reads a log of the board's walking test and writes the groups that explain the log. The log reuses the memory of the
+// text.
 fn put_groups<K: Sink>(
     alloc: Global,
     walked: &Walked,
@@ -90,7 +91,7 @@ fn put_grouped<K: Sink>(alloc: Global, walked: &Walked, log: &Log, out: &mut K) 
     put_found(alloc, board, &found, out)
 }
 
-// Writes the groups that were found in a log.
+// Writes the groups that were found for a log.
 fn put_found<K: Sink>(
     alloc: Global,
     board: &Board,

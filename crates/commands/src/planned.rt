@@ -23,7 +23,7 @@ use scan_planner::Plan;
 use std::alloc::{AllocError, Global};
 use std::marker::Model;
 
-/// A board and the plan of its test, which has the passes of the board. Clauses see it as the pair.
+/// A board and the plan of its test. The plan has the passes of the board. In contracts, the value is the pair of both.
 #[derive(Drop)]
 pub struct Planned {
     pub board: Board,
@@ -56,7 +56,7 @@ impl Planned {
         BoardTest::of(&self.board, &self.plan)
     }
 
-    /// Returns a log of the board's test. It must have the rows and the bits of the test.
+    /// Returns the board's test with a log of the test. The log must have the rows and the bits of the test.
     pub fn with_log<'a>(&'a self, log: &'a Log) -> LoggedTest<'a>
         requires { HasSize (test_rows self.now.board) (data_bits self.now.board) log.now }
         ensures { result ≡ logged_board self.now log.now }
@@ -71,7 +71,7 @@ impl Planned {
         self.plan.rows()
     }
 
-    /// Returns the number of bits in each row of such a log.
+    /// Returns the number of bits in each row of a log of the board's test.
     pub fn log_bits(&self) -> u32
         ensures { result ≡ data_bits self.now.board }
     {

@@ -1,4 +1,4 @@
-// The commands with their texts.
+// The commands with the texts that they read.
 use crate::texts::{BoardTexts, ChainTexts, LogTexts, ShortText};
 
 /// A command with the contents of its files.
@@ -25,7 +25,7 @@ pub enum Request {
         /// A response log and the texts of the board.
         texts: LogTexts,
     },
-    /// Finds the groups of shorted nets of a board, by a response log of its walking test.
+    /// Finds the groups of shorted nets of a board from a response log of its walking test.
     Groups(LogTexts),
     /// Diagnoses many boards of the same design.
     Batch {

@@ -1,4 +1,4 @@
-// The rows that scans are made in and printed from.
+// The rows in which scans are made and from which they are printed.
 ghost use Rattle.std.specs.Prelude.{◌≡◌, IfOk};
 ghost use Rattle.commands.specs.inner.Rows.{EachStoredHasRoom};
 
@@ -6,7 +6,7 @@ use bt_bits::{Line, Row};
 use std::alloc::{AllocError, Global};
 use tap_defs::StoredRows;
 
-/// The rows of a scan, and the line in which output is put together. They are allocated once for a whole output.
+/// The rows of a scan, and the line in which output is collected. A command allocates them once for its whole output.
 #[derive(Drop)]
 pub struct Rows {
     pub scan: StoredRows,

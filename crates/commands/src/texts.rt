@@ -1,4 +1,4 @@
-// The texts of a command. Each has fewer than 2^32 bytes.
+// The texts of a command. Each text has fewer than 2^32 bytes.
 ghost use Rattle.std.specs.Prelude.{◌≡◌, ◌<◌, ◌^◌, All, length, map};
 
 use std::marker::Model;
@@ -20,7 +20,7 @@ impl Model for ShortText {
 }
 
 impl ShortText {
-    /// Makes a text of the bytes.
+    /// Creates a text with these bytes.
     pub fn of(bytes: Vec<u8>) -> ShortText
         requires { length bytes.items < 2 ^ 32 }
         ensures { result ≡ bytes.items }
@@ -36,7 +36,7 @@ impl ShortText {
         &self.bytes
     }
 
-    /// Returns the bytes and gives up the text.
+    /// Consumes the text and returns its bytes.
     pub fn into_bytes(self) -> Vec<u8>
         ensures bytes { result.items ≡ self }
         ensures short { length result.items < 2 ^ 32 }
@@ -62,7 +62,7 @@ impl Model for ShortTexts {
 }
 
 impl ShortTexts {
-    /// Makes a value of these texts.
+    /// Takes over these texts.
     pub fn of(texts: Vec<Vec<u8>>) -> ShortTexts
         requires each { All (λ text. length text.items < 2 ^ 32) texts.items }
         requires few { length texts.items < 2 ^ 32 }
@@ -96,7 +96,7 @@ pub struct BoardTexts {
     pub bsdl: ShortTexts,
 }
 
-/// A text of one or more response logs, and the texts of the board that they belong to.
+/// A text of one or more response logs, and the texts of the board to which the logs belong.
 #[derive(Drop)]
 pub struct LogTexts {
     pub log: ShortText,

@@ -1,4 +1,4 @@
-// Why a command did not write its whole output.
+// The reasons why a command did not write its whole output.
 ghost use Rattle.std.specs.Prelude.{◌≡◌};
 ghost use Rattle.bt_base.specs.Puts.{Puts, Shown};
 ghost use Rattle.command_line.specs.Words.{Text};
@@ -11,7 +11,7 @@ use btest_core::InputFault;
 use response_log::LogFault;
 use std::alloc::AllocError;
 
-/// Why a command did not write its whole output.
+/// The reason why a command did not write its whole output.
 #[derive(Drop)]
 pub enum Unput {
     /// The first fault of the texts.
@@ -34,7 +34,7 @@ impl From<AllocError> for Unput {
     }
 }
 
-/// Returns why nothing is written if the texts have this fault.
+/// Returns the reason why nothing is written if the texts have this fault.
 pub fn unput_by(fault: InputFault) -> Unput
     ensures { result ≡ unput_of fault }
 {
@@ -44,7 +44,7 @@ pub fn unput_by(fault: InputFault) -> Unput
     }
 }
 
-/// Returns why nothing is written if a log that must have `rows` rows has this fault.
+/// Returns the reason why nothing is written if a log that must have `rows` rows has this fault.
 pub fn unput_by_log(rows: u64, fault: LogFault) -> Unput
     ensures { result ≡ unput_log rows fault }
 {
@@ -54,7 +54,7 @@ pub fn unput_by_log(rows: u64, fault: LogFault) -> Unput
     }
 }
 
-/// Returns why nothing is written if a batch of logs that must have `rows` rows each has this fault.
+/// Returns the reason why nothing is written if a batch of logs that must have `rows` rows each has this fault.
 pub fn unput_by_batch(rows: u64, fault: BatchFault) -> Unput
     ensures { result ≡ unput_batch rows fault }
 {
@@ -64,7 +64,7 @@ pub fn unput_by_batch(rows: u64, fault: BatchFault) -> Unput
     }
 }
 
-/// Returns the answer of a command whose output was written or cut short.
+/// Returns the result of a command from the result of writing its output: a failed sink becomes `Unput::Write`.
 pub fn answer_by(put: Result<(), PutFault>) -> Result<(), Unput>
     ensures { (text : Text) (old new : Shown) → Puts old new text put → PutsText text old new result }
 {

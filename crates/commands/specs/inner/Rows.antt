@@ -1,4 +1,4 @@
--- The rows in which the scans of a text are made: their room, and what they hold.
+-- The rows in which scans are made: their room, and the scan that they hold.
 use Rattle.std.specs.Prelude.{ℕ}
 use Rattle.board_defs.specs.declared.board.RawBoard.{RawBoard}
 use Rattle.tap_defs.specs.declared.scan.Shape.{Shape}
@@ -6,12 +6,12 @@ use Rattle.tap_defs.specs.declared.scan.StoredRows.{StoredRows}
 use Rattle.plan_tables.specs.declared.tables.PlanTables.{PlanTables}
 use Rattle.scan_planner.specs.Plans.{FillsScan}
 
--- the room of each of the three rows fits
+-- `Fits` holds for the room of each of the three rows
 pub record EachStoredHasRoom (Fits : ℕ → Type 0) (rows : StoredRows) : Type 0 where
   pub tdi : Fits rows.tdi.room
   pub tdo : Fits rows.tdo.room
   pub mask : Fits rows.mask.room
 
--- the rows hold scan k of the test that a plan makes
+-- the rows hold scan `k` of a plan's test, and `shape` is its shape
 abbrev pub HoldScan : RawBoard → PlanTables → ℕ → Shape → StoredRows → Type 0
 HoldScan board plan k shape rows = FillsScan board plan.passes plan.width k shape rows.tdi.bits rows.tdo.bits rows.mask.bits

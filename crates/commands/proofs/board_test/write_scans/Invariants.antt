@@ -9,7 +9,8 @@ use Rattle.scan_planner.specs.Plans.{IsRoom}
 use Rattle.commands.specs.inner.Rows.{EachStoredHasRoom, HoldScan}
 use Rattle.commands.proofs.board_test.write_scans.Given as goal
 
--- The head and the scans so far were written. If there is a last one, the rows hold it. The rows keep their room.
+-- The sink took the head and the scans before scan `k`. If `held` has a shape, the rows hold scan `k - 1`, which has this shape. The rows
+-- still have room for a scan.
 abbrev pub invariant-loop-k : goal.invariant-loop-k
 invariant-loop-k g l = record {
   put : Puts {T = Unit {0}} {E = PutFault} (g.K.Sink.shown l.fn.out) (g.K.Sink.shown l.out) (head_text ++ scan_texts (take l.k (test_scans l.board l.plan.passes l.plan.width))) (Ok tt);
