@@ -1,4 +1,4 @@
--- The range of the number in a command.
+-- The number in a command is in range.
 use Rattle.std.proofs.Common.{◌≡◌, ◌≤◌, ℕ, Bool, true, false, List, [], ◌∷◌, codes, Option, Some, None, sym, subst}
 use Rattle.std.specs.Prelude.{IfSome, option_and_then, option_map, if◌then◌else◌}
 use Rattle.std.specs.Str.{bytes_eq}
@@ -7,7 +7,7 @@ use Rattle.command_line.specs.CommandView.{command_view}
 use Rattle.command_line.specs.Words.{Text, BoardNames, Command, Chain, Ident, Cover, Svf, Walk, Make, Diagnose, Groups, Batch, parsed, number_of, most_made, most_workers, chain_of, device_of, board_of, make_of, worked_of, groups_of, board_called, log_called, HasNumber}
 use Rattle.command_line.proofs.NumberLemmas.{number_within}
 
--- if there is a command, its number is in its range
+-- if there is a command, its number is in range
 abbrev AreInRange : Option Command → Type 0
 AreInRange command = IfSome command HasNumber
 
@@ -15,7 +15,7 @@ either : (b : Bool) (one other : Option Command) → AreInRange one → AreInRan
 either true one other first second = first
 either false one other first second = second
 
--- a command that has only names
+-- a command that has only file names has no number that could be out of range
 named : {A : Type 0} (command : A → Command) → ((names : A) → HasNumber (command names)) → (names : Option A) → AreInRange (option_map command names)
 named command has None = tt
 named command has (Some names) = has names
@@ -82,7 +82,7 @@ parsed_in_range (word ∷ rest) =
     (either (bytes_eq (codes "ident") word) (option_map Ident (chain_of rest)) device (named Ident (λ names. tt) (chain_of rest))
     (either (bytes_eq (codes "device") word) (device_of rest) (board_called word rest) (device_in_range rest) (board_in_range word rest)))
 
--- the command that the words form
+-- the number in the command that the words form is in range
 pub command_in_range : (words : List Text) (command : Option Lent) → option_map command_view command ≡ parsed words → IfSome command (λ c. HasNumber (command_view c))
 command_in_range words None is = tt
 command_in_range words (Some command) is = subst AreInRange (sym is) (parsed_in_range words)

@@ -1,4 +1,4 @@
--- Words and numbers, worked by hand.
+-- Commands and numbers of given words, worked by hand.
 use Rattle.std.proofs.Common.{◌≡◌, ℕ, List, [], ◌∷◌, map, replicate, Option, Some, None, codes, refl}
 use Rattle.command_line.specs.Words.{Text, BoardNames, Command, Walk, Ident, Make, Diagnose, Groups, Batch, board_called, log_called, command_of, number_of}
 
@@ -20,7 +20,7 @@ too_many_workers = refl
 zero : number_of 255 (codes "000") ≡ None
 zero = refl
 
--- twenty digits are too great, and one digit more is none, whatever its value
+-- this number of twenty digits is too great, and a word of 21 digits is no number, whatever its value
 twenty_nines : number_of 255 (codes "99999999999999999999") ≡ None
 twenty_nines = refl
 
@@ -48,7 +48,7 @@ made_twice : command_of (codes "make" ∷ codes "2" ∷ codes "3" ∷ []) ≡ No
 unfolding board_called
 made_twice = refl
 
--- `diagnose` with this number of workers, and further words
+-- the command `diagnose` with this word as its number of workers
 abbrev diagnosed_by : Text → Option Command
 diagnosed_by workers = command_of (codes "diagnose" ∷ workers ∷ codes "g" ∷ codes "c" ∷ codes "n" ∷ codes "drv" ∷ [])
 
@@ -67,7 +67,7 @@ workers_past_the_limit = refl
 identified : command_of (codes "ident" ∷ codes "c" ∷ codes "b" ∷ []) ≡ Some (Ident (record { chain = codes "c"; bsdl = codes "b" ∷ [] }))
 identified = refl
 
--- the words behind the name of a command that is about a log
+-- the file names of a command that works on a response log
 abbrev logged : List Text
 logged = codes "g" ∷ codes "c" ∷ codes "n" ∷ codes "drv" ∷ []
 
@@ -103,18 +103,18 @@ walked_without_nets : command_of (codes "walk" ∷ codes "c" ∷ []) ≡ None
 unfolding board_called
 walked_without_nets = refl
 
--- an option, and a word without a byte
+-- a word that is an option, and an empty word
 no_plain_words : map command_of ((codes "walk" ∷ codes "-c" ∷ codes "n" ∷ []) ∷ (codes "walk" ∷ codes "c" ∷ [] ∷ []) ∷ []) ≡ None ∷ None ∷ []
 no_plain_words = refl
 
--- so many BSDL names
+-- a chain file, a net file and `count` BSDL names
 abbrev described : ℕ → List Text
 described count = codes "c" ∷ codes "n" ∷ replicate count (codes "b")
 
 abbrev most_names : BoardNames
 most_names = record { chain = codes "c"; nets = codes "n"; bsdl = replicate 255 (codes "b") }
 
--- the commands about a board's walking test with them
+-- three commands with `count` BSDL names each
 abbrev with_described : ℕ → List (Option Command)
 with_described count = map command_of ((codes "walk" ∷ described count) ∷ (codes "groups" ∷ codes "g" ∷ described count) ∷ (codes "batch" ∷ codes "1" ∷ codes "g" ∷ described count) ∷ [])
 

@@ -8,15 +8,15 @@ use Rattle.std.specs.Str.Parse.{digits_value}
 abbrev pub Text : Type 0
 Text = List ℕ
 
--- the most names of BSDL texts
+-- the largest number of BSDL files that a command takes
 abbrev pub most_names : ℕ
 most_names = 255
 
--- the most parts of a board that is made
+-- the largest number of parts that `make` accepts
 abbrev pub most_made : ℕ
 most_made = 255
 
--- the most workers of a diagnosis
+-- the largest number of workers that a command accepts
 abbrev pub most_workers : ℕ
 most_workers = 64
 
@@ -33,9 +33,9 @@ pub record BoardNames : Type 0 where
 
 -- A command. The length test and the identity test of a chain have the file names of the chain. The listing of a device has the name of a
 -- BSDL file. The coverage list, the test and the walking test of a board have the file names of the board. The summary of a generated board
--- has the number of its parts. The diagnosis of a board has the number of workers, the name of a response log and the file names of the
--- board, and so have the diagnoses of many boards. The groups of shorted nets have the name of a response log and the file names of the
--- board.
+-- has the number of parts of the board. The diagnosis of a board and the diagnoses of many boards have the number of workers, the name of a
+-- file of response logs and the file names of the board. The groups of shorted nets have the name of a response log and the file names of
+-- the board.
 pub data Command : Type 0 where
   Chain : ChainNames → Command
   Ident : ChainNames → Command
@@ -48,48 +48,48 @@ pub data Command : Type 0 where
   Groups : Text → BoardNames → Command
   Batch : ℕ → Text → BoardNames → Command
 
--- the word is not empty and does not begin with `-`
+-- true if the word is not empty and does not begin with `-`
 abbrev pub is_plain : Text → Bool
 is_plain [] = false
 is_plain (b ∷ bs) = not (b == 45)
 
--- the value, if its BSDL names are not too many
+-- the value, or `None` if there are more than `most_names` BSDL names
 abbrev pub with_names : {A : Type 0} → List Text → A → Option A
 with_names names value = if nat_le (length names) most_names then Some value else None
 
--- n is from `least` to `most`, both included
+-- true if `n` is from `least` to `most`, both included
 abbrev pub is_within : ℕ → ℕ → ℕ → Bool
 is_within least most n = nat_le least n && nat_le n most
 
--- the value of a word of 1 to 20 decimal digits, if it is from 1 to `most`
+-- the value of a word of 1 to 20 decimal digits; `None` if the value is not from 1 to `most`, or the word has another form
 abbrev pub number_of : ℕ → Text → Option ℕ
 number_of most word =
     if list_all is_ascii_digit word && is_within 1 20 (length word) && is_within 1 most (digits_value 10 word) then Some (digits_value 10 word) else None
 
--- a chain file, then any number of BSDL names
+-- the file names of a chain from these words: a chain file, then any number of BSDL names
 abbrev pub chain_of : List Text → Option ChainNames
 chain_of [] = None
 chain_of (chain ∷ names) = with_names names (record { chain = chain; bsdl = names })
 
--- one BSDL name
+-- the command `device` with these words: one BSDL name
 abbrev pub device_of : List Text → Option Command
 device_of [] = None
 device_of (name ∷ []) = Some (Device name)
 device_of (name ∷ other ∷ others) = None
 
--- a chain file and a net file, then any number of BSDL names
+-- the file names of a board from these words: a chain file and a net file, then any number of BSDL names
 abbrev pub board_of : List Text → Option BoardNames
 board_of [] = None
 board_of (chain ∷ []) = None
 board_of (chain ∷ nets ∷ names) = with_names names (record { chain = chain; nets = nets; bsdl = names })
 
--- one number of parts
+-- the command `make` with these words: one number of parts
 abbrev pub make_of : List Text → Option Command
 make_of [] = None
 make_of (number ∷ []) = option_map Make (number_of most_made number)
 make_of (number ∷ other ∷ others) = None
 
--- a number of workers, a response log, a chain file and a net file, then any number of BSDL names
+-- the command with these words: a number of workers, a file of response logs, and the file names of a board
 abbrev pub worked_of : (ℕ → Text → BoardNames → Command) → List Text → Option Command
 worked_of command [] = None
 worked_of command (workers ∷ []) = None
@@ -101,19 +101,19 @@ diagnose_of words = worked_of Diagnose words
 abbrev pub batch_of : List Text → Option Command
 batch_of words = worked_of Batch words
 
--- a response log, a chain file and a net file, then any number of BSDL names
+-- the command `groups` with these words: a response log, and the file names of a board
 abbrev pub groups_of : List Text → Option Command
 groups_of [] = None
 groups_of (log ∷ names) = option_map (Groups log) (board_of names)
 
--- the command with this name and these words, if it works on a response log
+-- the command with this name and these words, if the name is that of a command that works on response logs
 unfoldable pub log_called : Text → List Text → Option Command
 log_called word rest =
     if bytes_eq (codes "diagnose") word then diagnose_of rest else
     if bytes_eq (codes "groups") word then groups_of rest else
     if bytes_eq (codes "batch") word then batch_of rest else None
 
--- the command with this name and these words, if it works on a board or a response log
+-- the command with this name and these words, if the name is not `chain`, `ident` or `device`
 unfoldable pub board_called : Text → List Text → Option Command
 board_called word rest =
     if bytes_eq (codes "cover") word then option_map Cover (board_of rest) else
@@ -128,7 +128,7 @@ parsed (word ∷ rest) =
     if bytes_eq (codes "ident") word then option_map Ident (chain_of rest) else
     if bytes_eq (codes "device") word then device_of rest else board_called word rest
 
--- the command that the words form, if the grammar has it
+-- the command that the words form, or `None` if they form no command
 abbrev pub command_of : List Text → Option Command
 command_of words = if list_all is_plain words then parsed words else None
 
@@ -153,7 +153,7 @@ names_of (Diagnose workers log names) = log ∷ board_names names
 names_of (Groups log names) = log ∷ board_names names
 names_of (Batch workers log names) = log ∷ board_names names
 
--- the number in a command is in its range: the number of parts of a generated board, or the number of workers
+-- if the command has a number, the number is in range: the number of parts of a generated board, or the number of workers
 abbrev pub HasNumber : Command → Type 0
 HasNumber (Make parts) = (1 ≤ parts) × (parts ≤ most_made)
 HasNumber (Diagnose workers log names) = (1 ≤ workers) × (workers ≤ most_workers)

@@ -1,14 +1,14 @@
-// Reads the numbers among the words.
+// Reads a number from a word.
 ghost use Rattle.std.specs.Prelude.{◌≡◌};
 ghost use Rattle.std.specs.Char.{is_ascii_digit};
 ghost use Rattle.std.specs.List.{list_all};
 ghost use Rattle.command_line.specs.Words.{number_of};
 
-/// The most digits of a number.
+/// The largest number of digits of a number.
 const MOST_DIGITS: usize = 20;
 
-/// Returns the value of a word of 1 to 20 decimal digits, or `None` if it isn't from 1 to `most`. Any other word gives
-/// `None`, too.
+/// Returns the value of a word of 1 to 20 decimal digits. Returns `None` if the value is not from 1 to `most`, or if the
+/// word has another form.
 pub fn number_of(most: u32, word: &str) -> Option<u32>
     ensures { result ≡ number_of most word.now }
 {
@@ -25,7 +25,7 @@ pub fn number_of(most: u32, word: &str) -> Option<u32>
     }
 }
 
-// Returns whether the word has only decimal digits. This is tested because `parse` of std also takes a sign.
+// Returns whether the word has only decimal digits. The test is needed because `parse` of std also accepts a sign.
 fn are_digits(word: &str) -> bool
     ensures { result ≡ list_all is_ascii_digit word.now }
 {
