@@ -56,7 +56,7 @@ rows_up_to [] later rows none = none
 rows_up_to (line ∷ own) later rows none =
     up_to_row line (own ++ later) (All-head IsRow line own rows) ∙ ap (λ (ls : List NumberedLine). line ∷ ls) (rows_up_to own later (All-tail IsRow line own rows) none)
 
--- the lines of blocks have these blocks as their answer
+-- the answer for the lines of some blocks is these blocks
 module _ (rows len : ℕ) where
   block_title : (title : NumberedLine) (own : List NumberedLine) (block : Block) → IsBlockOf rows len title own block → begins_block title ≡ true
   block_title title own block is = is_title_of title.words block.id is.words
@@ -163,7 +163,7 @@ module _ (rows len : ℕ) where
       let faults = right_behind line lines (is_wrong_title line) refl none in
       split_line n line lines blocks (begins_block line) refl faults.0 is (λ m later said. split m lines later faults.1 said)
 
-  -- lines that begin with a title, or no lines, are the lines of the blocks
+  -- if no line comes before the first title, the lines are those of these blocks
   from_start : (lines : List NumberedLine) (blocks : List Block) → start_fault lines ≡ None → Split lines blocks → AreBlocksOf rows len lines blocks
   from_start lines blocks none split = subst (λ (ls : List NumberedLine). AreBlocksOf rows len ls blocks) (sym (split.all ∙ ap (λ (ls : List NumberedLine). ls ++ split.later) (sym split.first ∙ by_lines lines none))) split.are
     where

@@ -50,7 +50,8 @@ pub record HoldsBlocks (text : List ℕ) (rows len : ℕ) (blocks : List Block) 
   pub cut : IsCutTo text front texts
   pub each : EachPair (HoldsBlock rows len) texts blocks
 
--- a text is a batch exactly if the own text of each of its blocks holds a log
+-- a text is a batch of these blocks exactly if its titles have the ids of the blocks, and the own text below each title holds the
+-- block's log
 abbrev pub BlocksByThemselves : Type 0
 BlocksByThemselves = (text : List ℕ) (rows len : ℕ) (blocks : List Block) → (batch_of text rows len ≡ Ok blocks) ↔ HoldsBlocks text rows len blocks
 

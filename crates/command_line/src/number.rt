@@ -7,8 +7,8 @@ ghost use Rattle.command_line.specs.Words.{number_of};
 /// The largest number of digits of a number.
 const MOST_DIGITS: usize = 20;
 
-/// Returns the value of a word of 1 to 20 decimal digits. Returns `None` if the value is not from 1 to `most`, or if the
-/// word has another form.
+/// Returns the value of a word of 1 to 20 decimal digits. Returns `None` if the value is not from 1 to `most`, or if
+/// the word has another form.
 pub fn number_of(most: u32, word: &str) -> Option<u32>
     ensures { result ≡ number_of most word.now }
 {

@@ -26,7 +26,7 @@ none_rose (inr last) = omega (arith, last)
 same_amount : {a b : ℕ} → ◌≡◌ {A = Option ℕ} (Some a) (Some b) → a ≡ b
 same_amount e = cc
 
--- a counter never fails, so it counts the whole text
+-- the state of a counting sink, which never fails and so counts the whole text
 abbrev counter : ℕ → Shown
 counter count = record { taken = None; amount = Some count; faults = 0 }
 
@@ -40,7 +40,7 @@ same_counts : {a a' b b' c c' d d' e e' f f' : ℕ} → a ≡ a' → b ≡ b' �
 same_counts {a} {a'} {b} {b'} {c} {c'} {d} {d'} {e} {e'} {f} {f'} p q r s t u =
     ap (λ n. counts_line n b c d e f) p ∙ ap (λ n. counts_line a' n c d e f) q ∙ ap (λ n. counts_line a' b' n d e f) r ∙ ap (λ n. counts_line a' b' c' n e f) s ∙ ap (λ n. counts_line a' b' c' d' n f) t ∙ ap (λ n. counts_line a' b' c' d' e' n) u
 
--- a plan of the board's passes has the scans of the board's test
+-- a plan of the board's passes has as many scans as the board's test
 scans_of : (board : RawBoard) (plan : PlanTables) → IsPlanOf board plan → plan.passes ≡ passes_of board → ((b : RawBoard) (passes : List (List Ctl)) (width : ℕ) → AreTestScans b passes width (test_scans b passes width)) → scan_count plan ≡ length (svf_scans board)
 scans_of board plan planned passes placed =
     sym (placed board plan.passes plan.width).count

@@ -25,7 +25,7 @@ use Rattle.tap_defs.proofs.board.NetRuleLemmas.{board_rules}
 use Rattle.plan_tables.specs.Plans.{controls_in, controls_some}
 use Rattle.plan_tables.proofs.PinLemmas.{Drives, drives_by, entry_on}
 
--- the control that the entry of a driver on this part has: it is the cell of `c`, on the part of `c`
+-- the entry of a driver on this part has a control, and this control is `c`
 record Names (part : ℕ) (o : Option Control) (c : Ctl) : Type 0 where
   control : Control
   is_control : o ≡ Some control

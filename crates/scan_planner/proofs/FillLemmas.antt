@@ -66,14 +66,14 @@ pub codes_room : (board : RawBoard) (bits : List ScanBit) (stored : StoredRows) 
     EachHasRoom (IsRoom board) rows → HaveRoomFor stored rows
 codes_room board bits stored rows s are each = room_for bits stored rows are (each_room (λ room is. omega (arith, s.size_is, is.instructions)) each)
 
--- a scan of data has as many bits as the board's boundary-scan registers, from 1 to the most bits of a board
+-- a scan of data has `data_bits board` bits, from 1 to the most bits of a board
 pub row_sized : (board : RawBoard) → IsBoard board → (scan : RowScan) → IsSized (joined (row_bits board scan)) (data_bits board)
 row_sized board rules scan =
     let size : length (joined (row_bits board scan)) ≡ data_bits board =
     sym (length-map (joined (row_bits board scan)) (λ b. b.tdi)) ∙ ap (λ (l : List Bool). length l) (tdi_laid board scan) ∙ length-laid (λ part device cell. row_bit board scan.now part device cell) board in
     record { some = row_scan_some board rules scan; most = omega (arith, size, rules.data_most); size_is = size }
 
--- each row of a scan of data has the length of the scan
+-- each row of a scan of data has `data_bits board` bits
 pub shifted_size : (board : RawBoard) (scan : RowScan) → length (tdi_bits (joined (row_bits board scan))) ≡ data_bits board
 shifted_size board scan = ap length (tdi_laid board scan) ∙ length-laid (λ part device cell. row_bit board scan.now part device cell) board
 
@@ -188,7 +188,8 @@ module _ (board : RawBoard) (rules : IsBoard board) (plan : PlanTables) (p : IsP
         ∙ drivers_laid board rules pass (carried j) bit all driver_only every (carries j)
         ∙ sym (tdi_laid board (scan_of_pass board plan x j) ∙ ap (λ (row : TestRow). laid (λ part device cell. row_bit board row part device cell) board) row)
 
-    -- the row of compared bits that is made from the one that all passes share has the bits of the pass's pairs at their cells
+    -- the row of compared bits of the pass, made from the row that all passes share, has the bit of each pair at the pair's cell, and
+    -- zeros elsewhere
     compared_is : (bit : DriverCell → Bool) →
         compared board plan bit (steady_compared plan bit) pass ≡ assigned (λ (x : Pair). x.1.position) (λ x. bit x.0) (laid (λ part device cell. false) board) (pairs plan.readers all)
     compared_is bit =

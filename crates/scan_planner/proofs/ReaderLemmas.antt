@@ -230,7 +230,7 @@ module _ (board : RawBoard) (rules : IsBoard board) (pass : List Ctl) (carried :
       by_entry None ee = inl refl
       by_entry (Some e) ee = by_role e ee (is_receiving e.role) refl
 
-  -- zeros with the bit of each pair at the pair's cell are the expected bits, and zeros with a 1 there are the mask
+  -- zeros, with the bit of each pair at the pair's cell, are the expected bits; zeros, with a 1 at each of these cells, are the mask
   pub tdo_compared : assigned (λ (x : Pair). x.1.position) (λ x. bit x.0) (laid (λ part device cell. false) board) (pairs readers drivers)
       ≡ laid (λ part device cell. unwrap_or (expect_bit board row part device cell) false) board
   tdo_compared =

@@ -18,7 +18,7 @@ pub trait CodeRows {
 
     ghost kind: { Self → Kind };
 
-    // True if the rows have one with this number.
+    // True if there is a row with this number.
     ghost shows: { Kind → ℕ → Type 0 };
 
     // The bits of the row with this number.
