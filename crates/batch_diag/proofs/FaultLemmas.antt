@@ -77,7 +77,7 @@ lines_moved before rows len lines =
     ap (λ answer. first_or answer (offenses rows len (map (moved_line before) lines))) (wanted_moved before rows len lines)
     ∙ faults_moved before rows len (wanted_rows rows len lines) lines
 
--- the answer for a block's lines in the whole text is the answer for the block's own text, with the line number moved
+-- the answer for a block's lines in the whole text is the answer for the block's own text, with `before` added to the line number
 pub said_at_place : (own : List ℕ) (before rows len : ℕ) → rows_of_lines rows len (rows_from (before + 1) own) ≡ moved before (log_rows own rows len)
 said_at_place own before rows len =
     ap (rows_of_lines rows len) (rows_moved before 1 (slice_split is_newline own)) ∙ lines_moved before rows len (row_lines own)

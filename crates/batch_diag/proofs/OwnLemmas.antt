@@ -71,7 +71,7 @@ no_titles : (lines : List (List ℕ)) → All IsNoTitle lines → NoTitles lines
 no_titles [] none = tt
 no_titles (line ∷ lines) none = (All-head IsNoTitle line lines none, no_titles lines (All-tail IsNoTitle line lines none))
 
--- no byte of the line is a newline, as in each line of a text; such lines, joined by newlines, are the lines of the joined text
+-- no byte of the line is a newline; this holds for each line of a text
 abbrev IsClean : List ℕ → Type 0
 IsClean line = All (λ b. is_newline b ≡ false) line
 

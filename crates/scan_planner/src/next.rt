@@ -1,4 +1,5 @@
-// Filling rows that hold one scan with the next scan. The rows of a pass are made once, and its scans are copied.
+// Filling rows that hold one scan with the next scan. The rows of a pass are made once, and the scans of the pass are
+// copied from them.
 ghost use Rattle.std.specs.Prelude.{◌≡◌, ◌+◌, ◌*◌, ◌<◌, ◌≤◌, suc};
 ghost use Rattle.std.specs.List.{list_any};
 ghost use Rattle.board_defs.specs.Pins.{data_bits};
