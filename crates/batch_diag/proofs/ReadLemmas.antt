@@ -178,7 +178,7 @@ module _ (r : Reading) where
     pub read_text : (rows len : ℕ) (said : Answer) (answer : Result V BatchFault) → said ≡ said_of r → r.rows ≡ rows → r.len ≡ len → IsRead view r.rows r.len (said_of r) answer → IsRead view rows len said answer
     read_text rows len said answer is same_rows same_len read = subst (λ (n : ℕ). IsRead view rows n said answer) same_len (subst (λ (n : ℕ). IsRead view n r.len said answer) same_rows (subst (λ (s : Answer). IsRead view r.rows r.len s answer) (sym is) read))
 
--- once one more block is cut out of a text, the blocks so far and the blocks from the next title on are still all blocks
+-- once one more block is cut out of a text, the blocks so far and the blocks from the next title on are still all blocks of the text
 pub cut_more : (lines : List BlockLines) (unread : List UnreadBlock) (next following : Option Title) (title : Title) (own : List ℕ) (block : UnreadBlock) → next ≡ Some title → lines ≡ map lines_of_unread unread ++ blocks_at next →
     up_to_title (rows_from (title.line + 1) title.behind.now) ≡ rows_from (title.line + 1) own → blocks_of (rows_from (title.line + 1) title.behind.now) ≡ blocks_at following →
     lines_of_unread block ≡ record { id = title.id.now; lines = rows_from (title.line + 1) own } → lines ≡ map lines_of_unread (unread ++ block ∷ []) ++ blocks_at following

@@ -32,7 +32,7 @@ fn has_words(line: &[u8]) -> bool
     next_word(line).is_some()
 }
 
-// Returns whether the line begins with a byte that no title begins with. Most rows begin so, and need not be read further.
+// Returns whether the line begins with a byte that no title begins with. Most rows do, so their words need not be read.
 fn begins_row(line: &[u8]) -> bool
     ensures { result ≡ begins_row line.now }
 {

@@ -105,7 +105,7 @@ judged_denoted judging text_of P texts board denoted old new (Err unput.Write) c
     record { rose = cut.rose; value = (board, cut.value); found = (denoted, cut.found); bytes = cut.bytes; takes = cut.takes }
 judged_denoted judging text_of P texts board denoted old new (Err unput.Memory) same = same
 
--- a fact about two values also holds for two equal values; likewise for three values
+-- a fact about two values also holds for two values that are equal to them; likewise for three values
 pub of_two : {A B : Type 0} (P : A → B → Type 0) {a b : A} {c d : B} → a ≡ b → c ≡ d → P a c → P b d
 of_two {A} {B} P {a} {b} {c} {d} first second is = subst (λ (x : A). P x d) first (subst (P a) second is)
 

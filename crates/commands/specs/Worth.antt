@@ -141,8 +141,8 @@ pub record FindsGroups (log : Text) (board : RawBoard) (text : Text) : Type 0 wh
 abbrev pub OfDenoted : (RawBoard → Text → Type 0) → BoardTexts → Text → Type 0
 OfDenoted P texts text = (board : RawBoard) × Denotes texts.chain texts.nets texts.bsdl board × P board text
 
--- The property of the text that is written for a request. A test tests what it should, and the statements of a list, a diagnosis or a set
--- of groups are true. Nothing is stated about a summary.
+-- The property of the text that is written for a request. The text of a test tests the chain, the parts or the board. The text of a walking
+-- test is harmless. The statements of a list, of a diagnosis and of groups are true. A summary has no stated property.
 abbrev pub IsWorthFor : Request → Text → Type 0
 IsWorthFor (Chain texts) text = TestsChain texts text
 IsWorthFor (Ident texts) text = TestsIdents texts text

@@ -34,7 +34,7 @@ use tap_defs::board_law::{rows_compared, statements_compared};
 use walk_test::Walk;
 use walk_test::law::{scans_counted, walk_harmless};
 
-/// A board and its walking test. In contracts, the value is the pair of both.
+/// A board and its walking test. Contracts see a pair of the board and the test.
 #[derive(Drop)]
 pub struct Walked {
     pub board: Board,

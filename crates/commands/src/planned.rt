@@ -23,7 +23,7 @@ use scan_planner::Plan;
 use std::alloc::{AllocError, Global};
 use std::marker::Model;
 
-/// A board and the plan of its test. The plan has the passes of the board. In contracts, the value is the pair of both.
+/// A board and the plan of its test. The plan has the passes of the board. Contracts see a pair of the board and the plan.
 #[derive(Drop)]
 pub struct Planned {
     pub board: Board,
