@@ -85,7 +85,7 @@ pub holds_none : (c : Ctl) (list : List Ctl) → IsInControlOrder list → slice
 unfolding is_there
 holds_none c list h e = holds_at_place c list h ∙ ap (is_there c) e
 
--- an inserted control is at its place
+-- a control that the list lacks is inserted at its place in control order
 pub inserted_new : (c : Ctl) (list : List Ctl) → IsInControlOrder list → holds list c ≡ false → inserted c list ≡ insert list (place list c) c
 inserted_new c [] h out = refl
 inserted_new c (d ∷ list) h out = by_before (precedes d c) refl (inserted_new c list (order_tail d list h) (parts.1))

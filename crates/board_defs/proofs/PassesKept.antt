@@ -43,7 +43,7 @@ has_tested board net place d t e =
     has_filter_map (tested_drive board net) (range_with_len 0 (length net.pins)) place d (has_range 0 (length net.pins) place (omega arith) (omega arith))
     (ap (λ b. cond b (place_drive board net place) None) t ∙ e)
 
--- a tested driver has a way of being enabled
+-- `place_drive` is not None at a tested driver
 pub tested_drives : (board : RawBoard) (net : Net) (place : ℕ) → is_tested_driver board net place ≡ true → (d : Drive) × (place_drive board net place ≡ Some d)
 tested_drives board net place t = by_drive (place_drive board net place) refl (tested_can board net place t)
   where

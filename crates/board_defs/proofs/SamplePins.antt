@@ -150,7 +150,7 @@ output_driver = refl
 buffer_driver : is kinds 10 ≡ (false, false, Some (By (c 0 15)))
 buffer_driver = refl
 
--- a bidirectional pin receives by its BIDIR entry, or by an INPUT entry beside its driving entry
+-- a bidirectional pin receives by its BIDIR entry, or by an INPUT entry that it has in addition to its driving entry
 both_ways : is kinds 11 ≡ (false, true, Some (By (c 0 15)))
 both_ways = refl
 

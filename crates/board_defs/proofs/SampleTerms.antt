@@ -112,7 +112,7 @@ read_output = refl
 own_receiver : alone (pin 1 0 ∷ []) ≡ Some NoReceiver ∷ []
 own_receiver = refl
 
--- a CLOCK entry makes a receiver, and so does an INPUT entry beside the driving entry of a bidirectional pin
+-- a pin with a CLOCK entry is a receiver, and so is a bidirectional pin with an INPUT entry and a driving entry
 clock_receives : alone (pin 0 0 ∷ leg 3 5 ∷ []) ≡ None ∷ []
 clock_receives = refl
 

@@ -118,11 +118,11 @@ can_enable board (Some AlwaysOn) = true
 can_enable board (Some OneSided) = false
 can_enable board (Some (By c)) = is_safe_alone board c
 
--- the pin's way of enabling its driver on the net, if there is a pin and it is a driver
+-- the way in which the pin's driver is enabled on the net, or None if there is no pin or the pin is no driver
 abbrev pub drive_in : RawBoard → Net → Option NetPin → Option Drive
 drive_in board net pin = option_and_then (λ p. drive board net p) pin
 
--- the way in which the driver at `place` of the net is enabled, if there is one
+-- the way in which the driver at `place` of the net is enabled, or None if no driver is at that place
 abbrev pub place_drive : RawBoard → Net → ℕ → Option Drive
 place_drive board net place = drive_in board net (slice_get net.pins place)
 

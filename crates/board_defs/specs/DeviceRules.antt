@@ -138,7 +138,7 @@ reading_entry device cell = entry_of is_reading device cell
 abbrev pub writing_entry : RawDevice → ℕ → Option Cell
 writing_entry device cell = entry_of is_writing device cell
 
--- the first entry if it is there, otherwise the second
+-- the first entry if there is one, otherwise the second
 abbrev pub or_entry : Option Cell → Option Cell → Option Cell
 or_entry None second = second
 or_entry (Some first) second = Some first

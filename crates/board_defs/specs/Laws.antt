@@ -20,7 +20,8 @@ use Rattle.board_defs.specs.Faults.{singles, SinglePrecedes, IsSingle}
 abbrev pub SafeByPairs : Type 0
 SafeByPairs = (board : RawBoard) (setting : Enabling) → IsBoard board → IsSafe board setting ↔ IsPairwiseSafe board setting
 
--- the tests of single controls and of pairs of controls decide the terms, which are defined by all safe settings
+-- Each function of `Decided` decides its term. The functions look only at single controls and at pairs of controls,
+-- while most terms ask for some safe setting.
 pub record DecidesTerms (board : RawBoard) : Type 0 where
   pub safe : (c : Ctl) → Decides (is_safe_alone board c) (IsSafe board (just c))
   pub together : (a b : Ctl) → Decides (are_together board a b) (AreTogether board a b)
@@ -31,11 +32,11 @@ pub record DecidesTerms (board : RawBoard) : Type 0 where
   pub reason : (n : ℕ) (net : Net) → slice_get board.nets n ≡ Some net → MatchOption (reason_of board net) (IsCovered board n) (λ reason. IsReason board n net reason)
   pub tested_receiver : (n : ℕ) (net : Net) (place : ℕ) → slice_get board.nets n ≡ Some net → Decides (is_tested_receiver board net place) (IsTestedReceiver board n place)
 
--- the tests decide the terms on every board
+-- the functions decide the terms on every board
 abbrev pub TermsDecided : Type 0
 TermsDecided = (board : RawBoard) → IsBoard board → DecidesTerms board
 
--- the net has a tested driver whose way of being enabled is `d`
+-- the net has a tested driver that is enabled in the way `d`
 pub record HasTestedDriver (board : RawBoard) (n : ℕ) (net : Net) (d : Drive) : Type 0 where
   pub place : ℕ
   pub pin : NetPin

@@ -13,7 +13,7 @@ pub enum Kind {
     Second,
 }
 
-/// A single fault. A net is given by its number.
+/// A single fault. The fields `net`, `a` and `b` are numbers of nets.
 #[derive(Clone, Copy)]
 pub enum Single {
     StuckNet { net: u32, value: bool },

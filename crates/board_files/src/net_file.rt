@@ -77,8 +77,8 @@ pub fn line_names<'a>(alloc: Global, lines: &'a [NetLine]) -> Result<Vec<&'a [u8
     Ok(names)
 }
 
-/// Reads a net file. Returns its lines, or the fault of its first faulty line. The file has at most as many lines as
-/// the text has bytes, and each line has at most as many words.
+/// Reads a net file. Returns its lines, or the fault of its first faulty line. Neither the number of lines nor the
+/// number of words in a line exceeds the number of bytes in the text.
 pub fn nets(alloc: Global, bytes: &[u8]) -> Result<NetFile, LineFault>
     requires { length bytes.now < 2 ^ 32 }
     ensures read { Reads (λ file. file) result (net_lines bytes.now) }

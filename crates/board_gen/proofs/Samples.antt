@@ -40,7 +40,7 @@ bus_of_three : bus_line 3 7 ≡ codes "NET B7 U1.72 U2.72 U3.72\n"
 unfolding digits
 bus_of_three = refl
 
--- the net file of k parts has 32k + 8 lines, one for each net
+-- the net file of k parts has 32k + 8 lines, one for each net: here for k = 1 and k = 2
 nets_of_one : count_by (λ byte. byte == 10) (net_text 1) ≡ 40
 unfolding net_text digits
 nets_of_one = refl

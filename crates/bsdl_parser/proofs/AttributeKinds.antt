@@ -1,4 +1,4 @@
--- Each attribute of a derived entity has the kind of value that belongs to its number.
+-- In every entity that the grammar derives, each attribute has the kind of value that its number requires.
 use Rattle.std.proofs.Common.{◌≡◌, ℕ, List, [], ◌∷◌, Bool, true, false, cond, IsTrue, Option, Some, None, refl, codes}
 use Rattle.std.proofs.lemmas.List.Elements.{All-nil, All-cons, All-append}
 use Rattle.std.specs.List.{All}
@@ -105,6 +105,6 @@ file_kinds n =
     keeps_in_turn keeps_nothing (λ _ _ _. keeps_in_turn keeps_nothing (λ name _ _. keeps_in_turn keeps_nothing (λ _ m _.
     keeps_in_turn (keeps_turns item_kind no_items m (All-nil AttrKind)) (λ items _ h. keeps_in_turn keeps_nothing (λ _ _ _. keeps_in_turn keeps_nothing (λ _ _ _. keeps_done h))))))
 
--- each attribute of a derived entity has the kind of its number
+-- in every entity that the grammar derives, each attribute has the kind of value that its number requires
 pub have_kinds : (tokens : List Lexeme) (entity : Entity) → Derives tokens entity → HaveKinds entity
 have_kinds tokens entity h = (file_kinds 0).kept tokens entity h

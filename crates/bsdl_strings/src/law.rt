@@ -1,4 +1,4 @@
-//! Laws of the definitions. Each law is the contract of a function that does nothing.
+//! The law that a string has at most one value of each kind. The law is the contract of a function that does nothing.
 ghost use Rattle.std.specs.Prelude.{◌≡◌, ℕ, List};
 ghost use Rattle.board_defs.specs.declared.device.Symbol.{Symbol};
 ghost use Rattle.bsdl_strings.specs.declared.values.MapEntry.{MapEntry};

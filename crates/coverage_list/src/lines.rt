@@ -49,7 +49,7 @@ fn use_word(pin_use: PinUse) -> &'static [u8]
     }
 }
 
-/// Puts the line with the number of nets and the number of covered nets.
+/// Writes the line with the number of nets and the number of covered nets.
 pub fn put_counts<K: Sink>(
     nets: u32,
     covered: u32,
@@ -81,7 +81,7 @@ fn put_uncovered<K: Sink>(
     put_line(&[b"NET ".as_slice(), name, b" ", word], line, out)
 }
 
-/// Puts the line of a net with the reason why the net is not covered, or nothing if there is no reason.
+/// Writes the line of a net with the reason why the net is not covered, or nothing if there is no reason.
 pub fn put_reason<K: Sink>(
     name: &Name,
     reason: Option<Reason>,
@@ -107,7 +107,7 @@ fn put_word_and_pin<K: Sink>(
     put_line(&[word, pin.part.bytes(), b".", pin.pin.bytes()], line, out)
 }
 
-/// Puts the line of an untested pin.
+/// Writes the line of an untested pin.
 pub fn put_pin<K: Sink>(
     pin_use: PinUse,
     pin: &NetPin,
@@ -119,7 +119,7 @@ pub fn put_pin<K: Sink>(
     put_word_and_pin(use_word(pin_use), pin, line, out)
 }
 
-/// Puts the line of two covered nets that are not paired.
+/// Writes the line of two covered nets that are not paired.
 pub fn put_pair<K: Sink>(
     low: &Net,
     high: &Net,

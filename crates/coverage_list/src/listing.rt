@@ -32,7 +32,7 @@ pub fn covered_nets(board: &Board, classes: &Classes) -> u32
     covered_count(&BoardClasses::of(board, classes))
 }
 
-/// Puts the line with the number of nets and the number of covered nets.
+/// Writes the line with the number of nets and the number of covered nets.
 fn put_count<K: Sink>(
     board: &BoardClasses<'_>,
     line: &mut Line,
@@ -43,7 +43,7 @@ fn put_count<K: Sink>(
     put_counts(board.net_count() as u32, covered_count(board), line, out)
 }
 
-/// Puts the line of a net that is not covered, or nothing if the net is covered.
+/// Writes the line of a net that is not covered, or nothing if the net is covered.
 fn put_reason_at<K: Sink>(
     board: &BoardClasses<'_>,
     n: u32,
@@ -57,7 +57,7 @@ fn put_reason_at<K: Sink>(
     put_reason(&net.name, board.reason(n), line, out)
 }
 
-/// Puts the line of a pin if the pin is untested in this role.
+/// Writes the line of a pin if the pin is untested in this role.
 fn put_place<K: Sink>(
     board: &BoardClasses<'_>,
     pin_use: PinUse,
@@ -77,7 +77,7 @@ fn put_place<K: Sink>(
     }
 }
 
-/// Puts the lines of the untested pins of a net.
+/// Writes the lines of the untested pins of a net.
 fn put_net_pins<K: Sink>(
     board: &BoardClasses<'_>,
     pin_use: PinUse,
@@ -96,7 +96,7 @@ fn put_net_pins<K: Sink>(
     Ok(())
 }
 
-/// Puts the lines of the untested pins of a net if the net is covered.
+/// Writes the lines of the untested pins of a net if the net is covered.
 fn put_pins_at<K: Sink>(
     board: &BoardClasses<'_>,
     pin_use: PinUse,
@@ -131,7 +131,7 @@ fn is_unpaired(board: &BoardClasses<'_>, unpaired: u64, low: u32, high: u32) -> 
     has_bit(unpaired, high % 64)
 }
 
-/// Puts the line of two nets if net `high` is covered and not paired with net `low`. `unpaired` is the word of net
+/// Writes the line of two nets if net `high` is covered and not paired with net `low`. `unpaired` is the word of net
 /// `high`, as for `is_unpaired`.
 fn put_pair_at<K: Sink>(
     board: &BoardClasses<'_>,
@@ -153,7 +153,7 @@ fn put_pair_at<K: Sink>(
     }
 }
 
-/// Puts the lines of net `low` and each net in `from..end` that is covered and not paired with net `low`. The bits
+/// Writes the lines of net `low` and each net in `from..end` that is covered and not paired with net `low`. The bits
 /// of the nets `from..end` are in one word.
 fn put_word<K: Sink>(
     board: &BoardClasses<'_>,
@@ -178,7 +178,7 @@ fn put_word<K: Sink>(
     Ok(())
 }
 
-/// Puts the lines of net `low` and each later net that is covered and not paired with net `low`.
+/// Writes the lines of net `low` and each later net that is covered and not paired with net `low`.
 fn put_later<K: Sink>(
     board: &BoardClasses<'_>,
     low: u32,
@@ -215,7 +215,7 @@ fn put_pairs_at<K: Sink>(
     }
 }
 
-/// Puts the lines of one section for one net.
+/// Writes the lines of one section for one net.
 fn put_at<K: Sink>(
     board: &BoardClasses<'_>,
     section: Section,
@@ -233,7 +233,7 @@ fn put_at<K: Sink>(
     }
 }
 
-/// Puts one section of the list, net by net.
+/// Writes one section of the list, net by net.
 fn put_section<K: Sink>(
     board: &BoardClasses<'_>,
     section: Section,
@@ -248,7 +248,7 @@ fn put_section<K: Sink>(
     Ok(())
 }
 
-/// Puts the whole list.
+/// Writes the whole list.
 fn put_list<K: Sink>(board: &BoardClasses<'_>, line: &mut Line, out: &mut K) -> Result<(), PutFault>
     ensures { Prints (K.shown out.old) (K.shown out.new) [] [] (cover_text board.now) result }
 {
@@ -259,7 +259,7 @@ fn put_list<K: Sink>(board: &BoardClasses<'_>, line: &mut Line, out: &mut K) -> 
     put_section(board, Section::Pairs, line, out)
 }
 
-/// Puts the coverage list of a board: the number of nets and of covered nets; each net that is not covered,
+/// Writes the coverage list of a board: the number of nets and of covered nets; each net that is not covered,
 /// with its reason; the untested drivers and then the untested receivers of covered nets; and the pairs of
 /// covered nets that are not paired. The classes must be those of the board. A line of more than `MAX_LINE` bytes
 /// goes out in pieces of that size, and any other line in one put. The call takes no memory. `line` is scratch

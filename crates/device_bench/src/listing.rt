@@ -9,7 +9,7 @@ use bt_bits::Line;
 use device_check::write_device;
 use std::alloc::{AllocError, Global};
 
-/// The listing that a case wants.
+/// The listing that a case expects.
 #[derive(Clone, Copy)]
 enum Wanted<'a> {
     /// The whole listing is this text.

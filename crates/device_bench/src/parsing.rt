@@ -19,7 +19,7 @@ pub enum Reading {
     Parse(ParseFault),
 }
 
-/// Checks that the reading of each text ends in this way.
+/// Checks that reading each text gives the expected result.
 pub fn readings_hold(alloc: Global, cases: &[(Source, Reading)]) -> Result<(), CaseFault> {
     for (case, (source, wanted)) in cases.iter().enumerate() {
         let text = source.bytes(alloc)?;

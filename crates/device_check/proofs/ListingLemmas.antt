@@ -138,7 +138,7 @@ pub split_at_port : (port : ℕ) (bits : List PortBit) → Rises port bits → I
 split_at_port port [] rises = record { own = refl; rises = tt; others = λ q less. refl }
 split_at_port port (x ∷ xs) rises = split_here port x xs (x.port == port) refl rises (λ r. split_at_port port xs r)
 
--- port numbers in rising order
+-- if the port numbers never decrease, and the first is at least `from`, `Rises` holds of the bits
 rises_from : (from : ℕ) (bits : List PortBit) → IsNonDecreasing (map (λ bit. bit.port) bits) → ((d : ℕ) → 0 < length bits → from ≤ get_or (map (λ bit. bit.port) bits) 0 d) → Rises from bits
 rises_from from [] order first = tt
 rises_from from (x ∷ xs) order first = (

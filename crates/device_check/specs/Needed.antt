@@ -83,7 +83,7 @@ is_repeated entity attribute = nat_lt 1 (times entity attribute)
 abbrev pub is_edition : Option (List ℕ) → Bool
 is_edition text = is_text (codes "STD_1149_1_1990") text || (is_text (codes "STD_1149_1_1993") text || is_text (codes "STD_1149_1_2001") text)
 
--- COMPONENT_CONFORMANCE is missing, or is there exactly once and names an edition
+-- COMPONENT_CONFORMANCE is missing, or appears exactly once and names an edition
 abbrev pub conforms : Entity → Bool
 conforms entity = (times entity ComponentConformance == 0) || is_edition (only_text entity ComponentConformance)
 

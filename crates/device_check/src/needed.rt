@@ -131,7 +131,7 @@ fn is_edition(text: Option<&[u8]>) -> bool
         || is_text(b"STD_1149_1_2001", text)
 }
 
-/// Returns whether COMPONENT_CONFORMANCE is missing, or is there exactly once and names an edition.
+/// Returns whether COMPONENT_CONFORMANCE is missing, or appears exactly once and names an edition.
 fn conforms(entity: &Entity) -> bool
     ensures { result ≡ conforms entity.now }
 {

@@ -231,7 +231,7 @@ impl<'a> PortIndex<'a> {
         }
     }
 
-    /// Returns the number of the port bit that the word names, if there is one.
+    /// Returns the number of the port bit that the word names, or None if the word names no port bit.
     pub fn bit_at(&self, near: &mut Near, word: &PortWord) -> Option<u32>
         ensures number { result ≡ bit_number self.now word.now }
         ensures few { IfSome result (λ bit. bit < bits_of self.now) }

@@ -57,7 +57,7 @@ static CHANGED: [(Source, Reading); 24] = [
         Entity,
     ),
     (Driver(&[(14, "attribute FOO\n")]), Entity),
-    // Attributes that may be there at most once, and inout and linkage ports.
+    // Attributes that a text may omit, and inout and linkage ports.
     (
         Driver(&[(
             18,

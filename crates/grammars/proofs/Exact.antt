@@ -146,7 +146,7 @@ nothing_left : {T A : Type 0} (r : Reader T A) (o : Outcome T A) → IsLocalAt r
 nothing_left r (found a rest) h = no_rest h.front rest h.split
 nothing_left r (refused rest) h = no_rest h.front rest h.split
 
--- a reader of no tokens runs out of tokens
+-- a reader that is given no tokens runs out of tokens
 pub runs_out : {T A : Type 0} {p : Production T A} {r : Reader T A} → Decides p r → RunsOut (r [])
 runs_out {A} {p} {r} d = nothing_left r (r []) (d.local [])
 

@@ -116,7 +116,7 @@ fn fill_rows(parts: &[Option<Code>], rows: &mut ScanRows)
     set_registers(parts, rows.tdo, rows.mask);
 }
 
-// Puts the statement of the scan.
+// Writes the statement of the scan.
 fn put_scan<K: Sink>(
     parts: &[Option<Code>],
     rows: &mut ScanRows,

@@ -74,8 +74,8 @@ pub fn end_line<K: Sink>(line: &mut Line, out: &mut K) -> Result<(), PutFault>
     out.put(line.bytes())
 }
 
-/// Puts the line of these pieces, in one put if it has at most `MAX_LINE` bytes with its line feed. The former content
-/// of `line` is dropped.
+/// Writes the line of these pieces, in one put if the line has at most `MAX_LINE` bytes with its line feed. The former
+/// content of `line` is dropped.
 pub fn put_line<K: Sink>(pieces: &[&[u8]], line: &mut Line, out: &mut K) -> Result<(), PutFault>
     ensures { Prints (K.shown out.old) (K.shown out.new) [] [] (line_of (map (λ p. p.now) pieces.now)) result }
 {

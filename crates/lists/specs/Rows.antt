@@ -1,7 +1,7 @@
 -- A table of lists, to which one item is added.
 use Rattle.std.specs.Prelude.{ℕ, List, [], ◌∷◌, ◌++◌, Option, Some, None, slice_set, slice_index_or}
 
--- the lists, with the item appended to the list at `place` if there is such a place
+-- appends the item to the list at `place`, or leaves the lists unchanged if there is no such place
 abbrev pub noted : {A : Type 0} → List (List A) → Option ℕ → A → List (List A)
 noted rows None item = rows
 noted rows (Some place) item = slice_set rows place (slice_index_or rows place [] ++ item ∷ [])

@@ -9,7 +9,7 @@ use std::thread::Threads;
 // The number of times that an entry checks the other pieces before it gives up.
 const TURNS: u32 = 100_000_000;
 
-// The largest number of pieces that a gate watches. A command has at most as many workers.
+// The largest number of pieces that a gate watches. A command has at most this many workers.
 const PIECES: u64 = 64;
 
 // Returns `count` counters, all 0.

@@ -52,7 +52,7 @@ set_more board nets i n pins set less at e is = same_set board _ (drives_some bo
         ap (λ v. drives_some board (take i nets) c || v) (ap (list_any (λ (pin : PinFacts). is_by c pin.drive)) e ∙ pins_drive board c (slice_get board.nets n) ∙ sym (or-false (drives n))) ∙
         sym (list_any-append drives (take i nets) (n ∷ [])) ∙ ap (list_any drives) (ap (λ k. take i nets ++ k ∷ []) at ∙ sym (take_more nets i n less))
 
--- a tested driver drives its net
+-- the control of a net's tested driver drives the net
 pub tested_in : (board : RawBoard) (net : Net) (c : Ctl) → Has (tested_drivers board net) (By c) → drives_net board c net ≡ true
 tested_in board net c has = let t : Tested board net (By c) = tested_has board net (By c) has in by_pin t.place (slice_get net.pins t.place) refl t.drives
   where

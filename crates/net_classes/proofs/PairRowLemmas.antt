@@ -20,7 +20,7 @@ use Rattle.net_classes.specs.Pairs.{drivers_at, drivers_there, fits_at, fit}
 use Rattle.net_classes.specs.NetRows.{AreRowBits, stands_in}
 use Rattle.net_classes.proofs.WordLemmas.{same_row}
 
--- one more number is taken out
+-- if no number is taken out, the row stays unchanged
 pub nothing_out : (passes : ℕ → Bool) (row less : List ℕ) → less ≡ row → AreRowBits passes row → AreRowBits (λ n. passes n && not (stands_in [] n)) less
 nothing_out passes row less e are = same_row passes (λ n. passes n && not (stands_in [] n)) (λ n. sym (and-true (passes n))) less (subst (AreRowBits passes) (sym e) are)
 

@@ -1,4 +1,4 @@
-//! The facts about each net, pin and control of a board by itself.
+//! The facts about the single nets, pins and controls of a board.
 //!
 //! [`board_facts`] returns these facts for a board:
 //!

@@ -25,7 +25,7 @@ cell_of_kind : (kind : PartKind) (cell : ℕ) → cell < cell_count (described k
 cell_of_kind (Described device) cell less = less
 cell_of_kind (Bypass n) cell less = absurd (omega (arith, less))
 
--- the position of a part's cell is less than the length of a data scan
+-- if the part has the cell, the cell's position is less than the length of a data scan
 cell_in : (parts : List Part) (part cell : ℕ) → cell < cell_count (option_and_then (λ p. described p.kind) (slice_get parts part)) →
     (part < length parts) × (bits_of (drop (suc part) parts) + cell < bits_of parts)
 cell_in [] part cell less = absurd (omega (arith, less))

@@ -43,7 +43,7 @@ fn is_entity(entity: &Entity, name: &str, ports: usize, maps: usize) -> bool {
         && entity.constants.len() == maps
 }
 
-// Returns whether the fault, with the number of its text, is the fault that the row wants.
+// Returns whether the fault is the expected fault. The fault must name the text by `number`.
 fn is_fault(found: &InputFault, number: u32, reading: Reading) -> bool {
     match (found, reading) {
         (InputFault::Lex { text, fault }, Reading::Byte(line)) => {
@@ -62,7 +62,7 @@ fn is_fault(found: &InputFault, number: u32, reading: Reading) -> bool {
     }
 }
 
-// Returns whether the reading of a text ends as the row wants.
+// Returns whether reading the text gives the expected result. A fault must name the text by `number`.
 fn ends(alloc: Global, text: &[u8], number: u32, reading: Reading) -> bool
     requires { length text.now < 2 ^ 32 }
 {

@@ -4,7 +4,7 @@ use Rattle.tap_defs.specs.board.TestRows.{code_bit}
 use Rattle.plan_tables.specs.declared.tables.DriverCell.{DriverCell}
 use Rattle.net_pins.specs.declared.nets.ReaderCell.{ReaderCell}
 
--- the bits, with the bit of each item set in turn
+-- sets the bit of each item in turn
 abbrev pub assigned : {X : Type 0} → (X → ℕ) → (X → Bool) → List Bool → List X → List Bool
 assigned place bit start xs = fold (λ bits x. slice_set bits (place x) (bit x)) start xs
 

@@ -115,7 +115,7 @@ gives_is (Batch workers log names) (rows ∷ []) outcome gives = absurd gives
 gives_is (Batch workers log names) (rows ∷ chain ∷ []) outcome gives = absurd gives
 gives_is (Batch workers log names) (rows ∷ chain ∷ nets ∷ bsdl) outcome gives = (request.Batch workers (log_texts rows chain nets bsdl), refl, logs_said judging_each AreVerdicts batch_text verdicts_text (λ board fault. batch_fault_line log (test_rows board) fault) (of_board log names) (λ board fault. refl) (λ board blocks verdicts is. ((blocks, verdicts), (refl, is), refl)) each_back rows chain nets bsdl outcome gives)
 
--- each outcome of `run` is given by the files
+-- the files give each outcome of `run`
 pub is_gives : (command : Command) (texts : List Text) (outcome : Result Text Text) → IsOutcome command (Read texts) outcome → Gives command texts outcome
 is_gives command texts outcome (asked, is, given) =
     by_request (λ command texts asked. IsGiven (roles_of command) asked outcome → Gives command texts outcome)

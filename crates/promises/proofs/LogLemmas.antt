@@ -50,7 +50,7 @@ module _ (are_lines : (text : List ℕ) (rows len : ℕ) (log : List (List Bool)
   blocks_read : (board : RawBoard) → IsBoard board → (logs : Text) (blocks : List Block) → HoldsBlocks board logs blocks → HoldsBlockLogs logs (test_rows board) (data_bits board) blocks
   blocks_read board rules logs blocks holds = record { front = holds.front; texts = holds.texts; cut = holds.cut; each = read_each board rules holds.texts blocks holds.each }
 
-  -- The converse: a text that is read holds what is read, with the size that was wanted.
+  -- The converse: a text that is read holds the values that are read from it, with the expected size.
 
   is_held : (board : RawBoard) (scans : List RowScan) (count : ℕ) (log : Text) (rows : List (List Bool)) → log_rows log count (data_bits board) ≡ Ok rows → (HasSize count (data_bits board) rows → HasShape board scans rows) → HoldsLog board scans log rows
   is_held board scans count log rows read shaped =

@@ -70,7 +70,8 @@ ListsDevice run =
     (name text : Text) (device : RawDevice) → RunsOn run (Device name) (text ∷ []) → IsDeviceText text (Ok device) →
     Prints run (Device name) (λ listing. (listing ≡ device_text device) × IsDevice device)
 
--- `cover`: the text says for each net, pin and pair of nets of the board what is true of all its safe settings
+-- `cover`: The text lists each net that no safe setting covers, with the reason. For the covered nets it lists each
+-- driver, receiver and pair of nets that no safe setting tests.
 abbrev pub ListsCover : Run → Type 0
 ListsCover run =
     (names : BoardNames) (chain nets : Text) (bsdl : List Text) (board : RawBoard) → RunsOn run (Cover names) (chain ∷ nets ∷ bsdl) → Denotes chain nets bsdl board →

@@ -118,7 +118,7 @@ RunsOn run command texts = Asks run command × HoldsEach run.old.held (files_of 
 abbrev pub NoReadFailed : Run → Command → Type 0
 NoReadFailed run command = (name : Text) → Contains (names_of command) name → Rose (run.old.unread name) (run.new.unread name) → ⊥
 
--- if no read failed, the run ends with this status, or memory ran out
+-- if no read failed, the run returns this status or `NoMemory`
 abbrev pub EndsWith : Run → Command → Status → Type 0
 EndsWith run command status = NoReadFailed run command → (run.status ≡ status) ⊎ (run.status ≡ NoMemory)
 

@@ -45,7 +45,8 @@ impl Desk {
         self.run(rt, words, gate)
     }
 
-    /// `cover` says for each net, pin and pair of nets what holds under all safe settings.
+    /// `cover` lists each net that no safe setting covers, with the reason. For the covered nets it lists each driver,
+    /// receiver and pair of nets that no safe setting tests.
     pub fn cover<R: Threads + Sync, G: Gate>(
         &mut self,
         rt: &R,

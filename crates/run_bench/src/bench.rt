@@ -137,7 +137,7 @@ impl Bench {
         }
     }
 
-    // Returns whether a run with this status left the bytes that the ending wants.
+    // Returns whether the run returned the status and wrote the bytes that `ending` requires.
     fn has_ended(&self, status: Status, ending: Ending) -> Result<bool, AllocError> {
         match ending {
             Ending::Puts(text) => Ok(status == Status::Done && self.took(text.as_bytes(), "")),

@@ -11,10 +11,10 @@ use indexmap::IndexMap;
 use std::alloc::{AllocError, Global};
 use std::marker::Model;
 
-/// A pin, given by the name of its part and its own name.
+/// The key of a pin: the name of its part, and the pin's own name.
 type PinKey<'a> = (&'a [u8], &'a [u8]);
 
-/// Makes `place` the line of each of these pins.
+/// Maps each of these pins to `place`, the place of its line. Replaces the place that the map had for the pin.
 fn put_pins<'a>(
     places: &mut IndexMap<PinKey<'a>, u32>,
     words: &'a [PinWord],

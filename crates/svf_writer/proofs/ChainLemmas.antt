@@ -13,7 +13,7 @@ use Rattle.tap_defs.specs.chain.ChainScans.{marks, compared, chain_scans}
 use Rattle.tap_defs.proofs.chain.RowLemmas.{tdi_bits-code_bits, tdi_bits-compared}
 use Rattle.svf_writer.specs.inner.Chain.{bypass_bits, mark_bits, marked}
 
--- changing the first of several equal bits
+-- if `m` equal bits follow `done`, writing position `at` changes the first of them
 set_first : (done : List Bool) (at m : ℕ) (x y : Bool) → length done ≡ at → 0 < m → set (done ++ replicate m x) at y ≡ done ++ y ∷ replicate (m - 1) x
 set_first done at zero x y is_at some = absurd (omega arith)
 set_first done at (suc m) x y is_at some =

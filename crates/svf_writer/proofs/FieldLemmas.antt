@@ -22,7 +22,7 @@ broken-long room [] long = absurd (omega arith)
 broken-long zero (d ∷ digits) long = refl
 broken-long (suc room) (d ∷ digits) long = ap (λ t. d ∷ t) (broken-long room digits (omega arith))
 
--- one more full line of digits
+-- if more than 64 digits are left, the next 64 are a line
 pub line_more : (line digits end : List ℕ) (from : ℕ) → from + 64 < length digits → (line ++ (take 64 (drop from digits) ++ 10 ∷ [])) ++ (broken 64 (drop (from + 64) digits) ++ end) ≡ line ++ (broken 64 (drop from digits) ++ end)
 line_more line digits end from long =
     let left : 64 < length (drop from digits) = omega (arith, length-drop from digits) in
@@ -30,7 +30,7 @@ line_more line digits end from long =
     broken-long 64 (drop from digits) left ∙ ap (λ t. take 64 (drop from digits) ++ 10 ∷ broken 64 t) (drop-drop 64 from digits) in
     rw next (simp append_assoc)
 
--- the last line of digits
+-- if at most 64 digits are left, they are the last line
 pub line_last : (line digits end : List ℕ) (from count : ℕ) → count ≡ length digits → count - from ≤ 64 → (line ++ take (count - from) (drop from digits)) ++ end ≡ line ++ (broken 64 (drop from digits) ++ end)
 line_last line digits end from count is_count short =
     let all : take (count - from) (drop from digits) ≡ drop from digits = take_all (count - from) (drop from digits) (omega (arith, length-drop from digits)) in

@@ -113,7 +113,7 @@ fn fill_codes(lengths: &[u32], rows: &mut ScanRows)
     set_captures(lengths, rows.tdo, rows.mask);
 }
 
-// Puts the instruction scan.
+// Writes the instruction scan.
 fn write_codes<K: Sink>(
     lengths: &[u32],
     rows: &mut ScanRows,
@@ -136,7 +136,7 @@ fn write_codes<K: Sink>(
     write_scan(shape, rows.tdi, rows.tdo, rows.mask, line, out)
 }
 
-// Puts the data scan of `parts` parts.
+// Writes the data scan of `parts` parts.
 fn write_marks<K: Sink>(
     parts: u32,
     rows: &mut ScanRows,
@@ -157,7 +157,7 @@ fn write_marks<K: Sink>(
     write_scan(shape, rows.tdi, rows.tdo, rows.mask, line, out)
 }
 
-// Puts the two scans of the chain test.
+// Writes the two scans of the chain test.
 fn write_scans<K: Sink>(
     lengths: &[u32],
     rows: &mut ScanRows,

@@ -106,7 +106,7 @@ fn has_room(compare: bool, tdi: &Row, line: &Line) -> bool
     line.len() + fields_length(compare, digit_count(tdi)) <= MAX_SHORT
 }
 
-// Puts a field in lines of its own: the label, the digits in lines of 64, and `end`.
+// Writes a field in lines of its own: the label, the digits in lines of 64, and `end`.
 fn put_field<K: Sink>(
     label: &[u8],
     row: &Row,
@@ -132,7 +132,7 @@ fn put_field<K: Sink>(
     out.put(line.bytes())
 }
 
-// Puts the fields of a scan with compared bits, each in lines of its own.
+// Writes the fields of a scan with compared bits, each in lines of its own.
 fn put_compared<K: Sink>(
     tdi: &Row,
     tdo: &Row,
@@ -151,7 +151,7 @@ fn put_compared<K: Sink>(
     put_field(b"MASK (", mask, b");\n", line, out)
 }
 
-// Puts the fields of a scan, each in lines of its own.
+// Writes the fields of a scan, each in lines of its own.
 fn put_fields<K: Sink>(
     compare: bool,
     tdi: &Row,
@@ -195,7 +195,7 @@ fn put_lines<K: Sink>(
 }
 
 /// Writes the statement of a scan (SVF Revision E, SIR and SDR). A statement of at most 80 characters is in one line. A longer
-/// one has its command in one line, and each field in lines of at most 64 digits. Each line is put by itself.
+/// one has its command in one line, and each field in lines of at most 64 digits. Each put writes one line.
 ///
 /// The rows must have the same length, from 1 to 65,535 bits. `shape.compare` must say whether the mask has a 1. Wherever TDO
 /// has a 1, the mask must have a 1. The call takes no memory. The line is scratch space, and its content is unspecified

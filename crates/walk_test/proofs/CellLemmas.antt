@@ -55,7 +55,7 @@ use Rattle.walk_test.specs.WalkTest.{is_switched_by, switches_some}
 use Rattle.walk_test.specs.Groups.{group_of, or_shorts}
 use Rattle.walk_test.specs.inner.Reading.{is_one_group, are_joined}
 
--- a cell that reads an observed net beside the net's driver is a compared cell
+-- if a cell reads an observed net at another pin than the observing driver's, the cell is a compared cell
 module _ (board : RawBoard) (rules : IsBoard board) (walk : List Ctl) (n : ℕ) (net : Net) (is_net : slice_get board.nets n ≡ Some net) (d : ℕ) (observing : observing_driver board (holds walk) net ≡ Some d) (r : ReaderCell) (q : IsReaderCell board net r) (other : (r.place == d) ≡ false) where
   abbrev t : Standing board n net r.place q.at
   t = standing board rules n net r.place q.pin q.at is_net q.is_pin q.is_at

@@ -14,12 +14,12 @@ use Rattle.walk_test.specs.inner.Reading.{is_one_group, are_joined}
 abbrev pub Rises : List ℕ → Type 0
 Rises xs = InOrder (λ a b. a < b) xs
 
--- the first of rising numbers is the least
+-- the first number of an ascending list is the least
 le_first : (x : ℕ) (xs : List ℕ) (y : ℕ) → Rises (x ∷ xs) → Has (x ∷ xs) y → x ≤ y
 le_first x xs y rise (inl e) = omega (arith, e)
 le_first x xs y rise (inr has) = omega (arith, rise.0 y has)
 
--- two rising lists with the same numbers are equal
+-- two ascending lists with the same numbers are equal
 rising_same : (xs ys : List ℕ) → Rises xs → Rises ys → ((x : ℕ) → Has xs x → Has ys x) → ((x : ℕ) → Has ys x → Has xs x) → xs ≡ ys
 rising_same [] [] p q to from = refl
 rising_same [] (y ∷ ys) p q to from = absurd (from y (inl refl))
@@ -58,7 +58,8 @@ Apart one other = (n : ℕ) → Has one n → Has other n → ⊥
 abbrev pub Before : List ℕ → List ℕ → Type 0
 Before one other = least_of one < least_of other
 
--- the groups are in order: each has two or more nets, which rise; no two groups share a net; and the least nets of the groups rise
+-- The groups are in order: each has two or more nets, in ascending order; no two groups share a net; and the least nets
+-- of the groups are in ascending order.
 pub record AreOrdered (groups : List (List ℕ)) : Type 0 where
   pub several : (group : List ℕ) → Has groups group → 2 ≤ length group
   pub rise : (group : List ℕ) → Has groups group → Rises group
@@ -130,7 +131,7 @@ one_list (g ∷ gs) (h ∷ hs) p q to from =
     let same : g ≡ h = rising_same g h (p.rise g (inl refl)) (q.rise h (inl refl)) (first_within g gs h hs p q to least) (first_within h hs g gs q p from (sym least)) in
     cons_path same (one_list gs hs (tail_ordered g gs p) (tail_ordered h hs q) (rest_within g gs h hs p q to same) (rest_within h hs g gs q p from (sym same)))
 
--- a test over a group's nets finds net n exactly if the group has net n
+-- a test over a group's nets finds net n if and only if the group has net n
 any_in : (group : List ℕ) (n : ℕ) → Has group n → list_any (λ m. m == n) group ≡ true
 any_in group n has = has_any (λ m. m == n) group n has (eq-eqb n n refl)
 

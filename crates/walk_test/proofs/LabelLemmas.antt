@@ -219,7 +219,7 @@ members_more (x ∷ nets) (y ∷ labels) k (suc i) n l e f =
     by_test true rest = ap (λ (ms : List ℕ). x ∷ ms) rest
     by_test false rest = rest
 
--- the nets with a label rise if all nets do
+-- if the nets are in ascending order, so are the nets with a label
 pub rise_members : (nets labels : List ℕ) (k : ℕ) (group : List ℕ) → Rise nets → group ≡ members nets labels k → Rise group
 rise_members nets labels k group rise is =
     subst (λ (g : List ℕ). Rise g) (sym is) (order_pairs (λ a b. a < b) (members nets labels k) (members_rise nets labels k (pairs_order (λ a b. a < b) nets rise)))

@@ -99,7 +99,7 @@ module _ {X : Type 0} (p : X → Bool) (q : ℕ → Bool) where
           let z : 0 + count_by p (take place xs) ≡ count_by p (take place xs) = omega arith in
           ap (λ (b : Bool). slice_get (cond b (k ∷ kept (k + 1) xs) (kept (k + 1) xs)) (0 + count_by p (take place xs))) t ∙ ap (λ (m : ℕ). slice_get (kept (k + 1) xs) m) z
 
--- the numbers of the walk nets rise
+-- the walk nets are in ascending order
 pub nets_rise : (board : RawBoard) → Rises (walk_nets board)
 nets_rise board = order_filter (λ a b. a < b) (λ n. is_walk_net board (walk_setting board) (slice_get board.nets n)) (range_with_len 0 (length board.nets)) (order_range 0 (length board.nets))
 

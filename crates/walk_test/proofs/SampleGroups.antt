@@ -93,7 +93,8 @@ one_short_is = record {
     above n (inl e) = omega (arith, e)
     above n (inr has) = absurd has
 
--- lists that are no set of groups: a group of one net, nets that do not rise, a net in two groups, and groups whose least nets do not rise
+-- Lists that are no set of groups: a group of one net, nets out of ascending order, a net in two groups, and groups
+-- whose least nets are out of ascending order.
 abbrev NoGroups : List (List ℕ) → Type 0
 NoGroups groups = AreGroups four_wires groups → ⊥
 

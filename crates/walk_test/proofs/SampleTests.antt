@@ -61,7 +61,7 @@ pulled_text : board_walk_text pulled_up ≡ whole (
 unfolding svf_text digits
 pulled_text = refl
 
--- two nets walk beside a net with a switching driver; their drivers are at positions 2 and 3, and their receivers at 0 and 1
+-- Two walk nets and a net with a switching driver. The walk nets' drivers are at positions 2 and 3, and their receivers at 0 and 1.
 abbrev mixed : RawBoard
 mixed = board (Described od ∷ Described rcv1 ∷ Described drv ∷ Described rcv ∷ []) (
     pulled (Some true) (pin 0 0 ∷ pin 1 0 ∷ []) ∷ net (pin 2 0 ∷ pin 3 0 ∷ []) ∷ net (pin 2 1 ∷ pin 3 1 ∷ []) ∷ [])

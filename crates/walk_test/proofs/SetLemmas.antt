@@ -168,7 +168,7 @@ walked board t w some = by_setting (walk_setting board) refl
         let are : CellsAre board walk t.nets t.cells = record { count = tables.count; are = tables.cells } in
         record { walk = walk; is = e; are = subst (λ (l : List ℕ). CellsAre board walk l t.cells) w.nets are }
 
--- like `walked`, for a walk whose tables and cells are given by equations
+-- like `walked`, but takes the walk's tables and cells by equations
 pub walked_at : (board : RawBoard) (seen t : WalkTables) (cells : List NetCells) (passes : ℕ) → IsWalkOf board seen → t ≡ seen → cells ≡ t.cells → passes ≡ length t.plan.passes → (passes ≡ 0 → ⊥) → Walked board cells
 walked_at board seen t cells passes w same are count some =
     let all : cells ≡ seen.cells = are ∙ ap (λ (x : WalkTables). x.cells) same in
@@ -419,7 +419,7 @@ module _ (safe : WalkSafe) (by_rows : (board : RawBoard) (faults : FaultSet) (sc
           let no_rows : length log ≡ 0 = rows ∙ ap (λ (l : List ℕ). length l) (no_nets board e) in
           none_explain board rules e log (record { rows = no_rows ∙ sym (rows_counted board []); bits = λ k d less. absurd (omega (arith, less, no_rows)) })
 
-  -- like `found_nothing`, for a walk whose tables are given by equations
+  -- like `found_nothing`, but takes the walk's tables and the result by equations
   pub nothing_at : (board : RawBoard) → IsBoard board → (seen t : WalkTables) (log : List (List Bool)) (passes : ℕ) (found : List (List ℕ)) → IsWalkOf board seen → t ≡ seen → passes ≡ length t.plan.passes → passes ≡ 0 →
       length log ≡ length seen.nets → found ≡ [] → Explain board log found
   nothing_at board rules seen t log passes found w same count zero_passes rows empty =
@@ -427,7 +427,7 @@ module _ (safe : WalkSafe) (by_rows : (board : RawBoard) (faults : FaultSet) (sc
       sym (ap (λ (l : List (List Ctl)). length l) w.passes) ∙ sym (ap (λ (x : WalkTables). length x.plan.passes) same) ∙ sym count ∙ zero_passes in
       subst (λ (l : List (List ℕ)). Explain board log l) (sym empty) (found_nothing board rules log none (rows ∙ ap (λ (l : List ℕ). length l) w.nets))
 
-  -- like `found_by`, for nets and labels that are given by equations
+  -- like `found_by`, but takes the nets, the labels and the result by equations
   pub found_at : (board : RawBoard) → IsBoard board → (cells : List NetCells) → Walked board cells → (log : List (List Bool)) → length log ≡ length (walk_nets board) → All (λ row. length row ≡ data_bits board) log →
       (given read used : List ℕ) → given ≡ walk_nets board → read ≡ map (label_of log) cells → used ≡ map (label_of log) cells → (shown : Bool) → Decides shown (ShowsAll log read cells) →
       (found : Option (List (List ℕ))) → found ≡ cond shown (Some (groups_by given used)) None → AreFound board log found

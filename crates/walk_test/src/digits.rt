@@ -8,7 +8,7 @@ use bt_bits::digit_bit;
 // The number of digits in a block. A search tests whole blocks first, since most digits of a row are 0.
 const BLOCK: usize = 64;
 
-/// A row as the values of its digits. `mask` has as many digits, with a 1 for each compared bit of the row.
+/// A row as the values of its digits. `mask` has the same number of digits, with a 1 for each compared bit of the row.
 #[derive(Clone, Copy)]
 pub struct MaskedRow<'a> {
     pub digits: &'a [u8],

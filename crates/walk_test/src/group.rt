@@ -4,7 +4,7 @@ ghost use Rattle.walk_test.specs.Groups.{Rise};
 
 use std::marker::Model;
 
-/// Walk nets that are shorted together. The model is the list of their numbers, in rising order.
+/// Walk nets that are shorted together. The model is the list of their numbers, in ascending order.
 #[derive(Debug, Drop)]
 pub struct Group {
     nets: Vec<u32>,

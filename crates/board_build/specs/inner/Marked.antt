@@ -112,12 +112,12 @@ abbrev pub groups_after : Option MarkedWord → ℕ → List (List NetPin) → L
 groups_after None count groups = groups
 groups_after (Some word) count groups = if nat_lt word.net count then slice_set groups word.net (slice_index_or groups word.net [] ++ pin_with (seen word) ∷ []) else groups
 
--- the nets, with the net made from this name and this group appended if both are there
+-- appends the net with this name and this group, or leaves the nets unchanged if the name or the group is missing
 abbrev pub nets_after : {A G N : Type 0} → (A × G → N) → Option A → Option G → List N → List N
 nets_after f None group nets = nets
 nets_after f (Some name) group nets = nets ++ option_to_list (option_map (λ g. f (name, g)) group)
 
--- the marks, with the mark of this word appended if there is a word
+-- appends the mark of the word, or leaves the marks unchanged if there is no word
 abbrev pub marks_after : {A N : Type 0} → (A → N) → Option A → List N → List N
 marks_after f None marks = marks
 marks_after f (Some word) marks = marks ++ f word ∷ []

@@ -1,6 +1,6 @@
 -- Values that are written into a row.
 use Rattle.std.specs.Prelude.{ℕ, ◌+◌, Bool, List, ◌++◌, length, take, drop}
 
--- the bits, with these values written from position `at` on
+-- writes these values into the bits from position `at` on
 abbrev pub placed : ℕ → List Bool → List Bool → List Bool
 placed at values bits = take at bits ++ (values ++ drop (at + length values) bits)

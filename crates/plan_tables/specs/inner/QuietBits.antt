@@ -20,12 +20,12 @@ is_driver board part entry = is_driving entry.role && unwrap_or (option_map (λ 
 abbrev pub disable_value_in : RawBoard → ℕ → Cell → Option CellBit
 disable_value_in board part entry = cond (is_driver board part entry) (option_map (λ control. record { cell = control.cell; bit = control.disable }) entry.ctl) None
 
--- the bits, with the bit of the cell set if a cell is given
+-- sets the bit of the cell, or leaves the bits unchanged if no cell is given
 abbrev pub set_some : List Bool → Option CellBit → List Bool
 set_some bits None = bits
 set_some bits (Some c) = slice_set bits c.cell c.bit
 
--- the bits, with the bit that `gives` gives for each entry set in turn
+-- for each entry in turn, sets the bit that `gives` returns for the entry
 abbrev pub set_by : (Cell → Option CellBit) → List Bool → List Cell → List Bool
 set_by gives bits entries = fold (λ done entry. set_some done (gives entry)) bits entries
 

@@ -10,7 +10,7 @@ use Rattle.plan_tables.specs.declared.uses.Uses.{Uses}
 use Rattle.plan_tables.specs.Assigned.{assigned}
 use Rattle.plan_tables.specs.Tables.{PassCells, held_cell, ArePassCells}
 
--- the flags, with those of these cells set
+-- sets the flags of these cells
 abbrev pub marked_held : List Bool → List HeldCell → List Bool
 marked_held flags held = assigned (λ h. h.position) (λ h. true) flags held
 
@@ -30,7 +30,7 @@ HoldsAt held position = (h : HeldCell) × Contains held h × (h.position ≡ pos
 abbrev pub held_by : RawBoard → List Bool → List (List Ctl) → List (List HeldCell)
 held_by board quiet passes = map (λ pass. map (held_cell board quiet) pass) passes
 
--- the flags, with those of the cells of all passes' controls set
+-- sets the flags of the cells of every pass's controls
 abbrev pub all_marked : RawBoard → List Bool → List Bool → List (List Ctl) → List Bool
 all_marked board quiet flags passes = fold (λ done pass. marked_held done (map (held_cell board quiet) pass)) flags passes
 

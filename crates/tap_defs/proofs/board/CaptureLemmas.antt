@@ -129,7 +129,7 @@ module _ (board : RawBoard) (rules : IsBoard board) (faults : FaultSet) where
   always_after choice [] = refl
   always_after choice (c ∷ cs) = always_after choice cs
 
-  -- the scans pass with what is captured, for these free bits
+  -- like `CapturesPass`, but for this choice of the free bits
   abbrev pub CapturesPassBy : Choice → TestRow → List RowScan → List Scan → Type 0
   CapturesPassBy choice row [] scans = Unit {0}
   CapturesPassBy choice row (t ∷ ts) [] = Unit {0}
@@ -433,6 +433,6 @@ module _ (board : RawBoard) (rules : IsBoard board) (faults : FaultSet) (ts : Li
           captures_follow board rules faults choice ts compared quiet_row quiet_row (under_extest chain free start) (in_extest_held chain free start) (log_shifts board ts log)
           (sym (ap (λ (g : Choices). run_passes (all_clocks compared) (tdos env (all_clocks compared) g (under_extest chain free start))) ends) ∙ run_ok)
 
-  -- every run agrees with a log if and only if the log is what is captured for the rows
+  -- the scans of a log pass in every run if and only if they pass with the bits that the board captures for the rows
   pub log_captured : PassOnBoard board faults (test_clocks (scans_by_log (board_scans board ts) log)) ↔ CapturesPass board faults quiet_row ts compared
   log_captured = (captures_by_log, log_by_captures)

@@ -47,7 +47,7 @@ use Rattle.tap_defs.proofs.chain.HeadLemmas.{chain_logics, chain_lengths, ir_siz
 use Rattle.tap_defs.proofs.chain.InstructLemmas.{AllRoom, tdi_bits-instructs, instructs_pass, length-instructs}
 use Rattle.tap_defs.proofs.chain.RowLemmas.{all_ones-replicate}
 
--- the parts of a board keep their rules; this form is defined by recursion on the chain
+-- each part of a board keeps its rules; this form recurses on the chain
 abbrev pub Parts : List Part → Type 0
 Parts ps = AllByRecursion (λ p. IsPart p.kind) ps
 

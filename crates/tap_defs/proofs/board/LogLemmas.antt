@@ -138,7 +138,7 @@ module _ (board : RawBoard) where
       (recursion_from_All (λ (row : List Bool). length row ≡ data_bits board) log e.shape.bits)
       (ap (λ (scans : List Scan). are_expected scans log) (filter-map is_compared statement ts ∙ sym (statements_compared board ts)) ∙ e.bits)
 
-  -- the text passes if and only if its scans pass with what is captured for the rows
+  -- the text passes if and only if its scans pass with the bits that the board captures for the rows
   plain_shifts : (ts : List RowScan) → ShiftRows board ts (map statement ts)
   plain_shifts [] = tt
   plain_shifts (t ∷ ts) = (refl, refl, plain_shifts ts)

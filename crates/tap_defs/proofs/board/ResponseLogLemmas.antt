@@ -85,7 +85,7 @@ module _ (board : RawBoard) (faults : FaultSet) where
   abbrev Captures : RowScan → List Bool → Type 0
   Captures t row = (choice : Choice) → AgreeWhereCompared (joined (row_bits board t)) row (row_captured board faults t.before choice)
 
-  -- each row of the log is what is captured for its scan
+  -- for every choice, each row of the log has the compared bits that the board captures for the row's scan
   abbrev Captured : List RowScan → List (List Bool) → Type 0
   Captured [] log = Unit {0}
   Captured (t ∷ ts) [] = Unit {0}

@@ -122,7 +122,7 @@ AgreeOn board scans log other =
 abbrev pub cell_position : RawBoard → ℕ → ℕ → ℕ
 cell_position board part cell = sum_by (λ p. data_length p.kind) (drop (suc part) board.chain) + cell
 
--- the place in the nets of the pin that the cell reads, if there is one
+-- the net and the place in it of the pin that the cell reads, or None if the cell reads no pin of a net
 abbrev pub read_place : RawBoard → ℕ → RawDevice → ℕ → Option Place
 read_place board part device cell =
     option_and_then (λ entry. option_and_then (λ b. place_of (record { part = part; bit = b }) 0 board.nets) entry.bit) (reading_entry device cell)

@@ -41,7 +41,7 @@ first_in none firsts cells = slice_index_or firsts (first_at cells) none
 abbrev pub is_even : ℕ → List ℕ → NetCells → Bool
 is_even none firsts cells = list_all (λ at. slice_index_or firsts at none == first_in none firsts cells) cells.compared
 
--- the bits, with a 1 at each compared position of the net
+-- writes a 1 at each compared position of the net
 abbrev pub with_compared : List Bool → NetCells → List Bool
 with_compared bits cells = assigned (λ at. at) (λ at. true) bits cells.compared
 

@@ -24,16 +24,16 @@ abbrev pub pin_switch : RawBoard → Option Bool → Option PinAt → Option Ctl
 pin_switch board pull None = None
 pin_switch board pull (Some at) = entry_switch at.part pull (entry_at board at)
 
--- the setting, with this control if there is one
+-- adds the control to the setting, or leaves the setting unchanged if no control is given
 abbrev pub with_some : List Ctl → Option Ctl → List Ctl
 with_some setting None = setting
 with_some setting (Some c) = inserted c setting
 
--- the setting, with the controls of the switching drivers among these pins of a net with this pull
+-- adds to the setting the controls of the switching drivers among `pins`; `pull` is the pull of the pins' net
 abbrev pub with_pins : RawBoard → Option Bool → List Ctl → List NetPin → List Ctl
 with_pins board pull setting pins = fold (λ s pin. with_some s (pin_switch board pull pin.at)) setting pins
 
--- the setting, with the controls of the switching drivers of a net; no pin of a guarded net is a switching driver
+-- adds to the setting the controls of the net's switching drivers; no pin of a guarded net is a switching driver
 abbrev pub with_net : RawBoard → List Ctl → Net → List Ctl
 with_net board setting net = if guarded board net then setting else with_pins board net.pull setting net.pins
 

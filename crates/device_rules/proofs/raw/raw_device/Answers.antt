@@ -1,4 +1,4 @@
--- A text without a broken rule describes a device.
+-- A text that breaks no rule describes a device.
 use Rattle.std.proofs.Common.{ap, ◌∙◌}
 use Rattle.std.proofs.lemmas.Result.{IfOk-weaker}
 use Rattle.device_rules.specs.Raw.{raw_device}
