@@ -272,7 +272,7 @@ fn wrong_symbols_are_noticed(rt: HostRuntime) -> Result<(), CaseFault> {
 
 const IN_DW: &str = "BUF2 DW Old 2 10 00 1 2 3 4 5 6 7 8 9 10 11";
 
-// Two packages. Only the first holds.
+// Two packages with their expected lines. Only the first line is right.
 static PACKAGES: [(Option<&[u8]>, &str); 2] = [(None, IN_DW), (Some(b"FK"), IN_DW)];
 
 #[test]
@@ -289,7 +289,8 @@ fn wrong_packages_are_noticed(rt: HostRuntime) -> Result<(), CaseFault> {
     )
 }
 
-// Two rules, and what the second change breaks. Only the first holds.
+// Two changes with the rule and the item that each is expected to break, and the rule that the second change breaks.
+// Only the first expectation is right.
 type Rules = (&'static [(Change, (u32, u32))], &'static str);
 
 static RULES: [Rules; 3] = [

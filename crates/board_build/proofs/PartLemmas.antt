@@ -178,6 +178,6 @@ placed_where board marks pin (Some at) same e h = by_found (find (λ i. same_pin
           has_pin = r.has_pin ∙ ap Some (same_text s.0.1 pin.1 (sym parts.1));
         })
 
--- a pin that is not unknown has the place that the rules of a board want
+-- a pin that is not unknown has the place that the rules of a board require
 pub placed : (board : RawBoard) (marks : Marks) (pin : Pin) → marks.places ≡ pin_places board.chain → is_unknown (described_names board.chain) marks.places pin ≡ false → IsPlaced board (net_pin marks pin) (place_of_pin marks.places pin)
 placed board marks pin same h = placed_where board marks pin (place_of_pin marks.places pin) same refl h

@@ -14,11 +14,11 @@ all_by P test gives (x ∷ xs) h = let parts = and_parts (test x) (list_all test
 pub item_by : {X : Type 0} (test : X → Bool) (xs : List X) (i : ℕ) (x : X) → list_all test xs ≡ true → slice_get xs i ≡ Some x → test x ≡ true
 item_by test xs i x h e = all_has test xs x h (has_at xs i x e)
 
--- each number below n passes
+-- if each number below n passes the test, so does a number k below n
 pub below_by : (test : ℕ → Bool) (n k : ℕ) → list_all test (range_with_len 0 n) ≡ true → k < n → test k ≡ true
 below_by test n k h less = all_has test (range_with_len 0 n) k h (has_range 0 n k (omega arith) (omega arith))
 
--- each item passes with each later one
+-- each item passes together with each later item
 abbrev pub later_pass : {X : Type 0} → (X → X → Bool) → List X → Bool
 later_pass test [] = true
 later_pass test (x ∷ xs) = list_all (test x) xs && later_pass test xs

@@ -85,7 +85,7 @@ needed_enables board net p s h within = from (view board net p)
     from (by_control b d f) = f s ∙ within b (ap (λ w. needed w b) d ∙ same_refl b)
     from (one_sided at cell control pa x k o w d f) = let wrong : false ≡ true = sym (ap (can_enable board) d) ∙ h in cc wrong
 
--- the test of tested drivers
+-- `is_tested_driver` decides whether a driver is tested
 pub tested_driver_of : (board : RawBoard) (s : Enabling) (n : ℕ) (net : Net) (place : ℕ) → IsBoard board → IsSafe board s → slice_get board.nets n ≡ Some net → ObservesBy board s net place →
     (is_tested_driver board net place ≡ true) × ((c : Ctl) → needed (place_drive board net place) c ≡ true → s c ≡ true)
 tested_driver_of board s n net place rules safe en o =
@@ -136,7 +136,7 @@ pub tested_driver_is : (board : RawBoard) (n : ℕ) (net : Net) (place : ℕ) �
 tested_driver_is board n net place rules en h =
     (needed (place_drive board net place), needed_safe board (place_drive board net place) rules (tested_can board net place h), (net, en, observes_of board (needed (place_drive board net place)) net place h (λ c k. k)))
 
--- the test of covered nets
+-- a tested driver is at a place of the net
 pub tested_below : (board : RawBoard) (net : Net) (place : ℕ) → is_tested_driver board net place ≡ true → place < length net.pins
 tested_below board net place h = let q : (p : NetPin) × (slice_get net.pins place ≡ Some p) = drives_pin board net (slice_get net.pins place) (tested_can board net place h) in slice_get_within net.pins place q.0 q.1
 
@@ -153,7 +153,7 @@ covered_is board n net rules en h =
     let d : Option Drive = place_drive board net r.number in
     (needed d, needed_safe board d rules (tested_can board net r.number r.passes), (net, en, (r.number, observes_of board (needed d) net r.number r.passes (λ c k. k))))
 
--- the test of two drivers that one safe setting enables
+-- if two drivers are compatible, the setting of the controls that they need is safe
 pub compatible_safe : (board : RawBoard) (d e : Option Drive) → IsBoard board → are_compatible board d e ≡ true → IsSafe board (either (needed d) (needed e))
 compatible_safe board None e rules h = cc h
 compatible_safe board (Some OneSided) e rules h = cc h
@@ -176,7 +176,7 @@ safe_compatible board s (Some (By c)) (Some (By b)) safe cd ce wd we = safe_toge
     by_or a (inl k) = wd a k
     by_or a (inr k) = we a k
 
--- the test of paired nets
+-- `are_paired` decides whether two nets are paired
 pub paired_true : (board : RawBoard) (m n : ℕ) (a b : Net) → IsBoard board → slice_get board.nets m ≡ Some a → slice_get board.nets n ≡ Some b → ArePaired board m n → are_paired board a b ≡ true
 paired_true board m n a b rules ea eb (ne, (s, safe, ((one, eo, (i, oi)), (two, et, (j, oj))))) =
     let same : one ≡ a = net_same board m a one ea eo in
@@ -214,7 +214,7 @@ paired_is board m n a b rules ea eb ne h =
       ),
     )
 
--- the test of tested receivers
+-- `is_tested_receiver` decides whether a receiver is tested
 pub tested_receiver_true : (board : RawBoard) (n : ℕ) (net : Net) (place : ℕ) → IsBoard board → slice_get board.nets n ≡ Some net → IsTestedReceiver board n place → is_tested_receiver board net place ≡ true
 tested_receiver_true board n net place rules en (s, safe, (other, pin, driver, eo, ep, reads, ne, o)) =
     let same : other ≡ net = net_same board n net other en eo in
@@ -259,7 +259,7 @@ tested_receiver_is board n net place rules en h =
       ),
     )
 
--- the test of useful controls
+-- `is_useful` decides whether a control is useful
 pub useful_true : (board : RawBoard) (c : Ctl) → IsBoard board → IsUseful board c → is_useful board c ≡ true
 useful_true board c rules (safe, n, net, place, pin, en, ep, d, t) =
     and_from (is_safe_alone board c) (list_any (tests_by board c) board.nets) (safe_alone board c safe)

@@ -65,7 +65,7 @@ bit_at board at = option_and_then (λ device. slice_get device.bits at.bit) (dev
 abbrev pub is_pinned : RawBoard → PinAt → Bool
 is_pinned board at = is_some (option_and_then (λ bit. bit.pin) (bit_at board at))
 
--- there is a port bit, and it belongs to the test access port or is named by the compliance patterns
+-- there is a port bit that belongs to the test access port or that the compliance patterns name
 abbrev pub is_test_bit : Option PortBit → Bool
 is_test_bit None = false
 is_test_bit (Some bit) = bit.tap || bit.compliance

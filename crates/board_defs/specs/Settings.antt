@@ -11,7 +11,7 @@ use Rattle.board_defs.specs.declared.board.Ctl.{Ctl}
 use Rattle.board_defs.specs.declared.board.Drive.TheVariants.{By}
 use Rattle.board_defs.specs.Pins.{drive, receives, guarded, entry_at, is_pinned}
 
--- a set of controls, given by the test whether a control is in the set
+-- a set of controls, as the test whether a control is in the set
 abbrev pub Enabling : Type 0
 Enabling = Ctl → Bool
 
@@ -94,7 +94,7 @@ pub record ObservesBy (board : RawBoard) (setting : Enabling) (net : Net) (place
 abbrev pub Observes : RawBoard → Enabling → Net → Type 0
 Observes board setting net = (place : ℕ) × ObservesBy board setting net place
 
--- like `Observes`, but for a net given by its number
+-- like `Observes`, but takes the number of the net
 abbrev pub ObservesNet : RawBoard → Enabling → ℕ → Type 0
 ObservesNet board setting n = (net : Net) × (slice_get board.nets n ≡ Some net) × Observes board setting net
 

@@ -155,7 +155,7 @@ counts_from n number (line ∷ lines) all values is =
     subst (λ (count : ℕ). HasCounts n count values) (sym (filled_cons line lines))
     (counts_more n number line (words_of line) (lines_from net_line (number + 1) lines) (filled lines) all.0 refl (counts_from n (number + 1) lines all.1) values is)
 
--- a text has at most as many net lines as bytes, and each of them has at most as many words
+-- neither the number of net lines nor the number of words in a line exceeds the number of bytes in the text
 pub net_counts : (text : List ℕ) (values : List NetLine) → net_lines text ≡ Ok values → HasCounts (length text) (length text) values
 net_counts text values is =
     let counts = counts_from (length text) 1 (slice_split is_newline text) (pieces_within is_newline text) values is in

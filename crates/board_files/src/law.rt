@@ -1,4 +1,4 @@
-//! Laws of the definitions. Each law is the contract of a function that does nothing.
+//! The law about the lengths in a chain file. The law is the contract of a function that does nothing.
 ghost use Rattle.std.specs.Prelude.{◌≡◌, ℕ, List};
 ghost use Rattle.std.specs.List.{AllByRecursion};
 ghost use Rattle.board_files.specs.declared.chain_file.ChainLine.{ChainLine};

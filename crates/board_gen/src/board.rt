@@ -65,7 +65,7 @@ fn push_ring(text: &mut Vec<u8>, number: u32, part: u32) -> Result<(), AllocErro
     Ok(())
 }
 
-// Appends the net of a bit from a part to the next part.
+// Appends the line of the net from output `bit` of a part to the next part.
 fn push_ring_line(text: &mut Vec<u8>, number: u32, part: u32, bit: u32) -> Result<(), AllocError>
     requires part { part ≤ 255 }
     requires bit { bit < 32 }

@@ -1,4 +1,4 @@
--- Runs of a command: what each run leaves, and that every kind of run is covered.
+-- Runs of a command: the effect of each run, and that every kind of run is covered.
 use Rattle.std.proofs.Common.{◌≡◌, ℕ, zero, suc, Bool, true, false, nat_lt, length, List, [], ◌∷◌, Option, Some, None, Result, Ok, Err, refl, sym, ap, ◌∙◌, subst, inl, inr}
 use Rattle.std.specs.Prelude.{IfSome, map, take, ◌++◌, if◌then◌else◌}
 use Rattle.std.proofs.lemmas.List.{append-nil}
@@ -448,7 +448,7 @@ module _ (devices : OneDevice) (chains : OneChain) (idents : OneIdents) (boards 
   one_outcome command (Read texts) a b (request, made_a, is_a) (other, made_b, is_b) =
       one_given (roles_of command) other a b (subst (λ (r : Request). IsGiven (roles_of command) r a) (same_request (sym made_a ∙ made_b)) is_a) is_b
 
--- as many texts were read as are wanted
+-- the number of texts that were read is the length of `wanted`
 count_read : (held : Text → Option Text) (wanted : List Wanted) (found : List Text) → reading_of held wanted ≡ Some (Read found) → length found ≡ length wanted
 count_read held [] [] reads = refl
 count_read held [] (text ∷ found) reads = absurd cc

@@ -1,4 +1,4 @@
--- The outcome that a command gives for texts, and what a run leaves at each status.
+-- The outcome of a command for its texts, and the effect of a run at each status.
 use Rattle.std.specs.Prelude.{◌≡◌, ◌⊎◌, ℕ, List, [], ◌∷◌, take, Some, Result, Ok, Err, map, String, string_bytes, IfSome}
 use Rattle.std.specs.declared.alloc.Global.{Global}
 use Rattle.bt_base.specs.Counts.{Rose}
@@ -46,7 +46,7 @@ IsGiven names (Diagnose workers texts) outcome = IsSaid diagnosis_text (text_fau
 IsGiven names (Groups texts) outcome = IsSaid grouping_text (text_fault_line names) (IsJudgedOf grouping texts) outcome
 IsGiven names (Batch workers texts) outcome = IsSaid verdicts_text (text_fault_line names) (IsJudgedOf judging_each texts) outcome
 
--- the outcome of a command for what was read; a text that is too long is the first fault
+-- the outcome of a command for the texts that were read; a text that is too long is the first fault
 abbrev pub IsOutcome : Command → Reading → Result Text Text → Type 0
 IsOutcome command (Read texts) outcome = (request : Request) × (request_of command texts ≡ Some request) × IsGiven (roles_of command) request outcome
 IsOutcome command (TooLong wanted) outcome = outcome ≡ Err (long_line wanted.name wanted.limit)

@@ -47,7 +47,8 @@ pub fn run<R: Threads + Sync, S: Store, K: Sink, N: Sink, G: Gate>(
     ensures done { result ≡ Status.Done → ForCommand words.now (λ c. IsDone (S.held store.old) c (S.asked store.old) (S.asked store.new) (K.shown out.old) (K.shown out.new)) }
     ensures silent { result ≡ Status.Done → N.shown notes.new ≡ N.shown notes.old }
 
-    // Refused: what was read has a first fault, and `notes` took the line for it. No text was asked for after a text that is too long.
+    // Refused: the texts that were read have a first fault, and `notes` took the line of that fault. No text was asked for after a
+    // text that is too long.
     ensures refused { result ≡ Status.Refused → ForCommand words.now (λ c. IsRefused (S.held store.old) c (S.asked store.old) (S.asked store.new) (N.shown notes.old) (N.shown notes.new)) }
 
     // ReadFault: the texts before one text were read, the count of this text rose, no later text was asked for, and `notes` took its line.

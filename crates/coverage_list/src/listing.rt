@@ -198,7 +198,7 @@ fn put_later<K: Sink>(
     Ok(())
 }
 
-/// Like `put_later`, but puts nothing if net `low` is not covered.
+/// Like `put_later`, but writes nothing if net `low` is not covered.
 fn put_pairs_at<K: Sink>(
     board: &BoardClasses<'_>,
     low: u32,

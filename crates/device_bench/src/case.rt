@@ -6,12 +6,12 @@ use thiserror::Error;
 /// The reason why a table of cases does not hold.
 #[derive(Debug, Drop, Error)]
 pub enum CaseFault {
-    /// The first case that does not end as wanted.
+    /// The first case with an unexpected result.
     #[error("case {case} ends otherwise: {found}")]
     Ended {
         /// The number of the case, counted from 0.
         case: usize,
-        /// How the case ended.
+        /// The result of the case.
         found: String,
     },
     /// A text has 2^32 bytes or more.

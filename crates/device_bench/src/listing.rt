@@ -85,7 +85,7 @@ fn try_source(
     }
 }
 
-/// Checks that the listing of a device is as wanted. The line may still hold a part of an earlier listing.
+/// Checks that the listing of a device is as expected. The line may still hold a part of an earlier listing.
 fn try_device(
     alloc: Global,
     case: usize,

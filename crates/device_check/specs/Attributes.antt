@@ -78,7 +78,7 @@ is_constant name constant = bytes_eq constant.name name
 abbrev pub only_constant : Entity → List ℕ → Option Constant
 only_constant entity name = if count_by (is_constant name) entity.constants == 1 then find (is_constant name) entity.constants else None
 
--- there is a text, and it equals `wanted`
+-- there is a text, and the text equals `wanted`
 abbrev pub is_text : List ℕ → Option (List ℕ) → Bool
 is_text wanted None = false
 is_text wanted (Some text) = bytes_eq text wanted

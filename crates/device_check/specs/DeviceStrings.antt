@@ -22,7 +22,7 @@ MayBe Is None (Some value) = ⊥
 MayBe Is (Some text) None = ⊥
 MayBe Is (Some text) (Some value) = Is text value
 
--- the string is there, and leaves its grammar at this entry
+-- the entity has the string, and the string leaves its grammar at this entry
 abbrev pub MayLeave : (List ℕ → ℕ → Type 0) → Option (List ℕ) → ℕ → Type 0
 MayLeave IsNo None entry = ⊥
 MayLeave IsNo (Some text) entry = IsNo text entry

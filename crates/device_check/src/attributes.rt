@@ -161,7 +161,7 @@ pub(crate) fn only_constant<'a>(entity: &'a Entity, name: &[u8]) -> Option<&'a C
     }
 }
 
-/// Returns whether the text is there and equals `wanted`.
+/// Returns whether there is a text, and the text equals `wanted`.
 pub(crate) fn is_text(wanted: &[u8], text: Option<&[u8]>) -> bool
     ensures { result ≡ is_text wanted.now (option_copied text.entry) }
 {

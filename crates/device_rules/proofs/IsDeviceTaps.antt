@@ -117,7 +117,7 @@ are_taps ports taps compliance e =
     by_reset None four r = four
     by_reset (Some name) four r = next_tap ports (four_taps taps) (Inward ∷ Outward ∷ Inward ∷ Inward ∷ []) name is_inward Inward inward four r
 
--- counts of items that pass a test
+-- if no item passes the test, the count of items that pass is 0
 none_counted : {X : Type 0} (p : X → Bool) (xs : List X) → ((x : X) → Has xs x → p x ≡ false) → count_by p xs ≡ 0
 none_counted p [] h = refl
 none_counted p (x ∷ xs) h =

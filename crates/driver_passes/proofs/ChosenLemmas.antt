@@ -126,7 +126,8 @@ chosen_skip p controls place next least none =
     let far : place + (next - place) ≡ next = omega (arith, least) in
     skip_some p place next (next - place) (drop place controls) (sym far) none ∙ ap (chosen p next) (drop-drop (next - place) place controls ∙ ap (λ m. drop m controls) far)
 
--- the control at a place that passes comes before those from the next place that may pass
+-- If `place` passes and no place between `place` and `next` passes, the first chosen control is the one at `place`. The
+-- others are chosen from `next` on.
 pub chosen_next : (p : ℕ → Bool) (controls : List Ctl) (place next : ℕ) (d : Ctl) → place < length controls → p place ≡ true → place + 1 ≤ next → ((n : ℕ) → place + 1 ≤ n → n < next → p n ≡ false) →
     chosen p place (drop place controls) ≡ get_or controls place d ∷ chosen p next (drop next controls)
 chosen_next p controls place next d within passes least none =

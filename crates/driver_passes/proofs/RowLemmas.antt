@@ -26,7 +26,7 @@ rows_push board (p ∷ passes) (r ∷ rows) pass row are shown = (are.0, rows_pu
 pub rows_more : (board : RawBoard) (passes after : List (List Ctl)) (rows rows_after : List (List ℕ)) (pass : List Ctl) (row : List ℕ) → AreRows board passes rows → AreShownBy board pass row → after ≡ passes ++ pass ∷ [] → rows_after ≡ rows ++ row ∷ [] → AreRows board after rows_after
 rows_more board passes after rows rows_after pass row are shown e f = rw (e, f) (rows_push board passes rows pass row are shown)
 
--- what the rows say of the passes
+-- the meaning of the rows for the passes
 
 -- each row has room for each net
 both_same : (board : RawBoard) (pass : List Ctl) (row : List ℕ) (a b : ℕ) → AreShownBy board pass row → a < length board.nets → b < length board.nets → shows_both a b row ≡ (shows (drivers_at board a) pass && shows (drivers_at board b) pass)

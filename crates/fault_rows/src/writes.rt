@@ -11,7 +11,7 @@ fn first(text: &str, count: usize) -> &str {
     text.get(..count).unwrap_or(text)
 }
 
-// Checks a run in which put number `call` fails, counted from 1, once it took `taken` bytes. The lines of the earlier puts have
+// Checks a run in which put number `call`, counted from 1, fails after taking `taken` bytes. The lines of the earlier puts have
 // `before` bytes.
 fn is_cut(
     rt: &(impl Threads + Sync),

@@ -39,14 +39,14 @@ moves_twice {old} {mid} {new} p m l a b (inr (u, takes, holds)) (inl (same, hold
 moves_twice {old} {mid} {new} p m l a b (inr (u, takes, holds)) (inr (v, takes', holds')) =
     inr (u ++ v, takes_twice takes takes', two_moves u m v l p a b holds holds')
 
--- the second text was cut short
+-- if the second text was cut short, the two texts together were cut short
 cut_second : {old mid new : Shown} (p m a b : List ℕ) (k : ℕ) → Moves old mid p m a → Takes mid new (take k (m ++ b)) → (n : ℕ) × Takes old new (take n (p ++ (a ++ b)))
 cut_second {old} {mid} {new} p m a b k (inl (same, holds)) takes =
     (k, takes_same (ap (take k) (ap (λ t. t ++ b) holds ∙ append_assoc p a b)) (subst (λ s. Takes s new (take k (m ++ b))) same takes))
 cut_second {old} {mid} {new} p m a b k (inr (u, first, holds)) takes =
     (length u + k, takes_same (take-append-past k u (m ++ b) ∙ ap (take (length u + k)) (sym (append_assoc u m b) ∙ ap (λ t. t ++ b) holds ∙ append_assoc p a b)) (takes_twice first takes))
 
--- the first call returned Ok, and a second call prints the rest of the text
+-- if the first call returned Ok and a second call prints the rest of the text, the two calls print the whole text
 pub prints_ok : {T U E F : Type 0} {old mid new : Shown} {p m l a b : List ℕ} {r : Result T E} {x : T} {s : Result U F} → Prints old mid p m a r → r ≡ Ok x → Prints mid new m l b s → Prints old new p l (a ++ b) s
 prints_ok {T} {U} {E} {F} {old} {mid} {new} {p} {m} {l} {a} {b} {r} {x} {s} first ok second = after s second
   where
@@ -67,7 +67,7 @@ prints_ok {T} {U} {E} {F} {old} {mid} {new} {p} {m} {l} {a} {b} {r} {x} {s} firs
       cause = rose_after first.later second.cause;
     }
 
--- the first call returned Err, and so does the call that prints the whole text
+-- if the first call returned Err, an Err of the whole call meets the contract for the whole text
 pub prints_err : {T U E F : Type 0} {old new : Shown} {p m l a : List ℕ} {r : Result T E} {e : E} {s : Result U F} → (b : List ℕ) → Prints old new p m a r → r ≡ Err e → IsErr s → Prints old new p l (a ++ b) s
 prints_err {T} {U} {E} {F} {old} {new} {p} {m} {l} {a} {r} {e} {s} b first err is = by s is
   where
@@ -83,7 +83,7 @@ prints_err {T} {U} {E} {F} {old} {new} {p} {m} {l} {a} {r} {e} {s} b first err i
       cause = cut.cause;
     }
 
--- the call returned Ok, whatever the value
+-- if the call returned Ok, the contract holds with any value in the Ok
 pub prints_done : {T U E F : Type 0} {old new : Shown} {p l a : List ℕ} {r : Result T E} {x : T} {y : U} → Prints old new p l a r → r ≡ Ok x → Prints {T = U} {E = F} old new p l a (Ok y)
 prints_done {T} {U} {E} {F} {old} {new} {p} {l} {a} {r} {x} {y} prints ok = record {
   whole = (subst (λ (q : Result T E). Prints old new p l a q) ok prints).whole;
@@ -92,7 +92,7 @@ prints_done {T} {U} {E} {F} {old} {new} {p} {l} {a} {r} {x} {y} prints ok = reco
   cause = tt;
 }
 
--- the whole content of the line was put
+-- a put of the line's whole content prints the text
 pub prints_put : {T E : Type 0} {old new : Shown} {p l a b : List ℕ} {r : Result T E} → Puts old new b r → b ≡ p ++ a → l ≡ [] → Prints old new p l a r
 prints_put {T} {E} {old} {new} {p} {l} {a} {b} {r} put same empty = by r put
   where

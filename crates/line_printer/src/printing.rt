@@ -6,7 +6,7 @@ ghost use Rattle.line_printer.specs.Prints.{Prints, line_of, whole};
 use bt_base::{PutFault, Sink};
 use bt_bits::{Line, MAX_LINE};
 
-// If the line is full, puts its bytes and empties the line.
+// If the line is full, writes the line's bytes and empties the line.
 fn make_room<K: Sink>(line: &mut Line, out: &mut K) -> Result<(), PutFault>
     ensures text { Prints (K.shown out.old) (K.shown out.new) line.old line.new [] result }
     ensures room { OnOk result (length line.new < 1024) }
@@ -65,7 +65,7 @@ pub fn begin_line<K: Sink>(pieces: &[&[u8]], line: &mut Line, out: &mut K) -> Re
     print_all(pieces, line, out)
 }
 
-/// Appends a line feed to the line and puts the line. Afterwards the content of the line is unspecified.
+/// Appends a line feed to the line and writes the line. After the call, the content of the line is unspecified.
 pub fn end_line<K: Sink>(line: &mut Line, out: &mut K) -> Result<(), PutFault>
     ensures { Prints (K.shown out.old) (K.shown out.new) line.old [] (10 ∷ []) result }
 {

@@ -221,7 +221,7 @@ struct Shared {
     items: &'static [u64],
 }
 
-// Runs the command, and compares the entries of its pieces with the wanted entries.
+// Runs the command, and compares the entries of its pieces with the expected entries.
 fn is_shared(
     rt: &(impl Threads + Sync),
     alloc: Global,

@@ -286,7 +286,7 @@ fn tested_answers(board: &Board, classes: &Classes, question: Question) -> bool
     }
 }
 
-// Returns whether the board has this pin, and the pin is dark exactly if `wanted` is true.
+// Returns whether the board has this pin, and the pin is dark if and only if `wanted` is true.
 fn is_dark(board: &Board, at: PinRef, wanted: bool) -> bool {
     let raw = board.raw();
     match raw.nets.as_slice().get(at.net as usize) {

@@ -189,7 +189,7 @@ fn has_codes(plan: &Plan, codes: &[(u32, u32)]) -> bool {
     codes.iter().all(|(net, code)| plan.code(*net) == *code)
 }
 
-// Compares a plan with the answers that are wanted.
+// Compares a plan with the expected answers.
 fn plan_holds(alloc: Global, board: &Board, plan: &Plan, wanted: &Planned) -> Result<(), RowFault>
     requires { IsPlanOf board.now plan.now }
 {
@@ -342,7 +342,7 @@ fn walk_scan_is(
     Ok(is_scan(shape, bits, wanted))
 }
 
-// Compares a walk with the answers that are wanted.
+// Compares a walk with the expected answers.
 fn walk_holds(alloc: Global, board: &Board, walk: &Walk, wanted: &Walked) -> Result<(), RowFault>
     requires { IsWalkOf board.now walk.now }
 {

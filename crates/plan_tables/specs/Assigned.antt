@@ -12,10 +12,10 @@ assigned place bit start xs = fold (λ bits x. slice_set bits (place x) (bit x))
 abbrev pub driver_bit : List ℕ → ℕ → DriverCell → Bool
 driver_bit codes j d = code_bit (slice_index_or codes d.net 0) j
 
--- the bits after `bit` is set at each cell of a net that reads the net on a pin other than the driver's
+-- writes `bit` at each cell that reads the net on a pin other than the driver's
 abbrev pub set_readers : ℕ → Bool → List Bool → List ReaderCell → List Bool
 set_readers place bit bits readers = fold (λ done r. cond (r.place == place) done (slice_set done r.position bit)) bits readers
 
--- the bits after, for each driver, its bit is set at each cell of its net that reads the net on another pin
+-- for each driver in turn, writes the driver's bit at each cell that reads the driver's net on another pin
 abbrev pub set_compared : (DriverCell → Bool) → List (List ReaderCell) → List Bool → List DriverCell → List Bool
 set_compared bit readers bits drivers = fold (λ done d. set_readers d.place (bit d) done (slice_index_or readers d.net [])) bits drivers

@@ -21,7 +21,7 @@ files_are (Diagnose workers log names) = refl
 files_are (Groups log names) = refl
 files_are (Batch workers log names) = refl
 
--- a text that is short enough is read before the other texts
+-- if a file's text is short enough, the reading is this text and then the reading of the other files
 then_rest : (file : Wanted) (text : Text) (rest : Option Reading) → length text ≤ file.limit → read_first file (Some text) rest ≡ and_text text rest
 then_rest file text rest short = ap (λ (b : Bool). if b then Some (TooLong file) else and_text text rest) (not_long file.limit (length text) (nat_lt file.limit (length text)) refl short)
 

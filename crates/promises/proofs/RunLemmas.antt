@@ -1,4 +1,4 @@
--- The clauses of `run` say what a run of a command leaves.
+-- The clauses of `run` state the effect of a run of a command.
 use Rattle.std.proofs.Common.{◌≡◌, ◌≢◌, ◌⊎◌, ◌∙◌, List, Option, Some, Result, Ok, Err, sym, ap, subst, inl, inr}
 use Rattle.std.specs.Prelude.{IfSome}
 use Rattle.bt_base.specs.Counts.{Rose}
@@ -50,7 +50,7 @@ module _ (run : Run) (is : IsRun run) (command : Command) (asks : Asks run comma
   pub none_rose : NoReadFailed run command → SomeRose run.old.unread run.new.unread (names_of command) → ⊥
   none_rose calm rose = let one = some_rose run.old.unread run.new.unread (names_of command) rose in calm one.0 one.1 one.2
 
-  -- the outcome of what was read settles the status
+  -- the outcome of the texts that were read settles the status
   pub settled : (reading : Reading) → known_reading run.old.held (wanted_of command) ≡ Some reading → NoReadFailed run command → (outcome : Result Text Text) × IsOutcome command reading outcome × Settles (Rose run.old.unwritten run.new.unwritten) outcome run.status
   settled reading known calm =
       here (λ c. IsComplete run.old.held c (SomeRose run.old.unread run.new.unread (names_of c)) (Rose run.old.unwritten run.new.unwritten) run.status) is.complete reading known (none_rose calm)
@@ -64,7 +64,7 @@ module _ (run : Run) (is : IsRun run) (command : Command) (asks : Asks run comma
   pub cut_here : run.status ≡ WriteFault → IsCutShort run.old.held command run.old.asked run.new.asked (out_of run.old) (out_of run.new)
   cut_here e = here (λ c. IsCutShort run.old.held c run.old.asked run.new.asked (out_of run.old) (out_of run.new)) (is.cut e)
 
-  -- if what was read has a fault, the run is refused
+  -- if the texts that were read have a fault, the run is refused
   pub ends_refused : SayOne → (reading : Reading) (line : Text) → known_reading run.old.held (wanted_of command) ≡ Some reading → IsOutcome command reading (Err line) → EndsWith run command Refused
   ends_refused one reading line known fault calm = let told = settled reading known calm in by_outcome told.0 told.1 told.2
     where
@@ -72,7 +72,7 @@ module _ (run : Run) (is : IsRun run) (command : Command) (asks : Asks run comma
       by_outcome (Ok text) given settles = absurd (not_both (one.outcome command reading (Ok text) (Err line) given fault))
       by_outcome (Err other) given settles = settles
 
-  -- if what was read has a fault, no text is written
+  -- if the texts that were read have a fault, no text is written
   pub not_done : SayOne → (reading : Reading) (line : Text) → known_reading run.old.held (wanted_of command) ≡ Some reading → IsOutcome command reading (Err line) → run.status ≢ Done
   not_done one reading line known fault e =
       let told = done_here e in

@@ -108,7 +108,7 @@ pub struct Table {
 /// The reason why a table does not hold.
 #[derive(Debug, Drop, Error)]
 pub enum RowFault {
-    /// The first row that does not end as wanted.
+    /// The first row whose run has an unexpected result.
     #[error("{table}: row {row} ended otherwise, with {status:?}")]
     Ended {
         /// The name of the table.

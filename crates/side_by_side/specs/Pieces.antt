@@ -23,7 +23,7 @@ abbrev pub said_then : {T E : Type 0} → Result (List T) E → Result (List T) 
 said_then (Ok list) later = after list later
 said_then (Err fault) later = Err fault
 
--- the answer, with its value seen as a list by a view
+-- applies `view` to an Ok value, which gives a list
 abbrev pub seen : {V T E : Type 0} → (V → List T) → Result V E → Result (List T) E
 seen view (Ok v) = Ok (view v)
 seen view (Err fault) = Err fault

@@ -56,8 +56,8 @@ fn fill_marks(parts: u32, rows: &mut ScanRows)
     fill_ones(parts + MARKS, rows.mask);
 }
 
-// Sets what is compared of one part's instruction register: the value 01 in its two lowest bits. The lowest bit has position
-// `at`.
+// Sets the compared bits of one part's instruction register: the value 01 in the two lowest bits. The lowest bit has
+// position `at`.
 fn set_capture(at: u32, tdo: &mut Row, mask: &mut Row)
     requires few { at ≤ most_bits }
     requires tdo { at + 2 ≤ length tdo.old.bits }
@@ -72,7 +72,7 @@ fn set_capture(at: u32, tdo: &mut Row, mask: &mut Row)
     mask.set(at + 1, true);
 }
 
-// Sets what is compared of the instruction registers of all parts, beginning with the last part.
+// Sets the compared bits of the instruction registers of all parts, beginning with the last part.
 fn set_captures(lengths: &[u32], tdo: &mut Row, mask: &mut Row)
     requires each { All (λ n. 2 ≤ n) lengths.now }
     requires total { sum lengths.now ≤ most_bits }

@@ -173,7 +173,7 @@ fn put_fields<K: Sink>(
     }
 }
 
-// Ends the line of the command, puts it, and then puts the fields of a scan that is too long for one line.
+// Ends and writes the line of the command, and then writes the fields of a scan that is too long for one line.
 fn put_lines<K: Sink>(
     compare: bool,
     tdi: &Row,

@@ -147,7 +147,7 @@ shows_decided log labels cells = decided_below (ShowsIn log labels cells) in_row
         let all = decided_below (Shows j) (λ i. by_net j i (slice_get cells i) refl) (length cells) in
         (all.0, Decides-like all.0 (λ h i c e. h i (slice_get_within cells i c e) c e) (λ h i less c e. h i c e) all.1)
 
--- of rising numbers, the number at the lower place is less
+-- in an ascending list, the number at the lower place is less
 pub place_order : (xs : List ℕ) → Rises xs → (i j a b : ℕ) → slice_get xs i ≡ Some a → slice_get xs j ≡ Some b → i < j → a < b
 place_order [] rise i j a b e f less = cc e
 place_order (x ∷ xs) rise zero zero a b e f less = absurd (omega (arith, less))
@@ -241,7 +241,7 @@ two_items (x ∷ []) a b (inl p) (inr k) ne = absurd k
 two_items (x ∷ []) a b (inr h) k ne = absurd h
 two_items (x ∷ y ∷ xs) a b h k ne = omega arith
 
--- the groups of rising nets; each label is the place of a net with this label
+-- the groups of nets in ascending order; each label is the place of a net with this label
 module _ (nets labels : List ℕ) (rise : Rises nets) (count : length labels ≡ length nets) (own : (i k : ℕ) → slice_get labels i ≡ Some k → (k ≤ i) × (slice_get labels k ≡ Some k)) where
   abbrev groups : List (List ℕ)
   groups = groups_by nets labels

@@ -92,8 +92,8 @@ impl MaskedRow<'_> {
         }
     }
 
-    /// Returns whether another row with as many digits reads the same at every compared position. The loop goes through all digits without
-    /// a branch, so the processor can compare many digits at a time.
+    /// Returns whether another row with the same number of digits reads the same at every compared position. The loop goes through all
+    /// digits without a branch, so the processor can compare many digits at a time.
     pub fn is_alike(&self, other: &[u8]) -> bool
         requires { length other.now ≡ length self.now.digits.now }
         ensures { IsTrue result ↔ ((k : ℕ) → k < length self.now.mask.now → differing self.now.digits.now other.now self.now.mask.now k ≡ 0) }

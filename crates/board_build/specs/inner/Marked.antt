@@ -107,7 +107,7 @@ pin_with m = record { part = (pin_of m.word).0; pin = (pin_of m.word).1; at = m.
 abbrev pub group_of : List Marked → ℕ → List NetPin
 group_of words n = map pin_with (filter (λ m. number_of m == n) words)
 
--- the groups, with the pin of this word added to the group of its net if there is a word
+-- adds the pin of the word to the group of the word's net, if there are a word and such a group
 abbrev pub groups_after : Option MarkedWord → ℕ → List (List NetPin) → List (List NetPin)
 groups_after None count groups = groups
 groups_after (Some word) count groups = if nat_lt word.net count then slice_set groups word.net (slice_index_or groups word.net [] ++ pin_with (seen word) ∷ []) else groups

@@ -11,8 +11,8 @@ abbrev pub StopsOn : {A : Type 0} → Stop → Outcome (List ℕ) A → Type 0
 StopsOn (Memory error) outcome = Unit {0}
 StopsOn (At rest) outcome = outcome ≡ refused (pieces rest.now)
 
--- The outcome of the reader is what `view` makes of the function's value. If the function stopped, the reader refuses the same
--- text.
+-- If the function returned a value, the outcome of the reader is `view` of that value. If the function stopped, the reader
+-- refuses the same text.
 abbrev pub ReadsPieces : {X A : Type 0} → (X → Outcome (List ℕ) A) → Result X Stop → Outcome (List ℕ) A → Type 0
 ReadsPieces view (Ok x) outcome = outcome ≡ view x
 ReadsPieces view (Err stop) outcome = StopsOn stop outcome

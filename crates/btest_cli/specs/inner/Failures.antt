@@ -67,7 +67,7 @@ IsUnput names request old new (unput.Batch rows fault) = IsGiven names request (
 IsUnput names request old new unput.Write = IsCut names request old new
 IsUnput names request old new unput.Memory = new ≡ old
 
--- the answer of a request left these bytes: the whole text, or what the failure says
+-- the outcome of a request: the sink took the whole answer, or `IsUnput` holds for the failure
 abbrev pub IsAnswered : Names → Request → Shown → Shown → Result (Unit {0}) Unput → Type 0
 IsAnswered names request old new (Ok done) = IsPut names request old new
 IsAnswered names request old new (Err failure) = IsUnput names request old new failure

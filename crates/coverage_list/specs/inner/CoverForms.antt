@@ -1,4 +1,4 @@
--- The coverage list as the code puts it: a text for each net number.
+-- The coverage list as the code writes the list: a text for each net number.
 use Rattle.std.specs.Prelude.{ℕ, ◌+◌, ◌-◌, Bool, not, ◌&&◌, List, [], length, Option, None, Some, slice_get, cond}
 use Rattle.std.specs.List.{flat_map, range_with_len}
 use Rattle.board_defs.specs.declared.board.Net.{Net}

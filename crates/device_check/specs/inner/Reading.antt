@@ -38,7 +38,7 @@ package_view chosen = record { name = chosen.name.now; pin_map = chosen.pin_map.
 abbrev pub needed_view : Needed → Found
 needed_view needed = record { taps = taps_view needed.taps; registers = registers_view needed.registers; chosen = package_view needed.chosen }
 
--- the result, with its value seen by a view, is what the definition says
+-- the definition's result `said` is the function's result, with `view` applied to an Ok value
 abbrev pub Says : {T A E : Type 0} → (T → A) → Result A E → Result T E → Type 0
 Says view said (Ok value) = said ≡ Ok (view value)
 Says view said (Err error) = said ≡ Err error

@@ -77,7 +77,7 @@ abbrev pub words_of : Option Compliance → List PortWord
 words_of None = []
 words_of (Some compliance) = compliance.ports
 
--- the set has this bit, given by its name and its index
+-- the set has the bit with this name and this index
 abbrev pub has_key : {S : Type 0} → HashSet (Bor (List ℕ) × Option ℕ) S → Bor (List ℕ) × Option ℕ → Bool
 has_key bits key = contains (λ x y. bytes_eq x.0.now y.0.now && option_eq nat_eq x.1 y.1) bits key
 

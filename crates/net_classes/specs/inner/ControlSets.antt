@@ -15,6 +15,6 @@ pub record IsSet (board : RawBoard) (passes : Ctl → Bool) (set : ControlSet) :
   pub marks_are : (c : Ctl) → IsCell board c → item_of (table set.marks.items) c ≡ Some (passes c)
   pub members_are : (c : Ctl) → IsCell board c → passes c ≡ true → Contains set.members.items c
 
--- the marks with those of these controls set or cleared
+-- sets or clears the marks of these controls
 abbrev pub put_all : Bool → List (List Bool) → List Ctl → List (List Bool)
 put_all mark rows controls = fold (λ r c. at_control c (put mark) r) rows controls

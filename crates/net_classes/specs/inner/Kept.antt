@@ -1,4 +1,4 @@
--- Nets given by their numbers.
+-- Facts about a net that is named by its number.
 use Rattle.std.specs.Prelude.{◌≡◌, ℕ, Some, slice_get}
 use Rattle.board_defs.specs.declared.board.Net.{Net}
 use Rattle.board_defs.specs.declared.board.RawBoard.{RawBoard}

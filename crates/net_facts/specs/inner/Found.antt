@@ -3,7 +3,7 @@ use Rattle.std.specs.Prelude.{ℕ, zero, suc, ◌==◌, Bool, true, false, not, 
 use Rattle.net_facts.specs.declared.found.Found.{Found}
 use Rattle.net_facts.specs.declared.found.Found.TheVariants.{Nowhere, At, Several}
 
--- the places, with one more place added
+-- adds one more place to those that were found
 abbrev pub with_place : Found → ℕ → Found
 with_place Nowhere place = At place
 with_place (At other) place = Several

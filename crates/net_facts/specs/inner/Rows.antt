@@ -34,7 +34,7 @@ unsafe_too row = record row { safe = false }
 abbrev pub useful_too : ControlClass → ControlClass
 useful_too row = record row { useful = true }
 
--- the table after the driver of a pin of net `n` is noted at its control
+-- notes the driver of a pin of net `n` at the driver's control
 abbrev pub note_drive : ℕ → Bool → Option Drive → List (List ControlClass) → List (List ControlClass)
 note_drive n closed None rows = rows
 note_drive n closed (Some AlwaysOn) rows = rows
@@ -65,7 +65,7 @@ copies x (suc n) = copies x n ++ x ∷ []
 abbrev pub fresh_rows : List Part → List (List ControlClass)
 fresh_rows chain = map (λ part. copies fresh (cell_count (described part.kind))) chain
 
--- the table after the control of the driver at `at` is marked as unsafe, if that driver is one-sided
+-- marks the control of the driver at `at` as unsafe, if that driver is one-sided
 abbrev pub block_where : RawBoard → PinAt → Option Control → List (List ControlClass) → List (List ControlClass)
 block_where board at None rows = rows
 block_where board at (Some control) rows = cond (is_pinned board at && not (is_switching board at control.disable)) (at_control (record { part = at.part; cell = control.cell }) unsafe_too rows) rows
@@ -85,7 +85,7 @@ block_parts board (suc k) rows = block_bits board k (port_bits board k) (block_p
 abbrev pub made_rows : RawBoard → List NetFacts → List (List ControlClass)
 made_rows board nets = block_parts board (length board.chain) (note_nets nets (length nets) (fresh_rows board.chain))
 
--- the table after the control of a tested driver is marked as useful
+-- marks the control of a tested driver as useful
 abbrev pub mark_drive : List (List ControlClass) → Drive → List (List ControlClass)
 mark_drive rows AlwaysOn = rows
 mark_drive rows OneSided = rows

@@ -35,11 +35,11 @@ captured_bits length = true ∷ replicate (length - 1) false
 abbrev pub compared_bits : ℕ → List Bool
 compared_bits length = true ∷ true ∷ replicate (length - 2) false
 
--- the flags after the flag of each cell's net is set
+-- sets the flag of each cell's net
 abbrev pub marked : List Bool → List DriverCell → List Bool
 marked flags cells = assigned (λ d. d.net) (λ d. true) flags cells
 
--- the flags after the flags of the nets of a pass's driver cells are set
+-- sets the flags of the nets of a pass's driver cells
 abbrev pub marked_on : RawBoard → DriverTable → List Bool → List Ctl → List Bool
 marked_on board table flags pass = fold (λ done c. marked done (controlled board table.rows c)) (marked flags table.always) pass
 

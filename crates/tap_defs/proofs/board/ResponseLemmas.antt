@@ -41,7 +41,7 @@ plain_is faults d n pull v f (pulled e p) =
     by_open None = refl
     by_open (Some u) = refl
 
--- the bit of a compared cell whose net is in no short
+-- if a net is in no short, each compared cell of the net captures the bit that `response` returns
 pub cell_responds : (board : RawBoard) (faults : FaultSet) (row : TestRow) → IsSafe board row.setting → (n : ℕ) (net : Net) →
     NetRules board n net → (d : ℕ) → observing_driver board row.setting net ≡ Some d → (c : Compared board row.setting n net) (v : Bool) →
     row.carried n ≡ Some v → faults.short n ≡ None →

@@ -18,7 +18,7 @@ pub record Choice : Type 0 where
   pub shorts : ℕ → Bool
   pub tdi : Bool
 
--- the choices of each cycle of a run
+-- the choice of each cycle of a run
 abbrev pub Choices : Type 0
 Choices = ℕ → Choice
 

@@ -4,7 +4,7 @@ use Rattle.tap_defs.specs.declared.scan.ScanRows.{ScanRows}
 use Rattle.tap_defs.specs.declared.scan.StoredRows.{StoredRows}
 use Rattle.tap_defs.specs.chain.Scan.{ScanBit, tdi_bits, tdo_bits, mask_bits}
 
--- the three lists are the rows of a scan: what is shifted in, what is expected, and what is compared
+-- the three lists are the rows of a scan: the bits to shift in, the expected bits, and the mask of the compared bits
 pub record AreBitsOf (bits : List ScanBit) (shifted expected marks : List Bool) : Type 0 where
   pub tdi : shifted ≡ tdi_bits bits
   pub tdo : expected ≡ tdo_bits bits

@@ -93,7 +93,8 @@ pub record AreStarted (log : List (List Bool)) (mask : List Bool) (j none : ℕ)
 abbrev pub below : ℕ → ℕ → ℕ → ℕ
 below j none row = if nat_lt row j then row else none
 
--- row k reads 1 exactly at the compared positions with the same first row as `own`, the position of its net. This first row is row k or an earlier row
+-- Row k reads 1 at a compared position if and only if that position has the same first row as position `own` of net k.
+-- This first row is row k or an earlier row.
 pub record IsRowRight (log : List (List Bool)) (mask : List Bool) (k own : ℕ) : Type 0 where
   pub low : first_one log own ≤ k
   pub reads : (at : ℕ) → slice_index_or mask at false ≡ true → bit_in log k at ≡ (first_one log at == first_one log own)
