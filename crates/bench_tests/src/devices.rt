@@ -82,7 +82,7 @@ const OTHER_ENTITY: &str =
      3 port TDO\n4 port TMS\n5 port TCK\n6 number 2\n7 text BYPASS (11), EXTEST (00), SAMPLE (10)\n8 text 01\n\
      9 number 3\n10 text 0 (BC_1, Q(1), OUTPUT2, X),1 (BC_1, Q(2), OUTPUT2, X)\n";
 
-// The compared part of the meaning, a case that holds, a case that doesn't, and how the second case ends.
+// The compared part of the meaning, a case that holds, a case that doesn't, and the result of the second case.
 type Texts = (Shown, &'static [(Source, &'static str)], &'static str);
 
 static TEXTS: [Texts; 6] = [

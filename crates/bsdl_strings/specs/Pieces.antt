@@ -21,7 +21,7 @@ abbrev pub starts_blank : List ℕ → Bool
 starts_blank [] = false
 starts_blank (byte ∷ bytes) = is_blank byte
 
--- puts this byte in front of the first piece
+-- prepends this byte to the first piece
 abbrev pub longer : ℕ → List (List ℕ) → List (List ℕ)
 longer byte [] = (byte ∷ []) ∷ []
 longer byte (piece ∷ pieces) = (byte ∷ piece) ∷ pieces

@@ -16,11 +16,11 @@ use Rattle.bt_bits.proofs.DigitLemmas.{bit_value-test}
 low_bit : (x n i : ℕ) → i < n → bit_at (x % 2 ^ n) i ≡ bit_at x i
 low_bit x n i within = sym (bit_at_cat_low (x / 2 ^ n) n (x % 2 ^ n) i within) ∙ ap (λ y. bit_at y i) (div-add-mod' x (2 ^ n))
 
--- the bits of a field of n bits that begins at place m
+-- bit i of the field of n bits at place m is bit m + i of the number
 field_bit : (x m n i : ℕ) → i < n → bit_at (x / 2 ^ m % 2 ^ n) i ≡ bit_at x (m + i)
 field_bit x m n i within = low_bit (x / 2 ^ m) n i within ∙ ap (λ y. y % 2) (shr-shr x m i)
 
--- the bits of a word that is shifted up by k
+-- if a word is shifted up by k, its bit i becomes bit i + k
 shifted_bit : (x k i : ℕ) → i + k < 64 → bit_at (x * 2 ^ k % 2 ^ 64) (i + k) ≡ bit_at x i
 shifted_bit x k i within =
     let down : i + k - k ≡ i = omega arith in

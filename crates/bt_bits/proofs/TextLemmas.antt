@@ -80,7 +80,7 @@ text_piece digits from count within =
 max_below : (a b : ℕ) → nat_lt (max a b) 16 ≡ (nat_lt b 16 && nat_lt a 16)
 max_below a b = grind arith
 
--- one more digit is read to the left of those that were read
+-- if one more digit is read to the left, its bits follow the bits that were read
 read_more : (text : List ℕ) (at : ℕ) (digits : List ℕ) (x : ℕ) → at < length text → text_bits (drop (suc at) text) ≡ Some (bits_of digits) → digit_bits (get_or text at 0) ≡ Some (bits_of (x ∷ [])) → text_bits (drop at text) ≡ Some (bits_of (digits ++ x ∷ []))
 read_more text at digits x within so_far is =
     ap text_bits (drop-cons text at 0 within) ∙ ap (λ o. joined_bits o (digit_bits (get_or text at 0))) so_far
@@ -94,7 +94,7 @@ both false second b other e f g = f b
 is_below : (x : ℕ) → nat_lt x 16 ≡ true → x < 16
 is_below x small = grind arith
 
--- the text was read from the right so far, and one more byte is read
+-- if the text was read from the right so far, it is read up to one more byte to the left
 pub read_digit : (text digits : List ℕ) (n k most x next : ℕ) → n ≡ length text → length digits ≡ n → k < n → next ≡ max x most → IsValueOf (get_or text (n - 1 - k) 0) x → AreRead text (n - k) (take k digits) (nat_lt most 16) → AreRead text (n - (k + 1)) (take (k + 1) (set digits k x)) (nat_lt next 16)
 read_digit text digits n k most x next is_n sized within is_next value so_far =
     let at : n - (k + 1) ≡ n - 1 - k = omega arith in
@@ -115,7 +115,7 @@ read_whole text digits n k all sized whole read =
     let at : n - k ≡ 0 = omega arith in
     subst (λ i. AreRead text i digits all) at (subst (λ ds. AreRead text (n - k) ds all) (take_all k digits (omega arith)) read)
 
--- the bits of a field whose digits were all read
+-- if all digits of a field were read, the field gives a row if and only if the bits above the row are 0
 pub field_bits-read : (len : ℕ) (text digits : List ℕ) (cut : Bool) → length text ≡ digit_count len → text_bits text ≡ Some (bits_of digits) → cut ≡ list_all not (drop len (bits_of digits)) → MatchBool cut (field_bits len text ≡ Some (row_bits len digits)) (field_bits len text ≡ None)
 unfolding row_bits
 field_bits-read len text digits cut sized read is =

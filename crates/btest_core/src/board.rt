@@ -132,10 +132,9 @@ fn files_board(
     }
 }
 
-/// Returns the board that a chain file, a net file and BSDL texts denote, or the first fault. Faults are looked
-/// for in this order: the chain file, the net file, the BSDL texts, the board rules on the chain, the devices of
-/// its DEVICE lines, the pins of its LINK lines, and the other board rules, which are tried on the
-/// joined files.
+/// Returns the board that a chain file, a net file and BSDL texts denote, or the first fault. The call looks for faults
+/// in this order: the chain file, the net file, the BSDL texts, the board rules on the chain, the devices of its DEVICE
+/// lines, the pins of its LINK lines, and the other board rules, which are tried on the joined files.
 pub fn read_board(
     alloc: Global,
     chain: &[u8],

@@ -35,12 +35,12 @@ texts_split f n m count least most =
 pub each_start : (start : Shown) (whole : List ℕ) → Completes start start whole whole
 each_start start whole new r p = p
 
--- one more text was put
+-- if the next text is written, the remaining texts complete the whole text
 pub each_ok : (f : ℕ → List ℕ) (n count : ℕ) (whole : List ℕ) {start now new : Shown} {r : Result (Unit {0}) PutFault} {x : Unit {0}} → Completes start now (texts_from f n count) whole → n < count → Prints now new [] [] (f n) r → r ≡ Ok x → Completes start new (texts_from f (n + 1) count) whole
 each_ok f n count whole {start} {now} {new} {r} {x} completes less first ok last q rest =
     completes last q (prints_same (sym (texts_next f n count less)) (prints_ok first ok rest))
 
--- one text was cut short
+-- if the next text is cut short, so is the whole text
 pub each_err : (f : ℕ → List ℕ) (n count : ℕ) (whole : List ℕ) {start now new : Shown} {r q : Result (Unit {0}) PutFault} {e : PutFault} → Completes start now (texts_from f n count) whole → n < count → Prints now new [] [] (f n) r → r ≡ Err e → IsErr q → Prints start new [] [] whole q
 each_err f n count whole {start} {now} {new} {r} {q} {e} completes less first err is =
     completes new q (prints_same (sym (texts_next f n count less)) (prints_err (texts_from f (n + 1) count) first err is))

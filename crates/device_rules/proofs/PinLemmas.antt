@@ -62,7 +62,7 @@ known_more entries i entry name q new old less is same e f =
     e ∙ one_more (bytes_eq name q) old ∙ ap (λ b. b || bytes_eq name q) f ∙ ap (λ n. list_any (maps_port q) (take i entries) || bytes_eq n q) same
     ∙ ap (λ x. list_any (maps_port q) (take i entries) || maps_port q x) (sym is) ∙ sym (list_any_more (maps_port q) entries i entry less)
 
--- an item that was put into a set was new, or was there before
+-- an item that was not new to a set was in the set before
 pub was_there : (fresh there : Bool) → fresh ≡ not there → fresh ≡ false → there ≡ true
 was_there fresh true is old = refl
 was_there fresh false is old = let clash : true ≡ false = sym is ∙ old in absurd (cc clash)

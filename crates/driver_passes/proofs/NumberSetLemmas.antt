@@ -36,7 +36,7 @@ two_bits f t none second first both (suc zero) (suc zero) less few = both
 two_bits f t none second first both (suc (suc x)) y less few = absurd (omega arith)
 two_bits f t none second first both x (suc (suc y)) less few = absurd (omega arith)
 
--- the bits of one word less those of another
+-- `a` without the bits of `b` has a bit if and only if `a` has the bit and `b` lacks the bit
 pub bit_less : (a b i : ℕ) → b < 2 ^ 64 → i < 64 → has_bit (bit_and a (bit_not w64 b)) i ≡ (has_bit a i && not (has_bit b i))
 bit_less a b i fits below =
     ap (λ x. x == 1) (bit_at_and a (bit_not w64 b) i ∙ ap (min (bit_at a i)) (bit_at_not w64 b i fits below)) ∙
@@ -71,7 +71,7 @@ word_bits words number word e i below =
     let place_bit : has_bit (get_or words ((64 * number + i) / 64) 0) ((64 * number + i) % 64) ≡ has_bit word i = ap (λ k. has_bit (get_or words k 0) ((64 * number + i) % 64)) here ∙ ap (has_bit (get_or words number 0)) place ∙ sym (ap (λ w. has_bit w i) e) in
     is_bit word i ∙ sym (ap (λ t. cond t 1 0) place_bit)
 
--- the bits of two words
+-- the union of two words has a bit if and only if one of the words has the bit
 pub bit_more : (a b i : ℕ) → has_bit (bit_or a b) i ≡ (has_bit b i || has_bit a i)
 bit_more a b i = ap (λ x. x == 1) (bit_at_or a b i) ∙ two_bits max (λ p q. q || p) refl refl refl refl (bit_at a i) (bit_at b i) (bit_at-lt a i) (bit_at-lt b i)
 
@@ -130,7 +130,7 @@ one_number number n = ap (λ t. n / 64 == number / 64 && t) (one_bit (number % 6
     by_word (inl word) (inr differ) = ap (λ t. t && n % 64 == number % 64) (eq-eqb (n / 64) (number / 64) word) ∙ ne_eqb (n % 64) (number % 64) differ ∙ sym (ne_eqb n number (λ one. differ (ap (λ k. k % 64) one)))
     by_word (inr differs) bit = ap (λ t. t && n % 64 == number % 64) (ne_eqb (n / 64) (number / 64) differs) ∙ sym (ne_eqb n number (λ one. differs (ap (λ k. k / 64) one)))
 
--- the bits of a word from a place on
+-- a mask of the bits from a place on keeps each of these bits
 high_bit : (word place i : ℕ) → place < 64 → place ≤ i → i < 64 → bit_at (bit_and word ((2 ^ 64 - 1) * 2 ^ place % 2 ^ 64)) i ≡ bit_at word i
 high_bit word place i below from within =
     let mask : bit_at ((2 ^ 64 - 1) * 2 ^ place % 2 ^ 64) i ≡ 1 = ap (λ m. bit_at m i) (ones_shl 64 place (omega (arith, below))) ∙ bit_at_mask_inside place 64 i from within in

@@ -15,7 +15,7 @@ use Rattle.net_classes.specs.Pairs.{drivers_at, fit}
 use Rattle.driver_passes.specs.inner.Pairs.{pairs_from}
 use Rattle.driver_passes.proofs.ProgressLemmas.{drop_drivers}
 
--- the first pair with the first driver, if there is one
+-- the first pair with the first driver, if there is such a pair
 abbrev is_fitting : RawBoard → Drive × Drive → Bool
 is_fitting board pair = are_compatible board (Some pair.0) (Some pair.1)
 

@@ -1,4 +1,4 @@
--- The number with which a run ends, and what the run leaves.
+-- The exit number of a run, and the effect of the run at each status.
 use Rattle.std.specs.Prelude.{◌≡◌, ◌≢◌, ◌⊎◌, ℕ, List, None, String, map, string_bytes}
 use Rattle.std.specs.declared.alloc.Global.{Global}
 use Rattle.bt_base.specs.Counts.{Rose}

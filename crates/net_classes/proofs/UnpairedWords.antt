@@ -50,7 +50,7 @@ covered_says board n = by_net (slice_get board.nets n)
     by_net None = refl
     by_net (Some net) = sym (covered_fits board net)
 
--- the bits of one word that are not set in another
+-- without the bits of the paired nets, the word of the covered nets has the bits of the unpaired nets
 pub unpaired_bits : (board : RawBoard) (pairs : PairRows) (n w word other : ℕ) → ArePairRows board pairs → word ≡ drive_word pairs AlwaysOn w → other < 2 ^ 64 → AreBitsOf (pairs_with board n) w other → AreBitsOf (unpaired_with board n) w (bit_and word (bit_not w64 other))
 unpaired_bits board pairs n w word other are e within paired i less =
     let m : ℕ = 64 * w + i in

@@ -112,7 +112,7 @@ filter_map_same : {X Y : Type 0} (f g : X → Option Y) → ((x : X) → f x ≡
 filter_map_same f g h [] = refl
 filter_map_same f g h (x ∷ xs) = ap (λ o. cons_option o (filter_map f xs)) (h x) ∙ ap (λ ys. cons_option (g x) ys) (filter_map_same f g h xs)
 
--- the test of tested drivers
+-- with the rows of the safe controls, `tested_drive_in` returns the same as `tested_drive`
 drive_tested_is : (board : RawBoard) (rows : List (List ControlClass)) (net : Net) (place : ℕ) → IsBoard board → SaysSafe board rows → tested_drive_in rows (net_facts_of board net) place ≡ tested_drive board net place
 drive_tested_is board rows net place rules says =
     ap (λ t. cond t (drive_of (map (pin_facts_of board net) net.pins) place) None) (tested_is board rows net place rules says) ∙

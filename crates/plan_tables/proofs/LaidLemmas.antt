@@ -37,7 +37,7 @@ map_laid f none board scan part (p ∷ parts) =
     by_kind (Described device) = map-filled f device.boundary (λ cell. record { tdi = row_bit board scan.now part device cell; expect = expect_bit board scan.before part device cell })
     by_kind (Bypass n) = cons_path none refl
 
--- the rows of a data scan
+-- each row of a data scan has the bit of each cell at the cell's position
 pub tdi_laid : (board : RawBoard) (scan : RowScan) → tdi_bits (joined (row_bits board scan)) ≡ laid (λ part device cell. row_bit board scan.now part device cell) board
 tdi_laid board scan = map_laid (λ b. b.tdi) refl board scan 0 board.chain
 

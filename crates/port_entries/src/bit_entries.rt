@@ -31,7 +31,7 @@ fn note(alloc: Global, row: &mut [BitEntries], place: usize, cell: Cell) -> Resu
     Ok(())
 }
 
-/// Adds the entry to its port bit, if it has one.
+/// Adds the entry to the port bit at `place`, if there is a place.
 pub(crate) fn note_cell(
     alloc: Global,
     row: &mut [BitEntries],

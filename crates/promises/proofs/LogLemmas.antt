@@ -1,4 +1,4 @@
--- A text is read as a log or a batch exactly if its lines hold a log or a batch.
+-- A text is read as a log or a batch if and only if its lines hold a log or a batch.
 use Rattle.std.proofs.Common.{◌≡◌, ◌↔◌, ℕ, ◌*◌, Bool, List, [], ◌∷◌, length, Ok}
 use Rattle.std.specs.Prelude.{All, count_by}
 use Rattle.board_defs.specs.declared.board.Ctl.{Ctl}

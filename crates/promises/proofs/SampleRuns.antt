@@ -19,7 +19,7 @@ use Rattle.promises.specs.Promises.{FilesGive, FindsOutcome, RestsOnFiles, Tells
 use Rattle.promises.proofs.WordLemmas.{command_is, none_asked}
 use Rattle.promises.proofs.RunLemmas.{same_some}
 
--- the ends with a store that holds these texts, and with what was asked for, written and noted; no read and no write failed
+-- the ends of a run without failed reads and writes: the texts of the store, the names asked for, the output and the notes
 abbrev pub ends : Held → List Text → Text → Text → Ends
 ends held asked out notes = record { held = held; asked = asked; unread = λ name. 0; out = out; unwritten = 0; notes = notes; unnoted = 0 }
 

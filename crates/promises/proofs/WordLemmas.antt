@@ -150,7 +150,7 @@ asks_for run command is = by_plain (list_all is_plain run.words) refl is
     by_plain true plain is = (subst (AreOf run.words) is (parsed_words run.words), plain)
     by_plain false plain is = absurd cc
 
--- so words ask for no command exactly if the grammar makes no command of the words
+-- so words ask for no command if and only if the grammar makes no command of the words
 pub none_asked : (run : Run) → command_of run.words ≡ None → AsksNothing run
 none_asked run none command asks =
     let bad : ◌≡◌ {A = Option Command} None (Some command) = sym none ∙ command_is run command asks in

@@ -33,8 +33,8 @@ pub record HoldsBlocks (board : RawBoard) (text : Text) (blocks : List Block) : 
   pub cut : IsCutTo text front texts
   pub each : EachPair (HoldsBlock board) texts blocks
 
--- on the board that files denote, a text is read as a log of the board's test, as a log of its walking test or as a batch exactly if the
--- lines of the text hold such a log or batch
+-- on the board that files denote, a text is read as a log of the board's test, as a log of its walking test or as a batch if and only if
+-- the lines of the text hold such a log or batch
 pub record LinesAreRead : Type 0 where
   pub test : (chain nets : Text) (texts : List Text) (board : RawBoard) (log : Text) (rows : List (List Bool)) → Denotes chain nets texts board → (test_log log board ≡ Ok rows) ↔ HoldsLog board (svf_row_scans board) log rows
   pub walk : (chain nets : Text) (texts : List Text) (board : RawBoard) (log : Text) (rows : List (List Bool)) → Denotes chain nets texts board → (walk_log log board ≡ Ok rows) ↔ HoldsLog board (walk_row_list board) log rows

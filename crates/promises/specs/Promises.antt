@@ -103,8 +103,8 @@ pub record HasResponses (board : RawBoard) : Type 0 where
   pub some : (single : Single) → IsSingle board single → (log : List (List Bool)) × Explains board single log
   pub one : (single : Single) (log other : List (List Bool)) → Explains board single log → Explains board single other → AgreeOn board (svf_row_scans board) log other
 
--- the log passes exactly if each compared bit is the expected bit, and a log that passes has no faults. The faults are exactly the single
--- faults that explain the log, each once and in order
+-- the log passes if and only if each compared bit is the expected bit, and a log that passes has no faults. The faults are exactly the
+-- single faults that explain the log, each once and in order
 pub record IsDiagnosed (board : RawBoard) (log : List (List Bool)) (pass : Bool) (faults : List Single) : Type 0 where
   pub passes : Decides pass (IsExpected board (svf_row_scans board) log)
   pub none : pass ≡ true → faults ≡ []
@@ -161,13 +161,14 @@ RestsOnWalkLog run =
     RunsOn run (Groups name names) (log ∷ chain ∷ nets ∷ bsdl) → (run.status ≡ Done) ⊎ (run.status ≡ WriteFault) →
     (board : RawBoard) × Denotes chain nets bsdl board × (rows : List (List Bool)) × HoldsLog board (walk_row_list board) log rows
 
--- Usage comes exactly if the words ask for no command, unless memory ran out. The store stays unchanged
+-- Usage comes if and only if the words ask for no command, unless memory ran out. The store stays unchanged
 abbrev pub TellsUsage : Run → Type 0
 TellsUsage run =
     (run.status ≡ Usage → AsksNothing run × PutsNothing run × Notes run usage_line)
     × (AsksNothing run → ((run.status ≡ Usage) ⊎ (run.status ≡ NoMemory)) × (run.new.asked ≡ run.old.asked) × (run.new.unread ≡ run.old.unread) × (run.new.held ≡ run.old.held))
 
--- Refused comes exactly if the files have a first fault, unless a read of a file failed or memory ran out. The notes take the fault's line
+-- Refused comes if and only if the files have a first fault, unless a read of a file failed or memory ran out. The
+-- notes take the fault's line
 abbrev pub TellsFault : Run → Type 0
 TellsFault run =
     (run.status ≡ Refused → PutsNothing run)

@@ -65,7 +65,7 @@ pub(crate) fn run_on<R: Threads + Sync, S: Store, G: Gate>(
     run(rt, alloc, words, store, out, notes, gate)
 }
 
-/// A text is read as a log or a batch exactly if its lines hold a log or a batch.
+/// A text is read as a log or a batch if and only if its lines hold a log or a batch.
 pub fn lines_are_read()
     ensures { LinesAreRead }
 {

@@ -1,4 +1,4 @@
--- A text gives a log exactly if its lines with words are the wanted number of rows.
+-- A text gives a log if and only if its lines with words are the expected number of rows.
 use Rattle.std.proofs.Common.{◌≡◌, ◌↔◌, ℕ, ◌≤◌, ◌==◌, Bool, true, false, cond, nat_lt, Option, Some, None, is_some, option_and_then, Ok, Err, List, [], ◌∷◌, ◌++◌, length, map, take, drop, refl, sym, ap, ◌∙◌, arith, length-drop}
 use Rattle.std.specs.Prelude.{filter_map}
 use Rattle.std.specs.List.{cons_option}
@@ -20,7 +20,7 @@ field_there true (Some field) n none = (field, refl)
 field_there true None n none = absurd cc
 field_there false field n none = absurd cc
 
--- a line is a row exactly if it has no offense
+-- a line is a row if and only if it has no offense
 word_right : (len n : ℕ) (word : Option Word) (bits : List Bool) → option_and_then (field_bits len) word ≡ Some bits → word_fault len n word ≡ None
 word_right len n None bits is = absurd cc
 word_right len n (Some word) bits is =

@@ -3,8 +3,8 @@ ghost use Rattle.std.specs.Prelude.{◌≡◌, ◌↔◌, ℕ, Bool, List};
 ghost use Rattle.response_log.specs.FirstOffense.{FirstOffenseIsTold, OneOffenseOrLog};
 ghost use Rattle.response_log.specs.LogRows.{log_rows, IsLogOf};
 
-/// A text gives a log exactly if each line with words is a row, and there are as many of these lines as rows are wanted. The log
-/// has their bits. Any other text gives a fault.
+/// A text gives a log if and only if each line with words is a row, and the number of these lines is the expected number of
+/// rows. The log has their bits. Any other text gives a fault.
 pub fn rows_are_the_lines()
     ensures { (text : List ℕ) (rows len : ℕ) (log : List (List Bool)) → (log_rows text rows len ≡ Ok log) ↔ IsLogOf text rows len log }
 {}

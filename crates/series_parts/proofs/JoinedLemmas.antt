@@ -89,7 +89,7 @@ pushed_at : (xs : List ℕ) (r n x : ℕ) (label : ℕ → ℕ) → length xs �
 pushed_at xs r n x label count old new lt (inl e) = get_or_push xs r 0 x (count ∙ sym e) ∙ new ∙ ap label (sym e)
 pushed_at xs r n x label count old new lt (inr ne) = let low : x < n = omega arith in get_or_append_left xs (r ∷ []) 0 x (omega arith) ∙ old x low
 
--- one more label is read
+-- if each item is the label of its place, so is each item once the next label is appended
 pub pushed : (xs : List ℕ) (r n : ℕ) (label : ℕ → ℕ) → length xs ≡ n → ((y : ℕ) → y < n → get_or xs y 0 ≡ label y) → r ≡ label n → (x : ℕ) → x < n + 1 → get_or (xs ++ r ∷ []) x 0 ≡ label x
 pushed xs r n label count old new x lt = pushed_at xs r n x label count old new lt (cases_eq x n)
 

@@ -124,7 +124,7 @@ compared_mask [] out same = refl
 compared_mask (i ∷ ins) [] same = absurd (omega arith)
 compared_mask (i ∷ ins) (o ∷ out) same = ap (λ t. true ∷ t) (compared_mask ins out (omega arith))
 
--- the rows of the data scan
+-- the two rows of the data scan have the same length
 same_length : (parts : ℕ) → length (marks ++ replicate parts false) ≡ length (replicate parts false ++ marks)
 same_length parts = omega (arith, length-append marks (replicate parts false), length-append (replicate parts false) marks, length-replicate parts false)
 

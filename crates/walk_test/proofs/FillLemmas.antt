@@ -462,7 +462,7 @@ first_tdo board = quiet_tdo board (record { now = quiet_row; before = quiet_row 
 pub first_mask : (board : RawBoard) → replicate (data_bits board) false ≡ mask_of board quiet_row
 first_mask board = quiet_mask board (record { now = quiet_row; before = quiet_row }) refl
 
--- scan j compares something exactly if j is not 0
+-- scan j compares something if and only if j is not 0
 pub compare_is : (board : RawBoard) (rules : IsBoard board) (t : WalkTables) (w : IsWalkOf board t) → 0 < length t.plan.passes → (j : ℕ) → j ≤ length t.nets → (mask : List Bool) → mask ≡ mask_of board (before_of board j) → nat_lt 0 j ≡ list_any (λ bit. bit) mask
 compare_is board rules t w some zero le mask is =
     sym (ap (λ (l : List Bool). list_any (λ bit. bit) l) (is ∙ sym (first_mask board)) ∙ none_of_zeros (data_bits board))

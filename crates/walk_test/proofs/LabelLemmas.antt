@@ -1,4 +1,4 @@
--- Labels of nets as lists: what the labels say of a log, and the groups that the labels give.
+-- Labels of nets as lists: the labels that a log implies, and the groups of the labels.
 use Rattle.std.proofs.Common.{◌≡◌, ◌≢◌, ◌⊎◌, inl, inr, ℕ, zero, suc, ◌+◌, ◌<◌, ◌≤◌, ◌==◌, Bool, true, false, cond, ◌&&◌, List, [], ◌∷◌, ◌++◌, length, take, map, get_or, Option, Some, None, Decides, refl, sym, ◌∙◌, ap, subst, arith, nat_le}
 use Rattle.std.specs.Prelude.{slice_get, All, Contains, option_map}
 use Rattle.std.specs.List.{flat_map, range_with_len}
@@ -322,7 +322,7 @@ module _ (nets labels : List ℕ) (rise : Rises nets) (count : length labels ≡
     order = order_pairs Before groups (in_order Before before);
   }
 
-  -- two nets are joined exactly if their labels are equal
+  -- two nets are joined if and only if their labels are equal
   pub joined_labels : AreOrdered groups → (i j a b k l : ℕ) → slice_get nets i ≡ Some a → slice_get nets j ≡ Some b → slice_get labels i ≡ Some k → slice_get labels j ≡ Some l →
       are_joined groups a b ≡ (k == l)
   joined_labels ordered i j a b k l ni nj li lj = same_answer (are_joined groups a b) (k == l) (λ e. to (joined_cases groups a b e)) (λ e. from (eqb-true k l e) (cases_eq a b))

@@ -90,7 +90,7 @@ module _ (log : List (List Bool)) (mask : List Bool) (marks : List ℕ) (are : m
       let on : get_or mask at false ≡ true = sym (mark_bit mask marks are at) ∙ r.0 in
       (on, sym (row_bit at on) ∙ r.1)
 
-  -- a position is compared and reads 1 exactly if the mask and the log have a 1 there
+  -- a position is compared and reads 1 if and only if the mask and the log have a 1 there
   one_read : (at : ℕ) → is_one row marks at ≡ (get_or mask at false && bit_in log j at)
   one_read at = by_test (get_or mask at false) refl
     where
@@ -102,7 +102,7 @@ module _ (log : List (List Bool)) (mask : List Bool) (marks : List ℕ) (are : m
   pub not_started : (own none : ℕ) (old : List ℕ) (t : Bool) → t ≡ is_one row marks own → t ≡ false → Decides t (StartsGroup log mask j own none old)
   not_started own none old t is off = (λ e. let bad : true ≡ false = sym e ∙ off in cc bad, λ s. is ∙ one_read own ∙ s.is_read)
 
-  -- position `own` reads 1: a group starts exactly if no position that reads 1 has an earlier row
+  -- position `own` reads 1: a group starts if and only if no position that reads 1 has an earlier row
   module _ (none : ℕ) (old : List ℕ) (count : length old ≡ length mask) where
     pub starts : (own : ℕ) → is_one row marks own ≡ true → (t : Bool) → Decides t (IsFresh row marks none old (length old)) → Decides t (StartsGroup log mask j own none old)
     starts own one t d = (
@@ -116,7 +116,7 @@ module _ (log : List (List Bool)) (mask : List Bool) (marks : List ℕ) (are : m
       kept = λ at on off. m.kept at (omega (arith, mask_within mask at on, count)) (one_is at false on off);
     }
 
--- two rows agree at the compared bits of a digit exactly if their difference, under the mask, is 0
+-- two rows agree at the compared bits of a digit if and only if their difference, under the mask, is 0
 module _ (a b m k : ℕ) where
   masked_same : bit_and (bit_xor a b) m ≡ 0 → digit_bit m k ≡ true → digit_bit a k ≡ digit_bit b k
   masked_same none on =

@@ -108,7 +108,7 @@ module _ (log : List (List Bool)) (mask : List Bool) (nets : List NetCells) (non
   label_at : (k : ℕ) (net : NetCells) → slice_get nets k ≡ Some net → get_or (map (label_of log) nets) k 0 ≡ first_one log (first_at net)
   label_at k net e = get_or_from_slice_get (map (label_of log) nets) k (first_one log (first_at net)) 0 (label_is log nets k net e)
 
-  -- if all rows show the labels, each compared cell reads 1 exactly if the first rows of the two nets are equal
+  -- if all rows show the labels, each compared cell reads 1 if and only if the first rows of the two nets are equal
   shown : ShowsAll log (map (label_of log) nets) nets → (k i at : ℕ) (other net : NetCells) → slice_get nets k ≡ Some other → slice_get nets i ≡ Some net → Has net.compared at →
       bit_in log k at ≡ (first_one log (first_at net) == first_one log (first_at other))
   shown shows k i at other net e f has =

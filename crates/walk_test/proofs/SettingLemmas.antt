@@ -149,7 +149,7 @@ left_order p pass order =
     let R : Ctl → Ctl → Type 0 = λ a b. Rattle.std.specs.Prelude.IsTrue (precedes a b) in
     order_pairs R (filter p pass) (order_filter R p pass (pairs_order R pass order))
 
--- a filtered pass holds a control exactly if the pass holds it and the test keeps it
+-- a filtered pass holds a control if and only if the pass holds it and the test keeps it
 held_left : (p : Ctl → Bool) (pass : List Ctl) (c : Ctl) → holds (filter p pass) c ≡ (holds pass c && p c)
 held_left p [] c = refl
 held_left p (d ∷ pass) c = by_tests (p d) (same_ctl c d) refl refl (held_left p pass c)
@@ -168,7 +168,7 @@ setting_held board pass c h =
     let r = and_parts (holds pass c) (not (switches_some board c)) (sym (held_left (λ d. not (switches_some board d)) pass c) ∙ h) in
     (r.0, not-true (switches_some board c) r.1)
 
--- the setting holds a control exactly if the first pass holds it and it is not the control of a switching driver
+-- the setting holds a control if and only if the first pass holds it and it is not the control of a switching driver
 pub setting_kept : (board : RawBoard) (pass setting : List Ctl) (c : Ctl) → slice_get (passes_of board) 0 ≡ Some pass → walk_setting board ≡ Some setting → holds setting c ≡ (holds pass c && not (switches_some board c))
 setting_kept board pass setting c first is =
     let made : Some (without_switching board pass) ≡ Some setting = ap (λ (o : Option (List Ctl)). option_map (without_switching board) o) (sym first) ∙ is in

@@ -17,7 +17,7 @@ use Rattle.walk_test.specs.Tables.{IsWalkOf, scan_count}
 abbrev pub WalkSafe : Type 0
 WalkSafe = (board : RawBoard) (walk : List Ctl) → IsBoard board → walk_setting board ≡ Some walk → IsSafe board (holds walk)
 
--- the walk setting holds a control exactly if the first pass holds it and it is not the control of a switching driver
+-- the walk setting holds a control if and only if the first pass holds it and it is not the control of a switching driver
 abbrev pub WalkKept : Type 0
 WalkKept = (board : RawBoard) (pass walk : List Ctl) (c : Ctl) → slice_get (passes_of board) 0 ≡ Some pass → walk_setting board ≡ Some walk → holds walk c ≡ (holds pass c && not (switches_some board c))
 

@@ -17,7 +17,8 @@ pub fn walk_safe()
     board_law::passes_kept();
 }
 
-/// The walk setting holds a control exactly if the first pass holds it and it is not the control of a switching driver.
+/// The walk setting holds a control if and only if the first pass holds it and it is not the control of a switching
+/// driver.
 pub fn walk_kept()
     ensures { WalkKept }
 {}

@@ -13,7 +13,7 @@ use Rattle.btest_cli.specs.declared.failure.Unread.TheVariants as unread
 use Rattle.btest_cli.specs.Texts.{Held, Wanted, Reading, Read, TooLong, Asks, IsRead, IsReadUpTo, names_in}
 use Rattle.btest_cli.specs.inner.Failures.{wanted_view}
 
--- puts the texts of `front` before the texts of the reading
+-- prepends the texts of `front` to the texts of the reading
 abbrev pub behind : List Text → Reading → Reading
 behind front (Read texts) = Read (front ++ texts)
 behind front (TooLong wanted) = TooLong wanted

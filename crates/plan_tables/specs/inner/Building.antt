@@ -40,7 +40,7 @@ observers board nets = gathered (observers_at board) 0 nets
 abbrev pub always_on : List Observer → List DriverCell
 always_on observers = map (λ x. x.cell) (filter (λ x. is_none x.control) observers)
 
--- the rows of controls after the cells of these observers are added
+-- appends the cell of each of these observers to the row of the observer's control
 abbrev pub all_noted : List (List DriverCell) → List Observer → List (List DriverCell)
 all_noted rows observers = fold (λ done x. noted done x.control x.cell) rows observers
 

@@ -127,7 +127,7 @@ abbrev pub expect_observed : Option Bool → ℕ → Option ℕ → Option Bool
 expect_observed bit place None = None
 expect_observed bit place (Some driver) = only_if (not (driver == place)) bit
 
--- the expected bit of a pin at this place, if the driver by which its net is observed is another pin
+-- the expected bit of a pin at this place, if another pin of the net is the observing driver
 abbrev pub expect_place : RawBoard → TestRow → Option Place → Option Bool
 expect_place board row None = None
 expect_place board row (Some p) = expect_observed (row.carried p.number) p.place (observing_driver board row.setting p.net)
