@@ -120,7 +120,7 @@ impl Cell {
 }
 
 impl RawDevice {
-    /// Returns the driving entry of a port bit, if it has one.
+    /// Returns the driving entry of a port bit, or None if the port bit has no driving entry.
     pub fn driving_entry(&self, bit: u32) -> Option<Cell>
         ensures { result ≡ driving_entry self.now bit }
     {

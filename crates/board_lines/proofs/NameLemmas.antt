@@ -15,7 +15,7 @@ repeat-map f eq seen n (x ∷ xs) =
     ap (λ b. cond b (Some n) (repeat_from (λ a b. eq (f a) (f b)) (seen ++ x ∷ []) (n + 1) xs)) (sym (list_any-map f (λ s. eq s (f x)) seen))
     ∙ ap (cond (list_any (λ s. eq s (f x)) (map f seen)) (Some n)) (repeat-map f eq (seen ++ x ∷ []) (n + 1) xs ∙ ap (λ s. repeat_from eq s (n + 1) (map f xs)) (map-append f seen (x ∷ [])))
 
--- the next line's name, if it has one, comes first among the names of the remaining lines
+-- if the next line has a name, this name comes first among the names of the remaining lines
 pub named_step : (naming : Naming) (lines : List ChainLine) (i : ℕ) (line : ChainLine) (done all : List Named) → i < length lines → get_or lines i line ≡ line →
     all ≡ done ++ named naming (drop i lines) → all ≡ done ++ with_name line.line (name_of naming line.statement) (named naming (drop (i + 1) lines))
 named_step naming lines i line done all within read same =

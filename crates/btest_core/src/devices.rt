@@ -75,7 +75,8 @@ fn is_same_package(a: Option<&[u8]>, b: Option<&[u8]>) -> bool
     }
 }
 
-// Returns the first earlier place that has the same choice as place `i`, if there is one.
+// Returns the first place before place `i` that has the same choice as place `i`, or None if no earlier place has that
+// choice.
 fn earlier(chosen: &[(u32, Option<&[u8]>)], i: usize) -> Option<usize>
     requires { i < length chosen.now }
     ensures before { IfSome result (λ j. j < i) }

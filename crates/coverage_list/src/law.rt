@@ -6,7 +6,7 @@ ghost use Rattle.coverage_list.specs.CoverList.{IsCoverList};
 
 use board_defs::law::terms_decided;
 
-/// What the coverage list of a board says of each net, pin and pair is true of all safe settings of the board.
+/// The answers in a board's coverage list about nets, pins and pairs are true of all safe settings of the board.
 pub fn lists_are_true()
     ensures { (board : RawBoard) → IsBoard board → IsCoverList board (cover_text board) }
 {

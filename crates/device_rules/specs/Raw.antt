@@ -16,8 +16,8 @@ use Rattle.device_rules.specs.Taps.{is_among, tap_names}
 use Rattle.device_rules.specs.PinMap.{maps_port}
 use Rattle.instruction_rules.specs.Instructions.{preload, extest}
 
--- The pin of a bit, if it has one. The pins of a port are in the order of its bits from left to right. A port that the map
--- does not name has no pins.
+-- The pin of a bit, or None if the bit has no pin. The pins of a port are in the order of its bits from left to right. A
+-- port that the map does not name has no pins.
 abbrev pub pin_of : List MapEntry → Bit → Option (List ℕ)
 pin_of entries bit = option_and_then (λ entry. slice_get entry.pins bit.place) (find (maps_port bit.name) entries)
 

@@ -64,7 +64,7 @@ fn starts_of(alloc: Global, ports: &[Port]) -> Result<Vec<u32>, AllocError>
     Ok(starts)
 }
 
-/// Returns the number that the map has for the name, if it has one.
+/// Returns the number that the map has for the name, or None if the map lacks the name.
 pub(crate) fn place_of(places: &IndexMap<&[u8], u32>, name: &[u8]) -> Option<u32>
     ensures { result ≡ get_by (λ n. bytes_eq name.now n.now) places.now }
 {

@@ -59,7 +59,7 @@ take_drivers board n less = take_more (drivers_by_net board) n [] (lists_within 
 pub drivers_are : (board : RawBoard) (n : ℕ) (net : Net) → slice_get board.nets n ≡ Some net → drivers_at board n ≡ tested_drivers board net
 drivers_are board n net e = ap (drivers_there board) e
 
--- the control of a useful driver, if it has one, is a cell
+-- if a useful driver has a control, the control is a cell
 pub useful_cell : (board : RawBoard) (c : Ctl) → holds (useful_controls board) c ≡ true → IsCell board c
 useful_cell board c = holds_of (IsCell board) (useful_controls board) c (useful_cells board (useful_controls board) refl)
 

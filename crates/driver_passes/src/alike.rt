@@ -14,7 +14,7 @@ fn are_same(drivers: &[Drive], others: &[Drive]) -> bool
     drivers == others
 }
 
-/// Returns the place, among the useful controls, of the control of the first of these drivers.
+/// Returns the place of the first driver's control in the list of useful controls, or None if there is no such control.
 fn first_place(board: &BoardClasses<'_>, drivers: &[Drive]) -> Option<usize>
     ensures { IfSome result (λ i. i < length (useful_controls board.now)) }
 {

@@ -67,7 +67,7 @@ impl<'a, 'b> Draft<'a, 'b> {
         self.free.remove(place);
     }
 
-    /// Adds the control of the driver, if it has one.
+    /// Adds the control of the driver, if the driver has a control.
     pub fn add_driver(&mut self, d: Drive)
         requires { IsUsefulDriver self.old.board d }
         ensures { self.new ≡ drafted self.old.board (with_driver self.old.setting d) }

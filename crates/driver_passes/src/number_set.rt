@@ -66,7 +66,7 @@ fn clear_from(words: &mut [u64], others: &[u64], first: usize)
     }
 }
 
-/// Clears these bits of the word with this number, if there is one.
+/// Clears these bits of the word with this number, if the set has this word.
 fn clear_bits(words: &mut [u64], number: usize, bits: u64)
     ensures { (n : ℕ) → is_in words.new n ≡ (is_in words.old n && not (is_of_word number bits n)) }
 {

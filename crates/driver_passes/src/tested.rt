@@ -46,7 +46,7 @@ fn steady_nets(alloc: Global, board: &BoardClasses<'_>) -> Result<NumberSet, All
     Ok(row)
 }
 
-/// Appends the net to the list of the driver's control, if it has one.
+/// Appends the net to the list of the driver's control, if the driver has a control.
 fn list_driver(
     lists: &mut [NetNumbers],
     board: &BoardClasses<'_>,

@@ -31,7 +31,7 @@ abbrev pub code_fits : List Symbol → List Bool → Bool
 code_fits (symbol ∷ pattern) (bit ∷ code) = fits symbol bit && code_fits pattern code
 code_fits _ _ = true
 
--- the code of the part fits its pattern, if it has one
+-- the code of the part fits the part's pattern, if the part has a pattern
 abbrev pub part_fits : Option (List Symbol) → TestLogic → Bool
 part_fits (Some pattern) part = code_fits pattern part.idcode
 part_fits None part = true

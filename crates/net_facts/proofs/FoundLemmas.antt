@@ -15,7 +15,7 @@ pub found_more : (test : ℕ → Bool) (k : ℕ) (found next : Found) (passes : 
 found_more test k found next passes f p g =
     g ∙ ap (λ v. cond passes (with_place v k) v) f ∙ ap (λ t. cond t (with_place (found_below test k) k) (found_below test k)) p ∙ ap (found_below test) (sym (add-one k))
 
--- what the places that were found say about the items
+-- the meaning of the places that were found for the items
 data Places (test : ℕ → Bool) (k : ℕ) (found : Found) : Type 0 where
   none : found ≡ Nowhere → ((j : ℕ) → j < k → test j ≡ false) → Places test k found
   one : (i : ℕ) → found ≡ At i → i < k → test i ≡ true → ((j : ℕ) → j < k → test j ≡ true → j ≡ i) → Places test k found

@@ -279,7 +279,7 @@ module _ (board : RawBoard) (rules : IsBoard board) (walk : List Ctl) (cells : C
       tdo_laid board (record { now = quiet_row; before = mark_row f })
       ∙ sym (tdo_compared board rules walk (λ n. Some (f n)) (bit f) cells.drivers cells.only cells.every (λ d has. refl) cells.readers cells.are)
 
-  -- a compared cell: the driver by which its net is observed, and a cell that reads the net at another pin than this driver's
+  -- a compared cell: the observing driver of its net, and a cell that reads the net at another pin than this driver's
   pub record ComparedAt (position : ℕ) : Type 0 where
     pub driver : DriverCell
     pub is_driver : IsDriverCell board walk driver

@@ -52,7 +52,7 @@ AreDone board passes a = (m : ℕ) → m < a → IsDoneTo board passes m (length
 abbrev pub StaysDone : RawBoard → List (List Ctl) → List (List Ctl) → Type 0
 StaysDone board before after = (m n : ℕ) → IsDone board before m n → IsDone board after m n
 
--- the control of each of the two drivers, if it has one, is useful
+-- each of the two drivers has no control or a useful control
 abbrev pub IsUsefulPair : RawBoard → Drive × Drive → Type 0
 IsUsefulPair board pair = IsUsefulDriver board pair.0 × IsUsefulDriver board pair.1
 

@@ -17,8 +17,8 @@ bit_of_feeding Undriven = None
 bit_of_feeding (Driven place bit) = Some bit
 bit_of_feeding Contended = None
 
--- The bit to which the net is driven in a row, if it is driven. It must have an enabled driver, and that driver must not be a switching
--- driver whose cell has the disable value.
+-- The bit to which the net is driven in a row, if it is driven. The net must have an enabled driver, and that driver must not be a
+-- switching driver whose cell has the disable value.
 abbrev pub driven_to : RawBoard → TestRow → Option Net → Option Bool
 driven_to board row net = option_and_then (λ n. bit_of_feeding (row_feeding board row n)) net
 

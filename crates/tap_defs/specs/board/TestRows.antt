@@ -100,12 +100,12 @@ abbrev pub data_observed : Option Bool → ℕ → Option ℕ → Option Bool
 data_observed bit place None = None
 data_observed bit place (Some driver) = only_if (driver == place) bit
 
--- the bit of the net of a pin at this place, if the pin is the driver by which the net is observed
+-- the bit of a pin's net, if the pin at this place is the observing driver of the net
 abbrev pub data_place : RawBoard → TestRow → Option Place → Option Bool
 data_place board row None = None
 data_place board row (Some p) = data_observed (row.carried p.number) p.place (observing_driver board row.setting p.net)
 
--- the bit of the net of the pin at this port bit, if the pin is the driver by which the net is observed
+-- the bit of the net of the pin at this port bit, if the pin is the observing driver of the net
 abbrev pub data_pin : RawBoard → TestRow → ℕ → Option ℕ → Option Bool
 data_pin board row part None = None
 data_pin board row part (Some b) = data_place board row (place_of (record { part = part; bit = b }) 0 board.nets)
