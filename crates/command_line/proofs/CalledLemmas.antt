@@ -1,4 +1,4 @@
--- Names that are none of the names before them.
+-- The command of a name that differs from all earlier names.
 use Rattle.std.proofs.Common.{◌≡◌, refl, sym, ◌∙◌, Bool, true, false, List, codes, None}
 use Rattle.std.specs.Prelude.{if◌then◌else◌}
 use Rattle.std.specs.Str.{bytes_eq}

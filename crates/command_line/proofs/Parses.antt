@@ -25,7 +25,7 @@ simple : is_simple btest_app ≡ true
 unfolding clap_on_literals
 simple = refl
 
--- the command as built
+-- the program's command, built by `clap`
 abbrev built_app : App
 built_app = built btest_app
 
@@ -38,22 +38,22 @@ names = names_of built_app
 abbrev start : Turns
 start = walk_from nothing_held
 
--- a subcommand, as built
+-- the shape of a subcommand, built by `clap`
 abbrev shape_in : App → Shape
 shape_in app = unwrap_or (slice_get (built (with_subcommand top_app app.top)).subs 0) top
 
--- the fault of words, by where the walk over them ends
+-- the faults at the end of all words, from the walk at the end
 abbrev whole_fault : Turns → Kinds
 whole_fault w = end_fault top w (is_some (entered built_app w.stopped)) (entered_fault built_app w.stopped)
 
 fault_parts : (words : List Text) → fault_of btest_app words ≡ or_else (walk_fault top names start words) (whole_fault (walk top.rules names nothing_held words))
 fault_parts words = refl
 
--- the command that is found, if `clap` finds no fault
+-- the command that the words give, or `None` if `clap` finds a fault
 abbrev answer : List Text → Option Command
 answer words = if_none (fault_of btest_app words) (command_in (subcommand_of btest_app words))
 
--- once a subcommand is met, the words go to it
+-- the walk once the subcommand `name` is met: the further words go to the subcommand
 abbrev stopped_at : Text → List Text → Turns
 stopped_at name words = record start { stopped = Some (name, words) }
 
@@ -67,7 +67,7 @@ unfolding clap_on_literals
 stopped_fault name words [] = refl
 stopped_fault name words (word ∷ rest) = stopped_fault name (words ++ word ∷ []) rest
 
--- the word enters this subcommand
+-- the word `name` enters the subcommand with this shape
 record Enters (name : Text) (shape : Shape) : Type 0 where
   met : walked top.rules names start name ≡ stopped_at name []
   passes : turn_fault top names start name ≡ []
@@ -75,11 +75,11 @@ record Enters (name : Text) (shape : Shape) : Type 0 where
   finds : (rest : List Text) → entered built_app (Some (name, rest)) ≡ Some (name, rows_after shape.rules [] rest)
   no_trail : list_all (λ a. not a.trailing_var_arg) shape.rules ≡ true
 
--- this is what is read of the matches of a subcommand, if each word goes to the argument of its place
+-- `read` reads the command `command words` from the matches, if each word goes to the positional argument of its place
 abbrev Reads : Shape → (List Row → Option Command) → (List Text → Option Command) → Type 0
 Reads shape read command = (words : List Text) → placed_from shape read start words ≡ command words
 
--- nothing comes after the words of a level
+-- no faults come after those of a level
 alone : (k : Kinds) (command : Option Command) → if_none (or_else k []) command ≡ if_none k command
 alone [] command = refl
 alone (k ∷ ks) command = refl
@@ -106,7 +106,7 @@ few_by of bsdl false = refl
 few_names : {A : Type 0} (of : List Text → A) (bsdl : List Text) → option_map of (with_names bsdl bsdl) ≡ with_names bsdl (of bsdl)
 few_names of bsdl = few_by of bsdl (nat_le (length bsdl) most_names)
 
--- a command that works on a chain, whatever its name
+-- the shape of a command that works on a chain, for any name
 abbrev chain_shape : Text → Shape
 chain_shape name = shape_in (chain_app name)
 
@@ -125,7 +125,7 @@ chain_read name command (file ∷ []) = refl
 chain_read name command (file ∷ x ∷ rest) = names_placed (chain_shape name) (λ rows. option_map command (chain_in rows)) (chain_rows file) 2 (chain_takes name file) [] x rest
     ∙ ap (option_map command) (few_names (λ bsdl. record { chain = file; bsdl = bsdl }) (x ∷ rest))
 
--- a command that takes one word, whatever its name and that of its argument
+-- the shape of a command that takes one word, for any name of the command and of its argument
 abbrev single_shape : Text → Text → Shape
 single_shape name id = shape_in (single_app name id)
 
@@ -141,7 +141,7 @@ make_read [] = refl
 make_read (number ∷ []) = refl
 make_read (number ∷ other ∷ others) = refl
 
--- a command that works on a board, whatever its name
+-- the shape of a command that works on a board, for any name
 abbrev board_shape : Text → Shape
 board_shape name = shape_in (board_app name)
 
@@ -167,7 +167,7 @@ board_read name command (chain ∷ nets ∷ []) = refl
 board_read name command (chain ∷ nets ∷ x ∷ rest) = names_placed (board_shape name) (λ rows. option_map command (board_in rows)) (board_rows chain nets) 3 (board_takes name chain nets) [] x rest
     ∙ ap (option_map command) (few_board chain nets (x ∷ rest))
 
--- a command that works on a response log, by a number of workers, whatever its name
+-- the shape of a command that works on response logs with a given number of workers, for any name
 abbrev log_shape : Text → Shape
 log_shape name = shape_in (log_app name)
 
@@ -189,7 +189,7 @@ log_read name command (workers ∷ log ∷ chain ∷ nets ∷ []) = refl
 log_read name command (workers ∷ log ∷ chain ∷ nets ∷ x ∷ rest) = names_placed (log_shape name) (worked_in command) (log_rows workers log chain nets) 5 (log_takes name workers log chain nets) [] x rest
     ∙ ap (option_and_then (λ board. option_map (λ number. command number log board) (number_of most_workers workers))) (few_board chain nets (x ∷ rest))
 
--- the command that works on a response log, by one worker
+-- the shape of the command that works on a response log with one worker
 abbrev groups_shape : Shape
 groups_shape = shape_in (groups_app (codes "groups"))
 
@@ -250,7 +250,7 @@ batch_word : (rest : List Text) → AllPlain rest → answer (codes "batch" ∷ 
 unfolding clap_on_literals board_found log_found
 batch_word rest all = named_word (codes "batch") (log_shape (codes "batch")) (record { met = refl; passes = refl; below = λ rest. refl; finds = λ rest. refl; no_trail = refl }) (λ rest. worked_of Batch rest) (log_read (codes "batch") Batch) rest all
 
--- the word is the name of none of these
+-- the word differs from all these names
 abbrev IsOther : Text → Names → Type 0
 IsOther w [] = Unit {0}
 IsOther w (name ∷ others) = (answers_to w name ≡ false) × IsOther w others
@@ -274,7 +274,7 @@ unfolding clap_on_literals
 other_word w rest p other =
     ap (λ k. if_none (or_else (or_else k (walk_fault top names (walked top.rules names start w) rest)) (whole_fault (walk top.rules names nothing_held (w ∷ rest)))) (command_in (subcommand_of btest_app (w ∷ rest)))) (other_turn w p other)
 
--- the answer to words that begin with this name, or else to other words
+-- the answer for words: one command if the first word is this name, another otherwise
 named_by : (name w : Text) (rest : List Text) (command others : Option Command) (b : Bool) → bytes_eq name w ≡ b → answer (name ∷ rest) ≡ command → (bytes_eq name w ≡ false → answer (w ∷ rest) ≡ others) → answer (w ∷ rest) ≡ (if b then command else others)
 named_by name w rest command others true test is else_is = subst (λ (v : Text). answer (v ∷ rest) ≡ command) ((bytes_eq-Decides name w).0 test) is
 named_by name w rest command others false test is else_is = else_is test
@@ -282,7 +282,7 @@ named_by name w rest command others false test is else_is = else_is test
 named : (name w : Text) (rest : List Text) (command others : Option Command) → answer (name ∷ rest) ≡ command → (bytes_eq name w ≡ false → answer (w ∷ rest) ≡ others) → answer (w ∷ rest) ≡ (if bytes_eq name w then command else others)
 named name w rest command others is else_is = named_by name w rest command others (bytes_eq name w) refl is else_is
 
--- a word that is not a name is not the name of the subcommand either
+-- a word that differs from a name is not the name of that subcommand
 no_name : (name w : Text) → bytes_eq name w ≡ false → answers_to w (name, []) ≡ false
 no_name name w e = ap (λ b. b || false) e
 
@@ -318,7 +318,7 @@ exact : (words : List Text) → AllPlain words → answer words ≡ parsed words
 exact [] all = none_word
 exact (w ∷ rest) all = first_word w rest all.0 all.1
 
--- the command in the matches is the one that the words form
+-- the command in the matches is the command that the words form
 pub found_by : (a : App) (words : List Text) (found : Option (Text × List Row)) → a ≡ btest_app → list_all is_plain words ≡ true → (is_simple_and_free a ≡ true → fault_of a words ≡ []) → (is_simple a ≡ true → found ≡ subcommand_of a words) → command_in found ≡ parsed words
 found_by a words found is plain passes finds =
     let none : fault_of btest_app words ≡ [] = subst (λ (x : App). is_simple_and_free x ≡ true → fault_of x words ≡ []) is passes is_free in

@@ -1,4 +1,4 @@
--- A command of the program as a command of the definitions: its words as lists of bytes, without their places in memory.
+-- The program's commands as commands of the definitions: each word is a list of bytes, without its place in memory.
 use Rattle.std.specs.Prelude.{List, map}
 use Rattle.command_line.specs.declared.command.Command.{Command as Lent}
 use Rattle.command_line.specs.declared.command.Command.TheVariants as lent

@@ -1,4 +1,4 @@
-// Reads the command in what `clap` found.
+// Reads the program's command from the values that `clap` found for the arguments.
 ghost use Rattle.std.specs.Prelude.{◌≡◌, map, IfOk, option_map};
 ghost use Rattle.clap.specs.Matches.{found_of};
 ghost use Rattle.clap.specs.Simple.{subcommand_rows_of};
@@ -12,13 +12,13 @@ use crate::number::number_of;
 use clap::ArgMatches;
 use std::alloc::{AllocError, Global};
 
-// The largest number of parts of a generated board.
+// The largest number of parts that `make` accepts.
 const MOST_MADE: u32 = 255;
 
-// The largest number of workers of a diagnosis.
+// The largest number of workers that a command accepts.
 const MOST_WORKERS: u32 = 64;
 
-/// Returns the command that `clap` found, or `None` if a number is out of its range, or there are more than 255 BSDL names.
+/// Returns the command that `clap` found, or `None` if a number is out of range or there are more than 255 BSDL names.
 /// The only error is a lack of memory.
 pub fn command_in<'a>(
     alloc: Global,
@@ -51,7 +51,7 @@ fn command_called<'a>(
     }
 }
 
-// Returns the command of the subcommand with this name, if it works on a board.
+// Returns the command of the subcommand with this name, if the name is not `chain`, `ident` or `device`.
 #[tactic(auto, unfolding(crate::specs::inner::Found::board_found))]
 fn board_called<'a>(
     alloc: Global,
@@ -73,7 +73,7 @@ fn board_called<'a>(
     }
 }
 
-// Returns the command of the subcommand with this name, if it works on a response log.
+// Returns the command of the subcommand with this name, if the subcommand works on response logs.
 #[tactic(auto, unfolding(crate::specs::inner::Found::log_found))]
 fn log_called<'a>(
     alloc: Global,
@@ -93,7 +93,7 @@ fn log_called<'a>(
     }
 }
 
-// Returns the word of an argument.
+// Returns the word of the argument with this id, if there is one.
 #[tactic(auto, using(crate::proofs::RowLemmas::first_row))]
 fn word_in<'a>(found: &ArgMatches<'a>, id: &str) -> Option<&'a str>
     ensures { option_map (λ word. word.now) result ≡ first_of id.now (rows_of (found_of found.now)) }
@@ -112,7 +112,7 @@ fn few_in<'a>(alloc: Global, found: &ArgMatches<'a>) -> Result<Option<BsdlNames<
     }
 }
 
-// Returns these names of BSDL files, or `None` if there are more than 255.
+// Returns these names as names of BSDL files, or `None` if there are more than 255.
 fn few_names<'a>(alloc: Global, names: &[&'a str]) -> Result<Option<BsdlNames<'a>>, AllocError>
     ensures { IfOk result (λ bsdl. option_map names_view bsdl ≡ with_names (map (λ name. name.now) names.now) (map (λ name. name.now) names.now)) }
 {

@@ -1,4 +1,4 @@
-// The program's command for `clap`: its subcommands with their arguments.
+// The program's command for `clap`: the subcommands and their arguments.
 ghost use Rattle.std.specs.Prelude.{◌≡◌, false, IfOk};
 ghost use Rattle.clap.specs.Simple.{App, app_of, with_rule, with_subcommand};
 ghost use Rattle.clap.specs.Walk.{rule_of};
@@ -8,7 +8,7 @@ ghost use Rattle.command_line.specs.inner.App.{name_rule, names_rule, chain_app,
 use clap::{Arg, ArgAction};
 use std::alloc::{AllocError, Global};
 
-// Returns an argument that is one required name.
+// Returns an argument that takes exactly one word.
 fn name_arg<'a>(alloc: Global, id: &'a str) -> Arg<'a>
     ensures rule { rule_of result ≡ name_rule id.entry.now }
     ensures local { result.global ≡ false }
@@ -24,8 +24,8 @@ fn names_arg<'a>(alloc: Global) -> Arg<'a>
     Arg::new(alloc, "BSDL").action(ArgAction::Append)
 }
 
-// Adds a required name to a command. Like the next functions, it takes the command as a result and passes on an error, so
-// that its callers need no `?`: each such exit costs the proof of a caller several seconds.
+// Adds an argument that takes exactly one word to a command. Like the next functions, `with_name` takes the command as
+// a result and passes on an error. So its callers need no `?`: each `?` costs the proof of a caller several seconds.
 fn with_name<'a>(
     alloc: Global,
     command: Result<clap::Command<'a>, AllocError>,
@@ -94,7 +94,7 @@ fn board_command<'a>(alloc: Global, name: &'a str) -> Result<clap::Command<'a>, 
     with_board(alloc, Ok(clap::Command::new(alloc, name)))
 }
 
-// Returns a command that works on a response log of a board, by a number of workers.
+// Returns a command that works on response logs with a given number of workers.
 fn log_command<'a>(alloc: Global, name: &'a str) -> Result<clap::Command<'a>, AllocError>
     ensures app { IfOk result (λ c. app_of c ≡ log_app name.entry.now) }
     ensures local { IfOk result (λ c. (fields_of c).has_globals ≡ false) }
@@ -105,7 +105,7 @@ fn log_command<'a>(alloc: Global, name: &'a str) -> Result<clap::Command<'a>, Al
     with_board(alloc, command)
 }
 
-// Returns a command that works on a response log of a board, by one worker.
+// Returns a command that works on a response log with one worker.
 fn groups_command<'a>(alloc: Global, name: &'a str) -> Result<clap::Command<'a>, AllocError>
     ensures app { IfOk result (λ c. app_of c ≡ groups_app name.entry.now) }
     ensures local { IfOk result (λ c. (fields_of c).has_globals ≡ false) }
@@ -127,7 +127,7 @@ fn top_command<'a>(alloc: Global) -> clap::Command<'a>
         .disable_help_subcommand(true)
 }
 
-// Adds a subcommand to a command. It takes both as results and passes on an error.
+// Adds a subcommand to a command. Takes both commands as results and passes on an error.
 fn with_made<'a>(
     command: Result<clap::Command<'a>, AllocError>,
     made: Result<clap::Command<'a>, AllocError>,
@@ -153,7 +153,7 @@ fn part_commands<'a>(alloc: Global) -> Result<clap::Command<'a>, AllocError>
     with_made(command, single_command(alloc, "device", "BSDL"))
 }
 
-// Returns that command with the subcommands that work on a board, too.
+// Returns the command of `part_commands` with the subcommands that work on a board.
 fn board_commands<'a>(alloc: Global) -> Result<clap::Command<'a>, AllocError>
     ensures app { IfOk result (λ c. app_of c ≡ boards_app) }
     ensures local { IfOk result (λ c. (fields_of c).has_globals ≡ false) }
@@ -164,7 +164,7 @@ fn board_commands<'a>(alloc: Global) -> Result<clap::Command<'a>, AllocError>
     with_made(command, board_command(alloc, "walk"))
 }
 
-// Returns that command with the subcommands that work on a response log, too.
+// Returns the command of `board_commands` with the subcommands that work on response logs.
 fn log_commands<'a>(alloc: Global) -> Result<clap::Command<'a>, AllocError>
     ensures app { IfOk result (λ c. app_of c ≡ logs_app) }
     ensures local { IfOk result (λ c. (fields_of c).has_globals ≡ false) }

@@ -1,4 +1,4 @@
-// Reads the words of a command line.
+// Reads a command from the words of a command line.
 ghost use Rattle.std.specs.Prelude.{◌≡◌, List, map, true, false, string_bytes, IfOk, IfSome, option_map};
 ghost use Rattle.std.specs.List.{list_all};
 ghost use Rattle.clap.specs.Simple.{subcommand_rows_of};
@@ -13,8 +13,7 @@ use clap::ArgMatches;
 use clap::error::ErrorKind;
 use std::alloc::{AllocError, Global};
 
-/// Returns the command that the words form, or `None` if the grammar has no such command. The only error is a lack of
-/// memory.
+/// Returns the command that the words form, or `None` if they form no command. The only error is a lack of memory.
 pub fn command_of<'a>(alloc: Global, words: &'a [String]) -> Result<Option<Command<'a>>, AllocError>
     ensures command { IfOk result (λ c. option_map command_view c ≡ command_of (map string_bytes words.entry.now)) }
     ensures number { IfOk result (λ c. IfSome c (λ c. HasNumber (command_view c))) }
@@ -29,7 +28,7 @@ pub fn command_of<'a>(alloc: Global, words: &'a [String]) -> Result<Option<Comma
     }
 }
 
-// Returns whether no word is empty and none begins with `-`.
+// Returns true if no word is empty and no word begins with `-`.
 fn are_plain(words: &[String]) -> bool
     ensures { result ≡ list_all is_plain (map string_bytes words.now) }
 {
@@ -48,7 +47,8 @@ fn is_plain(word: &str) -> bool
     !word.is_empty() && !word.starts_with('-')
 }
 
-// Returns what `clap` finds in the words, or `None` if it refuses them. No word is empty or begins with `-`.
+// Returns the values that `clap` finds in the words, or `None` if `clap` refuses the words. No word may be empty or
+// begin with `-`.
 fn matches_of<'a>(alloc: Global, words: &'a [String]) -> Result<Option<ArgMatches<'a>>, AllocError>
     requires { list_all is_plain (map string_bytes words.now) ≡ true }
     ensures { IfOk result (λ matches. found_in matches ≡ parsed (map string_bytes words.entry.now)) }

@@ -1,4 +1,4 @@
--- The command in what `clap` found.
+-- The program's command, from the values that `clap` found for the arguments.
 use Rattle.std.specs.Prelude.{ℕ, List, [], codes, Option, None, option_and_then, option_map, unwrap_or, if◌then◌else◌}
 use Rattle.std.specs.Str.{bytes_eq}
 use Rattle.clap.specs.Simple.{subcommand_rows_of}
@@ -6,24 +6,24 @@ use Rattle.clap.specs.Walk.{Row, Text, all_of, first_of}
 use Rattle.clap.specs.declared.parser.matches.ArgMatches.{ArgMatches}
 use Rattle.command_line.specs.Words.{ChainNames, BoardNames, Command, Chain, Ident, Device, Cover, Svf, Walk, Make, Diagnose, Groups, Batch, most_made, most_workers, number_of, with_names}
 
--- the names of the BSDL files
+-- the names of the BSDL files in the matches
 abbrev pub bsdl_in : List Row → List Text
 bsdl_in rows = unwrap_or (all_of (codes "BSDL") rows) []
 
--- those names, if they are not too many
+-- the names of the BSDL files in the matches, or `None` if there are more than `most_names`
 abbrev pub few_in : List Row → Option (List Text)
 few_in rows = with_names (bsdl_in rows) (bsdl_in rows)
 
--- the file names of a chain
+-- the file names of a chain in the matches
 abbrev pub chain_in : List Row → Option ChainNames
 chain_in rows = option_and_then (λ chain. option_map (λ bsdl. record { chain = chain; bsdl = bsdl }) (few_in rows)) (first_of (codes "CHAIN") rows)
 
--- the file names of a board
+-- the file names of a board in the matches
 abbrev pub board_in : List Row → Option BoardNames
 board_in rows =
     option_and_then (λ chain. option_and_then (λ nets. option_map (λ bsdl. record { chain = chain; nets = nets; bsdl = bsdl }) (few_in rows)) (first_of (codes "NETS") rows)) (first_of (codes "CHAIN") rows)
 
--- the commands, from the matches of their subcommands
+-- each command, from the matches of its subcommand
 abbrev pub device_in : List Row → Option Command
 device_in rows = option_map Device (first_of (codes "BSDL") rows)
 
@@ -40,14 +40,14 @@ worked_in command rows =
 abbrev pub groups_in : List Row → Option Command
 groups_in rows = option_and_then (λ log. option_map (Groups log) (board_in rows)) (first_of (codes "LOG") rows)
 
--- the command of the subcommand with this name, if it works on a response log
+-- the command of the subcommand with this name, if the subcommand works on response logs
 unfoldable pub log_found : Text → List Row → Option Command
 log_found name rows =
     if bytes_eq (codes "diagnose") name then worked_in Diagnose rows else
     if bytes_eq (codes "groups") name then groups_in rows else
     if bytes_eq (codes "batch") name then worked_in Batch rows else None
 
--- the command of the subcommand with this name, if it works on a board or a response log
+-- the command of the subcommand with this name, if the name is not `chain`, `ident` or `device`
 unfoldable pub board_found : Text → List Row → Option Command
 board_found name rows =
     if bytes_eq (codes "cover") name then option_map Cover (board_in rows) else
