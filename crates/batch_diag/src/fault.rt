@@ -19,8 +19,8 @@ pub enum BatchFault {
     Memory(AllocError),
 }
 
-// The text of a fault is its line of refusal without the name of the file. If rows are missing, the text names the board. Any other
-// fault has the number of its line instead.
+// The text of a fault is its line of refusal, without the name of the file. If a block has too few rows, the text has the number of
+// the block. Any other fault of the text of a batch has the number of its line.
 impl fmt::Display for BatchFault {
     fn fmt<W: fmt::Write>(&self, f: &mut fmt::Formatter<W>) -> fmt::Result {
         match self {

@@ -123,7 +123,7 @@ fn few_names<'a>(alloc: Global, names: &[&'a str]) -> Result<Option<BsdlNames<'a
     Ok(Some(BsdlNames { names }))
 }
 
-// Returns the file names of a chain.
+// Returns the file names of a chain, or `None` if there are more than 255 BSDL names.
 fn chain_in<'a>(alloc: Global, found: &ArgMatches<'a>) -> Result<Option<ChainNames<'a>>, AllocError>
     ensures { IfOk result (λ names. option_map chain_view names ≡ chain_in (rows_of (found_of found.now))) }
 {
@@ -137,7 +137,7 @@ fn chain_in<'a>(alloc: Global, found: &ArgMatches<'a>) -> Result<Option<ChainNam
     }
 }
 
-// Returns the file names of a board.
+// Returns the file names of a board, or `None` if there are more than 255 BSDL names.
 fn board_in<'a>(alloc: Global, found: &ArgMatches<'a>) -> Result<Option<BoardNames<'a>>, AllocError>
     ensures { IfOk result (λ names. option_map board_view names ≡ board_in (rows_of (found_of found.now))) }
 {
@@ -154,7 +154,7 @@ fn board_in<'a>(alloc: Global, found: &ArgMatches<'a>) -> Result<Option<BoardNam
     }
 }
 
-// Returns the command `chain`.
+// Returns the command `chain`, or `None` if there are more than 255 BSDL names.
 fn chain_command<'a>(
     alloc: Global,
     found: &ArgMatches<'a>,
@@ -167,7 +167,7 @@ fn chain_command<'a>(
     }
 }
 
-// Returns the command `ident`.
+// Returns the command `ident`, or `None` if there are more than 255 BSDL names.
 fn ident_command<'a>(
     alloc: Global,
     found: &ArgMatches<'a>,
@@ -188,7 +188,7 @@ fn device_command<'a>(found: &ArgMatches<'a>) -> Option<Command<'a>>
     Some(Command::Device { bsdl })
 }
 
-// Returns the command `cover`.
+// Returns the command `cover`, or `None` if there are more than 255 BSDL names.
 fn cover_command<'a>(
     alloc: Global,
     found: &ArgMatches<'a>,
@@ -201,7 +201,7 @@ fn cover_command<'a>(
     }
 }
 
-// Returns the command `svf`.
+// Returns the command `svf`, or `None` if there are more than 255 BSDL names.
 fn svf_command<'a>(alloc: Global, found: &ArgMatches<'a>) -> Result<Option<Command<'a>>, AllocError>
     ensures { IfOk result (λ c. option_map command_view c ≡ option_map Svf (board_in (rows_of (found_of found.now)))) }
 {
@@ -211,7 +211,7 @@ fn svf_command<'a>(alloc: Global, found: &ArgMatches<'a>) -> Result<Option<Comma
     }
 }
 
-// Returns the command `walk`.
+// Returns the command `walk`, or `None` if there are more than 255 BSDL names.
 fn walk_command<'a>(
     alloc: Global,
     found: &ArgMatches<'a>,
@@ -224,7 +224,7 @@ fn walk_command<'a>(
     }
 }
 
-// Returns the command `make`.
+// Returns the command `make`, or `None` if the number of parts is out of range.
 fn make_command<'a>(found: &ArgMatches<'a>) -> Option<Command<'a>>
     ensures { option_map command_view result ≡ make_in (rows_of (found_of found.now)) }
 {
@@ -232,14 +232,15 @@ fn make_command<'a>(found: &ArgMatches<'a>) -> Option<Command<'a>>
     Some(Command::Make(parts))
 }
 
-// Returns the number of workers.
+// Returns the number of workers, or `None` if it is out of range.
 fn workers_in(found: &ArgMatches) -> Option<u32>
     ensures { result ≡ workers_in (rows_of (found_of found.now)) }
 {
     number_of(MOST_WORKERS, word_in(found, "WORKERS")?)
 }
 
-// Returns the command `diagnose`.
+// Returns the command `diagnose`, or `None` if the number of workers is out of range or there are more than 255 BSDL
+// names.
 fn diagnose_command<'a>(
     alloc: Global,
     found: &ArgMatches<'a>,
@@ -259,7 +260,7 @@ fn diagnose_command<'a>(
     }
 }
 
-// Returns the command `groups`.
+// Returns the command `groups`, or `None` if there are more than 255 BSDL names.
 fn groups_command<'a>(
     alloc: Global,
     found: &ArgMatches<'a>,
@@ -275,7 +276,7 @@ fn groups_command<'a>(
     }
 }
 
-// Returns the command `batch`.
+// Returns the command `batch`, or `None` if the number of workers is out of range or there are more than 255 BSDL names.
 fn batch_command<'a>(
     alloc: Global,
     found: &ArgMatches<'a>,
