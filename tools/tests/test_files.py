@@ -8,6 +8,7 @@ import os
 import pathlib
 import subprocess
 import sys
+import threading
 import unittest
 from typing import Optional
 from unittest import mock
@@ -15,6 +16,7 @@ from unittest import mock
 from tests.support import DEMO, EXAMPLES, TOOLS, Folder, need, tool
 
 from btest_tools.files import BadInput, frame, read, tell, write_whole
+from btest_tools.netlists.program import write
 
 GOOD = str(EXAMPLES / "good.log")
 
@@ -44,6 +46,15 @@ class ReadAndWrite(Folder):
     def test_bytes_are_written_unchanged(self) -> None:
         write_whole(f"{self.folder}/log", b"\xff\0")
         self.assertEqual(pathlib.Path(self.folder, "log").read_bytes(), b"\xff\0")
+
+    def test_a_pipe_is_written_as_it_is(self) -> None:
+        pipe, found = f"{self.folder}/pipe", []
+        os.mkfifo(pipe)
+        reader = threading.Thread(target=lambda: found.append(pathlib.Path(pipe).read_text()))
+        reader.start()
+        write(pipe, "NET A U1.1\n")
+        reader.join()
+        self.assertEqual(found, ["NET A U1.1\n"])
 
     def test_what_cannot_be_written_leaves_nothing(self) -> None:
         os.mkdir(f"{self.folder}/taken")
@@ -76,6 +87,15 @@ class Ends(unittest.TestCase):
             (SystemExit(0), 0, ""),
         ):
             self.assertEqual(self.ends(error), (status, said))
+
+    def test_output_that_is_still_in_the_buffer(self) -> None:
+        full = mock.Mock()
+        full.flush.side_effect = OSError(28, "No space")
+        line = "tool.py: cannot write standard output: No space\n"
+        for error in (SystemExit(0), None):
+            with mock.patch.object(sys, "stdout", full):
+                with mock.patch("btest_tools.files.drop_output"):
+                    self.assertEqual(self.ends(error), (1, line))
 
     def test_a_closed_error_stream(self) -> None:
         with mock.patch.object(sys, "stderr", None):

@@ -85,6 +85,8 @@ class Made(Folder):
             path = self.path / name
             self.assertEqual(mark, hashlib.sha256(path.read_bytes()).hexdigest())
             self.assertEqual(path.stat().st_mode & 0o777, 0o444)
+        marks = self.path / "fingerprints.sha256"
+        self.assertEqual(marks.stat().st_mode & 0o777, 0o444)
         self.assertEqual(self.path.stat().st_mode & 0o777, 0o755)
         for name, text in (
             ("board.svf", "svf text"),

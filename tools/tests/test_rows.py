@@ -11,7 +11,7 @@ from tests import seeded_boards
 from tests.support import PROGRAM, Bed, Folder
 
 from btest_tools.explaining.faults import Fault, fault_of, faults_of
-from btest_tools.explaining.rows import Columns, Rows, combined, places_of, rows_of
+from btest_tools.explaining.rows import Columns, Rows, Source, combined, places_of, rows_of
 from btest_tools.explaining.sets import explain
 from btest_tools.model import Faults, read_faults
 from btest_tools.scans import LogRow
@@ -74,6 +74,18 @@ class Small(unittest.TestCase):
         self.assertEqual(Fault("and", ("D0", "A1")).nets(board), ["D0", "A1"])
         same = faults_of([fault_of("stuck D0 0"), Fault("swap", ("U1.2", "U1.3"))])
         self.assertEqual(same, read_faults(board, "stuck:D0:0 swap:U1.2:U1.3"))
+
+
+    def test_rows_with_two_drivers(self) -> None:
+        # Of the rows 0 to 2 both drivers are on in row 1, so nothing decides what the net has there.
+        bed = Bed()
+        rows = Rows(bed.board, 3)
+        wire = mock.Mock(net=mock.Mock(pull=None))
+        both = [Source("U1.1", 0b011, 0b001), Source("U2.1", 0b110, 0b100)]
+        feed = rows.feed(wire, Faults(), both)
+        self.assertEqual((feed.fed, feed.bits, feed.broken), (0b101, 0b101, 0))
+        feed = rows.feed(wire, faults_of([fault_of("open U2.1 1")]), both)
+        self.assertEqual((feed.fed, feed.broken, feed.broken_bits), (0b001, 0b100, 0b110))
 
 
 class Demo(unittest.TestCase):
