@@ -1,11 +1,13 @@
 // Loaded in front of the C library, this refuses one call of the program: the one that the variable REFUSE gives by its kind and its
-// number, as `read 3` for the third read. When that call comes, the file that REFUSED names is made. It stands on no header, so the
-// compiler of the kit will do.
+// number, as `read 3` for the third read. `memory-beside 1` is the first allocation of the program's first thread after it started one
+// more. When that call comes, the file that REFUSED names is made. It stands on no header, so the compiler of the kit will do.
 
 extern void *dlsym(void *, const char *);
 extern char *getenv(const char *);
 extern int strcmp(const char *, const char *);
 extern int raise(int);
+extern int getpid(void);
+extern int gettid(void);
 extern int *__errno_location(void);
 
 typedef unsigned long size;
@@ -18,6 +20,7 @@ int open(const char *, int, ...);
 
 static char kind[32];         // of the call that is refused
 static long wanted, counted;  // its number, and how many of the kind came
+static long started;          // how many threads were started
 
 static void begin(void) {
     const char *text = getenv("REFUSE");
@@ -39,8 +42,16 @@ static int fail(int error) {
     return -1;
 }
 
+// Whether this is the call of the kind memory-beside.
+static int is_beside(void) {
+    if (started < wanted || gettid() != getpid() || strcmp("memory-beside", kind) || counted) return 0;
+    counted = 1;
+    open(getenv("REFUSED"), TO_WRITE | TO_MAKE, 0600);
+    return 1;
+}
+
 static int is_memory_refused(void) {
-    return (is_refused("memory", 0) || is_refused("memory-on", 1)) && fail(ERROR_MEMORY);
+    return (is_refused("memory", 0) || is_refused("memory-on", 1) || is_beside()) && fail(ERROR_MEMORY);
 }
 
 void *malloc(size bytes) {
@@ -77,5 +88,8 @@ long write(int file, const void *from, size bytes) {
 
 int pthread_create(void *thread, const void *how, void *(*what)(void *), void *with) {
     TRUE_CALL(pthread_create);
-    return is_refused("thread", 0) ? ERROR_AGAIN : true_call(thread, how, what, with);
+    if (is_refused("thread", 0)) return ERROR_AGAIN;
+    int failure = true_call(thread, how, what, with);
+    started++;
+    return failure;
 }
