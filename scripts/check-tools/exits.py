@@ -19,6 +19,9 @@ TWO_DRIVERS = r"printf 'DEVICE U1 DRV -\nDEVICE U2 DRV -\n' >board.chain; printf
 # A log of 60,000,000 bytes, which are a comment, and an address space that holds the program many times and the log not once.
 LARGE = r"head -c 60000000 /dev/zero | tr '\0' '#' >large; ulimit -v 40000; "
 COUNTS = 'DEVICES 2 NETS 72 COVERED 72 PASSES 2 SCANS 19 BYTES 2373\n'
+# Two SIR statements have 418 bytes each, and an SDR statement has 5,003. Each of the 255 passes has one more of these, and 13 of 14,988 bytes
+# that compare. The head has 59 bytes and the tail 13.
+MOST_COUNTS = 'DEVICES 255 NETS 8168 COVERED 8168 PASSES 255 SCANS 3573 BYTES 50966896\n'
 
 # 70 more BSDL texts, which no part names.
 MANY = r'for i in $(seq 10 79); do sed "s/DRV/D$i/g" driver.bsd >more$i.bsd; done; '
@@ -32,6 +35,7 @@ ROWS = [
     ('the test of a board', SVF, 0, (HERE / 'stdout').read_text(), ''),
     ('what the test of a board reaches', SVF.replace('svf', 'cover', 1), 0, 'NETS 2 COVERED 2\n', ''),
     ('a generated board', 'btest make 2', 0, COUNTS, ''),
+    ('the largest generated board', 'btest make 255', 0, MOST_COUNTS, ''),
     ('a text without a byte', SVF.replace('svf', 'batch 1 /dev/null', 1), 0, '', ''),
     ('two drivers that are always on', TWO_DRIVERS + 'btest svf board.chain board.nets driver.bsd', 1, '',
      'board.nets line 1 word 4: two drivers always on\n'),

@@ -1,8 +1,8 @@
 // Rows for texts that denote no board, with the first fault of each.
-use run_bench::Text::{Numbered, Plain};
-use run_bench::{CHAIN, Case, Ending, NETS, RowFault, Rows, Run, Table, tables_hold};
+use run_bench::Text::{Edited, Numbered, Plain};
+use run_bench::{CHAIN, Case, Ending, NETS, Named, RCV1, RowFault, Rows, Run, Table, tables_hold};
 
-const CHAINS: [Case; 8] = [
+const CHAINS: [Case; 10] = [
     ("", NETS, "drv rcv", "c: no part in the chain\n"),
     (
         "DEVICE U1 DRV -\nBYPASS U1 3",
@@ -35,6 +35,20 @@ const CHAINS: [Case; 8] = [
         "drv rcv",
         "c line 3: supply net not there\n",
     ),
+    // The case of letters in the names of nets matters.
+    (
+        "DEVICE U1 DRV -\nDEVICE U2 RCV -\nSUPPLY n1",
+        NETS,
+        "drv rcv",
+        "c line 3: supply net not there\n",
+    ),
+    // A LINK line may not name a part of the chain either.
+    (
+        "DEVICE U1 DRV -\nDEVICE U2 RCV -\nLINK U1 1 2",
+        NETS,
+        "drv rcv",
+        "c line 3: inert part in the chain\n",
+    ),
     (
         "DEVICE U1 DRV -\nDEVICE U2 RCV -\nSUPPLY N1",
         NETS,
@@ -43,7 +57,7 @@ const CHAINS: [Case; 8] = [
     ),
 ];
 
-const NET_FILES: [Case; 7] = [
+const NET_FILES: [Case; 14] = [
     (
         CHAIN,
         "NET N1 U1.9",
@@ -69,9 +83,37 @@ const NET_FILES: [Case; 7] = [
         "n line 2 word 3: pin in two nets\n",
     ),
     (CHAIN, "NETS N1 U1.1", "drv rcv", "n line 1: no statement\n"),
+    (CHAIN, "net N1 U1.1", "drv rcv", "n line 1: no statement\n"),
+    (CHAIN, "NET", "drv rcv", "n line 1: no statement\n"),
+    (CHAIN, "NET #N1 U1.1", "drv rcv", "n line 1: no statement\n"),
+    // A byte order mark.
+    (
+        CHAIN,
+        "\u{feff}NET N1 U1.1",
+        "drv rcv",
+        "n line 1: no statement\n",
+    ),
     (
         CHAIN,
         "NET N1 U1.",
+        "drv rcv",
+        "n line 1: word not allowed\n",
+    ),
+    (
+        CHAIN,
+        "NET N1 U1",
+        "drv rcv",
+        "n line 1: word not allowed\n",
+    ),
+    (
+        CHAIN,
+        "NET N1\nNET N2 .1",
+        "drv rcv",
+        "n line 2: word not allowed\n",
+    ),
+    (
+        CHAIN,
+        "NET N\x7f U1.1",
         "drv rcv",
         "n line 1: word not allowed\n",
     ),
@@ -83,12 +125,42 @@ const NET_FILES: [Case; 7] = [
     ),
 ];
 
-const LINKS_AND_PULLS: [Case; 3] = [
+// A resistor between the driver and the receiver of the first net.
+const LINK_NETS: &str = "NET N1A U1.1 R1.1\nNET N1B R1.2 U2.1\nNET N2 U1.2 U2.2";
+
+const LINKS_AND_PULLS: [Case; 7] = [
     (
         "DEVICE U1 DRV -\nDEVICE U2 RCV -\nLINK R1 1 9",
-        "NET N1A U1.1 R1.1\nNET N1B R1.2 U2.1\nNET N2 U1.2 U2.2",
+        LINK_NETS,
         "drv rcv",
         "c line 3 word 4: link pin not in a net\n",
+    ),
+    // Joined nets are one net. It may not be pulled twice. If one of them is a supply, so is the joined net.
+    (
+        "DEVICE U1 DRV -\nDEVICE U2 RCV -\nLINK R1 1 2\nPULL N1A 1\nPULL N1B 1",
+        LINK_NETS,
+        "drv rcv",
+        "c line 5: net pulled twice\n",
+    ),
+    (
+        "DEVICE U1 DRV -\nDEVICE U2 RCV -\nLINK R1 1 2\nSUPPLY N1B",
+        LINK_NETS,
+        "drv rcv",
+        "n line 1 word 3: driver on a guarded net\n",
+    ),
+    // Joined nets are named in SUPPLY lines, too. Any other name is still a name of no net.
+    (
+        "DEVICE U1 DRV -\nDEVICE U2 RCV -\nLINK R1 1 2\nSUPPLY GND",
+        LINK_NETS,
+        "drv rcv",
+        "c line 4: supply net not there\n",
+    ),
+    // Without a LINK line no pin may be in both nets.
+    (
+        CHAIN,
+        "NET N1A U1.1 R1.1\nNET N1B R1.2 U2.1 U1.1\nNET N2 U1.2 U2.2",
+        "drv rcv",
+        "n line 2 word 5: pin in two nets\n",
     ),
     (
         "DEVICE U1 OD -\nDEVICE U2 RCV1 -\nPULL N 1\nPULL N 1",
@@ -104,6 +176,33 @@ const LINKS_AND_PULLS: [Case; 3] = [
     ),
 ];
 
+// A driver that is always on may not drive a net with a pin of the test port or with a compliance pin.
+const GUARDED: [Case; 2] = [
+    (
+        CHAIN,
+        "NET N1 U1.1 U2.T3",
+        "drv rcv",
+        "n line 1 word 3: driver on a guarded net\n",
+    ),
+    (
+        "DEVICE U1 DRV -\nDEVICE U2 RCV1 -",
+        "NET N U2.1 U1.1",
+        "drv complying",
+        "n line 1 word 4: driver on a guarded net\n",
+    ),
+];
+
+const COMPLYING: [Named; 1] = [(
+    "complying",
+    Edited(
+        RCV1,
+        &[(
+            "end RCV1;",
+            "attribute COMPLIANCE_PATTERNS of RCV1 : entity is \"(D) (1)\";\nend RCV1;",
+        )],
+    ),
+)];
+
 // Net files that are too large.
 const MANY_NETS: [Run; 1] = [(
     Numbered {
@@ -115,17 +214,58 @@ const MANY_NETS: [Run; 1] = [(
     Ending::Refused("limit: nets\n"),
 )];
 
-const MANY_PINS: [Run; 1] = [(
-    Numbered {
-        head: "NET N",
-        piece: " X.#",
-        first: 0,
-        end: 65_536,
-    },
-    Ending::Refused("limit: pins\n"),
-)];
+// Two nets that a LINK line joins count as one net.
+const MANY_JOINED_NETS: [Run; 2] = [
+    (
+        Numbered {
+            head: "NET A R1.1\nNET B R1.2\n",
+            piece: "NET N# X.#\n",
+            first: 0,
+            end: 16_381,
+        },
+        Ending::PutsAll(Numbered {
+            head: "NETS 16382 COVERED 0\nNET A NODRIVER\n",
+            piece: "NET N# DARK\n",
+            first: 0,
+            end: 16_381,
+        }),
+    ),
+    (
+        Numbered {
+            head: "NET A R1.1\nNET B R1.2\n",
+            piece: "NET N# X.#\n",
+            first: 0,
+            end: 16_382,
+        },
+        Ending::Refused("limit: nets\n"),
+    ),
+];
 
-static TABLES: [Table; 5] = [
+const MANY_PINS: [Run; 2] = [
+    (
+        Numbered {
+            head: "NET N",
+            piece: " X.#",
+            first: 0,
+            end: 65_536,
+        },
+        Ending::Refused("limit: pins\n"),
+    ),
+    // A pin that the net names twice counts once.
+    (
+        Numbered {
+            head: "NET N X.0",
+            piece: " X.#",
+            first: 0,
+            end: 65_535,
+        },
+        Ending::Scans(
+            "SIR 2 TDI (3) TDO (1) MASK (3);\nSDR 1 TDI (0);\nSIR 2 TDI (3) TDO (1) MASK (3);\n",
+        ),
+    ),
+];
+
+static TABLES: [Table; 4] = [
     Table {
         name: "the first board rule that fails is told",
         texts: &[],
@@ -142,9 +282,27 @@ static TABLES: [Table; 5] = [
         rows: Rows::Boards(&LINKS_AND_PULLS),
     },
     Table {
+        name: "no driver is always on where a net has a pin of a test port or a compliance pin",
+        texts: &COMPLYING,
+        rows: Rows::Boards(&GUARDED),
+    },
+];
+
+#[test]
+fn texts_that_denote_no_board_are_refused(rt: HostRuntime) -> Result<(), RowFault> {
+    tables_hold(&rt, rt.alloc(), &TABLES)
+}
+
+static LIMIT_TABLES: [Table; 3] = [
+    Table {
         name: "a board has at most 16,382 nets",
         texts: &[("c", Plain("BYPASS U1 2"))],
         rows: Rows::Texts("cover c n drv", "n", &MANY_NETS),
+    },
+    Table {
+        name: "a board has at most 16,382 nets once nets are joined",
+        texts: &[("c", Plain("BYPASS U1 2\nLINK R1 1 2"))],
+        rows: Rows::Texts("cover c n drv", "n", &MANY_JOINED_NETS),
     },
     Table {
         name: "a board has at most 65,535 pins",
@@ -154,6 +312,6 @@ static TABLES: [Table; 5] = [
 ];
 
 #[test]
-fn texts_that_denote_no_board_are_refused(rt: HostRuntime) -> Result<(), RowFault> {
-    tables_hold(&rt, rt.alloc(), &TABLES)
+fn nets_and_pins_have_limits(rt: HostRuntime) -> Result<(), RowFault> {
+    tables_hold(&rt, rt.alloc(), &LIMIT_TABLES)
 }

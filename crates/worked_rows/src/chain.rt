@@ -7,7 +7,15 @@ const TWO_PARTS: &str = "BYPASS U1 4\nBYPASS U2 2";
 const TWO_PARTS_SCANS: &str =
     "SIR 6 TDI (3F) TDO (05) MASK (0F);\nSDR 10 TDI (0A5) TDO (294) MASK (3FF);\n";
 
-const CHAINS: [Row; 5] = [
+/// The scans of a chain of one part, whose instruction register has 255 bits.
+pub const LONGEST_REGISTER: &str = "SIR 255
+TDI (7FFFFFFFFFFFFFFFFFFFFFFFFFFFFFFFFFFFFFFFFFFFFFFFFFFFFFFFFFFFFFFF)
+TDO (0000000000000000000000000000000000000000000000000000000000000001)
+MASK (0000000000000000000000000000000000000000000000000000000000000003);
+SDR 9 TDI (0A5) TDO (14A) MASK (1FF);
+";
+
+const CHAINS: [Row; 7] = [
     Row {
         texts: &[("c", Plain(TWO_PARTS))],
         line: "chain c",
@@ -30,6 +38,21 @@ const CHAINS: [Row; 5] = [
         ending: Ending::Scans(
             "SIR 2 TDI (3) TDO (1) MASK (3);\nSDR 9 TDI (0A5) TDO (14A) MASK (1FF);\n",
         ),
+    },
+    // Names that differ in case belong to two parts. This command does not try the rules of a board, so a part of the chain may be inert.
+    Row {
+        texts: &[(
+            "c",
+            Plain("BYPASS U1 4\nBYPASS u1 2\nINERT U1\nPULL V 0\nPULL V 1\nLINK U1 1 1"),
+        )],
+        line: "chain c",
+        ending: Ending::Scans(TWO_PARTS_SCANS),
+    },
+    // An instruction register of 255 bits. The name consists of the first and the last visible character.
+    Row {
+        texts: &[("c", Plain("BYPASS !~ 255"))],
+        line: "chain c",
+        ending: Ending::Scans(LONGEST_REGISTER),
     },
     // A name may be any word.
     Row {
@@ -71,6 +94,58 @@ const DESCRIBED: [Line; 4] = [
         Ending::Refused("again: entity given twice\n"),
     ),
 ];
+
+// Statements that have a word too few or too many, and statement names that are not in upper case.
+const NO_STATEMENTS: [Run; 17] = [
+    (Plain("BYPASS U1"), NO_STATEMENT),
+    (Plain("DEVICE U1 DRV - -"), NO_STATEMENT),
+    (Plain("INERT"), NO_STATEMENT),
+    (Plain("INERT R1 R2"), NO_STATEMENT),
+    (Plain("SUPPLY"), NO_STATEMENT),
+    (Plain("SUPPLY V W"), NO_STATEMENT),
+    (Plain("PULL N"), NO_STATEMENT),
+    (Plain("PULL N 1 1"), NO_STATEMENT),
+    (Plain("LINK R1 1"), NO_STATEMENT),
+    (Plain("LINK R1 1 2 3"), NO_STATEMENT),
+    (Plain("device U1 DRV -"), NO_STATEMENT),
+    (Plain("Inert R1"), NO_STATEMENT),
+    (Plain("supply V"), NO_STATEMENT),
+    (Plain("Pull N 1"), NO_STATEMENT),
+    (Plain("link R1 1 2"), NO_STATEMENT),
+    (Plain("NET N U1.1"), NO_STATEMENT),
+    // A byte order mark.
+    (Plain("\u{feff}BYPASS U1 2"), NO_STATEMENT),
+];
+
+const NO_STATEMENT: Ending<'static> = Ending::Refused("c line 1: no statement\n");
+
+// Words with a byte that is not allowed in them. The last rows have numbers that are not allowed, and names that are.
+const WORDS: [Run; 11] = [
+    (Plain("BYPASS U\x7f 2"), NO_WORD),
+    (Plain("BYPASS U\u{e9} 2"), NO_WORD),
+    (Plain("DEVICE U.1 DRV -"), NO_WORD),
+    (Plain("INERT R.1"), NO_WORD),
+    (Plain("LINK R.1 1 2"), NO_WORD),
+    (Plain("LINK R1 1- 2"), NO_WORD),
+    (Plain("LINK R1 1 2."), NO_WORD),
+    // The value of a pull is checked as a word first, and then as a number.
+    (Plain("PULL N \x01"), NO_WORD),
+    (
+        Plain("PULL N 01"),
+        Ending::Refused("c line 1: number not allowed\n"),
+    ),
+    (
+        Plain("BYPASS U1 2x"),
+        Ending::Refused("c line 1: number not allowed\n"),
+    ),
+    // The name of an entity or of a package may have a dot.
+    (
+        Plain("DEVICE U1 D.RV P.Q"),
+        Ending::Refused("c line 1: entity not given\n"),
+    ),
+];
+
+const NO_WORD: Ending<'static> = Ending::Refused("c line 1: word not allowed\n");
 
 // Chain files, and how the run of `chain c` ends.
 const FILES: [Run; 21] = [
@@ -165,7 +240,7 @@ const FILES: [Run; 21] = [
     ),
 ];
 
-const NO_COMMANDS: [&str; 24] = [
+const NO_COMMANDS: [&str; 28] = [
     "",
     "chain",
     "help",
@@ -188,6 +263,11 @@ const NO_COMMANDS: [&str; 24] = [
     "batch g c n",
     "batch 0 g c n drv rcv",
     "batch 65 g c n drv rcv",
+    // A number of 21 digits.
+    "diagnose 000000000000000000001 g c n drv rcv",
+    "batch 000000000000000000001 g c n drv rcv",
+    "svf c n -drv",
+    "svf c n drv ",
     "--version",
     "-h",
 ];
@@ -231,7 +311,7 @@ const ONE_DESCRIBED: [Named; 2] = [
     ("again", Plain(DRV)),
 ];
 
-static TABLES: [Table; 7] = [
+static TABLES: [Table; 9] = [
     Table {
         name: "the two scans are written",
         texts: &[],
@@ -256,6 +336,16 @@ static TABLES: [Table; 7] = [
         name: "the first fault is told",
         texts: &[],
         rows: Rows::Texts("chain c", "c", &FILES),
+    },
+    Table {
+        name: "a statement has its name in upper case, and its number of words",
+        texts: &[],
+        rows: Rows::Texts("chain c", "c", &NO_STATEMENTS),
+    },
+    Table {
+        name: "a word has no byte that is not allowed",
+        texts: &[],
+        rows: Rows::Texts("chain c", "c", &WORDS),
     },
     Table {
         name: "words that are no command fetch nothing",

@@ -3,7 +3,7 @@ use run_bench::Text::{Edited, Numbered, Plain};
 use run_bench::{CHAIN, Ending, NETS, Named, RCV1, Row, RowFault, Rows, Run, Table, tables_hold};
 
 // The reason for a net that is not covered is the first reason that holds.
-const REASONS: [Row; 4] = [
+const REASONS: [Row; 6] = [
     Row {
         texts: &[
             ("c", Plain("DEVICE U1 OCT -")),
@@ -43,6 +43,27 @@ const REASONS: [Row; 4] = [
         line: "cover c n od rcv1",
         ending: Ending::Puts("NETS 1 COVERED 0\nNET N BLOCKED\n"),
     },
+    // SUPPLY comes before TESTPORT, and TESTPORT comes before DARK.
+    Row {
+        texts: &[
+            ("c", Plain("DEVICE U1 TS -\nDEVICE U2 RCV1 -\nSUPPLY N")),
+            ("n", Plain("NET N U1.1 U2.1 U2.T3\nNET M U2.T4 X.1")),
+        ],
+        line: "cover c n ts rcv1",
+        ending: Ending::Puts("NETS 2 COVERED 0\nNET N SUPPLY\nNET M TESTPORT\n"),
+    },
+    // A net that is joined with a supply is a supply.
+    Row {
+        texts: &[
+            (
+                "c",
+                Plain("DEVICE U1 TS -\nDEVICE U2 RCV1 -\nLINK R1 1 2\nSUPPLY VCC"),
+            ),
+            ("n", Plain("NET N U1.1 U2.1 R1.1\nNET VCC R1.2")),
+        ],
+        line: "cover c n ts rcv1",
+        ending: Ending::Puts("NETS 1 COVERED 0\nNET N SUPPLY\n"),
+    },
     Row {
         texts: &[("c", Plain("DEVICE U1 DRV -")), ("n", Plain("NET N U1.1"))],
         line: "cover c n drv",
@@ -78,7 +99,25 @@ const LONG_NAMES: [Row; 1] = [Row {
 const WITH_RAM: Named = ("n", Plain("NET N1 U1.1 U2.1 RAM.7\nNET N2 U1.2 U2.2"));
 
 // A net with a pin of a part without a description is dark.
-const DARKENED: [Row; 3] = [
+const DARKENED: [Row; 5] = [
+    // The chain file gives only the length of U3, so U3 may drive the net.
+    Row {
+        texts: &[
+            ("c", Plain("DEVICE U1 TS -\nDEVICE U2 RCV1 -\nBYPASS U3 2")),
+            ("n", Plain("NET N U1.1 U2.1 U3.1")),
+        ],
+        line: "cover c n ts rcv1",
+        ending: Ending::Puts("NETS 1 COVERED 0\nNET N DARK\n"),
+    },
+    // The case of letters in the names of parts matters.
+    Row {
+        texts: &[
+            ("c", Plain("DEVICE U1 TS -\nDEVICE U2 RCV1 -")),
+            ("n", Plain("NET N U1.1 u2.1")),
+        ],
+        line: "cover c n ts rcv1",
+        ending: Ending::Puts("NETS 1 COVERED 0\nNET N DARK\n"),
+    },
     Row {
         texts: &[("c", Plain(CHAIN)), WITH_RAM],
         line: "cover c n drv rcv",
@@ -115,8 +154,8 @@ const DARKENED: [Row; 3] = [
     },
 ];
 
-// The list has the drivers and the pairs that no safe setting tests.
-const UNTESTED: [Row; 3] = [
+// The list has the drivers, the receivers and the pairs that no safe setting tests.
+const UNTESTED: [Row; 5] = [
     Row {
         texts: &[
             (
@@ -137,6 +176,27 @@ const UNTESTED: [Row; 3] = [
             ("n", Plain("NET N U1.1 U2.1")),
         ],
         line: "cover c n bi ts",
+        ending: Ending::Puts("NETS 1 COVERED 1\nDRIVER U1.1\n"),
+    },
+    // The only driver of the net is at the receiver's own pin.
+    Row {
+        texts: &[
+            ("c", Plain("DEVICE U1 BI -\nDEVICE U2 RCV1 -")),
+            ("n", Plain("NET N U1.1 U2.1")),
+        ],
+        line: "cover c n bi rcv1",
+        ending: Ending::Puts("NETS 1 COVERED 1\nRECEIVER U1.1\n"),
+    },
+    // Only a pull would make it safe to enable a driver that its own cell turns off.
+    Row {
+        texts: &[
+            (
+                "c",
+                Plain("DEVICE U1 OD -\nDEVICE U2 TS -\nDEVICE U3 RCV1 -"),
+            ),
+            ("n", Plain("NET N U1.1 U2.1 U3.1")),
+        ],
+        line: "cover c n od ts rcv1",
         ending: Ending::Puts("NETS 1 COVERED 1\nDRIVER U1.1\n"),
     },
     Row {
@@ -163,7 +223,7 @@ const LINKED_NETS: Named = (
 );
 
 // A LINK line joins two nets.
-const LINKS: [Row; 2] = [
+const LINKS: [Row; 3] = [
     Row {
         texts: &[
             ("c", Plain("DEVICE U1 DRV -\nDEVICE U2 RCV -\nLINK R1 1 2")),
@@ -177,14 +237,57 @@ const LINKS: [Row; 2] = [
         line: "cover c n drv rcv",
         ending: Ending::Puts("NETS 3 COVERED 1\nNET N1A DARK\nNET N1B DARK\n"),
     },
+    // Two joined nets may name the same pin, since they are one net.
+    Row {
+        texts: &[
+            ("c", Plain("DEVICE U1 DRV -\nDEVICE U2 RCV -\nLINK R1 1 2")),
+            (
+                "n",
+                Plain("NET N1A U1.1 R1.1\nNET N1B R1.2 U2.1 U1.1\nNET N2 U1.2 U2.2"),
+            ),
+        ],
+        line: "cover c n drv rcv",
+        ending: Ending::Puts("NETS 2 COVERED 2\n"),
+    },
 ];
 
 // The nets of a driver and a receiver are covered.
-const COVERED: [Row; 2] = [
+const COVERED: [Row; 5] = [
     Row {
         texts: &[("c", Plain(CHAIN)), ("n", Plain(NETS))],
         line: "cover c n drv rcv",
         ending: Ending::Puts("NETS 2 COVERED 2\n"),
+    },
+    // A pin that a net names twice counts once, so this net has one driver that is always on.
+    Row {
+        texts: &[
+            ("c", Plain(CHAIN)),
+            (
+                "n",
+                Plain("NET N1 U1.1 U1.1 U2.1\nNET N2 U1.2 U2.2\nNET N1 U2.1 U1.1"),
+            ),
+        ],
+        line: "cover c n drv rcv",
+        ending: Ending::Puts("NETS 2 COVERED 2\n"),
+    },
+    // The case of letters in the names of nets matters. A name may have a dot, and a number sign that is not its first character. A net
+    // may have no pins.
+    Row {
+        texts: &[
+            ("c", Plain(CHAIN)),
+            (
+                "n",
+                Plain("NET N U1.1 U2.1 # U2.2\nNET n\nNET W.E# #U1.2\n#NET M U1.2"),
+            ),
+        ],
+        line: "cover c n drv rcv",
+        ending: Ending::Puts("NETS 3 COVERED 1\nNET n NODRIVER\nNET W.E# NODRIVER\n"),
+    },
+    // A board without a DEVICE line needs no BSDL text.
+    Row {
+        texts: &[("c", Plain("BYPASS U1 2")), ("n", Plain("NET N"))],
+        line: "cover c n",
+        ending: Ending::Puts("NETS 1 COVERED 0\nNET N NODRIVER\n"),
     },
     // The case of letters in the names of entities, packages and pins does not matter.
     Row {
@@ -240,8 +343,10 @@ const DARK: Ending<'static> = Ending::Puts("NETS 1 COVERED 0\nNET N DARK\n");
 
 const TWO_PINS: (&str, &str) = ("D:1", "D:1, E:2");
 
-// A linkage pin, an input without an entry, and an output that is only read.
-const UNRULED: [Run; 3] = [
+const READ_TWICE: (&str, &str) = ("D, input, X)\"", "D, input, X), 1 (BC_1, E, input, X)\"");
+
+// A linkage pin, an input without an entry, and pins of modes out, inout and buffer without a driving entry.
+const UNRULED: [Run; 5] = [
     (
         Edited(
             RCV1,
@@ -260,7 +365,31 @@ const UNRULED: [Run; 3] = [
                 ("D : in bit", "D : in bit; E : out bit"),
                 TWO_PINS,
                 ("entity is 1;", "entity is 2;"),
-                ("D, input, X)\"", "D, input, X), 1 (BC_1, E, input, X)\""),
+                READ_TWICE,
+            ],
+        ),
+        DARK,
+    ),
+    (
+        Edited(
+            RCV1,
+            &[
+                ("D : in bit", "D : in bit; E : inout bit"),
+                TWO_PINS,
+                ("entity is 1;", "entity is 2;"),
+                READ_TWICE,
+            ],
+        ),
+        DARK,
+    ),
+    (
+        Edited(
+            RCV1,
+            &[
+                ("D : in bit", "D : in bit; E : buffer bit"),
+                TWO_PINS,
+                ("entity is 1;", "entity is 2;"),
+                READ_TWICE,
             ],
         ),
         DARK,

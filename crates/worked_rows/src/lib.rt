@@ -14,7 +14,13 @@ mod generated;
 #[cfg(test)]
 mod ident;
 #[cfg(test)]
+mod long_registers;
+#[cfg(test)]
+mod long_words;
+#[cfg(test)]
 mod make;
+#[cfg(test)]
+mod makers;
 #[cfg(test)]
 mod orders;
 #[cfg(test)]

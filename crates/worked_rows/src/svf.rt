@@ -76,7 +76,7 @@ const BUSES: [Row; 2] = [
     },
 ];
 
-const ALONE: [Row; 3] = [
+const ALONE: [Row; 4] = [
     Row {
         texts: &[
             ("c", Plain(CHAIN)),
@@ -102,6 +102,14 @@ const ALONE: [Row; 3] = [
         ending: Ending::Scans(
             "SIR 4 TDI (A) TDO (5) MASK (F);\nSDR 10 TDI (210);\nSIR 4 TDI (0) TDO (5) MASK (F);\n\
          SDR 10 TDI (030);\nSDR 10 TDI (050) TDO (004) MASK (00C);\nSDR 10 TDI (210) TDO (008) MASK (00C);\n",
+        ),
+    },
+    // A board without a DEVICE line needs no BSDL text.
+    Row {
+        texts: &[("c", Plain("BYPASS U1 2")), ("n", Plain(""))],
+        line: "svf c n",
+        ending: Ending::Scans(
+            "SIR 2 TDI (3) TDO (1) MASK (3);\nSDR 1 TDI (0);\nSIR 2 TDI (3) TDO (1) MASK (3);\n",
         ),
     },
     Row {
@@ -293,18 +301,66 @@ const INTERNAL: [(&str, &str); 2] = [
     ("control, 1)\"", "control, 1), 2 (BC_1, *, internal, 1)\""),
 ];
 
-const SAFE: [Row; 1] = [Row {
-    texts: &[
-        ("c", Plain("DEVICE U1 TS -\nDEVICE U2 RCV1 -")),
-        ("n", Plain("NET N U1.1 U2.1")),
-        ("u1", Edited(TS, &INTERNAL)),
-    ],
-    line: "svf c n u1 rcv1",
-    ending: Ending::Scans(
-        "SIR 4 TDI (A) TDO (5) MASK (F);\nSDR 4 TDI (C);\nSIR 4 TDI (0) TDO (5) MASK (F);\n\
+const SAFE: [Row; 4] = [
+    Row {
+        texts: &[
+            ("c", Plain("DEVICE U1 TS -\nDEVICE U2 RCV1 -")),
+            ("n", Plain("NET N U1.1 U2.1")),
+            ("u1", Edited(TS, &INTERNAL)),
+        ],
+        line: "svf c n u1 rcv1",
+        ending: Ending::Scans(
+            "SIR 4 TDI (A) TDO (5) MASK (F);\nSDR 4 TDI (C);\nSIR 4 TDI (0) TDO (5) MASK (F);\n\
          SDR 4 TDI (A);\nSDR 4 TDI (8) TDO (1) MASK (1);\nSDR 4 TDI (C) TDO (0) MASK (1);\n",
-    ),
-}];
+        ),
+    },
+    // A pin is a driver even if no net has it, so its control holds the disable value and not the safe value.
+    Row {
+        texts: &[
+            ("c", Plain("DEVICE U1 TS -")),
+            ("n", Plain("")),
+            ("u1", Edited(TS, &[UNSAFE_CONTROL])),
+        ],
+        line: "svf c n u1",
+        ending: Ending::Scans(
+            "SIR 2 TDI (2) TDO (1) MASK (3);\nSDR 2 TDI (2);\nSIR 2 TDI (0) TDO (1) MASK (3);\n",
+        ),
+    },
+    // A port without a pin is no driver, so its control holds the safe value.
+    Row {
+        texts: &[
+            ("c", Plain("DEVICE U1 TS -")),
+            ("n", Plain("")),
+            ("u1", Edited(TS, &[UNSAFE_CONTROL, (", Q:1", "")])),
+        ],
+        line: "svf c n u1",
+        ending: Ending::Scans(
+            "SIR 2 TDI (2) TDO (1) MASK (3);\nSDR 2 TDI (0);\nSIR 2 TDI (0) TDO (1) MASK (3);\n",
+        ),
+    },
+    // A driver that its own cell turns off holds the disable value.
+    Row {
+        texts: &[
+            ("c", Plain("DEVICE U1 OWN -")),
+            ("n", Plain("")),
+            ("u1", Edited(RCV1, &OWN_CONTROL)),
+        ],
+        line: "svf c n u1",
+        ending: Ending::Scans(
+            "SIR 2 TDI (2) TDO (1) MASK (3);\nSDR 1 TDI (1);\nSIR 2 TDI (0) TDO (1) MASK (3);\n",
+        ),
+    },
+];
+
+// A control whose safe value enables its driver.
+const UNSAFE_CONTROL: (&str, &str) = ("*, control, 1)", "*, control, 0)");
+
+// An output whose own cell turns it off with a 1, and has the safe value 0.
+const OWN_CONTROL: [(&str, &str); 3] = [
+    ("RCV1", "OWN"),
+    ("D : in bit", "D : out bit"),
+    ("D, input, X", "D, output2, 0, 0, 1, WEAK1"),
+];
 
 // The cell of a bidirectional pin reads the net while another part drives, but not while its own part drives.
 const BOTH_WAYS: [Row; 2] = [
@@ -398,6 +454,28 @@ const WIDE: [Row; 2] = [
             ("b", Cells("B", 32_768)),
         ],
         line: "svf c n a b",
+        ending: Ending::Refused("limit: boundary bits\n"),
+    },
+];
+
+// One device with only internal cells may have all 65,535 bits. A part without a description adds one bit.
+const WIDEST: [Row; 2] = [
+    Row {
+        texts: &[
+            ("c", Plain("DEVICE U1 A -")),
+            ("n", Plain("")),
+            ("a", Cells("A", 65_535)),
+        ],
+        line: "svf c n a",
+        ending: Ending::Done,
+    },
+    Row {
+        texts: &[
+            ("c", Plain("DEVICE U1 A -\nBYPASS U2 2")),
+            ("n", Plain("")),
+            ("a", Cells("A", 65_535)),
+        ],
+        line: "svf c n a",
         ending: Ending::Refused("limit: boundary bits\n"),
     },
 ];
@@ -505,4 +583,15 @@ static READER_TABLES: [Table; 3] = [
 #[test]
 fn readers_are_compared_as_they_should_be(rt: HostRuntime) -> Result<(), RowFault> {
     tables_hold(&rt, rt.alloc(), &READER_TABLES)
+}
+
+static WIDE_TABLES: [Table; 1] = [Table {
+    name: "a device has at most 65,535 cells, and a part without a description has a bit",
+    texts: &[],
+    rows: Rows::Runs(&WIDEST),
+}];
+
+#[test]
+fn one_device_may_have_all_bits(rt: HostRuntime) -> Result<(), RowFault> {
+    tables_hold(&rt, rt.alloc(), &WIDE_TABLES)
 }
