@@ -1,6 +1,6 @@
 // Rows for the command `batch`, which diagnoses many logs in one text.
-use run_bench::Text::Plain;
-use run_bench::{Bench, CHAIN, Ending, Line, NETS, Row, RowFault, Rows, Table, tables_hold};
+use run_bench::Text::{Filled, Plain};
+use run_bench::{Bench, CHAIN, Ending, Line, NETS, Row, RowFault, Rows, Run, Table, tables_hold};
 use std::alloc::{AllocError, Global};
 
 const LINE: &str = "batch 2 g c n drv rcv";
@@ -9,7 +9,7 @@ const TWO_BLOCKS: &str = "BOARD A\n1\n2\nBOARD B\n0\n2\n";
 
 const TWO_VERDICTS: &str = "BOARD A\nPASS\nBOARD B\nFAIL 3\nstuck N1 0\nopen U1.1 0\nopen U2.1 0\n";
 
-const LOGS: [Line; 15] = [
+const LOGS: [Line; 22] = [
     (TWO_BLOCKS, Ending::Puts(TWO_VERDICTS)),
     ("", Ending::Puts("")),
     ("# no board today\r\n\r\n", Ending::Puts("")),
@@ -23,6 +23,33 @@ const LOGS: [Line; 15] = [
         Ending::Refused("g board 1: 1 rows of 2\n"),
     ),
     ("1\nBOARD A\n", Ending::Refused("g line 1: no board yet\n")),
+    // A byte order mark, and words that are not `BOARD`.
+    (
+        "\u{feff}BOARD A\n1\n2\n",
+        Ending::Refused("g line 1: no board yet\n"),
+    ),
+    (
+        "\nboard A\n1\n2\n",
+        Ending::Refused("g line 2: no board yet\n"),
+    ),
+    (
+        "BOARDS A\n1\n2\n",
+        Ending::Refused("g line 1: no board yet\n"),
+    ),
+    // An id may have any visible characters, but may not begin with `#`.
+    ("BOARD !~A#.\n1\n2\n", Ending::Puts("BOARD !~A#.\nPASS\n")),
+    (
+        "BOARD A\x7f\n1\n2\n",
+        Ending::Refused("g line 1: board not allowed\n"),
+    ),
+    (
+        "BOARD A\u{e9}\n1\n2\n",
+        Ending::Refused("g line 1: board not allowed\n"),
+    ),
+    (
+        "BOARD\n1\n2\n",
+        Ending::Refused("g line 1: board not allowed\n"),
+    ),
     // The second block has no rows.
     (
         "BOARD A\n1\n2\nBOARD B\n",
@@ -64,7 +91,40 @@ const LOGS: [Line; 15] = [
     ),
 ];
 
-const ROWS: [Row; 9] = [
+// A title whose id has 255 bytes, and a title whose id has 256.
+const LONG_IDS: [Run; 2] = [
+    (
+        Filled {
+            of: "",
+            lines: 0,
+            head: "BOARD ",
+            piece: "A",
+            count: 255,
+            tail: "\n1\n2\n",
+        },
+        Ending::PutsAll(Filled {
+            of: "",
+            lines: 0,
+            head: "BOARD ",
+            piece: "A",
+            count: 255,
+            tail: "\nPASS\n",
+        }),
+    ),
+    (
+        Filled {
+            of: "",
+            lines: 0,
+            head: "BOARD ",
+            piece: "A",
+            count: 256,
+            tail: "\n1\n2\n",
+        },
+        Ending::Refused("g line 1: board not allowed\n"),
+    ),
+];
+
+const ROWS: [Row; 11] = [
     Row {
         texts: &[],
         line: "batch 1 g c n drv rcv",
@@ -79,6 +139,17 @@ const ROWS: [Row; 9] = [
         texts: &[],
         line: "batch 64 g c n drv rcv",
         ending: Ending::Puts(TWO_VERDICTS),
+    },
+    // A number of 20 digits, and a number of 21.
+    Row {
+        texts: &[],
+        line: "batch 00000000000000000064 g c n drv rcv",
+        ending: Ending::Puts(TWO_VERDICTS),
+    },
+    Row {
+        texts: &[],
+        line: "batch 000000000000000000064 g c n drv rcv",
+        ending: Ending::Usage,
     },
     Row {
         texts: &[],
@@ -121,11 +192,16 @@ const ROWS: [Row; 9] = [
     },
 ];
 
-static TABLES: [Table; 2] = [
+static TABLES: [Table; 3] = [
     Table {
         name: "each block is diagnosed by itself",
         texts: &[],
         rows: Rows::Logs(LINE, &LOGS),
+    },
+    Table {
+        name: "an id has at most 255 bytes",
+        texts: &[],
+        rows: Rows::Texts(LINE, "g", &LONG_IDS),
     },
     Table {
         name: "any number of workers gives the same",

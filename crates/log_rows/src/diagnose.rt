@@ -7,7 +7,7 @@ const STUCK: &str = "FAIL 3\nstuck N1 0\nopen U1.1 0\nopen U2.1 0\n";
 
 const LINE: &str = "diagnose 2 g c n drv rcv od rcv1";
 
-const LOGS: [Line; 19] = [
+const LOGS: [Line; 20] = [
     ("1\n2\n", Ending::Puts("PASS\n")),
     (
         "# first board\r\n\r\n1\r\n2 # last\r\n",
@@ -25,6 +25,11 @@ const LOGS: [Line; 19] = [
     ("1\n", Ending::Refused("g: 1 rows of 2\n")),
     ("1\n22\n", Ending::Refused("g line 2: wrong length\n")),
     ("1 2\n", Ending::Refused("g line 1: wrong length\n")),
+    // A byte order mark.
+    (
+        "\u{feff}1\n2\n",
+        Ending::Refused("g line 1: wrong length\n"),
+    ),
     ("1\n\nG\n", Ending::Refused("g line 3: digit not allowed\n")),
     ("1\n2\n2\n", Ending::Refused("g line 3: row too many\n")),
     ("1\n2\nz z\n", Ending::Refused("g line 3: row too many\n")),
@@ -40,7 +45,7 @@ const LOGS: [Line; 19] = [
     ("1\n22\n2\n", Ending::Refused("g line 2: wrong length\n")),
 ];
 
-const WORKERS: [Row; 10] = [
+const WORKERS: [Row; 12] = [
     Row {
         texts: &[],
         line: "diagnose 1 g c n drv rcv",
@@ -60,6 +65,17 @@ const WORKERS: [Row; 10] = [
         texts: &[],
         line: "diagnose 064 g c n drv rcv",
         ending: Ending::Puts(STUCK),
+    },
+    // A number of 20 digits, and a number of 21.
+    Row {
+        texts: &[],
+        line: "diagnose 00000000000000000002 g c n drv rcv",
+        ending: Ending::Puts(STUCK),
+    },
+    Row {
+        texts: &[],
+        line: "diagnose 000000000000000000002 g c n drv rcv",
+        ending: Ending::Usage,
     },
     Row {
         texts: &[],
@@ -137,8 +153,14 @@ const BOARDS: [Row; 4] = [
 // A bus with two drivers, which two passes enable in turn.
 const BUS: &str = "DEVICE U1 TS -\nDEVICE U2 TS -\nDEVICE U3 RCV1 -\n";
 
-const BUS_LOGS: [Line; 5] = [
+const BUS_LOGS: [Line; 7] = [
     ("01\n00\n01\n00\n", Ending::Puts("PASS\n")),
+    // The scan has five bits, and only bit 0 is compared. A sixth bit is beyond the scan.
+    ("1F\n1e\n1f\n1E\n", Ending::Puts("PASS\n")),
+    (
+        "01\n20\n01\n00\n",
+        Ending::Refused("g line 2: digit not allowed\n"),
+    ),
     // Only one driver is open, and the pass of this driver shows it.
     ("00\n00\n01\n00\n", Ending::Puts("FAIL 1\nopen U1.1 0\n")),
     ("01\n00\n01\n01\n", Ending::Puts("FAIL 1\nopen U2.1 1\n")),

@@ -29,7 +29,7 @@ pub const LINKED_NETS: &str = "NET N1A U1.1 R1.1\nNET N1B R1.2 U2.1\nNET N2 U1.2
 
 const LINE: &str = "groups g c n drv rcv od rcv1";
 
-const THREE_NETS: [Line; 16] = [
+const THREE_NETS: [Line; 18] = [
     (
         "05\n08\n05\n",
         Ending::Puts("GROUPS 1\nGROUP 2\nNET N1\nNET N3\n"),
@@ -52,6 +52,12 @@ const THREE_NETS: [Line; 16] = [
     ("", Ending::Refused("g: 0 rows of 3\n")),
     ("04\n08\n", Ending::Refused("g: 2 rows of 3\n")),
     ("04\n8\n01\n", Ending::Refused("g line 2: wrong length\n")),
+    ("04\n0 8\n01\n", Ending::Refused("g line 2: wrong length\n")),
+    // A byte order mark.
+    (
+        "\u{feff}04\n08\n01\n",
+        Ending::Refused("g line 1: wrong length\n"),
+    ),
     (
         "04\n08\n0x\n",
         Ending::Refused("g line 3: digit not allowed\n"),
@@ -88,7 +94,7 @@ const READ_TWICE: &str = "DEVICE U1 DRV -\nDEVICE U2 RCV -\nDEVICE U3 RCV1 -\n";
 
 const TWICE_NETS: &str = "NET N1 U1.1 U2.1 U3.1\nNET N2 U1.2 U2.2\n";
 
-const ROWS: [Row; 8] = [
+const ROWS: [Row; 10] = [
     Row {
         texts: &[
             ("c", Plain(READ_TWICE)),
@@ -106,6 +112,25 @@ const ROWS: [Row; 8] = [
         ],
         line: LINE,
         ending: Ending::Puts("GROUPS 1\nGROUP 2\nNET N1\nNET N2\n"),
+    },
+    // The scan has five bits. A sixth bit is beyond the scan.
+    Row {
+        texts: &[
+            ("c", Plain(READ_TWICE)),
+            ("n", Plain(TWICE_NETS)),
+            ("g", Plain("1B\n1C\n")),
+        ],
+        line: LINE,
+        ending: Ending::Puts("GROUPS 0\n"),
+    },
+    Row {
+        texts: &[
+            ("c", Plain(READ_TWICE)),
+            ("n", Plain(TWICE_NETS)),
+            ("g", Plain("03\n24\n")),
+        ],
+        line: LINE,
+        ending: Ending::Refused("g line 2: digit not allowed\n"),
     },
     // The two cells that read the first net disagree.
     Row {
