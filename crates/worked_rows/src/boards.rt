@@ -241,7 +241,7 @@ const MANY_JOINED_NETS: [Run; 2] = [
     ),
 ];
 
-const MANY_PINS: [Run; 2] = [
+const MANY_PINS: [Run; 3] = [
     (
         Numbered {
             head: "NET N",
@@ -262,6 +262,16 @@ const MANY_PINS: [Run; 2] = [
         Ending::Scans(
             "SIR 2 TDI (3) TDO (1) MASK (3);\nSDR 1 TDI (0);\nSIR 2 TDI (3) TDO (1) MASK (3);\n",
         ),
+    ),
+    // A pin in two nets counts once, too.
+    (
+        Numbered {
+            head: "NET M X.0\nNET N",
+            piece: " X.#",
+            first: 0,
+            end: 65_535,
+        },
+        Ending::Refused("n line 2 word 3: pin in two nets\n"),
     ),
 ];
 
