@@ -148,7 +148,7 @@ const WORDS: [Run; 11] = [
 const NO_WORD: Ending<'static> = Ending::Refused("c line 1: word not allowed\n");
 
 // Chain files, and how the run of `chain c` ends.
-const FILES: [Run; 21] = [
+const FILES: [Run; 22] = [
     (Plain(""), Ending::Refused("c: no part in the chain\n")),
     (
         Plain("# BYPASS U1 4"),
@@ -224,6 +224,15 @@ const FILES: [Run; 21] = [
         Ending::Refused("c line 1: word not allowed\n"),
     ),
     // A chain has at most 255 parts.
+    (
+        Numbered {
+            head: "",
+            piece: "BYPASS U# 2\n",
+            first: 0,
+            end: 255,
+        },
+        Ending::Done,
+    ),
     (
         Numbered {
             head: "",
@@ -306,6 +315,14 @@ const MANY_WORDS: [(usize, Ending<'static>); 2] = [
     (256, Ending::Usage),
 ];
 
+// A text that is no BSDL text, as often among the words as a command allows, and once more.
+const MANY_TEXTS: [(usize, Ending<'static>); 2] = [
+    (255, Ending::Refused("x line 1: not in the grammar\n")),
+    (256, Ending::Usage),
+];
+
+const NO_ENTITY: [Named; 2] = [("x", Plain("")), ("g", Plain(""))];
+
 const ONE_DESCRIBED: [Named; 2] = [
     ("c", Plain("DEVICE U1 DRV -\nBYPASS U9 3")),
     ("again", Plain(DRV)),
@@ -362,4 +379,47 @@ static TABLES: [Table; 9] = [
 #[test]
 fn chains_end_as_they_should(rt: HostRuntime) -> Result<(), RowFault> {
     tables_hold(&rt, rt.alloc(), &TABLES)
+}
+
+static COMMAND_TABLES: [Table; 7] = [
+    Table {
+        name: "ident takes at most 255 BSDL texts",
+        texts: &NO_ENTITY,
+        rows: Rows::Words("ident c", " x", &MANY_TEXTS),
+    },
+    Table {
+        name: "cover takes at most 255 BSDL texts",
+        texts: &NO_ENTITY,
+        rows: Rows::Words("cover c n", " x", &MANY_TEXTS),
+    },
+    Table {
+        name: "svf takes at most 255 BSDL texts",
+        texts: &NO_ENTITY,
+        rows: Rows::Words("svf c n", " x", &MANY_TEXTS),
+    },
+    Table {
+        name: "walk takes at most 255 BSDL texts",
+        texts: &NO_ENTITY,
+        rows: Rows::Words("walk c n", " x", &MANY_TEXTS),
+    },
+    Table {
+        name: "diagnose takes at most 255 BSDL texts",
+        texts: &NO_ENTITY,
+        rows: Rows::Words("diagnose 2 g c n", " x", &MANY_TEXTS),
+    },
+    Table {
+        name: "groups takes at most 255 BSDL texts",
+        texts: &NO_ENTITY,
+        rows: Rows::Words("groups g c n", " x", &MANY_TEXTS),
+    },
+    Table {
+        name: "batch takes at most 255 BSDL texts",
+        texts: &NO_ENTITY,
+        rows: Rows::Words("batch 2 g c n", " x", &MANY_TEXTS),
+    },
+];
+
+#[test]
+fn every_command_takes_at_most_255_texts(rt: HostRuntime) -> Result<(), RowFault> {
+    tables_hold(&rt, rt.alloc(), &COMMAND_TABLES)
 }
