@@ -19,8 +19,8 @@ TWO_DRIVERS = r"printf 'DEVICE U1 DRV -\nDEVICE U2 DRV -\n' >board.chain; printf
 # A log of 60,000,000 bytes, which are a comment, and an address space that holds the program many times and the log not once.
 LARGE = r"head -c 60000000 /dev/zero | tr '\0' '#' >large; ulimit -v 40000; "
 COUNTS = 'DEVICES 2 NETS 72 COVERED 72 PASSES 2 SCANS 19 BYTES 2373\n'
-# Two SIR statements have 418 bytes each, and an SDR statement has 5,003. Each of the 255 passes has one more of these, and 13 of 14,988 bytes
-# that compare. The head has 59 bytes and the tail 13.
+# The head has 59 bytes, each of the two SIR statements 418, an SDR statement 5,003, and the tail 13. Each of the 255 passes has another
+# SDR statement of 5,003 bytes, and 13 of 14,988 bytes, which compare.
 MOST_COUNTS = 'DEVICES 255 NETS 8168 COVERED 8168 PASSES 255 SCANS 3573 BYTES 50966896\n'
 
 # 70 more BSDL texts, which no part names.

@@ -148,7 +148,7 @@ const LINKS_AND_PULLS: [Case; 7] = [
         "drv rcv",
         "n line 1 word 3: driver on a guarded net\n",
     ),
-    // Joined nets are named in SUPPLY lines, too. Any other name is still a name of no net.
+    // A SUPPLY line that names no net is refused, even if there are LINK lines.
     (
         "DEVICE U1 DRV -\nDEVICE U2 RCV -\nLINK R1 1 2\nSUPPLY GND",
         LINK_NETS,
