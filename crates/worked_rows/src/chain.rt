@@ -39,7 +39,7 @@ const CHAINS: [Row; 7] = [
             "SIR 2 TDI (3) TDO (1) MASK (3);\nSDR 9 TDI (0A5) TDO (14A) MASK (1FF);\n",
         ),
     },
-    // Names that differ in case belong to two parts. This command does not try the rules of a board, so a part of the chain may be inert.
+    // Names that differ in case belong to two parts. This command does not try the rules of a board, so an INERT line may name a part.
     Row {
         texts: &[(
             "c",
@@ -315,13 +315,14 @@ const MANY_WORDS: [(usize, Ending<'static>); 2] = [
     (256, Ending::Usage),
 ];
 
-// A text that is no BSDL text, as often among the words as a command allows, and once more.
+// How a run ends whose words name an empty text as often as a command allows, and once more often.
 const MANY_TEXTS: [(usize, Ending<'static>); 2] = [
     (255, Ending::Refused("x line 1: not in the grammar\n")),
     (256, Ending::Usage),
 ];
 
-const NO_ENTITY: [Named; 2] = [("x", Plain("")), ("g", Plain(""))];
+// An empty BSDL text and an empty log.
+const EMPTY: [Named; 2] = [("x", Plain("")), ("g", Plain(""))];
 
 const ONE_DESCRIBED: [Named; 2] = [
     ("c", Plain("DEVICE U1 DRV -\nBYPASS U9 3")),
@@ -384,37 +385,37 @@ fn chains_end_as_they_should(rt: HostRuntime) -> Result<(), RowFault> {
 static COMMAND_TABLES: [Table; 7] = [
     Table {
         name: "ident takes at most 255 BSDL texts",
-        texts: &NO_ENTITY,
+        texts: &EMPTY,
         rows: Rows::Words("ident c", " x", &MANY_TEXTS),
     },
     Table {
         name: "cover takes at most 255 BSDL texts",
-        texts: &NO_ENTITY,
+        texts: &EMPTY,
         rows: Rows::Words("cover c n", " x", &MANY_TEXTS),
     },
     Table {
         name: "svf takes at most 255 BSDL texts",
-        texts: &NO_ENTITY,
+        texts: &EMPTY,
         rows: Rows::Words("svf c n", " x", &MANY_TEXTS),
     },
     Table {
         name: "walk takes at most 255 BSDL texts",
-        texts: &NO_ENTITY,
+        texts: &EMPTY,
         rows: Rows::Words("walk c n", " x", &MANY_TEXTS),
     },
     Table {
         name: "diagnose takes at most 255 BSDL texts",
-        texts: &NO_ENTITY,
+        texts: &EMPTY,
         rows: Rows::Words("diagnose 2 g c n", " x", &MANY_TEXTS),
     },
     Table {
         name: "groups takes at most 255 BSDL texts",
-        texts: &NO_ENTITY,
+        texts: &EMPTY,
         rows: Rows::Words("groups g c n", " x", &MANY_TEXTS),
     },
     Table {
         name: "batch takes at most 255 BSDL texts",
-        texts: &NO_ENTITY,
+        texts: &EMPTY,
         rows: Rows::Words("batch 2 g c n", " x", &MANY_TEXTS),
     },
 ];
