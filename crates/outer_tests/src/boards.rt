@@ -46,7 +46,7 @@ pub const PULLED: Files = Files {
 };
 
 // The fault of a board whose texts are refused.
-const UNREAD: RowFault = RowFault::Other {
+pub const UNREAD: RowFault = RowFault::Other {
     table: "texts of a board",
     row: 0,
 };

@@ -298,8 +298,8 @@ fn word(kind: Kind) -> &'static str {
     }
 }
 
-// Returns a fault as the tables write it. The text is empty if there is no fault.
-fn shown(alloc: Global, fault: Option<Single>) -> Result<String, AllocError> {
+/// Returns a fault as the tables write it. The text is empty if there is no fault.
+pub fn shown(alloc: Global, fault: Option<Single>) -> Result<String, AllocError> {
     match fault {
         None => Ok(String::new(alloc)),
         Some(Single::StuckNet { net, value }) => format!(in alloc;

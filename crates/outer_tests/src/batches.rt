@@ -1,0 +1,92 @@
+// The verdicts on a batch of logs of the board with two nets, by the calls that take a board and a plan.
+ghost use Rattle.std.specs.Prelude.{◌≡◌, ◌≤◌};
+ghost use Rattle.board_defs.specs.Passes.{passes_of};
+ghost use Rattle.scan_planner.specs.Plans.{IsPlanOf};
+
+use crate::boards::{PAIR, UNREAD, board_of, plan_of};
+use crate::explaining::shown;
+use batch_diag::{Verdict, blocks, diagnose_all};
+use board_defs::Board;
+use bt_base::OpenGate;
+use run_bench::{RowFault, expect};
+use scan_planner::Plan;
+use std::alloc::{AllocError, Global};
+use std::thread::Threads;
+
+// The logs of three boards. The first log has the expected bits, one fault explains the second, and no single fault explains the third.
+const BATCH: &str = "BOARD A\n1\n2\nBOARD B\n0\n0\nBOARD C\n1\n1\n";
+
+// The expected verdict on a log.
+struct Expected {
+    pass: bool,
+    faults: &'static [&'static str],
+}
+
+static VERDICTS: [Expected; 3] = [
+    Expected {
+        pass: true,
+        faults: &[],
+    },
+    Expected {
+        pass: false,
+        faults: &["and 0 1"],
+    },
+    Expected {
+        pass: false,
+        faults: &[],
+    },
+];
+
+// Returns whether a verdict is the expected verdict.
+fn is_expected(alloc: Global, verdict: &Verdict, expected: &Expected) -> Result<bool, AllocError> {
+    let faults = verdict.faults.as_slice();
+    if verdict.pass != expected.pass || faults.len() != expected.faults.len() {
+        return Ok(false);
+    }
+    for (fault, words) in faults.iter().zip(expected.faults) {
+        let found = shown(alloc, Some(*fault))?;
+        if found.as_str() != *words {
+            return Ok(false);
+        }
+    }
+    Ok(true)
+}
+
+// Compares the verdicts that this number of workers finds.
+fn verdicts_hold(
+    rt: &(impl Threads + Sync),
+    alloc: Global,
+    board: &Board,
+    plan: &Plan,
+    workers: u32,
+) -> Result<(), RowFault>
+    requires some { 1 ≤ workers }
+    requires few { workers ≤ 64 }
+    requires plan { IsPlanOf board.now plan.now }
+    requires passes { plan.now.passes ≡ passes_of board.now }
+{
+    let bytes = BATCH.as_bytes();
+    if bytes.len() > 10_000 {
+        return Err(UNREAD);
+    }
+    let Ok(logs) = blocks(alloc, bytes, plan.rows(), board.dr_bits()) else {
+        return Err(UNREAD);
+    };
+    let verdicts = diagnose_all(rt, alloc, board, plan, &logs, workers, &OpenGate)?;
+    expect("verdicts", 0, verdicts.len() == VERDICTS.len())?;
+    for (row, (verdict, expected)) in verdicts.iter().zip(&VERDICTS).enumerate() {
+        expect("verdicts", row, is_expected(alloc, verdict, expected)?)?;
+    }
+    Ok(())
+}
+
+#[test]
+fn each_log_of_a_batch_has_its_verdict(rt: HostRuntime) -> Result<(), RowFault> {
+    let alloc = rt.alloc();
+    let board = board_of(alloc, PAIR)?;
+    let plan = plan_of(alloc, &board)?;
+    for workers in [1u32, 2, 64] {
+        verdicts_hold(&rt, alloc, &board, &plan, workers)?;
+    }
+    Ok(())
+}
