@@ -14,7 +14,7 @@ use crate::block::Block;
 use crate::verdict::Verdict;
 use board_defs::{Board, Items};
 use bt_base::{Gate, OpenGate};
-use diagnoser::{Workers, diagnose_in};
+use diagnoser::{Entered, Workers, diagnose_in};
 use fault_sim::{BoardTest, KeptPass, LoggedTest, Universe};
 use scan_planner::Plan;
 use side_by_side::{Piece, in_pieces};
@@ -121,12 +121,13 @@ fn judge_all<R: Threads + Sync, G: Gate>(
     judge_pieces(rt, alloc, batch, workers, gate)
 }
 
-// Returns the verdict on a log, which one worker finds.
+// Returns the verdict on a log, which one worker finds. The entry of the gate is an argument so that no log is judged before it.
 fn verdict_on<R: Threads + Sync>(
     rt: &R,
     alloc: Global,
     logged: &LoggedTest<'_>,
     universe: &Universe,
+    _entered: &Entered,
 ) -> Result<Verdict, AllocError>
     requires universe { IsUniverse logged.now.test.board universe.now }
     ensures diagnosis { IfOk result (λ verdict. IsDiagnosis logged.now.test.board logged.now.log verdict.pass verdict.faults) }
@@ -161,10 +162,10 @@ fn judge<R: Threads + Sync, G: Gate>(
     requires block { i < length batch.blocks.now }
     ensures { IfOk result (λ verdict. Judged batch.entry i (i + 1) (verdict ∷ [])) }
 {
-    gate.enter(piece, i);
+    let entered = Entered::by(gate, piece, i);
     let log = &batch.blocks[i as usize].log;
     let logged = batch.test.with_log(log);
-    verdict_on(rt, alloc, &logged, batch.universe)
+    verdict_on(rt, alloc, &logged, batch.universe, &entered)
 }
 
 // Returns the verdicts on the blocks of a piece.

@@ -4,6 +4,7 @@
 #![tactic(auto)]
 
 mod diagnosis;
+mod entered;
 pub mod law;
 mod lines;
 mod listing;
@@ -11,5 +12,6 @@ mod search;
 mod workers;
 
 pub use diagnosis::{diagnose, diagnose_in, diagnose_logged};
+pub use entered::Entered;
 pub use listing::write_diagnosis;
 pub use workers::Workers;

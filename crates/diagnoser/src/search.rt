@@ -6,6 +6,7 @@ ghost use Rattle.tap_defs.specs.board.Explaining.{Explains};
 ghost use Rattle.fault_sim.specs.Places.{observes_fault};
 ghost use Rattle.diagnoser.specs.inner.Search.{IsSearch, Found};
 
+use crate::entered::Entered;
 use crate::workers::Workers;
 use board_defs::Single;
 use board_defs::law::passes_kept;
@@ -38,8 +39,9 @@ fn is_ruled_out(search: Search<'_, '_>, fault: Single) -> bool
 }
 
 // Returns whether some pass observes all nets of a candidate's fault and the fault explains the log. A fault at a place is a single fault
-// of the board if some pass observes all its nets. The telling net is asked first, since it rules out most candidates.
-fn explains(search: Search<'_, '_>, fault: Single) -> bool
+// of the board if some pass observes all its nets. The telling net is asked first, since it rules out most candidates. The entry of the gate
+// is an argument so that no candidate is tried before it.
+fn explains(search: Search<'_, '_>, fault: Single, _entered: &Entered) -> bool
     requires search { IsSearch search }
     requires fault { observes_fault search.logged.now.test.plan fault ≡ true → IsSingle search.logged.now.test.board fault }
     ensures { IsTrue result ↔ ((observes_fault search.entry.logged.now.test.plan fault ≡ true) × Explains search.entry.logged.now.test.board fault search.entry.logged.now.log) }
@@ -70,9 +72,9 @@ fn try_candidate<G: Gate>(
     let _rules = search.logged.board().raw();
     passes_kept();
     let place = search.suspects.place(i);
-    gate.enter(piece, place);
+    let entered = Entered::by(gate, piece, place);
     let fault = search.universe.candidate(place, near)?;
-    if explains(search, fault) {
+    if explains(search, fault, &entered) {
         Some(fault)
     } else {
         None
