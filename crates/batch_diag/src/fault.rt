@@ -4,38 +4,47 @@ ghost use Rattle.batch_diag.specs.declared.fault.BatchFault.TheVariants.{Memory}
 
 use response_log::LogFault;
 use std::alloc::{AllocError, AllocFailed};
-use std::error::Error;
 use std::fmt;
+use thiserror::Error;
 
 /// The reason why a text is no batch of logs, or a refusal of memory. Lines are counted in the whole text, from 1.
-#[derive(Debug, Drop)]
+///
+/// The text of a fault is its line of refusal without the name of the file and, if rows are missing, without the number of rows that a
+/// log has.
+#[derive(Debug, Drop, Error)]
 pub enum BatchFault {
     /// This line has words, but comes before the first title.
+    #[error("line {0}: no board yet")]
     Start(u32),
     /// This line is a title, but does not have exactly two words, or its id breaks the word rule.
+    #[error("line {0}: board not allowed")]
     Title(u32),
     /// The lines of block `board`, counted from 1, are no log. `fault` is never a refusal of memory.
+    #[error("{}", block_text(*.board, .fault))]
     Inner { board: u32, fault: LogFault },
+    #[error("out of memory")]
     Memory(AllocError),
 }
 
-// The text of a fault is its line of refusal, without the name of the file. If a block has too few rows, the text has the number of
-// the block. Any other fault of the text of a batch has the number of its line.
-impl fmt::Display for BatchFault {
+// The fault of a block as a text. If rows are missing, the text has the number of the block. Any other fault has the number of its line.
+#[derive(Clone, Copy)]
+struct BlockText<'a> {
+    board: u32,
+    fault: &'a LogFault,
+}
+
+fn block_text(board: u32, fault: &LogFault) -> BlockText<'_> {
+    BlockText { board, fault }
+}
+
+impl fmt::Display for BlockText<'_> {
     fn fmt<W: fmt::Write>(&self, f: &mut fmt::Formatter<W>) -> fmt::Result {
-        match self {
-            BatchFault::Start(line) => write!(f, "line {line}: no board yet"),
-            BatchFault::Title(line) => write!(f, "line {line}: board not allowed"),
-            BatchFault::Inner { board, fault } => match fault {
-                LogFault::Missing(_) => write!(f, "board {board}: {fault}"),
-                fault => write!(f, "{fault}"),
-            },
-            BatchFault::Memory(_) => write!(f, "out of memory"),
+        match self.fault {
+            LogFault::Missing(_) => write!(f, "board {}: {}", self.board, self.fault),
+            fault => write!(f, "{fault}"),
         }
     }
 }
-
-impl Error for BatchFault {}
 
 impl From<AllocError> for BatchFault {
     ghost from_gives = { λ e fault. fault ≡ Memory e };

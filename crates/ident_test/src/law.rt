@@ -34,3 +34,10 @@ pub fn codes_assigned()
 pub fn codes_keep_instructions()
     ensures { (device : RawDevice) (code : List Bool) (part : TestLogic) → HasCode device code part → (bits : List Bool) → instruction_of part bits ≡ instruction_of (test_logic (Described device)) bits }
 {}
+
+/// A part with a code has registers of the same lengths as its device. If the device has a pattern, the part has the code.
+pub fn codes_keep_lengths()
+    ensures instruction { (device : RawDevice) (code : List Bool) (part : TestLogic) → HasCode device code part → part.ir_length ≡ (test_logic (Described device)).ir_length }
+    ensures boundary { (device : RawDevice) (code : List Bool) (part : TestLogic) → HasCode device code part → part.boundary_length ≡ (test_logic (Described device)).boundary_length }
+    ensures code { (device : RawDevice) (code : List Bool) (part : TestLogic) (pattern : List Symbol) → HasCode device code part → device.idcode ≡ Some pattern → part.idcode ≡ code }
+{}

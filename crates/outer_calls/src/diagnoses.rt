@@ -1,12 +1,15 @@
-//! The diagnosis of one log, as `diagnoser` answers, and of the logs of many blocks, as `batch_diag` answers.
-ghost use Rattle.std.specs.Prelude.{◌≡◌, ◌*◌, ◌≤◌, length, All, IfOk};
+//! The diagnosis of one log, as `diagnoser` answers, and the blocks of a batch with their diagnoses, as `batch_diag` answers.
+ghost use Rattle.std.specs.Prelude.{◌≡◌, ◌*◌, ◌<◌, ◌≤◌, ◌^◌, length, All, IfOk, MatchResult};
+ghost use Rattle.answers.specs.Gives.{Gives};
 ghost use Rattle.board_defs.specs.Passes.{passes_of};
 ghost use Rattle.board_defs.specs.Pins.{data_bits};
 ghost use Rattle.scan_planner.specs.Plans.{IsPlanOf};
 ghost use Rattle.diagnoser.specs.Diagnosis.{AreExplaining, IsNamed};
+ghost use Rattle.response_log.specs.LogRows.{HasSize};
+ghost use Rattle.batch_diag.specs.Batch.{IsOfLines, batch_of, batch_told};
 ghost use Rattle.batch_diag.specs.Verdicts.{AreLogs, AreVerdicts};
 
-use batch_diag::{Block, Verdict};
+use batch_diag::{BatchFault, Block, Verdict};
 use board_defs::{Board, Single};
 use bt_base::Gate;
 use response_log::Log;
@@ -34,6 +37,16 @@ pub fn diagnose<R: Threads + Sync, G: Gate>(
     ensures named { IfOk result (λ faults. All (IsNamed board.now) faults.items) }
 {
     diagnoser::diagnose(rt, alloc, board, plan, log, workers, gate)
+}
+
+/// Returns the blocks of a batch, or its first fault.
+pub fn blocks(alloc: Global, bytes: &[u8], rows: u64, len: u32) -> Result<Vec<Block>, BatchFault>
+    requires { length bytes.now < 2 ^ 32 }
+    ensures read { Gives batch_told (λ blocks. blocks.items) (λ said. batch_of bytes.now rows len ≡ said) result }
+    ensures size { IfOk result (λ blocks. All (λ block. HasSize rows len block.log) blocks.items) }
+    ensures inner { MatchResult result (λ _. Unit {0}) IsOfLines }
+{
+    batch_diag::blocks(alloc, bytes, rows, len)
 }
 
 /// Returns a verdict on each block.

@@ -2,6 +2,7 @@
 //! call gets weaker, the function is no longer proved. The proofs of the program need the clauses of all other calls.
 #![tactic(auto)]
 
+pub mod boards;
 pub mod diagnoses;
 pub mod explaining;
 pub mod net_questions;

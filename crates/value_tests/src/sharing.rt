@@ -13,6 +13,7 @@ use bt_bits::{HexFault, Line, Row, RowStack};
 use btest_cli::Status;
 use btest_core::InputFault;
 use command_line::Command;
+use diagnoser::{Entered, Workers};
 use fault_sim::{Suspects, Universe};
 use net_classes::{Classes, ControlClass, NetClass, PinClass};
 use port_entries::BitEntries;
@@ -118,4 +119,6 @@ fn tests_and_what_explains_their_logs_may_be_shared() {
     is_shared::<Block>();
     is_shared::<BatchFault>();
     is_shared::<Verdict>();
+    is_shared::<Workers>();
+    is_shared::<Entered>();
 }
