@@ -258,7 +258,7 @@ fn wrong_strings_are_noticed(rt: HostRuntime) -> Result<(), CaseFault> {
     Ok(())
 }
 
-// The first list has other symbols than the pattern 01, and the others have fewer.
+// Wrong values for the pattern 01: its symbols in the wrong order, its first symbol alone, and no symbol.
 static SYMBOLS: [&[Symbol]; 3] = [&[Symbol::Zero, Symbol::One], &[Symbol::One], &[]];
 
 #[test]

@@ -64,7 +64,7 @@ IsBoardOf texts found = IsBoardRead texts.chain texts.nets texts.bsdl found
 abbrev pub BoardAnswers : (RawBoard → Text) → (BoardTexts → Text → Type 0) → BoardTexts → Shown → Shown → Result (Unit {0}) Unput → Type 0
 BoardAnswers text_of IsWorth texts old new result = Answers (IsBoardOf texts) text_of (IsWorth texts) old new result
 
--- the answer for what is found for this board in a text of logs
+-- the answer of a command that judges a text of logs against this board
 abbrev pub AnswersOn : {L E A : Type 0} → Judging L E A → (RawBoard × A → Text) → (Text → RawBoard → Text → Type 0) → Text → RawBoard → Shown → Shown → Result (Unit {0}) Unput → Type 0
 AnswersOn judging text_of IsWorth text board old new result = LogAnswers (OnBoard judging text board) (λ found. text_of (board, found)) (IsWorth text board) old new result
 

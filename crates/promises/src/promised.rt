@@ -143,7 +143,7 @@ impl Desk {
         self.run(rt, words, gate)
     }
 
-    /// Exactly the files with a first fault are refused, with the line for this fault.
+    /// Files are refused if and only if they have a fault, with the line for their first fault.
     pub fn refused<R: Threads + Sync, G: Gate>(
         &mut self,
         rt: &R,

@@ -1,5 +1,5 @@
 // The text of each fault, and its line of refusal. A row has a fault, the start of its line, and the fault's text. The line is the start
-// followed by the text. The start names the file, which no fault holds. The lines for refused memory and for a limit name no file.
+// followed by the text, and in some tables by the end of the line. The start names the file, which no fault holds. The lines for refused memory and for a limit name no file.
 use batch_diag::BatchFault;
 use board_build::BoardFault;
 use board_defs::Spot;
