@@ -2,7 +2,7 @@
 ghost use Rattle.std.specs.Prelude.{◌<◌, ◌^◌, length};
 
 use crate::missed::{Missed, expect};
-use batch_diag::{Block, blocks, blocks_by};
+use batch_diag::{BatchFault, Block, blocks, blocks_by};
 use response_log::{Log, log};
 use std::alloc::{AllocError, Global};
 use std::thread::Threads;

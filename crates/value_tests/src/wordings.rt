@@ -46,7 +46,7 @@ impl From<PutFault> for Missed {
 
 const SPOT: Spot = Spot { line: 7, word: 3 };
 
-const NAMES: Names<'static> = Names {
+const NAMES: Names<'static, 'static> = Names {
     log: "g",
     chain: "c",
     nets: "n",
