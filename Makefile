@@ -13,7 +13,7 @@ help:
 	@echo 'make package             makes a Debian package and a tar.gz of them, in out/'
 	@echo 'make check CRATE=NAME    proves one crate, and those below it if they have changed'
 	@echo 'make profile CRATE=NAME  lists the functions of a crate by the seconds that their proofs take'
-	@echo 'make weaken CRATE=NAME   weakens each public clause of a crate and says which proof refuses that, after make test'
+	@echo 'make weaken CRATE=NAME   weakens the public clauses of a crate and says which proof refuses each weaker form, after make test'
 	@echo 'make check-tools         tries the programs of tools/ and the examples of the documents: about a minute'
 	@echo 'make bench               prints times of the proved program on large inputs'
 	@echo 'make stress              tries the proved program under hostile conditions: ten minutes. docs/RELIABILITY.md says which'

@@ -1,435 +1,472 @@
 #!/usr/bin/env python3
-"""Weakens what a crate promises, one clause at a time, and says which proof refuses it.
+"""Weakens what crates promise, clause by clause, and says which proof refuses each weaker form.
 
-usage: weaken.py CRATE [WORD..] [--checked DIR] [--room DIR] [--jobs N] [--list]
+usage: weaken.py CRATE[,CRATE..] [WORD..] [--checked DIR] [--room DIR] [--checks N] [--list]
 
 A clause is an `ensures` of a public function that is no method of a trait, or a field of a record
 in specs/. A WORD chooses the forms that have it in their title, as --list prints them: `meet`,
 `IsPlanOf.width`, `"meet: (A"`.
 
-The script tries these weaker forms of a clause: nothing in its place, and for `A <-> B` also
-`A -> B` and `B -> A`. It works in a copy, the room, which is among the temporary files if --room
-doesn't name it. There a function keeps its proof under the name NAME_in_full, and NAME calls it and
-states the weaker clauses. So the proof of the function stays as it is, and only callers can refuse
-the form. A field is taken out of its record and out of each literal that gives it.
+The weaker forms of a clause are nothing in its place, and for `A <-> B` also `A -> B` and `B -> A`.
+If a proof refuses one of these two, nothing in its place isn't tried: it says even less.
 
-First it checks the crate, and then the crates above it, from below, until a proof is refused: those
-directly above that name the function, or all that name the record or the field. Of a crate above it
-checks the modules that have the name. It prints what refuses each form, or that nothing does, with
-the seconds. A form that nothing refuses is a clause that no proof needs, so a must-fail edit, a
-sample or a caller, as those in outer_calls, has to guard it. The exit status is then 1.
+A proof can refuse a form of a function only if it is the proof of a caller. The script works in a
+copy, the room, which is among the temporary files if --room doesn't name it. There all functions
+but some callers are stand-ins (stand_ins.py), so a round costs the proofs of these callers and what
+each check loads. A round weakens one clause of each of many functions, and each of its callers
+calls a single one of them. So each caller that isn't proved refuses one form. Callers in the crate
+itself come first, then those in the crates above it, from below.
+
+Fields are tried in the same way. The error of a declaration that names a field of the round says
+so. If there are other errors only, the fields are tried in smaller rounds, at last alone. First
+only definitions and lemmas are tried, then functions that name the field, then functions that name
+its record.
+
+A caller that is refused for another reason than a missing name is checked once more with no form.
+If it isn't proved then either, it counts for nothing.
+
+The script prints of each form what refuses it, which must-fail edits change the function or the
+record, or that nothing refuses it. A form that nothing refuses needs an edit, a sample or a caller,
+as those in outer_calls. Whether a named edit breaks the very clause, a reader has to judge. The
+exit status is 1 if there is a form that nothing refuses or that could not be tried.
 
 With --checked DIR the sources and the built libraries are those of DIR, in which `rt ci` proved
 them. Otherwise `rt ci` first proves the crates of this checkout in a copy beside the room, except
-what it has proved on this machine before. The first check of a crate takes as long as its proof.
-The room keeps what was checked, some gigabytes, so that a later check takes what a form changes.
+what it has proved on this machine before. The room keeps what was checked, so that a later round
+takes less.
 """
 import argparse
-import functools
-import importlib
+import concurrent.futures
 import os
 import re
-import shutil
-import subprocess
 import sys
-import tempfile
+import threading
 import time
-from typing import Any, Dict, Iterator, List, NamedTuple, Optional, Set, Tuple
+from typing import Callable, Dict, Iterator, List, NamedTuple, Optional, Set, Tuple
 
 import build
+import weaker_forms
+from stand_ins import ROOM, Crate, Room, proved, read
+from weaker_forms import Form, Function
 
-# Outside the checkout, where `rt ci` refuses a second crates.txt.
-ROOM = f"{tempfile.gettempdir()}/btest-weaken{build.TOP.replace('/', '-')}"
-PARTS = ("src", "specs", "proofs")
-TOPS = ("btest", "promises", "outer_calls")
-FULL = "_in_full"
+Key = Tuple[str, str, str]
 MOST = 240  # characters of a message
-FUNCTION = re.compile(r"( *)pub fn (\w+)")
-CLAUSE = re.compile(r" *(requires|ensures|ghost)\b ?(\w*)")
-IMPL = re.compile(r"impl(?:<.*?>)? (\w+)(?:<.*>)? \{")
-RECORD = re.compile(r"pub record (\w+)")
-FIELD = re.compile(r"  pub (\w+) :")
-REFUSED = re.compile(r"fn (\S+): (not proved|no proof|could not tell)")
-ERROR = re.compile(r"(\S+\.(?:rt|antt):\d+:\d+): (?!note|warning|help)(.*(?:\n  .*)?)")
+VERDICT = re.compile(r"^fn (\S+): (.*)$", re.MULTILINE)
+FAILED = ("not proved", "no proof", "could not tell")
+ERROR = re.compile(
+    r"^(?:\./)?(\S+\.(?:rt|antt)):(\d+):\d+: (?!note|warning|help|goal)(.*(?:\n  .*)?)",
+    re.MULTILINE,
+)
+LACKS = re.compile(r"(?:has no (?:field (?:named )?)?|unknown field )`([\w-]+)`")
+CASCADES = ("was not admitted", "has-holes")  # of what cites a refused declaration or a stand-in
+UNTRIED = "NOT TRIED"
+ENDS = ("holes=", "only=", "logic=")
 
 
-class Form(NamedTuple):
-    """A weaker form of a clause, and what it stands in."""
+class Trial(NamedTuple):
+    """A form, and a function that may refuse it."""
 
-    path: str  # the file, from the crate's folder
-    owner: str  # the function or the record
-    holder: str  # the type of a method
-    clause: str  # the clause's or the field's name
-    label: str  # what is left of it
-    text: str  # the file with the weaker form
-    is_field: bool
-
-    def title(self) -> str:
-        """Returns the words that name the form, and that a WORD is looked for in."""
-        owner = f"{self.holder}::{self.owner}" if self.holder else self.owner
-        return f"{owner}{'.' * bool(self.clause)}{self.clause}: {self.label}"
+    form: Form
+    witness: Function
 
 
-def read(path: str) -> str:
-    """Returns the text of a file."""
-    with open(path, encoding="utf-8") as it:
-        return it.read()
+class Outcomes:
+    """What is known of each form, for several threads."""
+
+    def __init__(self, forms: List[Form]):
+        self.forms, self.lock = forms, threading.Lock()
+        self.settled: Dict[Form, str] = {}
+        self.called: Set[Form] = set()  # forms of functions that some function calls
+        self.untried: Dict[Form, str] = {}  # forms that could not be tried somewhere, and why
+
+    def settle(self, found: Dict[Form, str]) -> None:
+        """Notes what refuses which forms, and prints that."""
+        with self.lock:
+            for form, outcome in found.items():
+                if form not in self.settled:
+                    self.settled[form] = outcome
+                    tell_of(form, outcome)
+
+    def left(self, forms: List[Form]) -> List[Form]:
+        """Returns those of some forms that nothing has refused."""
+        with self.lock:
+            return [it for it in forms if it not in self.settled]
 
 
-def write(path: str, text: str) -> None:
-    """Replaces a file. Its old text may be linked with another copy, and stays there."""
-    with open(f"{path}.new", "w", encoding="utf-8") as it:
-        it.write(text)
-    os.replace(f"{path}.new", path)
+def tell_of(form: Form, outcome: str) -> None:
+    """Prints what became of a form."""
+    print(f"{form.crate}: {form.title()}\n    {outcome}", flush=True)
 
 
-def depths(text: str) -> Iterator[Tuple[int, str, int]]:
-    """Returns each place of a text with its character and how many brackets it is inside of."""
-    depth = 0
-    for at, it in enumerate(text):
-        depth -= it in ")]}"
-        yield at, it, depth
-        depth += it in "([{"
+def tell(text: str) -> None:
+    """Says how far the run is."""
+    sys.stderr.write(f"-- {text}\n")
 
 
-def directions(said: str) -> List[str]:
-    """Returns the two directions of a clause that is an equivalence, or nothing."""
-    places = [at for at, it, depth in depths(said) if it == "↔" and depth == 0]
-    if len(places) != 1:
-        return []
-    before, after = said[: places[0]].strip(), said[places[0] + 1 :].strip()
-    arrows = [at for at, it, depth in depths(before) if it == "→" and depth == 0]
-    binders, left = before[: arrows[-1] + 1] if arrows else "", before
-    left = before[len(binders) :].strip()
-    return [f"{binders} ({left}) → ({after})".strip(), f"{binders} ({after}) → ({left})".strip()]
+class Reader:
+    """A crate that may refuse forms, its own and those of crates below it."""
+
+    def __init__(self, room: Room, name: str, outcomes: Outcomes, is_field: bool):
+        self.room, self.crate, self.outcomes = room, room.crates[name], outcomes
+        reach = {name} | room.under[name]
+        forms = [it for it in outcomes.forms if it.crate in reach and it.is_field == is_field]
+        self.forms = outcomes.left(forms)
+        self.sources = room.between({it.crate for it in self.forms} - {name}, name)
+        self.functions = self.crate.witnesses()
+
+    def check(self, forms: List[Form], real: List[Function]) -> str:
+        """Checks functions of the crate, which are no stand-ins, or else all but its functions."""
+        name = self.crate.name
+        sources = self.sources if real else set()
+        for each in (*sources, name):
+            weak = [it for it in forms if not it.is_field]
+            texts = self.room.crates[each].with_stand_ins(weak, real if each == name else [])
+            for form in forms:
+                if form.is_field:
+                    self.takes_out(form, each, texts)
+            self.room.lays_out(name, each, texts)
+        only = sorted({self.crate.path_of(it) for it in real})
+        return self.room.check(name, sources, only)
+
+    def takes_out(self, form: Form, name: str, texts: Dict[str, str]) -> None:
+        """Takes a field out of its record and out of each literal that gives it."""
+        names = weaker_forms.fields_of(self.room.crates[form.crate].texts[form.path], form.owner)
+        if name == form.crate:
+            texts[form.path] = weaker_forms.without_line(texts[form.path], form)
+        given = re.compile(rf"\b{form.clause}\s*=")
+        for path, text in texts.items():
+            if not path.startswith("src/") and given.search(text):
+                texts[path] = weaker_forms.without_field(text, names, form.clause)
+
+    def tells(self, tried: int, refused: int, since: float) -> None:
+        """Says what a round came to."""
+        seconds = time.monotonic() - since
+        tell(f"{self.crate.name}: {tried} tried, {refused} refused, {seconds:.0f} s")
 
 
-class Function(NamedTuple):
-    """A public function with clauses, by the lines of its file."""
+class Callers(Reader):
+    """What the functions of a crate say to weaker forms of functions that they call.
 
-    name: str
-    holder: str
-    indent: str
-    head: List[str]
-    clauses: List[List[str]]
-    first: int
-    last: int
+    A witness that calls another one would fail with it, so no witness of a round does.
+    """
 
-    def call(self) -> Optional[str]:
-        """Returns the call under the new name, or None if a parameter is a pattern."""
-        names = []
-        for each in parameters("\n".join(self.head)):
-            name = re.fullmatch(r"(?:&(?:'\w+ )?)?(?:mut )?(\w+)(?:: .*)?", each, re.DOTALL)
-            if not name:
-                return None
-            names.append(name[1])
-        if names[:1] == ["self"]:
-            return f"self.{self.name}{FULL}({', '.join(names[1:])})"
-        return f"{self.holder}{'::' * bool(self.holder)}{self.name}{FULL}({', '.join(names)})"
+    def __init__(self, room: Room, name: str, outcomes: Outcomes):
+        super().__init__(room, name, outcomes, False)
+        owners = {it.key(): self.owner(it) for it in self.forms}
+        own = {(name, it.path, it.title()): it for it in self.functions}
+        names = {it: weaker_forms.names_in(self.crate.body(it)) for it in self.functions}
+        self.calls: Dict[Function, Set[Key]] = {}  # which weakened functions each names
+        self.inner: Dict[Function, Set[Function]] = {}  # which functions of this crate
+        for it in self.functions:
+            self.calls[it] = {k for k, f in owners.items() if f != it and f.is_called_in(names[it])}
+            self.inner[it] = {f for f in own.values() if f != it and f.is_called_in(names[it])}
+        self.of = {it: self.witnesses(it) for it in self.forms}
+        outcomes.called |= {it for it, found in self.of.items() if found}
+        self.tried: Set[Trial] = set()
+        self.unfit: Set[Function] = set()  # functions that aren't proved over stand-ins
 
+    def owner(self, form: Form) -> Function:
+        """Returns the function that a form weakens."""
+        functions = self.room.crates[form.crate].functions[form.path]
+        return next(it for it in functions if it.title() == form.owner and it.is_public)
 
-def parameters(head: str) -> List[str]:
-    """Returns the parameters in a function's head."""
-    depth, start = 0, 0
-    for start, it in enumerate(head):
-        depth += (it == "<") - (it == ">" and head[start - 1] != "-")
-        if it == "(" and depth == 0:
-            break
-    found, now, depth = [], "", 0
-    for at, it in enumerate(head[start + 1 :], start + 1):
-        depth += (it in "(<[") - (it in ")]" or it == ">" and head[at - 1] != "-")
-        if depth < 0 or (it == "," and depth == 0):
-            found.append(now.strip())
-            now = ""
-        else:
-            now += it
-        if depth < 0:
-            break
-    return [it for it in found if it]
+    def witnesses(self, form: Form) -> List[Function]:
+        """Returns the functions that call a form's function, those first that name its clause."""
+        found = [it for it in self.functions if form.key() in self.calls[it]]
+        clause = re.compile(rf"\b{form.clause or form.owner.split('::')[-1]}\b")
+        named = {it: bool(clause.search(self.crate.proof(it))) for it in found}
+        return sorted(found, key=lambda it: (not named[it], len(self.crate.body(it))))
 
-
-def clauses_of(lines: List[str], at: int, indent: str) -> Tuple[int, int]:
-    """Returns where the clauses of the function at a line begin and end, or zeros."""
-    first = 0
-    for place in range(at, len(lines)):
-        if lines[place] in (f"{indent}{{", f"{indent}{{}}"):
-            return (first, place) if first else (0, 0)
-        if not first and CLAUSE.match(lines[place]):
-            first = place
-        elif not first and lines[place].endswith(("{", ";")):
-            break
-    return (0, 0)
-
-
-def functions_of(text: str) -> Iterator[Function]:
-    """Returns the public functions with clauses in a file of src/."""
-    lines, holder = text.split("\n"), ""
-    for at, line in enumerate(lines):
-        block, found = IMPL.match(line), FUNCTION.match(line)
-        holder = block[1] if block else "" if line == "}" else holder
-        first, body = clauses_of(lines, at, found[1]) if found else (0, 0)
-        if not found or not body:
-            continue
-        clauses: List[List[str]] = []
-        for it in lines[first:body]:
-            if CLAUSE.match(it) and len(it) - len(it.lstrip()) == len(found[1]) + 4:
-                clauses.append([])
-            clauses[-1].append(it)
-        last = body if lines[body].endswith("}") else lines.index(f"{found[1]}}}", body)
-        yield Function(found[2], holder, found[1], lines[at:first], clauses, at, last)
-
-
-def weaker(clause: List[str]) -> Iterator[Tuple[str, List[str]]]:
-    """Returns the weaker forms of an `ensures`: what is left of it, and its lines."""
-    text = "\n".join(clause)
-    said = text[text.index("{") + 1 : text.rindex("}")].strip()
-    for it in directions(said):
-        yield it, [f"{text[: text.index('{')]}{{ {it} }}"]
-    yield "nothing", []
-
-
-def forms_of_functions(path: str, text: str) -> Iterator[Form]:
-    """Returns the weaker forms of the clauses of a file's public functions."""
-    lines = text.split("\n")
-    for it in functions_of(text):
-        call = it.call()
-        for number, clause in enumerate(it.clauses):
-            kind = CLAUSE.match(clause[0])
-            if not kind or kind[1] != "ensures" or not call:
+    def round(self, refused: Set[Form]) -> List[Trial]:
+        """Returns what can be tried together: no witness calls two of the weakened functions."""
+        found: List[Trial] = []
+        weak: Set[Key] = set()
+        called: Set[Key] = set()
+        for form in self.outcomes.left([it for it in self.forms if it not in refused]):
+            keys = {(self.crate.name, it.witness.path, it.witness.title()) for it in found}
+            if form.key() in weak | called | keys:
                 continue
-            full = lines[it.first : it.last + 1]
-            full[0] = full[0].replace(f"pub fn {it.name}", f"fn {it.name}{FULL}", 1)
-            for label, left in weaker(clause):
-                clauses = it.clauses[:number] + [left] + it.clauses[number + 1 :]
-                weak = [*it.head, *(line for each in clauses for line in each)]
-                weak += [f"{it.indent}{{", f"{it.indent}    {call}", f"{it.indent}}}"]
-                made = [*lines[: it.first], *full, "", *weak, *lines[it.last + 1 :]]
-                yield Form(path, it.name, it.holder, kind[2], label, "\n".join(made), False)
-
-
-def forms_of_records(path: str, text: str) -> Iterator[Form]:
-    """Returns the forms of a file of specs/ in which a record lacks a field."""
-    lines, record = text.split("\n"), ""
-    for at, line in enumerate(lines):
-        found, field = RECORD.match(line), FIELD.match(line)
-        record = found[1] if found else record if line.startswith(" ") else ""
-        if not record or not field:
-            continue
-        end = at + 1
-        while lines[end : end + 1] and lines[end].startswith("   "):
-            end += 1
-        left = "\n".join(lines[:at] + lines[end:])
-        yield Form(path, record, "", field[1], "nothing", left, True)
-
-
-def fields_of(text: str, record: str) -> List[str]:
-    """Returns the fields of a record, by the text of its file."""
-    body = text.split(f"pub record {record} ", 1)[1].split("\n")[1:]
-    names: List[str] = []
-    for line in body:
-        if not line.startswith("  "):
-            break
-        field = FIELD.match(line)
-        names += [field[1]] if field else []
-    return names
-
-
-def without_field(text: str, fields: List[str], field: str) -> str:
-    """Returns the text with the field taken out of each literal that gives fields of the record."""
-    for at in reversed([it.end() for it in re.finditer(r"record \{", text)]):
-        ends = [0]
-        for place, it, depth in depths(text[at:]):
-            if depth < 0:
-                ends.append(place)
-                break
-            if it == ";" and depth == 0:
-                ends.append(place + 1)
-        parts = [text[at + a : at + b] for a, b in zip(ends, ends[1:])]
-        names = [it.split("=")[0].strip() for it in parts]
-        given = [it for it in names if it]
-        if field in given and set(given) <= set(fields):
-            kept = "".join(it for it, name in zip(parts, names) if name != field)
-            text = text[:at] + kept + text[at + ends[-1] :]
-    return text
-
-
-def proved() -> str:
-    """Proves the crates of this checkout in a copy, and returns the copy."""
-    top = f"{ROOM}-checked"
-    shutil.rmtree(top, ignore_errors=True)
-    build.copy_to(top, {name: line for it in TOPS for name, line in build.needed(it).items()})
-    if subprocess.run(["rt", "ci"], cwd=top, check=False).returncode:
-        sys.exit("a crate is not proved as it is")
-    return top
-
-
-def link(old: str, new: str) -> None:
-    """Links a file, or copies it to another disk."""
-    try:
-        os.link(old, new)
-    except OSError:
-        shutil.copyfile(old, new)
-
-
-class Room:
-    """The copy in which clauses are weakened."""
-
-    def __init__(self, top: str, checked: str, jobs: int):
-        self.top, self.checked, self.jobs = top, checked, jobs
-        needs = {name: build.needs(line) for name, line in build.listed(checked).items()}
-        here = {it for it in needs if os.path.isdir(f"{checked}/crates/{it}")}
-        # Each crate of the program with those that it names, and all crates from below.
-        self.below = {it: [low for low in needs[it] if low in here] for it in here}
-        self.order = sorted(here, key=lambda name: (len(self.under(name)), name))
-
-    def under(self, name: str) -> Set[str]:
-        """Returns all crates below a crate."""
-        return {name for low in self.below[name] for name in (low, *self.under(low))}
-
-    def lays_out(self) -> None:
-        """Makes the copy, or brings it up to date. What checks kept in it stays."""
-        os.makedirs(f"{self.top}/.git", exist_ok=True)
-        for name in ("crates.txt", "HANDLES"):
-            write(f"{self.top}/{name}", read(f"{self.checked}/{name}"))
-        self.puts_back(self.order)
-
-    def puts_back(self, names: List[str]) -> None:
-        """Gives crates of the copy their own sources, and all crates their built libraries."""
-        for name in names:
-            for part in PARTS:
-                own, copy = f"{self.checked}/crates/{name}/{part}", f"{self.folder(name)}/{part}"
-                shutil.rmtree(copy, ignore_errors=True)
-                if os.path.isdir(own):
-                    shutil.copytree(own, copy)
-        kit = subprocess.run(["rt", "doc"], check=True, capture_output=True, text=True).stdout
-        sys.path.insert(0, f"{os.path.dirname(kit.strip())}/bin")
-        rtlib: Any = importlib.import_module("rtlib")
-        known: Dict[str, Any] = {}
-        for name in self.order:
-            folder = self.folder(name)
-            crate = known.setdefault(folder, rtlib.Crate(folder, self.top, known, name=name))
-            crate.stamp = functools.lru_cache(maxsize=None)(crate.stamp)
-            self.gives_library(name, crate)
-
-    def gives_library(self, name: str, crate: Any) -> None:
-        """Links the built library of a crate, with the stamp that `rt check` looks for."""
-        built, taken = f"{self.checked}/crates/{name}/out/rlib", f"{self.folder(name)}/out/rlib"
-        if crate.is_built() or not os.path.isfile(f"{built}/{name}.rlib/format"):
-            return
-        shutil.rmtree(taken, ignore_errors=True)
-        shutil.copytree(built, taken, copy_function=link)
-        write(f"{taken}/stamp", crate.stamp())
-
-    def folder(self, name: str) -> str:
-        """Returns the folder of a crate in the copy."""
-        return f"{self.top}/crates/{name}"
-
-    def forms(self, name: str) -> List[Form]:
-        """Returns the weaker forms of all clauses of a crate."""
-        found: List[Form] = []
-        for part, of in (("src", forms_of_functions), ("specs", forms_of_records)):
-            for path in self.files(name, (part,)):
-                found += of(os.path.relpath(path, self.folder(name)), read(path))
+            for it in self.of[form]:
+                if self.fits(Trial(form, it), [one.witness for one in found], weak):
+                    found.append(Trial(form, it))
+                    weak.add(form.key())
+                    called |= self.calls[it]
+                    break
         return found
 
-    def weakens(self, name: str, form: Form) -> None:
-        """Writes the weaker form into the copy."""
-        folder = self.folder(name)
-        if form.is_field:
-            fields = fields_of(read(f"{folder}/{form.path}"), form.owner)
-            for each in self.order:
-                self.gives_less(each, form, fields)
-        write(f"{folder}/{form.path}", form.text)
-        if not form.is_field:
-            self.moves_proof(folder, form)
+    def fits(self, trial: Trial, real: List[Function], weak: Set[Key]) -> bool:
+        """Returns whether a trial can be made beside others, and is still to be made."""
+        it = trial.witness
+        own = (self.crate.name, it.path, it.title())
+        is_apart = not any(
+            it == one or it in self.inner[one] or one in self.inner[it] for one in real
+        )
+        is_new = trial not in self.tried and it not in self.unfit
+        return is_apart and is_new and not weak & (self.calls[it] | {own})
 
-    def gives_less(self, name: str, form: Form, fields: List[str]) -> None:
-        """Takes a field out of the literals of a crate that give it."""
-        for path in self.files(name, PARTS[1:]):
-            old = read(path)
-            new = without_field(old, fields, form.clause)
-            if new != old:
-                write(path, new)
+    def refuses(self, witness: Function, text: str) -> str:
+        """Returns how a check refused a function, or an empty text."""
+        own = self.crate.name_in_lines(witness)
+        verdicts = [it[2] for it in VERDICT.finditer(text) if own.fullmatch(it[1])]
+        failed = [it for it in verdicts if it.startswith(FAILED)]
+        name = "::".join([self.crate.name, *self.crate.place(witness)])
+        limit = ", at a limit of the prover" if all(it == FAILED[2] for it in failed) else ""
+        if not verdicts:
+            return f"{UNTRIED} by {name}: {first_error(text)}"
+        return f"refused by {name}{limit}" if failed else ""
 
-    def files(self, name: str, parts: Tuple[str, ...] = PARTS) -> Iterator[str]:
-        """Returns the files of a crate."""
-        for part in parts:
-            for at, _, files in sorted(os.walk(f"{self.folder(name)}/{part}")):
-                yield from (f"{at}/{it}" for it in sorted(files) if it.endswith((".rt", ".antt")))
+    def is_missed(self, witness: Function, text: str) -> bool:
+        """Returns whether the proof of a function names what the form takes away."""
+        folder = f"proofs/{'/'.join(self.crate.place(witness))}/"
+        own = [it[3] for it in ERROR.finditer(text) if it[1].startswith(folder)]
+        return any(LACKS.search(it) for it in own)
 
-    def moves_proof(self, folder: str, form: Form) -> None:
-        """Puts the proof of the function under its new name."""
-        module = form.path[len("src/") : -len(".rt")]
-        above = "" if module == "lib" else module
-        for at, folders, _ in sorted(os.walk(f"{folder}/proofs")):
-            inside = os.path.relpath(at, f"{folder}/proofs")
-            fits = inside.endswith(form.holder) if form.holder else inside in (above, above or ".")
-            if form.owner in folders and fits:
-                new = f"{at}/{form.owner}{FULL}"
-                os.rename(f"{at}/{form.owner}", new)
-                for file in os.listdir(new):
-                    old = r"(proofs\.[\w.+]*\b" + form.owner + r")\.(?=G(?:oals|iven)\b)"
-                    write(f"{new}/{file}", re.sub(old, rf"\1{FULL}.", read(f"{new}/{file}")))
+    def tries(self, trials: List[Trial]) -> Dict[Trial, Tuple[str, bool]]:
+        """Returns how each witness refused its form, and whether its proof names what is gone.
 
-    def naming(self, name: str, form: Form) -> List[str]:
-        """Returns the files of a crate that name the function, or the record or its field."""
-        word = rf"\b{form.owner}\b|\.{form.clause}\b" if form.is_field else rf"\b{form.owner}\("
-        if form.holder:
-            word = rf"(?:\.|\b{form.holder}::){form.owner}\("
-        return [it for it in self.files(name) if re.search(word, read(it))]
+        If a check says nothing of its functions, each form is tried alone.
+        """
+        text = self.check([it.form for it in trials], [it.witness for it in trials])
+        found = {it: self.refuses(it.witness, text) for it in trials}
+        if len(trials) > 1 and all(it.startswith(UNTRIED) for it in found.values()):
+            return {it: how for one in trials for it, how in self.tries([one]).items()}
+        return {it: (how, self.is_missed(it.witness, text)) for it, how in found.items()}
 
-    def modules(self, name: str, form: Form) -> Optional[List[str]]:
-        """Returns the modules that name it, nothing for the whole crate, or None if none does."""
-        top, found = self.folder(name), set()
-        paths = [os.path.relpath(it, top).split("/") for it in self.naming(name, form)]
-        for part, *inside in paths:
-            module = inside[0].split(".")[0]
-            if part == "specs" or not os.path.isfile(f"{top}/src/{module}.rt") or module == "lib":
-                return []
-            found.add(f"{name}::{module}")
-        return sorted(found) if paths else None
+    def settles(self) -> None:
+        """Tries all forms that a function here can refuse."""
+        unsure: Dict[Form, Tuple[Function, str]] = {}
+        while trials := self.round(set(unsure)):
+            since = time.monotonic()
+            self.tried |= set(trials)
+            found = {it: told for it, told in self.tries(trials).items() if told[0]}
+            sure = {it.form: how for it, (how, is_sure) in found.items() if is_sure}
+            self.outcomes.settle(self.with_less(sure))
+            for it, (how, _) in found.items():
+                if how.startswith(UNTRIED):
+                    self.outcomes.untried[it.form] = how
+                elif it.form not in sure:
+                    unsure[it.form] = it.witness, how
+            self.tells(len(trials), len(found), since)
+        if unsure and self.makes_sure(unsure):
+            self.settles()
 
-    def check(self, name: str, only: List[str]) -> Tuple[int, str]:
-        """Checks a crate, or some modules of it, and returns the status and the lines."""
-        words = ["rt", "check", "--jobs", str(self.jobs)]
-        words += [word for it in only for word in ("--only", it)]
-        how: Dict[str, Any] = {"stdout": subprocess.PIPE, "stderr": subprocess.STDOUT}
-        folder = self.folder(name)
-        done = subprocess.run(words, cwd=folder, check=False, text=True, errors="replace", **how)
-        return done.returncode, done.stdout
+    def makes_sure(self, unsure: Dict[Form, Tuple[Function, str]]) -> Set[Function]:
+        """Tries witnesses once more, with no form, and returns those that aren't proved either.
 
-
-def said_by(name: str, text: str) -> str:
-    """Returns the functions of a crate that a check refused, or else its first error."""
-    refused = [it[1] for it in REFUSED.finditer(text)]
-    errors = [" ".join(it[0].split())[:MOST] for it in ERROR.finditer(text)]
-    more = f" and {len(refused) - 3} more" if len(refused) > 3 else ""
-    if not refused:
-        return errors[0] if errors else f"{name}, which does not compile"
-    return f"{', '.join(refused[:3])}{more}" + (f" ({errors[0]})" if errors else "")
-
-
-def outcome(room: Room, name: str, form: Form) -> str:
-    """Tries a weaker form and returns who refuses it."""
-    room.weakens(name, form)
-    tried = []
-    above = room.under if form.is_field else room.below.__getitem__
-    for each in [name, *(it for it in room.order if name in above(it))]:
-        only = [] if each == name else room.modules(each, form)
-        if only is None:
-            continue
+        Such a witness failed for another reason than a form.
+        """
+        witnesses = sorted({it for it, _ in unsure.values()})
         since = time.monotonic()
-        status, text = room.check(each, only)
-        tried.append(f"{each} {time.monotonic() - since:.0f} s")
-        write(f"{room.top}/last-{each}.log", text)
-        if status == 1:
-            own = re.escape(f"{form.holder}::{form.owner}" if form.holder else form.owner)
-            is_own = re.search(rf"^fn {name}\S*::{own}(?:{FULL})?: (?!proved)", text, re.M)
-            word = "NOT TRIED, as its own proof fails:" if is_own else "refused by"
-            return f"{word} {said_by(each, text)} [{', '.join(tried)}]"
-        if status:
-            return f"NOT TRIED: status {status} in {each} [{', '.join(tried)}]"
-    return f"REFUSED BY NOTHING [{', '.join(tried)}]"
+        text = self.check([], witnesses)
+        unfit = {it for it in witnesses if self.refuses(it, text)}
+        self.tells(len(witnesses), len(unfit), since)
+        fit = {form: how for form, (it, how) in unsure.items() if it not in unfit}
+        self.outcomes.settle(self.with_less(fit))
+        for form, (it, _) in unsure.items():
+            if it in unfit:
+                why = "::".join([self.crate.name, *self.crate.place(it)])
+                self.outcomes.untried[form] = f"{UNTRIED} by {why}, which fails with no form either"
+        self.unfit |= unfit
+        return unfit
+
+    def with_less(self, found: Dict[Form, str]) -> Dict[Form, str]:
+        """Returns outcomes with those of the forms that say even less."""
+        less = {it: form for it in self.forms for form in found if it.says_less(form)}
+        return {**found, **{it: f"{found[form]}, as is more" for it, form in less.items()}}
+
+
+def first_error(text: str) -> str:
+    """Returns the first error of a check, or else its last words."""
+    found = [it for it in ERROR.finditer(text) if CASCADES[1] not in it[3]]
+    errors = [" ".join(it[0].split())[:MOST] for it in found]
+    return errors[0] if errors else " ".join(text.split())[-MOST:]
+
+
+class Reading(NamedTuple):
+    """What a check said of records without fields: who misses which field, and other errors."""
+
+    missed: Dict[str, str]
+    others: Set[str]
+
+
+class Records(Reader):
+    """What a crate says to records without a field.
+
+    A round takes a field out of each of many records. A declaration that names such a field is
+    refused, and the error says so. If there are other errors only, the forms are tried in smaller
+    rounds, at last alone. In the first rounds all functions are stand-ins, so that definitions,
+    lemmas and samples are tried. Then functions are tried that name the field, or its record.
+    """
+
+    def __init__(self, room: Room, name: str, outcomes: Outcomes):
+        super().__init__(room, name, outcomes, True)
+        self.texts = {it: self.crate.own_text(it) for it in self.functions}
+
+    def naming(self, forms: List[Form], by_record: bool) -> List[Function]:
+        """Returns the functions that name a field or a record, or cite lemmas that do."""
+        words = [rf"\b{it.owner}\b" if by_record else rf"\.{it.clause}\b" for it in forms]
+        found = re.compile("|".join(words))
+        files = [path for path, text in self.crate.texts.items() if found.search(text)]
+        lemmas = [it for it in files if it.startswith("proofs/") and "Lemmas" in it]
+        modules = [re.escape(it[: -len(".antt")].replace("/", ".")) for it in lemmas]
+        cited = re.compile("|".join([*words, *(rf"\b{it}\b" for it in modules)]))
+        return [it for it, text in self.texts.items() if cited.search(text)]
+
+    def batch(self, forms: List[Form], most: int) -> List[Form]:
+        """Returns forms of different records and with different names."""
+        found: List[Form] = []
+        for it in forms:
+            owners, names = {one.key() for one in found}, {one.clause for one in found}
+            if len(found) < most and it.key() not in owners and it.clause not in names:
+                found.append(it)
+        return found
+
+    def reading(self, forms: List[Form], real: List[Function]) -> Reading:
+        """Checks the crate without these fields, and returns what the check says."""
+        text = self.check(forms, real)
+        names = {it.clause for it in forms}
+        missed: Dict[str, str] = {}
+        others: Set[str] = set()
+        for it in ERROR.finditer(text):
+            field = LACKS.search(it[3])
+            if field and field[1] in names:
+                missed.setdefault(field[1], self.declared_at(it[1], int(it[2])))
+            elif not any(cascade in it[3] for cascade in CASCADES):
+                others.add(" ".join(it[0].split())[:MOST])
+        others |= {it[1] for it in VERDICT.finditer(text) if it[2].startswith(FAILED)}
+        if not text.strip().split("\n")[-1].startswith(ENDS):
+            others.add(first_error(text))
+        return Reading(missed, others)
+
+    def declared_at(self, path: str, line: int) -> str:
+        """Returns a file and what is declared at a line of it."""
+        place = f"{self.room.top}/{self.crate.name}/crates/{self.crate.name}/{path}"
+        lines = read(place).split("\n")[:line] if os.path.isfile(place) else []
+        return f"{self.crate.name}/{path} {declared(lines)}".strip()
+
+    def settles(self, by_record: bool) -> None:
+        """Tries definitions and lemmas, and then functions that name a field, or its record."""
+        own = [it for it in self.forms if it.crate == self.crate.name]
+        if own and not by_record:
+            self.tries(own, lambda _: [])
+        left = [it for it in self.outcomes.left(self.forms) if self.naming([it], by_record)]
+        self.tries(left, lambda forms: self.naming(forms, by_record))
+
+    def tries(self, left: List[Form], real: Callable[[List[Form]], List[Function]]) -> None:
+        """Tries fields over some functions that are no stand-ins."""
+        most = len(left)
+        noise: Set[str] = set()
+        while left := self.outcomes.left(left):
+            batch, since = self.batch(left, most), time.monotonic()
+            found = self.reading(batch, real(batch))
+            if found.others and not found.missed and not noise:
+                noise = self.reading([], real(batch)).others or {""}
+            others = sorted(found.others - noise)
+            refused = {it: found.missed[it.clause] for it in batch if it.clause in found.missed}
+            if not refused and others and len(batch) == 1:
+                others = sorted(set(others) - self.reading([], real(batch)).others)
+                refused = {batch[0]: others[0]} if others else {}
+            self.outcomes.settle({it: f"refused by {who}" for it, who in refused.items()})
+            self.tells(len(batch), len(refused), since)
+            most = max(1, len(batch) // 2) if others and not refused else 2 * most
+            left = left if others or refused else [it for it in left if it not in batch]
+
+
+def declared(lines: List[str]) -> str:
+    """Returns the name of the last declaration that begins in these lines of a file."""
+    heads = [it for it in lines if it[:1] not in ("", " ", "-", "/", "#", "}", ")")]
+    return (
+        re.sub(r"^(pub |abbrev |unfoldable |record )*", "", heads[-1]).split(" ")[0]
+        if heads
+        else ""
+    )
+
+
+def owner_at(crate: Crate, path: str, at: int) -> str:
+    """Returns the function, the record or the definition at a place of a file."""
+    line = crate.texts[path].count("\n", 0, at)
+    for it in crate.functions.get(path, ()):
+        if it.first <= line <= it.last:
+            return it.title()
+    return declared(crate.texts[path].split("\n")[: line + 1])
+
+
+def edits_of(crate: Crate) -> Iterator[Tuple[str, Set[Tuple[str, str]]]]:
+    """Returns the must-fail edits of a crate of this checkout, with what each changes where."""
+    folder = f"{build.TOP}/crates/{crate.name}/must-fail"
+    for file in sorted(os.listdir(folder)) if os.path.isdir(folder) else []:
+        path, owners = "", set()
+        for line in read(f"{folder}/{file}").split("\n"):
+            word, _, rest = line.partition(": ")
+            path = rest if word == "file" else path
+            at = crate.texts.get(path, "").find(rest) if word == "old" else -1
+            if at >= 0:
+                owners.add((path, owner_at(crate, path, at)))
+        yield file[: -len(".edit")], owners
+
+
+def held(room: Room, form: Form, is_called: bool) -> str:
+    """Returns what becomes of a form that nothing refuses."""
+    crate = room.crates[form.crate]
+    names = [name for name, it in edits_of(crate) if (form.path, form.owner) in it]
+    if names:
+        return f"held by an edit, if one of these breaks the clause: {', '.join(names)}"
+    own = [it for it in crate.functions.get(form.path, ()) if it.title() == form.owner]
+    if any(it.is_public and it.body == it.last for it in own) and not is_called:
+        return "a law for readers, which no function calls"
+    why = ": no function calls it" if own and not is_called else ""
+    return f"REFUSED BY NOTHING{why}"
+
+
+class Work:
+    """What is to be done at each crate, for several threads: functions first, then records."""
+
+    def __init__(self, room: Room, names: List[str], outcomes: Outcomes):
+        self.room, self.outcomes, self.lock = room, outcomes, threading.Lock()
+        above = {it for it in room.order if room.under[it] & set(names)}
+        callers = [it for it in room.order if it in above and it not in names]
+        order = [*names, *sorted(callers, key=lambda it: it != "outer_calls")]
+        self.steps = [(step, it) for step in ("calls", "fields", "records") for it in order]
+        self.busy: Set[str] = set()
+
+    def next(self) -> Optional[Tuple[str, str]]:
+        """Returns the first step at a crate that no other thread is at, if there is one."""
+        with self.lock:
+            for it in self.steps:
+                if it[1] not in self.busy:
+                    self.steps.remove(it)
+                    self.busy.add(it[1])
+                    return it
+        return None
+
+    def goes_on(self) -> None:
+        """Takes steps until none is left."""
+        while self.steps:
+            now = self.next()
+            if not now:
+                time.sleep(1)
+                continue
+            step, name = now
+            try:
+                if step == "calls":
+                    Callers(self.room, name, self.outcomes).settles()
+                else:
+                    Records(self.room, name, self.outcomes).settles(step == "records")
+            finally:
+                self.busy.discard(name)
+
+
+def tries(room: Room, names: List[str], forms: List[Form], checks: int) -> Dict[Form, str]:
+    """Prints the outcome of each form, and returns it."""
+    outcomes = Outcomes(forms)
+    work = Work(room, names, outcomes)
+    with concurrent.futures.ThreadPoolExecutor(checks) as threads:
+        for it in [threads.submit(work.goes_on) for _ in range(checks)]:
+            it.result()
+    left = outcomes.left(forms)
+    ends = {it: held(room, it, it in outcomes.called) for it in left}
+    outcomes.settle({it: outcomes.untried.get(it, how) for it, how in ends.items()})
+    return outcomes.settled
 
 
 def main() -> int:
@@ -437,31 +474,29 @@ def main() -> int:
     words = argparse.ArgumentParser(
         description=__doc__, formatter_class=argparse.RawDescriptionHelpFormatter
     )
-    words.add_argument("crate", metavar="CRATE", help="a crate, as crates.txt names it")
+    words.add_argument("crate", metavar="CRATE", help="a crate, or some with commas between")
     words.add_argument("words", metavar="WORD", nargs="*", help="chooses forms")
     words.add_argument("--checked", metavar="DIR", help="a checkout that `rt ci` proved")
     words.add_argument("--room", metavar="DIR", default=ROOM, help="the copy")
+    words.add_argument("--checks", type=int, default=1, help="that go on at a time (1)")
     words.add_argument("--jobs", type=int, default=1, help="of each check (1)")
     words.add_argument("--list", action="store_true", help="prints the forms and tries none")
     given = words.parse_args()
     checked = given.checked or (build.TOP if given.list else proved())
+    if not checked:
+        sys.exit("a crate is not proved as it is")
     room = Room(os.path.abspath(given.room), os.path.abspath(checked), given.jobs)
-    if given.crate not in room.order:
-        words.error(f"{given.crate} is no crate of the program")
-    room.lays_out()
-    forms = room.forms(given.crate)
+    names = [it for it in room.order if it in given.crate.split(",")]
+    if len(names) < len(set(given.crate.split(","))):
+        words.error(f"{given.crate}: crates.txt has no such crate")
+    forms = [form for name in names for form in room.crates[name].forms()]
     if given.words:
         forms = [it for it in forms if any(word in it.title() for word in given.words)]
-    lost = 0
-    for form in forms:
-        if given.list:
-            print(form.title())
-            continue
-        found = outcome(room, given.crate, form)
-        lost += "NOTHING" in found
-        print(f"{form.title()}\n    {found}", flush=True)
-        room.puts_back(room.order if form.is_field else [given.crate])
-    return 1 if lost else 0
+    if given.list:
+        print("\n".join(it.title() for it in forms))
+        return 0
+    found = tries(room, names, forms, given.checks)
+    return int(any("NOT" in it for it in found.values()))
 
 
 if __name__ == "__main__":

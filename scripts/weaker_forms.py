@@ -1,0 +1,224 @@
+"""The weaker forms of the clauses of functions, and records without a field."""
+import re
+from typing import Iterator, List, NamedTuple, Set, Tuple
+
+FUNCTION = re.compile(r"( *)(pub(?:\(\w+\))? )?(?:unsafe )?fn (\w+)")
+CLAUSE = re.compile(r" *(requires|ensures|ghost)\b\*? ?(\w*)")
+IMPL = re.compile(r"impl(?:<.*?>)? (\w+)(?:<.*>)? \{")
+TRAIT_OF = re.compile(r"impl(?:<.*>)? .* for (?:\w+::)*(\w+)")
+TYPE = re.compile(r"^(?:pub(?:\(\w+\))? )?(?:struct|enum) (\w+)", re.MULTILINE)
+RECORD = re.compile(r"pub record (\w+)")
+FIELD = re.compile(r"  pub (\w+) :")
+
+
+class Names(NamedTuple):
+    """The names in a text: those after a dot or two colons, and those after no dot."""
+
+    members: Set[str]
+    plain: Set[str]
+
+
+def names_in(text: str) -> Names:
+    """Returns the names in a text."""
+    members = re.findall(r"(?:\.|::)(\w+)", text)
+    return Names(set(members), set(re.findall(r"(?<![.\w])\w+", text)))
+
+
+class Function(NamedTuple):
+    """A function with a body, by the lines of its file."""
+
+    path: str  # the file, from the crate's folder
+    name: str
+    holder: str  # the type of a method
+    is_public: bool
+    is_of_trait: bool
+    clauses: Tuple[Tuple[str, ...], ...]
+    first: int  # its line
+    body: int  # the line that opens its body
+    last: int  # the line that closes it
+
+    def title(self) -> str:
+        """Returns the name, with the type of a method."""
+        return f"{self.holder}::{self.name}" if self.holder else self.name
+
+    def is_called_in(self, names: Names) -> bool:
+        """Returns whether the function may be among the names of a body."""
+        return self.name in (names.members if self.holder else names.plain)
+
+
+class Form(NamedTuple):
+    """A weaker form of a clause or a record without a field."""
+
+    crate: str
+    path: str  # the file, from the crate's folder
+    owner: str  # the function, with the type of a method, or the record
+    clause: str  # the clause's or the field's name
+    number: int  # the clause's place among those of the function
+    label: str  # what is left of it
+    left: Tuple[str, ...]  # the lines of what is left
+    is_field: bool
+
+    def title(self) -> str:
+        """Returns the words that name the form, and that a WORD is looked for in."""
+        return f"{self.owner}{'.' * bool(self.clause)}{self.clause}: {self.label}"
+
+    def key(self) -> Tuple[str, str, str]:
+        """Returns what the form belongs to."""
+        return self.crate, self.path, self.owner
+
+    def says_less(self, other: "Form") -> bool:
+        """Returns whether this form drops a clause of which the other form keeps half."""
+        same = self.key() == other.key() and self.number == other.number
+        return same and self.label == "nothing" != other.label
+
+
+def depths(text: str) -> Iterator[Tuple[int, str, int]]:
+    """Returns each place of a text with its character and how many brackets it is inside of."""
+    depth = 0
+    for at, it in enumerate(text):
+        depth -= it in ")]}"
+        yield at, it, depth
+        depth += it in "([{"
+
+
+def directions(said: str) -> List[str]:
+    """Returns the two directions of a clause that is an equivalence, or nothing."""
+    places = [at for at, it, depth in depths(said) if it == "↔" and depth == 0]
+    if len(places) != 1:
+        return []
+    before, after = said[: places[0]].strip(), said[places[0] + 1 :].strip()
+    arrows = [at for at, it, depth in depths(before) if it == "→" and depth == 0]
+    binders, left = before[: arrows[-1] + 1] if arrows else "", before
+    left = before[len(binders) :].strip()
+    return [f"{binders} ({left}) → ({after})".strip(), f"{binders} ({after}) → ({left})".strip()]
+
+
+def body_of(lines: List[str], first: int, indent: str) -> int:
+    """Returns the line that opens the body of the function at a line, or 0 if none is opened."""
+    for at in range(first, len(lines)):
+        line = lines[at]
+        opens = line in (f"{indent}{{", f"{indent}{{}}")
+        if opens or (line.endswith(" {") and not CLAUSE.match(line)):
+            return at
+        if line.endswith((";", "{}")):
+            break
+    return 0
+
+
+def clauses_of(lines: List[str], indent: str) -> Iterator[Tuple[str, ...]]:
+    """Returns the clauses in the lines between a function's head and its body."""
+    now: Tuple[str, ...] = ()
+    for it in lines:
+        if CLAUSE.match(it) and len(it) - len(it.lstrip()) == len(indent) + 4:
+            if now:
+                yield now
+            now = (it,)
+        elif now:
+            now += (it,)
+    if now:
+        yield now
+
+
+def functions_of(path: str, text: str) -> Iterator[Function]:
+    """Returns the functions with bodies of a file of src/, but those that are `const`."""
+    lines, holder, is_of_trait = text.split("\n"), "", False
+    for at, line in enumerate(lines):
+        if line.startswith(("impl", "unsafe impl", "trait", "pub trait", "pub(crate) trait")):
+            block, other = IMPL.match(line), TRAIT_OF.search(line)
+            holder, is_of_trait = (block or other or "??")[1], not block
+        elif line == "}":
+            holder, is_of_trait = "", False
+        found = FUNCTION.match(line)
+        body = body_of(lines, at, found[1]) if found else 0
+        if found and body:
+            clauses = tuple(clauses_of(lines[at + 1 : body], found[1]))
+            last = body if lines[body].endswith("{}") else lines.index(f"{found[1]}}}", body)
+            is_public = found[2] == "pub " and not is_of_trait
+            yield Function(path, found[3], holder, is_public, is_of_trait, clauses, at, body, last)
+
+
+def weaker(clause: Tuple[str, ...]) -> Iterator[Tuple[str, Tuple[str, ...]]]:
+    """Returns the weaker forms of an `ensures`: what is left of it, and its lines."""
+    text = "\n".join(clause)
+    said = text[text.index("{") + 1 : text.rindex("}")].strip()
+    for it in directions(said):
+        yield it, (f"{text[: text.index('{')]}{{ {it} }}",)
+    yield "nothing", ()
+
+
+def forms_of_functions(crate: str, path: str, text: str) -> Iterator[Form]:
+    """Returns the weaker forms of the clauses of a file's public functions."""
+    for it in functions_of(path, text):
+        for number, clause in enumerate(it.clauses if it.is_public else ()):
+            kind = CLAUSE.match(clause[0])
+            if kind and kind[1] == "ensures":
+                for label, left in weaker(clause):
+                    yield Form(crate, path, it.title(), kind[2], number, label, left, False)
+
+
+def with_bodies(text: str, functions: List[Function], forms: List[Form], real: Set[str]) -> str:
+    """Returns a file in which only some functions keep their bodies, and some state less."""
+    lines = text.split("\n")
+    weak = {form.owner: form for form in forms}
+    for it in reversed(functions):
+        form = weak.get(it.title())
+        if not it.is_of_trait and it.title() not in real and it.body < it.last:
+            indent = lines[it.last][:-1]
+            lines[it.body + 1 : it.last] = [f"{indent}    loop {{}}"]
+        if form and it.is_public:
+            start = it.body - sum(map(len, it.clauses))
+            kept = it.clauses[: form.number] + (form.left,) + it.clauses[form.number + 1 :]
+            lines[start : it.body] = [line for clause in kept for line in clause]
+    return "\n".join(lines)
+
+
+def fields(text: str) -> Iterator[Tuple[str, str, int, int]]:
+    """Returns the fields of the records of a file, with their records and lines."""
+    lines, record = text.split("\n"), ""
+    for at, line in enumerate(lines):
+        found, field = RECORD.match(line), FIELD.match(line)
+        record = found[1] if found else record if line.startswith(" ") else ""
+        if record and field:
+            end = at + 1
+            while lines[end : end + 1] and lines[end].startswith("   "):
+                end += 1
+            yield record, field[1], at, end
+
+
+def forms_of_records(crate: str, path: str, text: str) -> Iterator[Form]:
+    """Returns the forms of a file of specs/ in which a record lacks a field."""
+    for record, field, at, _ in fields(text):
+        yield Form(crate, path, record, field, at, "nothing", (), True)
+
+
+def without_line(text: str, form: Form) -> str:
+    """Returns the text of a record's file without the field."""
+    for record, field, at, end in fields(text):
+        if (record, field) == (form.owner, form.clause):
+            lines = text.split("\n")
+            return "\n".join(lines[:at] + lines[end:])
+    return text
+
+
+def fields_of(text: str, record: str) -> List[str]:
+    """Returns the fields of a record, by the text of its file."""
+    return [field for owner, field, _, _ in fields(text) if owner == record]
+
+
+def without_field(text: str, names: List[str], field: str) -> str:
+    """Returns the text with the field taken out of each literal that gives fields of the record."""
+    for at in reversed([it.end() for it in re.finditer(r"record \{", text)]):
+        ends = [0]
+        for place, it, depth in depths(text[at:]):
+            if depth < 0:
+                ends.append(place)
+                break
+            if it == ";" and depth == 0:
+                ends.append(place + 1)
+        parts = [text[at + a : at + b] for a, b in zip(ends, ends[1:])]
+        found = [it.split("=")[0].strip() for it in parts]
+        given = [it for it in found if it]
+        if field in given and set(given) <= set(names):
+            kept = "".join(it for it, name in zip(parts, found) if name != field)
+            text = text[:at] + kept + text[at + ends[-1] :]
+    return text
