@@ -75,7 +75,6 @@ class Small(unittest.TestCase):
         same = faults_of([fault_of("stuck D0 0"), Fault("swap", ("U1.2", "U1.3"))])
         self.assertEqual(same, read_faults(board, "stuck:D0:0 swap:U1.2:U1.3"))
 
-
     def test_rows_with_two_drivers(self) -> None:
         # Of the rows 0 to 2 both drivers are on in row 1, so nothing decides what the net has there.
         bed = Bed()
