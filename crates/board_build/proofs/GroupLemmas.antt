@@ -1,4 +1,4 @@
--- The pins of each net, gathered word by word, and the nets from their names and groups.
+-- The pins of each net, gathered word by word, and the nets that are made from their names and groups.
 use Rattle.std.proofs.Common.{◌≡◌, ◌≢◌, ℕ, zero, suc, ◌+◌, ◌<◌, ◌≤◌, ◌==◌, Bool, true, false, cond, List, [], ◌∷◌, ◌++◌, length, map, take, drop, get_or, set, append_assoc, nat_lt, Option, Some, None, refl, sym, ap, ◌∙◌, arith, Bor}
 use Rattle.std.specs.Prelude.{filter, zip, slice_get, option_map}
 use Rattle.std.specs.Option.{option_to_list}
@@ -20,7 +20,7 @@ one_pin : (m : Marked) (b : Bool) → map pin_with (cond b (m ∷ []) []) ≡ co
 one_pin m true = refl
 one_pin m false = refl
 
--- the group of net `n` in the words up to and including word `i`
+-- with word `i`, the group of net `n` has one more pin if the word belongs to net `n`, and is unchanged otherwise
 pub group_more : (words : List MarkedWord) (i : ℕ) (w : MarkedWord) (n : ℕ) → i < length words → get_or words i w ≡ w →
     group_of (map seen (take (i + 1) words)) n ≡ group_of (map seen (take i words)) n ++ cond (w.net == n) (pin_with (seen w) ∷ []) []
 group_more words i w n within read =
@@ -31,7 +31,7 @@ group_more words i w n within read =
     ∙ map-append pin_with (filter (λ m. number_of m == n) (map seen (take i words))) (filter (λ m. number_of m == n) (seen w ∷ []))
     ∙ ap (λ v. group_of (map seen (take i words)) n ++ v) (one_pin (seen w) (w.net == n))
 
--- the groups stay right when the pin of word `i` is added to the group of its net
+-- if the pin of word `i` is added to the group of its net, the groups are right for the words up to and including word `i`
 pub groups_step : (words : List MarkedWord) (i : ℕ) (w : MarkedWord) (count : ℕ) (old new : List (List NetPin)) → i < length words → get_or words i w ≡ w → w.net < length old →
     new ≡ set old w.net (get_or old w.net [] ++ pin_with (seen w) ∷ []) → ((n : ℕ) → n < count → get_or old n [] ≡ group_of (map seen (take i words)) n) →
     (n : ℕ) → n < count → get_or new n [] ≡ group_of (map seen (take (i + 1) words)) n
@@ -51,7 +51,7 @@ groups_step words i w count old new within read inside changed was n less = by_t
         wrong : true ≡ false → ⊥
         wrong h = cc h
 
--- the groups stay right if word `i` belongs to none of the nets
+-- if word `i` belongs to none of the nets, the groups are right for the words up to and including word `i`
 pub groups_kept : (words : List MarkedWord) (i : ℕ) (w : MarkedWord) (count : ℕ) (old : List (List NetPin)) → i < length words → get_or words i w ≡ w → (w.net < count → ⊥) →
     ((n : ℕ) → n < count → get_or old n [] ≡ group_of (map seen (take i words)) n) → (n : ℕ) → n < count → get_or old n [] ≡ group_of (map seen (take (i + 1) words)) n
 groups_kept words i w count old within read outside was n less = by_test (w.net == n) refl
@@ -105,7 +105,7 @@ at_place {A} P xs i within given = by_get (slice_get xs i) refl
         outside (y ∷ ys) (suc k) h f = outside ys k (omega (arith, h)) f
     by_get (Some x) e = given x (get_or_from_slice_get xs i x x e)
 
--- the groups stay right when the loop handles one more word
+-- if the groups are right for the words before word `i`, they are right for one more word after the loop handles it
 pub groups_more : (words : List MarkedWord) (i count len : ℕ) (old new : List (List NetPin)) → i < length words → len ≡ count → length old ≡ len →
     new ≡ groups_after (slice_get words i) len old → ((n : ℕ) → n < count → get_or old n [] ≡ group_of (map seen (take i words)) n) →
     (n : ℕ) → n < count → get_or new n [] ≡ group_of (map seen (take (i + 1) words)) n
@@ -126,7 +126,7 @@ zip_nil : {A B : Type 0} (xs : List A) → ◌≡◌ {A = List (A × B)} (zip xs
 zip_nil [] = refl
 zip_nil (x ∷ xs) = refl
 
--- the nets stay right when the loop adds one more name with its group
+-- after one more name and its group, the nets so far followed by those of the remaining names are still all nets
 pub zip_step : {A G N : Type 0} (f : A × G → N) (names : List A) (i : ℕ) (gs rest : List G) (nets new all : List N) → i < length names → rest ≡ drop 1 gs →
     new ≡ nets_after f (slice_get names i) (slice_get gs 0) nets → all ≡ nets ++ map f (zip (drop i names) gs) → all ≡ new ++ map f (zip (drop (i + 1) names) rest)
 zip_step {A} {G} {N} f names i gs rest nets new all within er en same =
@@ -141,7 +141,7 @@ zip_step {A} {G} {N} f names i gs rest nets new all within er en same =
         same ∙ ap (λ (v : List A). nets ++ map f (zip v (g ∷ hs))) cut ∙ sym (append_assoc nets (f (q, g) ∷ []) (map f (zip (drop (i + 1) names) hs)))
         ∙ ap (λ (v : List N). v ++ map f (zip (drop (i + 1) names) hs)) (sym now) ∙ ap (λ (v : List G). new ++ map f (zip (drop (i + 1) names) v)) (sym er)
 
--- the marks stay right when the loop adds one more mark
+-- after one more word, the marks are those of the words up to and including this word
 pub mark_step : {A N : Type 0} (f : A → N) (words : List A) (i : ℕ) (done new : List N) → i < length words → new ≡ marks_after f (slice_get words i) done → done ≡ map f (take i words) → new ≡ map f (take (i + 1) words)
 mark_step {A} {N} f words i done new within e was =
     at_place (λ o. new ≡ marks_after f o done → new ≡ map f (take (i + 1) words)) words i within

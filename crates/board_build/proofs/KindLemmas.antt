@@ -26,7 +26,7 @@ use Rattle.board_build.proofs.LawLemmas.{is_board}
 abbrev AreParts : List Part → Type 0
 AreParts parts = AllByRecursion (λ part. IsPart part.kind) parts
 
--- the parts of a line and of the later lines keep the rules of parts
+-- if the parts of later lines keep the rules of parts, so do the part of this line and the parts of later lines together
 line_kinds : (statement : ChainStatement) (devices : List RawDevice) (rest : List Part) → HasLength statement → AllByRecursion IsDevice devices → (AllByRecursion IsDevice (devices_after statement devices) → AreParts rest) → AreParts (cons_option (part_of_line statement devices) rest)
 line_kinds (Device part entity pack) [] rest has are next = next tt
 line_kinds (Device part entity pack) (device ∷ devices) rest has are next = (are.0, next are.1)

@@ -32,7 +32,7 @@ some_value {K} {V} eq (item ∷ items) q = by_test (eq item.0 q) (some_value eq 
     by_test true e = refl
     by_test false e = e
 
--- a part with another name has no place of the pin
+-- the pins of a part with another name give no place of the pin
 none_in_bits : (part : ℕ) (name : List ℕ) (n : ℕ) (bits : List PortBit) (pin : Pin) → same_word name pin.0 ≡ false → list_any (λ (i : PinPlace). same_pin i.0 pin) (bit_places part name n bits) ≡ false
 none_in_bits part name n [] pin e = refl
 none_in_bits part name n (bit ∷ bits) pin e = by_pin bit.pin (none_in_bits part name (n + 1) bits pin e)
@@ -63,6 +63,6 @@ placed_known parts pin = by_test (is_among (described_names parts) pin.0) refl
     by_test false e =
         ap (λ b. b || false) (some_value same_pin (pin_places parts) pin ∙ none_placed 0 parts pin (sym (some_place (λ name. same_word name pin.0) 0 (described_names parts)) ∙ e))
 
--- for a pin without a place, the names of the described parts decide
+-- a pin belongs to a described part if it has a place or if the part's name is that of a described part
 pub known_same : (parts : List Part) (pin : Pin) (d : Bool) (a : Option PinAt) → d ≡ is_among (described_names parts) pin.0 → a ≡ place_of_pin (pin_places parts) pin → (is_some a || d) ≡ is_among (described_names parts) pin.0
 known_same parts pin d a ed ea = ap (λ (v : Option PinAt). is_some v || d) ea ∙ ap (λ b. is_some (place_of_pin (pin_places parts) pin) || b) ed ∙ placed_known parts pin

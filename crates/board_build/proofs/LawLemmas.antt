@@ -1,4 +1,4 @@
--- Files in which no rule finds a fault denote a board.
+-- If no rule finds a fault in files, they denote a board.
 use Rattle.std.proofs.Common.{◌≡◌, ◌≢◌, ℕ, ◌<◌, ◌≤◌, ◌==◌, true, false, List, length, map, Some, None, refl, sym, ap, subst, ◌∙◌, arith, ◌⊎◌, inl, inr}
 use Rattle.std.specs.Prelude.{slice_get, find, All, AllPairs}
 use Rattle.std.specs.List.{list_any, AllByRecursion, slice_index_or}
@@ -74,7 +74,7 @@ inert_alike parts marks words names none = record {
       ap (λ (v : NetPin). v.inert) a.is ∙ ap (is_among marks.inerts) part ∙ sym (ap (λ (v : NetPin). v.inert) b.is);
 }
 
--- if a pin of a net is an always-on driver, `drives_always` holds of the pin that its word names
+-- if a pin of a net is an always-on driver, `drives_always` is true of the pin that the word names from which it was made
 drives_at : (parts : List Part) (marks : Marks) (words : List NetWord) (names : List (List ℕ)) (n place : ℕ) (net : Net) (pin : NetPin) → slice_get (board_nets marks words names) n ≡ Some net →
     drive (board_on parts marks words names) net pin ≡ Some AlwaysOn → (r : PinAtWord marks words n place pin) →
     drives_always (board_on parts marks words names) marks (pin_of r.word) (slice_get (board_nets marks words names) (net_of r.word)) ≡ true
@@ -133,7 +133,7 @@ pairs_map {X} {Y} f R xs h i j d less within =
     let Q : Y → Type 0 = λ v. R (f (slice_index_or xs i d)) v in
     subst Q (get_or-map f xs j d (f d) within) (subst P (get_or-map f xs i d (f d) low) (h i j (f d) less inside))
 
--- files without a fault denote a board
+-- files without a fault denote a board that keeps the rules of boards
 pub is_board : (chain : List ChainLine) (nets : List NetLine) (parts : List Part) → IsChain chain → map (λ part. part.name) parts ≡ names_of (named PartName chain) → All (λ part. IsPart part.kind) parts → board_fault chain nets parts ≡ None → IsBoard (board_with chain nets parts)
 unfolding board_fault
 is_board chain nets parts selected names kinds e =

@@ -123,7 +123,7 @@ module _ (chain : List ChainLine) (parts : List Part) (names : List (List ℕ)) 
       ap (λ (a : Option BoardFault). a then marked_two (map marked (drivers_of board marks words))) (guarded_same (drivers_of board marks words))
       ∙ ap (λ (b : Option BoardFault). guarded_driver board (drivers_of board marks words) then b) (two_same (drivers_of board marks words))
 
--- the two ways of composing the rules find the same first fault
+-- the rules in the order of the code and in the order of the definition find the same first fault
 order : {F : Type 0} (d n l u t c r : Option F) → ((d then (n then l)) then ((u then t) then (c then r))) ≡ ((d then (n then ((l then (u then t)) then c))) then r)
 order (Some f) n l u t c r = refl
 order None (Some f) l u t c r = refl

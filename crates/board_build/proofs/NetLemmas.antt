@@ -1,4 +1,4 @@
--- The nets of a board, and the word that each pin of a net comes from.
+-- The nets of a board, and the words from which the pins of the nets are made.
 use Rattle.std.proofs.Common.{◌≡◌, ◌≢◌, ℕ, zero, suc, ◌+◌, ◌≤◌, ◌==◌, Bool, true, false, cond, List, [], ◌∷◌, length, map, Some, refl, sym, ap, subst, ◌∙◌, arith, nat_le}
 use Rattle.std.specs.Prelude.{slice_get, filter, sum_by, AllPairs}
 use Rattle.std.specs.Cmp.Lexicographic.{other_text}
@@ -49,7 +49,7 @@ nets_differ marks words names h =
     let P : List (List ℕ) → Type 0 = λ v. Apart (λ a b. a ≢ b) v in
     apart_pairs _ _ (apart_map (λ (net : Net). net.name) (λ a b. a ≢ b) (board_nets marks words names) (subst P (sym (names_of_nets marks words 0 names)) (apart_weaker _ _ (λ a b e. other_text a b (sym e)) names h)))
 
--- the word that the pin at `place` in net `n` comes from
+-- the word from which the pin at `place` of net `n` is made
 pub record PinAtWord (marks : Marks) (words : List NetWord) (n place : ℕ) (pin : NetPin) : Type 0 where
   pub word : NetWord
   pub stands : slice_get (words_on words n) place ≡ Some word

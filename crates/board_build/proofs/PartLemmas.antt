@@ -46,7 +46,7 @@ pub parts_named : (lines : List ChainLine) (devices : List RawDevice) → length
 parts_named [] devices h = refl
 parts_named (line ∷ lines) devices h = parts_named_by line.line line.statement lines devices (parts_named lines) h
 
--- the pin and place `s` come from one of these port bits
+-- `s` is the pin and the place of one of these port bits
 pub record BitSite (part : ℕ) (name : List ℕ) (n : ℕ) (bits : List PortBit) (s : PinPlace) : Type 0 where
   pub of_part : s.1.part ≡ part
   pub of_name : s.0.0 ≡ name
@@ -78,7 +78,7 @@ bit_site part name n (b ∷ bits) s h = by_pin (bit_site part name (n + 1) bits 
         }
     by_pin rest (Some pin) e (inr k) = bit_later part name n b bits s (rest k)
 
--- the pin and place `s` come from a port bit of one of these parts, which is described
+-- `s` is the pin and the place of a port bit of one of these parts, which is described
 pub record Site (n : ℕ) (parts : List Part) (s : PinPlace) : Type 0 where
   pub index : ℕ
   pub number : s.1.part ≡ n + index

@@ -1,4 +1,4 @@
--- Facts about the board of the files, from the marked words of the files.
+-- The board that the marked words of the files give, and the rules that it keeps.
 use Rattle.std.proofs.Common.{◌≡◌, ℕ, List, [], map, None, sym, subst, ◌∙◌, ap}
 use Rattle.std.specs.Prelude.{option_map}
 use Rattle.first_places.specs.Places.{first_repeated}

@@ -13,7 +13,8 @@ use Rattle.board_lines.specs.NetWords.{Pin, NetWord, is_among, net_names, standi
 use Rattle.board_lines.specs.ChainParts.{PinPlace, chain_parts, pin_places, place_of_pin}
 use Rattle.board_lines.specs.LineRules.{Pulled, pulls_of, pull_of_net}
 
--- the facts from which the nets of a board are built: the places of the described parts' pins, the names on the INERT and SUPPLY lines, and the pulls
+-- what the nets of a board are built from, besides the words: the places of the described parts' pins, the names on the
+-- INERT and SUPPLY lines, and the pulls
 pub record Marks : Type 0 where
   pub places : List PinPlace
   pub inerts : List (List ℕ)
@@ -28,7 +29,7 @@ marks_of lines parts = record {
   pulls = pulls_of lines;
 }
 
--- a pin of a net: the pin's place if its part is described, and whether an INERT line names its part
+-- a pin of a net, with the pin's place if its part is described, and with a flag that is true if an INERT line names its part
 abbrev pub net_pin : Marks → Pin → NetPin
 net_pin marks pin = record {
   part = pin.0;
@@ -37,7 +38,7 @@ net_pin marks pin = record {
   inert = is_among marks.inerts pin.0;
 }
 
--- net n, which has this name
+-- net `n`, which has this name
 abbrev pub board_net : Marks → List NetWord → ℕ → List ℕ → Net
 board_net marks words n name = record {
   name = name;

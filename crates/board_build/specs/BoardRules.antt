@@ -19,15 +19,15 @@ use Rattle.board_lines.specs.ChainParts.{PinPlace, chain_parts, pin_places, plac
 use Rattle.board_lines.specs.LineRules.{line_fault}
 use Rattle.board_build.specs.BoardNets.{Marks, marks_of, net_pin, board_with}
 
--- the fault of a data scan of more than 65,535 bits; a scan has one bit for each boundary cell of a described part, and one bit for each other part
+-- the fault if a data scan has more than 65,535 bits: one bit for each boundary cell of a described part, and one bit for each other part
 unfoldable pub data_limit : List Part → Option BoardFault
 data_limit parts = if nat_lt most_bits (sum_by (λ part. data_length part.kind) parts) then Some (Limit 2) else None
 
--- the fault of more than 16,382 nets
+-- the fault if there are more than 16,382 nets
 unfoldable pub net_limit : List (List ℕ) → Option BoardFault
 net_limit names = if nat_lt most_nets (length names) then Some (Limit 3) else None
 
--- the fault of more than 65,535 different pins in the nets
+-- the fault if the nets have more than 65,535 different pins
 unfoldable pub pin_limit : List NetWord → Option BoardFault
 pin_limit words = if nat_lt most_pins (length (once have_same_pin words)) then Some (Limit 4) else None
 
@@ -52,7 +52,7 @@ drives_always board marks pin (Some net) = is_always_on (drive board net (net_pi
 abbrev pub always_on : RawBoard → Marks → List NetWord → List NetWord
 always_on board marks words = filter (λ word. drives_always board marks (pin_of word) (slice_get board.nets (net_of word))) words
 
--- the net is a supply, or has a TAP or compliance pin
+-- the net is a supply, or has a TAP or compliance pin, so it may not have an always-on driver
 abbrev pub is_kept : RawBoard → Option Net → Bool
 is_kept board None = false
 is_kept board (Some net) = net.supply || list_any (is_test_pin board) net.pins

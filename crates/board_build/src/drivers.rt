@@ -50,7 +50,7 @@ fn part_flags(alloc: Global, kind: &PartKind) -> Result<Vec<bool>, AllocError>
     }
 }
 
-/// A part with the port bits of its always-on drivers. The model is the part.
+/// A part with the port bits of its always-on drivers. The value in contracts is the part.
 #[derive(Drop)]
 pub struct PartDrivers<'a> {
     part: &'a Part,

@@ -201,8 +201,8 @@ fn nets_by(
     Ok(nets)
 }
 
-/// Returns the nets of these names, each with the pins of its words. The clause holds for every list of supplies
-/// and every list of pulls that agree with the two maps.
+/// Returns the nets of these names, each with the pins of its words. The contract's clause is true for all lists of
+/// supplies and of pulls that agree with the two maps.
 fn nets_of(
     alloc: Global,
     names: &[&[u8]],

@@ -14,7 +14,7 @@ use indexmap::IndexSet;
 use std::alloc::{AllocError, Global};
 use std::marker::Model;
 
-/// A flag for each port bit of a part. The model is the list of the flags.
+/// A flag for each port bit of a part. The value in contracts is the list of the flags.
 #[derive(Drop)]
 struct BitFlags {
     flags: Vec<bool>,
@@ -81,7 +81,7 @@ fn set_first_at(rows: &mut [BitFlags], at: PinAt) -> bool
 /// The pins that the words handled so far name.
 #[derive(Drop)]
 struct SeenPins<'a> {
-    /// For each part, a flag for each port bit: whether a word has named the bit's pin.
+    /// A flag for each port bit of each part. It is true if a word has named the bit's pin.
     rows: Vec<BitFlags>,
     /// The named pins that have no place in the chain.
     unplaced: IndexSet<PinName<'a>>,

@@ -15,7 +15,7 @@ use board_lines::{net_words, once_words};
 use std::alloc::{AllocError, Global};
 use std::marker::Model;
 
-/// The words of a net file that count, in order: each pin counts once in a net.
+/// The words of a net file that count, in order. If several words of a net name the same pin, only the first of them counts.
 #[derive(Drop)]
 pub struct StandingWords<'a> {
     words: Vec<MarkedWord<'a>>,
@@ -41,7 +41,7 @@ impl<'a> StandingWords<'a> {
         &self.words
     }
 
-    /// Returns true only if no two words name the same pin. In this case no words need to be compared.
+    /// Returns true only if no two words name the same pin. No words then need to be compared.
     pub fn differ(&self) -> bool
         ensures { result ≡ true → marked_twice self.now ≡ None }
     {

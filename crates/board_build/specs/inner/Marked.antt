@@ -1,4 +1,4 @@
--- Net words with the facts about their pins, as the code keeps them.
+-- The words of a net file with facts about their pins, as the code keeps them.
 use Rattle.std.specs.Prelude.{◌≡◌, ℕ, ◌+◌, ◌<◌, ◌==◌, Bool, false, ◌&&◌, ◌||◌, List, [], ◌∷◌, ◌++◌, length, map, filter, find, nat_lt, slice_get, slice_index_or, slice_set, Option, Some, None, Result, option_and_then, option_map, is_none, is_some, if◌then◌else◌}
 use Rattle.std.proofs.Common.{Bor}
 use Rattle.std.specs.Option.{option_to_list}
@@ -66,7 +66,7 @@ mark parts places inerts word = record {
   always_on = is_free_at parts (place_of_pin places (pin_of word));
 }
 
--- the record of the definitions for a marked word of the code
+-- a marked word of the code as a record of the definitions
 abbrev pub seen : MarkedWord → Marked
 seen m = record {
   word = ((m.net, (m.part.now, m.pin.now)), m.spot);
@@ -76,7 +76,8 @@ seen m = record {
   always_on = m.always_on;
 }
 
--- the marked word of a borrowed word; the functions give the facts about the word's pin, and a pin with a place belongs to a described part
+-- the marked word that is made from a borrowed word; the functions give the facts about the word's pin, and a pin with a
+-- place belongs to a described part
 abbrev pub mark_by : List Part → (Bor (List ℕ) → Bool) → (Bor (List ℕ) × Bor (List ℕ) → Option PinAt) → (Bor (List ℕ) → Bool) → (ℕ × (Bor (List ℕ) × Bor (List ℕ))) × Spot → MarkedWord
 mark_by parts described place inert w = record {
   net = w.0.0;
@@ -103,11 +104,11 @@ place_of m = spot_of m.word
 abbrev pub pin_with : Marked → NetPin
 pin_with m = record { part = (pin_of m.word).0; pin = (pin_of m.word).1; at = m.at; inert = m.inert }
 
--- the pins of the net with this number
+-- the pins of net `n`, in the order of the words
 abbrev pub group_of : List Marked → ℕ → List NetPin
 group_of words n = map pin_with (filter (λ m. number_of m == n) words)
 
--- adds the pin of the word to the group of the word's net, if there are a word and such a group
+-- adds the pin of the word to the group of the word's net, if there is a word and its net has a group
 abbrev pub groups_after : Option MarkedWord → ℕ → List (List NetPin) → List (List NetPin)
 groups_after None count groups = groups
 groups_after (Some word) count groups = if nat_lt word.net count then slice_set groups word.net (slice_index_or groups word.net [] ++ pin_with (seen word) ∷ []) else groups
@@ -140,7 +141,7 @@ pin_in m = pin_of m.word
 abbrev pub same_pins : Marked → Marked → Bool
 same_pins a b = same_pin (pin_in a) (pin_in b)
 
--- the rules on marked words
+-- the rules on marked words, each of which gives the fault that it finds
 unfoldable pub marked_limit : List Marked → Option BoardFault
 marked_limit words = if nat_lt most_pins (length (once same_pins words)) then Some (Limit 4) else None
 

@@ -1,4 +1,4 @@
--- One group gets one more pin.
+-- The group of one net gets one more pin.
 use Rattle.std.proofs.Common.{◌≡◌, ◌<◌, ◌∷◌, [], ◌++◌, length, map, set, get_or, ap, sym, ◌∙◌, arith}
 use Rattle.std.proofs.lemmas.List.{map-set, get_or-map}
 use Rattle.board_build.proofs.nets.push_pin.Goals as goal
