@@ -27,7 +27,7 @@ part_of : (kind : PartKind) → part_passes kind ≡ true → IsPart kind
 part_of (Described device) h = device_of device h
 part_of (Bypass n) h = let parts = and_parts (nat_le 2 n) (nat_le n 255) h in (leb-true 2 n parts.0, leb-true n 255 parts.1)
 
--- no pin occurs twice in the nets
+-- the test that no pin occurs twice in the nets
 abbrev same_name : NetPin → NetPin → Bool
 same_name p q = same_text p.part q.part && same_text p.pin q.pin
 
@@ -58,7 +58,7 @@ pins_of b h m n i j first second p q s t same_part same_pin = by_order (cases_or
     by_order (inr (inr less)) =
         absurd (not_shared (same_name q p) (two_by (λ (x y : NetPin). not (same_name x y)) second.pins first.pins j i q p (later_by nets_apart b.nets parts.1 n m second first less t.on_board s.on_board) t.in_net s.in_net) (same_name_of q p (sym same_part) (sym same_pin)))
 
--- the places of pins in the chain
+-- the test that each pin has its place in the chain
 abbrev placed_bit : NetPin → Option PortBit → Bool
 placed_bit pin None = false
 placed_bit pin (Some bit) = same_pin bit.pin (Some pin.pin)
@@ -103,7 +103,7 @@ placed_of b pin (Some at) h = by_part (slice_get b.chain at.part) refl h
         let parts = and_parts (same_text part.name pin.part) (placed_device pin at (described part.kind)) k in
         by_device part e (text_of part.name pin.part parts.0) (described part.kind) refl parts.1
 
--- the rule on inert parts
+-- the test of the rule on inert parts
 abbrev inert_passes : RawBoard → NetPin → Bool
 inert_passes b pin = not pin.inert || list_all (λ part. not (same_text part.name pin.part)) b.chain
 
@@ -126,7 +126,7 @@ inert_of b h k = record {
       (implied (same_text p.part q.part) (is_same p.inert q.inert) (two_by pins_agree first.pins second.pins i j p q (two_by nets_agree b.nets b.nets m n first second k s.on_board t.on_board) s.in_net t.in_net) (same_text_of p.part q.part same));
 }
 
--- the rules on drivers that are always on
+-- the test of the rules on drivers that are always on
 abbrev drives_freely : RawBoard → Net → NetPin → Bool
 drives_freely b net pin = not (is_always_on (drive b net pin)) || (not net.supply && not (list_any (is_test_pin b) net.pins))
 
@@ -145,7 +145,7 @@ one_of b h n net i j p q en ei ej ne dp dq =
     (and_from (is_always_on (drive b net p)) (is_always_on (drive b net q)) (ap is_always_on dp) (ap is_always_on dq))
     (and_from (is_always_on (drive b net q)) (is_always_on (drive b net p)) (ap is_always_on dq) (ap is_always_on dp)))
 
--- the whole test of a board
+-- the test of all rules of boards
 abbrev pub board_passes : RawBoard → Bool
 board_passes b =
     nat_le 1 (length b.chain) && (nat_le (length b.chain) 255 && (later_pass (λ x y. not (same_text x.name y.name)) b.chain && (list_all (λ part. part_passes part.kind) b.chain

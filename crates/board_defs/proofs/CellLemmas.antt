@@ -1,4 +1,4 @@
--- Lemmas on the port bits of boundary entries, and on the entries that read.
+-- Lemmas about the port bits of boundary entries, and about reading entries.
 use Rattle.std.proofs.Common.{◌≡◌, ℕ, ◌<◌, ◌≤◌, true, false, Option, Some, None, refl, ap, arith}
 use Rattle.std.proofs.lemmas.Bool.{eqb-true, ne_eqb}
 use Rattle.board_defs.specs.declared.device.Role.{Role}

@@ -6,7 +6,7 @@ use Rattle.std.proofs.lemmas.Bool.{and_parts, and_from, eqb-true, eq-eqb, cases_
 use Rattle.std.proofs.lemmas.List.Elements.{All-cons, All-nil}
 use Rattle.board_defs.proofs.Members.{has_at, has_range, all_has}
 
--- each item passes
+-- if each item passes a test that implies `P`, `P` is true of each item
 pub all_by : {X : Type 0} (P : X → Type 0) (test : X → Bool) → ((x : X) → test x ≡ true → P x) → (xs : List X) → list_all test xs ≡ true → All P xs
 all_by P test gives [] h = All-nil P
 all_by P test gives (x ∷ xs) h = let parts = and_parts (test x) (list_all test xs) h in All-cons P x xs (gives x parts.0) (all_by P test gives xs parts.1)

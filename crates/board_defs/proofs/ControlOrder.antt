@@ -106,7 +106,7 @@ inserted_old c (d ∷ list) h there = by_before (inserted_old c list (order_tail
     by_before rest false b true e = refl
     by_before rest false b false e = absurd (both_ways (holds list c) (none_after c d list b (order_head d list h)) (sym (ap (λ t. t || holds list c) e) ∙ there))
 
--- if `P` is true of the control and of the whole list, it is true of the list with the control inserted
+-- if `P` is true of the control and of each control of the list, it is true of each control of the list with the control inserted
 inserted_all : (P : Ctl → Type 0) (c : Ctl) (list : List Ctl) → P c → All P list → All P (inserted c list)
 inserted_all P c [] here all = All-cons P c [] here all
 inserted_all P c (d ∷ list) here all = by_before (inserted_all P c list here (All-tail P d list all)) (precedes d c) (same_ctl c d)
@@ -127,7 +127,7 @@ order_inserted c (d ∷ list) h = by_before (order_inserted c list (order_tail d
         let before : precedes c d ≡ true = precedes_or d c b e in
         order_cons c (d ∷ list) (All-cons (λ (v : Ctl). IsTrue (precedes c v)) d list before (λ k v less. precedes_trans c d (get_or list k v) before (order_head d list h k v less))) h
 
--- the controls that precede `c` are the first of the list
+-- in a list in control order, the controls that precede `c` come first
 pub order_parts : (c : Ctl) (list : List Ctl) → IsInControlOrder list → IsPartitionedBy (λ d. precedes d c) list
 order_parts c list h i j e le within before = by_cases (cases_eq i j)
   where
@@ -148,7 +148,8 @@ point_place c (d ∷ list) (suc i) le h =
 pub same_order : (list new : List Ctl) → new ≡ list → IsInControlOrder list → IsInControlOrder new
 same_order list new e h = let P : List Ctl → Type 0 = λ v. IsInControlOrder v in subst P (sym e) h
 
--- the result of inserting a control
+-- if a control that the list lacks is inserted at its place, the new list is in control order, and it has the control and
+-- those of the old list
 pub added : (c : Ctl) (list new : List Ctl) (k : ℕ) → IsInControlOrder list → holds list c ≡ false → k ≡ place list c → new ≡ insert list k c → new ≡ inserted c list
 added c list new k h out at e = e ∙ ap (λ n. insert list n c) at ∙ sym (inserted_new c list h out)
 

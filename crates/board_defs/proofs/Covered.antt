@@ -1,4 +1,4 @@
--- The tests decide the terms of coverage.
+-- The tests of `Decided` decide the terms of coverage.
 use Rattle.std.proofs.Common.{◌≡◌, ◌≢◌, ℕ, ◌<◌, true, false, not, ◌&&◌, ◌||◌, length, Option, Some, None, refl, sym, ◌∙◌, ap, subst, ◌⊎◌, inl, inr}
 use Rattle.std.specs.Prelude.{slice_get}
 use Rattle.std.specs.List.{list_any}
@@ -22,7 +22,7 @@ use Rattle.board_defs.proofs.Driving.{View, no_driver, always_on, by_control, on
 use Rattle.board_defs.proofs.Pairwise.{safe_within}
 use Rattle.board_defs.proofs.SafeSettings.{safe_from_nets, one_sided_off, alone_safe, safe_alone, together_safe, safe_together}
 
--- the empty setting, and the settings that drivers need
+-- the setting without controls, which is safe, and the settings of the controls that drivers need
 abbrev pub nothing : Enabling
 nothing c = false
 

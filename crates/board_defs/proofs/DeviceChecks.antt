@@ -22,7 +22,7 @@ use Rattle.board_defs.proofs.Members.{has_contains, any_has}
 use Rattle.board_defs.proofs.Checks.{all_by, item_by, below_by, later_pass, pairs_by, one_by, two_pass, two_by, same_text, same_text_of, texts_differ, implied, not_shared}
 use Rattle.board_defs.proofs.SameBits.{same_of_is_same, is_same_refl}
 
--- the rules on codes
+-- the test of the rules on codes
 abbrev is_given : Symbol → Bool
 is_given Zero = true
 is_given One = true
@@ -96,7 +96,7 @@ codes_of d h =
       idcode_length = length_has d.idcode 32 j.1;
     }
 
--- the rules on ports
+-- the test of the rules on ports
 abbrev mode_number : Mode → ℕ
 mode_number Inward = 0
 mode_number Outward = 1
@@ -173,7 +173,7 @@ port_of bits h =
       mapped_whole = pairs_by (λ (a b : PortBit). is_some a.pin ≡ is_some b.pin) (λ a b. is_same (is_some a.pin) (is_some b.pin)) (λ a b e. same_of_is_same (is_some a.pin) (is_some b.pin) e) bits b.1;
     }
 
--- numbers that do not decrease
+-- if each number is at most each later number, the numbers do not decrease
 in_order : (ns : List ℕ) → later_pass nat_le ns ≡ true → IsNonDecreasing ns
 in_order ns h i j d le within = by_cases (cases_eq i j)
   where
@@ -198,7 +198,7 @@ ports_of d h =
       each_port = λ port less. port_of (bits_of_port d port) (below_by (λ port. port_passes (bits_of_port d port)) (length d.ports) port c.1 less);
     }
 
--- the rules on the test access port
+-- the test of the rules on the test access port
 abbrev is_tap_mode : Mode → Bool
 is_tap_mode m = (mode_number m == mode_number Inward) || (mode_number m == mode_number Outward)
 
@@ -238,7 +238,7 @@ tap_of bits h =
     by_count (inl e) = inl (eqb-true (taps_in bits) 3 e)
     by_count (inr e) = inr (eqb-true (taps_in bits) 4 e)
 
--- no two port bits have the same pin
+-- the test that no two port bits have the same pin
 abbrev pub same_pin : Option (List ℕ) → Option (List ℕ) → Bool
 same_pin None b = false
 same_pin (Some a) None = false
@@ -250,7 +250,7 @@ same_pin_of a b pin ea eb = ap (λ (v : Option (List ℕ)). same_pin v b) ea ∙
 pins_of : (d : RawDevice) → later_pass (λ x y. not (same_pin x.pin y.pin)) d.bits ≡ true → PortPinsDiffer d
 pins_of d h i j a b pin ei ej ea eb = one_by (λ (x y : PortBit). same_pin x.pin y.pin) d.bits h i j a b ei ej (same_pin_of a.pin b.pin pin ea eb) (same_pin_of b.pin a.pin pin eb ea)
 
--- the rules on entries
+-- the test of the rules on entries
 abbrev place_passes : ℕ → Role → Option ℕ → Bool
 place_passes bits role None = is_inner role
 place_passes bits role (Some bit) = not (is_inner role) && nat_lt bit bits
@@ -353,7 +353,7 @@ cells_pass d =
     && (list_all (λ e. below_passes d.boundary e.ctl) d.cells && (two_pass (λ x y. disable_passes x.ctl y.ctl) d.cells d.cells && (later_pass (λ x y. not (both_of is_loading x y)) d.cells
     && (later_pass (λ x y. not (both_of is_writing x y)) d.cells && (later_pass (λ x y. not (drive_one x y)) d.cells && list_all (λ e. fits d.bits e.role e.bit) d.cells)))))))))
 
--- the whole test of a device
+-- the test of all rules of devices
 abbrev pub device_passes : RawDevice → Bool
 device_passes d =
     nat_le 2 d.ir && (nat_le d.ir 255 && (nat_le 1 d.boundary && (nat_le d.boundary 65535 && (nat_le (length d.bits) 65535 && (codes_pass d && (ports_pass d && (tap_passes d.bits

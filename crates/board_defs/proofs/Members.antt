@@ -1,4 +1,4 @@
--- The items of the results of list functions.
+-- The items of the lists that list functions return.
 use Rattle.std.proofs.Common.{◌≡◌, ℕ, zero, suc, ◌+◌, ◌<◌, ◌≤◌, Bool, true, false, List, [], ◌∷◌, ◌++◌, map, get_or, Option, Some, None, refl, sym, ◌∙◌, ap, subst, arith, cond, ◌⊎◌, inl, inr}
 use Rattle.std.specs.Prelude.{slice_get, filter, filter_map, find, All, Contains}
 use Rattle.std.specs.List.{list_any, list_all, cons_option, flat_map, enumerate_from, range_with_len}
@@ -128,7 +128,7 @@ enumerate_has n [] m x h = absurd h
 enumerate_has {X} n (z ∷ xs) m x (inl e) = let at : n ≡ m = ap (λ (q : ℕ × X). q.0) e in (0, omega (arith, at), ap Some (ap (λ (q : ℕ × X). q.1) e))
 enumerate_has {X} n (z ∷ xs) m x (inr h) = let r = enumerate_has (n + 1) xs m x h in (suc r.0, omega (arith, r.1), r.2)
 
--- the items of the lists of pairs
+-- the lists of pairs have exactly the pairs of the items
 pub has_pairs_of : {X : Type 0} (xs ys : List X) (x y : X) → Has xs x → Has ys y → Has (pairs_of xs ys) (x, y)
 has_pairs_of {X} xs ys x y h k = has_flat_map (λ a. map (λ b. let q : X × X = (a, b) in q) ys) xs x (x, y) h (has_map (λ b. let q : X × X = (x, b) in q) ys y k)
 
@@ -167,7 +167,7 @@ pairs_within_has {X} (z ∷ xs) p h = by_part (pairs_within_has xs p) (has_appen
         record { low = 0; high = suc s.0; below = omega arith; at_low = ap Some (ap (λ (q : X × X). q.0) r.2); at_high = s.1 ∙ ap Some (ap (λ (q : X × X). q.1) r.2) }
     by_part rest (inr k) = let r : Apart xs p = rest k in record { low = suc r.low; high = suc r.high; below = omega (arith, r.below); at_low = r.at_low; at_high = r.at_high }
 
--- tests of lists, and the items that pass them
+-- a test of a list is about the items that the list has
 pub any_has : {X : Type 0} (p : X → Bool) (xs : List X) → list_any p xs ≡ true → (x : X) × Has xs x × (p x ≡ true)
 any_has p [] h = cc h
 any_has {X} p (z ∷ xs) h = by_part (any_has p xs) (or_cases (p z) (list_any p xs) h)

@@ -64,7 +64,7 @@ safe_from_pairs board setting rule h = record {
       (h.each c s).own at cell control pinned e k same (just_has c);
 }
 
--- conversely, every subset of a safe setting is safe
+-- every subset of a safe setting is safe
 pub safe_within : (board : RawBoard) (small big : Enabling) → ((c : Ctl) → small c ≡ true → big c ≡ true) → IsSafe board big → IsSafe board small
 safe_within board small big within h = record {
   one = λ n net i j p q en ei ej ne ep eq. h.one n net i j p q en ei ej ne (grow net p (enabled board small net p ep)) (grow net q (enabled board small net q eq));

@@ -78,7 +78,7 @@ held_fits board s c d f h = let r = any_has (same_ctl d) s h in ap (are_together
 abbrev pub AllSafe : RawBoard → List Ctl → Type 0
 AllSafe board controls = (c : Ctl) → Has controls c → is_safe_alone board c ≡ true
 
--- a walk that accepts only controls that fit keeps every two controls together
+-- if a walk accepts only controls that fit, every two controls of the setting are still together after the walk
 walk_together : (board : RawBoard) (accepts : List Ctl → Ctl → Bool) → ((s : List Ctl) (c : Ctl) → accepts s c ≡ true → fits board s c ≡ true) → (controls s : List Ctl) → IsBoard board → AllSafe board controls → AllTogether board s → AllTogether board (walk accepts controls s)
 walk_together board accepts only [] s rules safe all = all
 walk_together board accepts only (c ∷ controls) s rules safe all = walk_together board accepts only controls (cond (accepts s c) (inserted c s) s) rules (λ d h. safe d (inr h)) (by_test (accepts s c) refl)
@@ -112,7 +112,7 @@ start_together board (By c) rules h = insert_together board c [] rules h (λ d k
 pub driver_pass_together : (board : RawBoard) (useful : List Ctl) (passes : List (List Ctl)) (d : Drive) → IsBoard board → AllSafe board useful → can_enable board (Some d) ≡ true → AllTogether board (driver_pass board useful passes d)
 driver_pass_together board useful passes d rules safe h = second_walk_together board useful (first_walk board useful passes (with_driver [] d)) rules safe (first_walk_together board useful passes (with_driver [] d) rules safe (start_together board d rules h))
 
--- the setting with the controls of two compatible drivers
+-- every two controls of the setting of two compatible drivers are together
 pub both_together : (board : RawBoard) (d e : Drive) → IsBoard board → are_compatible board (Some d) (Some e) ≡ true → AllTogether board (with_driver (with_driver [] d) e)
 both_together board OneSided e rules h = cc h
 both_together board AlwaysOn e rules h = start_together board e rules h
@@ -128,7 +128,7 @@ both_together board (By c) (By b) rules h =
 pub pair_pass_together : (board : RawBoard) (useful : List Ctl) (pair : Drive × Drive) → IsBoard board → AllSafe board useful → are_compatible board (Some pair.0) (Some pair.1) ≡ true → AllTogether board (pair_pass board useful pair)
 pair_pass_together board useful pair rules safe h = second_walk_together board useful (with_driver (with_driver [] pair.0) pair.1) rules safe (both_together board pair.0 pair.1 rules h)
 
--- a pass enables the drivers for which it was made
+-- a pass enables the drivers for which it is made
 pub with_enables : (s : List Ctl) (d : Drive) (board : RawBoard) → can_enable board (Some d) ≡ true → is_enabled (with_driver s d) d ≡ true
 with_enables s AlwaysOn board h = refl
 with_enables s OneSided board h = h

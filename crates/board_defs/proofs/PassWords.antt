@@ -30,7 +30,8 @@ use Rattle.board_defs.proofs.Covered.{tested_can, tested_driver_is, tested_drive
 use Rattle.board_defs.proofs.PassSettings.{safe_setting, both_together, with_enables, with_keeps}
 use Rattle.board_defs.proofs.PassesKept.{Tested, tested_has, has_tested, enabled_needs, shows_observes, observes_shows}
 
--- the cells of the chain are in control order
+-- the cells of the chain are in control order, since those of earlier parts come first and those of one part are in the
+-- order of their numbers
 precedes_part : (a b : Ctl) → a.part < b.part → precedes a b ≡ true
 precedes_part a b less = or_left (nat_lt a.part b.part) ((a.part == b.part) && nat_lt a.cell b.cell) (lt-ltb a.part b.part less)
 
@@ -91,7 +92,7 @@ useful_held board rules c = (is, held)
         (has_filter (is_useful board) (all_cells board) c (cell_has board c (control_is_cell board net pin c rules d)) (useful_true board c rules (safe, n, net, place, pin, en, ep, d, t)))
         (same_refl c)
 
--- the list of a net's tested drivers has exactly these
+-- the list `tested_drivers` has exactly the tested drivers of the net
 drivers_are : (board : RawBoard) → IsBoard board → (n : ℕ) (net : Net) (d : Drive) → slice_get board.nets n ≡ Some net → Contains (tested_drivers board net) d ↔ HasTestedDriver board n net d
 drivers_are board rules n net d en = (λ h. is (tested_has board net d (contains_has (tested_drivers board net) d h)), listed)
   where

@@ -116,7 +116,7 @@ reason_at board earlier (q ∷ passes) zero pass h e =
     subst P (sym (append_none earlier)) (subst Q same h.0)
 reason_at board earlier (q ∷ passes) (suc x) pass h e = let P : List (List Ctl) → Type 0 = λ v. Reason board v pass in subst P (append_assoc earlier (q ∷ []) (take x passes)) (reason_at board (earlier ++ q ∷ []) passes x pass h.1 e)
 
--- the property that the list of passes keeps while passes are added
+-- the properties that the list of passes keeps when a pass is added
 pub record Good (board : RawBoard) (passes : List (List Ctl)) : Type 0 where
   pub together : (pass : List Ctl) → Has passes pass → AllTogether board pass
   pub reasons : Reasons board [] passes
@@ -135,7 +135,7 @@ good_end board passes pass good all reason = record { together = λ q h. by_part
 good_safe : (board : RawBoard) (passes : List (List Ctl)) (pass : List Ctl) → IsBoard board → Good board passes → Has passes pass → IsSafe board (holds pass)
 good_safe board passes pass rules good h = safe_setting board pass rules (good.together pass h)
 
--- lemmas on folds
+-- if each step of a fold keeps `P`, the fold keeps `P`
 pub fold_keeps : {X Y : Type 0} (P : Y → Type 0) (Q : X → Type 0) (f : Y → X → Y) → ((y : Y) (x : X) → P y → Q x → P (f y x)) → (xs : List X) (y : Y) → ((x : X) → Has xs x → Q x) → P y → P (fold f y xs)
 fold_keeps P Q f step [] y all h = h
 fold_keeps P Q f step (x ∷ xs) y all h = fold_keeps P Q f step xs (f y x) (λ z k. all z (inr k)) (step y x h (all x (inl refl)))
@@ -152,7 +152,7 @@ fold_makes P f keeps (z ∷ xs) y x (inr h) makes = fold_makes P f keeps xs (f y
 useful_safe : (board : RawBoard) → AllSafe board (useful_controls board)
 useful_safe board c h = (and_parts (is_safe_alone board c) (list_any (tests_by board c) board.nets) (filter_has (is_useful board) (all_cells board) c h).1).0
 
--- a list is that of the tested drivers of net `n`
+-- `drivers` is the list of the tested drivers of net `n`
 pub record OfNet (board : RawBoard) (n : ℕ) (drivers : List Drive) : Type 0 where
   pub net : Net
   pub on_board : slice_get board.nets n ≡ Some net
@@ -168,7 +168,7 @@ of_net board n drivers e = by_net (slice_get board.nets n) refl (sym (slice_get-
 pub in_nets : (board : RawBoard) (n : ℕ) (net : Net) → slice_get board.nets n ≡ Some net → slice_get (drivers_by_net board) n ≡ Some (tested_drivers board net)
 in_nets board n net e = slice_get-map (tested_drivers board) board.nets n ∙ ap (option_map (tested_drivers board)) e
 
--- a driver is a tested driver of the board
+-- the driver is a tested driver of the board
 pub record OnBoard (board : RawBoard) (d : Drive) : Type 0 where
   pub n : ℕ
   pub net : Net
@@ -189,7 +189,7 @@ driver_on_board board d h =
 pub on_board_driver : (board : RawBoard) (n : ℕ) (net : Net) (d : Drive) → slice_get board.nets n ≡ Some net → Has (tested_drivers board net) d → Has (all_drivers board) d
 on_board_driver board n net d en h = has_flat_map (λ (drivers : List Drive). drivers) (drivers_by_net board) (tested_drivers board net) d (has_at (drivers_by_net board) n (tested_drivers board net) (in_nets board n net en)) h
 
--- the reason of a pass that is made for a driver
+-- if no earlier pass enables a driver, the pass that is made for the driver has a reason
 driver_reason : (board : RawBoard) (useful : List Ctl) (passes : List (List Ctl)) (d : Drive) → IsBoard board → OnBoard board d → list_any (λ pass. is_enabled pass d) passes ≡ false → EnablesNew board passes (driver_pass board useful passes d)
 driver_reason board useful passes d rules o none = record {
   net = o.n;
@@ -217,7 +217,7 @@ good_drivers : (board : RawBoard) → IsBoard board → Good board (driver_passe
 good_drivers board rules =
     fold_keeps (Good board) (OnBoard board) (add_for_driver board (useful_controls board)) (λ passes d good o. good_driver board (useful_controls board) passes d rules (useful_safe board) good o) (all_drivers board) [] (driver_on_board board) (good_none board)
 
--- two lists are those of the tested drivers of two nets, the first of which has the lower number
+-- the two lists are those of the tested drivers of two nets, the first of which has the lower number
 pub record OfNets (board : RawBoard) (nets : List Drive × List Drive) : Type 0 where
   pub low : ℕ
   pub high : ℕ

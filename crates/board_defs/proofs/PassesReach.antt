@@ -26,7 +26,7 @@ Enabled d passes = list_any (λ pass. is_enabled pass d) passes ≡ true
 abbrev Shown : List Drive → List Drive → List (List Ctl) → Type 0
 Shown a b passes = are_shown passes a b ≡ true
 
--- a property of one of the passes stays true when a step adds a pass
+-- if one of the passes has a property, this is still so after a step for a driver
 pub driver_keeps : (p : List Ctl → Bool) (board : RawBoard) (useful : List Ctl) (passes : List (List Ctl)) (d : Drive) → list_any p passes ≡ true → list_any p (add_for_driver board useful passes d) ≡ true
 driver_keeps p board useful passes d h = by_test (list_any (λ pass. is_enabled pass d) passes)
   where
@@ -45,7 +45,7 @@ nets_keep p board useful passes nets h = by_test (are_shown passes nets.0 nets.1
     by_test true = h
     by_test false = by_pair (first_pair board nets.0 nets.1)
 
--- some pass enables each tested driver
+-- after the step for a driver that can be enabled, some pass enables the driver
 pub driver_enabled : (board : RawBoard) (useful : List Ctl) (passes : List (List Ctl)) (d : Drive) → can_enable board (Some d) ≡ true → Enabled d (add_for_driver board useful passes d)
 driver_enabled board useful passes d can = by_test (list_any (λ pass. is_enabled pass d) passes) refl
   where

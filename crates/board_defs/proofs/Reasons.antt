@@ -21,7 +21,7 @@ none_is : (d : Option Drive) → is_some d ≡ false → d ≡ None
 none_is None h = refl
 none_is (Some d) h = cc h
 
--- the test for a net without drivers, in both directions
+-- the test for a net without drivers passes if and only if no pin of the net is a driver
 no_driver : (board : RawBoard) (n : ℕ) (net : Net) → not (list_any (λ p. is_some (drive board net p)) net.pins) ≡ true → HasNoDriver board n net
 no_driver board n net h place pin st =
     none_is (drive board net pin) (false_from_ne_true (is_some (drive board net pin)) (λ some.
@@ -33,7 +33,7 @@ some_driver board n net en h none =
     let r : Found (λ (p : NetPin). is_some (drive board net p)) net.pins = any_place (λ (p : NetPin). is_some (drive board net p)) net.pins (not-false (list_any (λ (p : NetPin). is_some (drive board net p)) net.pins) h) in
     both_ways (is_some (drive board net r.item)) (ap is_some (none r.place r.item (record { on_board = en; in_net = r.stands }))) r.passes
 
--- the test for a net without drivers that can be enabled, in both directions
+-- the test for a blocked net passes if and only if no safe setting enables a driver on the net
 blocked : (board : RawBoard) (n : ℕ) (net : Net) → IsBoard board → not (list_any (λ p. can_enable board (drive board net p)) net.pins) ≡ true → IsBlocked board n net
 blocked board n net rules h setting place pin safe st =
     false_from_ne_true (enables board setting pin) (λ on.

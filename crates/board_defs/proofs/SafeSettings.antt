@@ -58,7 +58,7 @@ one_sided_off board s rules own n net i p st at cell control pa e k o w on =
         (not_from_false (guarded board net) (ap (guarded board) same ∙ g))
         (pulled_true control.disable net.pull (ap (λ (v : Net). v.pull) same ∙ pull)))
 
--- the two parts of the test of a single control: each net admits the control, and it enables no one-sided driver
+-- the test of a single control has two parts: each net admits the control, and the control enables no one-sided driver
 own_where_is : (cell : Cell) (ctl : Option Control) (control : Control) → own_where cell ctl ≡ Some control → (ctl ≡ Some control) × (control.cell ≡ cell.num)
 own_where_is cell None control h = cc h
 own_where_is cell (Some k) control h = by_test (k.cell == cell.num) refl h
@@ -216,7 +216,7 @@ nets_from_safe board s safe = record {
         let up : drive board net r.item ≡ Some AlwaysOn = always_true (drive board net r.item) r.passes in
         safe.one n net i r.place p r.item en ei r.stands (places_differ board net i r.place p r.item (Some (By c)) (Some AlwaysOn) ei r.stands d up (λ (w : Some (By c) ≡ Some AlwaysOn). cc w)) (by_enables board net p c d s ∙ on) (always_enables board net r.item up s)
 
--- the setting of one control
+-- if a control passes the test of a single control, the setting of this control is safe, and conversely
 pub alone_safe : (board : RawBoard) (c : Ctl) → IsBoard board → is_safe_alone board c ≡ true → IsSafe board (just c)
 alone_safe board c rules h = safe_from_nets board (just c) rules (record {
   apart = λ n net i j p q a b en ei ej ne dp dq sa sb.
@@ -247,7 +247,7 @@ safe_alone board c safe = and_from (list_all (admits board c) board.nets) (not (
         let r : Found (λ (v : NetPin). is_by c (drive board net v)) net.pins = any_place _ net.pins hd in
         both_ways (is_closed board net) (nets.opened n net r.place r.item c en r.stands (by_true c (drive board net r.item) r.passes) (same_refl c)) hk))
 
--- the setting of two controls
+-- if two controls pass the test of a pair, the setting of the two is safe, and conversely
 drives_at : (board : RawBoard) (c : Ctl) (net : Net) (i : ℕ) (p : NetPin) → slice_get net.pins i ≡ Some p → drive board net p ≡ Some (By c) → drives_net board c net ≡ true
 drives_at board c net i p e d = any_at (λ (v : NetPin). is_by c (drive board net v)) net.pins i p e (is_by_drive c (drive board net p) d)
 

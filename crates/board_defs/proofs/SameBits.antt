@@ -1,4 +1,4 @@
--- Lemmas on the test whether two bits are equal.
+-- Lemmas about the test whether two bits are equal.
 use Rattle.std.proofs.Common.{◌≡◌, Bool, true, false, refl}
 use Rattle.board_defs.specs.Pins.{is_same}
 

@@ -164,7 +164,7 @@ both_drives = refl
 compliance_pin : is kinds 14 ≡ (false, true, None)
 compliance_pin = refl
 
--- A pin of the test access port has no entry and is not dark. Also TDO, which has mode out, is not dark.
+-- A pin of the test access port has no entry and is not dark. This is also true of TDO, although its mode is out.
 abbrev tap_pins : List NetPin
 tap_pins = clock 0 ∷ record (clock 0) { pin = codes "T2"; at = Some (record { part = 0; bit = 3 }) } ∷ []
 
@@ -175,8 +175,8 @@ tap_not_dark = refl
 test_pins : map (is_test_pin kinds) (leg 0 3 ∷ leg 0 14 ∷ tap_pins) ≡ false ∷ true ∷ true ∷ true ∷ []
 test_pins = refl
 
--- The bits of a vector differ. Of A(1 to 2), B(1 to 2) and C(1 to 2), each first bit has an entry. The second bit of A has none, that of B
--- has an OBSERVE_ONLY entry, and that of C has an INPUT entry.
+-- The bits of a vector can differ. The first bit of each of A(1 to 2), B(1 to 2) and C(1 to 2) has an entry. The second bit
+-- of A has none, that of B has an OBSERVE_ONLY entry, and that of C has an INPUT entry.
 abbrev half : ℕ → ℕ → Mode → ℕ → PortBit
 half port index mode b = port_bit (4 + port) (Some index) mode (Some (letter b)) false
 

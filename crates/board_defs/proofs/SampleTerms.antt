@@ -193,7 +193,7 @@ split_rules = board_of split refl
 split_passes : passes_of split ≡ (c 0 1 ∷ c 1 1 ∷ []) ∷ (c 0 1 ∷ c 2 1 ∷ []) ∷ []
 split_passes = refl
 
--- the board of four pairs of drivers, with a further driver on its own net, which the second walks add
+-- the board of four pairs of drivers with one more driver, which is on a net of its own and which the second walks add
 abbrev more_fours : RawBoard
 more_fours = board (four ∷ rcv ∷ rcv ∷ rcv ∷ ts ∷ []) (fours.nets ++ net 5 None (pin 4 0 ∷ pin 3 1 ∷ []) ∷ [])
 

@@ -29,7 +29,7 @@ use Rattle.board_defs.specs.Passes.{passes_of}
 use Rattle.board_defs.specs.Faults.{tested_pins, paired_nets, singles}
 use Rattle.board_defs.proofs.BoardChecks.{board_of}
 
--- port bits of a device, of which those of the test access port come first
+-- a port bit of a device; the four port bits of the test access port (`taps`) come first
 abbrev pub port_bit : ℕ → Option ℕ → Mode → Option (List ℕ) → Bool → PortBit
 port_bit port index mode pin tap = record { port = port; index = index; mode = mode; pin = pin; tap = tap; compliance = false }
 

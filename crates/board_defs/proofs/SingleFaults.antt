@@ -44,7 +44,7 @@ at_place n [] k net e = cc e
 at_place n (v ∷ nets) zero net e = let same : v ≡ net = cc e in let at : n ≡ n + 0 = omega arith in ap (λ w. let q : Numbered = (n, w) in Some q) same ∙ ap (λ m. let q : Numbered = (m, net) in Some q) at
 at_place n (v ∷ nets) (suc k) net e = let at : n + 1 + k ≡ n + suc k = omega arith in at_place (n + 1) nets k net e ∙ ap (λ m. let q : Numbered = (m, net) in Some q) at
 
--- the faults of stuck nets
+-- the list of stuck faults has exactly those of covered nets
 stuck_is : (board : RawBoard) → IsBoard board → (s : Single) → Has (flat_map (λ net. stuck_faults net.0) (covered_nets board)) s → IsSingle board s
 stuck_is board rules s h = by_value r.2
   where
@@ -71,7 +71,7 @@ stuck_has board rules n value (setting, safe, (net, en, o)) =
     by_value false = inl refl
     by_value true = inr (inl refl)
 
--- the faults of open pins
+-- the list of open faults has exactly those of tested pins
 open_is : (board : RawBoard) → IsBoard board → (s : Single) → Has (flat_map open_faults (tested_pins board)) s → IsSingle board s
 open_is board rules s h = by_value r.2
   where
@@ -123,7 +123,7 @@ open_has board rules pin value h =
     by_value false = inl refl
     by_value true = inr (inl refl)
 
--- the faults of shorts
+-- the list of shorts has exactly those of paired nets
 short_is : (board : RawBoard) → IsBoard board → (s : Single) → Has (flat_map (λ pair. short_faults pair.0.0 pair.1.0) (paired_nets board)) s → IsSingle board s
 short_is board rules s h = by_kind r.2
   where
@@ -206,7 +206,7 @@ single_listed board rules s h = has_contains (singles board) s (by_case s h)
     by_case (OpenPin pin value) h = has_left (stuck ++ opens) shorts (OpenPin pin value) (has_right stuck opens (OpenPin pin value) (open_has board rules pin value h))
     by_case (Short a b kind) h = has_right (stuck ++ opens) shorts (Short a b kind) (short_has board rules a b kind h.0 h.1)
 
--- the forms of the faults in the three lists
+-- each fault in one of the three lists has the form of that list
 stuck_form : (n : ℕ) (s : Single) → Has (stuck_faults n) s → (v : Bool) × (StuckNet n v ≡ s)
 stuck_form n s (inl e) = (false, e)
 stuck_form n s (inr (inl e)) = (true, e)
@@ -230,7 +230,7 @@ precedes_as a b s t e f h =
     let Q : Single → Type 0 = λ v. SinglePrecedes s v in
     subst Q f (subst P e h)
 
--- the order of nets by their numbers
+-- the first net has the lower number
 abbrev Lower : Numbered → Numbered → Type 0
 Lower p q = p.0 < q.0
 

@@ -7,7 +7,7 @@ abbrev pub kept_bytes : Kept → List ℕ
 kept_bytes (Short bytes count) = take count bytes
 kept_bytes (Long bytes) = bytes.items
 
--- a short name has no more bytes than there is room for in the value
+-- the number of bytes of a short name is at most the room in the value
 abbrev pub HasLength : Kept → Type 0
 HasLength (Short bytes count) = count ≤ 24
 HasLength (Long bytes) = ⊤

@@ -100,7 +100,7 @@ is_dark board pin = is_dark_where board pin.at pin.inert
 abbrev pub guards : RawBoard → NetPin → Bool
 guards board pin = is_test_pin board pin || is_dark board pin
 
--- the net is guarded: no setting that is safe enables a controlled or a one-sided driver of it
+-- the net is guarded: no safe setting enables a controlled or a one-sided driver of it
 abbrev pub guarded : RawBoard → Net → Bool
 guarded board net = net.supply || list_any (guards board) net.pins
 

@@ -10,8 +10,7 @@ use std::marker::Model;
 /// longer than this.
 const SHORT: usize = 24;
 
-// The bytes of a name. A short name has its bytes in the value itself, of which the first `length` bytes count. A long
-// name has memory of its own.
+// The bytes of a name. A short name has its bytes in the value itself: the first `length` of `bytes`. A long name has memory of its own.
 #[derive(Debug, Drop)]
 enum Kept {
     Short { bytes: [u8; SHORT], length: u8 },
