@@ -12,7 +12,7 @@ use Rattle.board_files.specs.Files.{HasFewPins, IsNetFile}
 use Rattle.board_files.specs.Reading.{◌>>=◌, line_then, lines_from}
 use Rattle.board_files.specs.NetLines.{pin_of, pins_of, net_of, net_line, net_lines}
 
--- a text has at most as many nonempty pieces as bytes
+-- the number of nonempty pieces, which is at most the number of bytes of the text
 filled : List (List ℕ) → ℕ
 filled pieces = length (filter is_filled pieces)
 
@@ -74,7 +74,7 @@ unfolding AllWithin
 pieces_within p [] = (omega arith, tt)
 pieces_within p (x ∷ xs) = wider (1 + length xs) (length (x ∷ xs)) (slice_split p (x ∷ xs)) (omega arith) (within_by p x xs (p x) (pieces_within p xs))
 
--- a net line has two words more than pins
+-- a net line has at least two words more than pins
 more_pins : (n : ℕ) (word : Word) (words : List Word) (pin : Result PinWord LineFault) (rest : Result (List PinWord) LineFault) (pins : List PinWord) → (pin >>= (λ p. rest >>= (λ ps. Ok (p ∷ ps)))) ≡ Ok pins → ((ps : List PinWord) → rest ≡ Ok ps → length ps ≡ length words) → length pins ≡ length (word ∷ words)
 more_pins n word words (Ok p) (Ok ps) pins is same =
     let here : p ∷ ps ≡ pins = cc in
@@ -112,7 +112,7 @@ statement_pins n (keyword ∷ words) line is = by_test (bytes_eq keyword (codes 
     by_test true found = omega (arith, net_pins n words line found)
     by_test false found = absurd cc
 
--- a limit on the number of pins of each line, and a limit on the number of lines
+-- each line has at most `n - 2` pins, and there are at most `count` lines
 pub record HasCounts (n : ℕ) (count : ℕ) (lines : List NetLine) : Type 0 where
   pub lines_few : length lines ≤ count
   pub pins_few : AllByRecursion (λ line. length line.pins + 2 ≤ n) lines
@@ -167,7 +167,7 @@ few_pins n few (line ∷ lines) pins =
     let narrow : length line.pins + 2 ≤ n = pins.0 in
     (omega (arith, few, narrow), few_pins n few lines pins.1)
 
--- so the lines of a text are a net file
+-- so the lines of a text with fewer than 2^32 bytes are a net file
 pub is_net_file : (text : List ℕ) (values : List NetLine) → length text < 2 ^ 32 → net_lines text ≡ Ok values → IsNetFile values
 is_net_file text values few is =
     let counts = net_counts text values is in

@@ -67,7 +67,7 @@ link_length : (n : ℕ) (words : Option (Word × Word × Word)) → IfOk (link_o
 link_length n None = tt
 link_length n (Some (part, first, second)) = kept (is_part part && is_symbol first && is_symbol second) (Link part (upper first) (upper second)) (WordFault n) tt
 
--- one step of the choice among the statements
+-- the first reading if the name is `word`, otherwise the second; so a statement is chosen name by name
 abbrev choice : Word → List ℕ → Read → Read → Read
 choice name word a b = if bytes_eq name word then a else b
 
@@ -111,6 +111,6 @@ lines_lengths : (n : ℕ) (lines : List (List ℕ)) → IfOk (lines_from chain_l
 lines_lengths n [] = tt
 lines_lengths n (line ∷ lines) = then_lengths n (words_of line) (lines_from chain_line (n + 1) lines) (lines_lengths (n + 1) lines)
 
--- the lengths in the lines of a text
+-- the length in each BYPASS line of a text is in its range
 pub lengths_of_text : (text : List ℕ) (lines : List ChainLine) → text_of chain_line text ≡ Ok lines → AllByRecursion (λ l. HasLength l.statement) lines
 lengths_of_text text lines said = subst (λ (r : Result (List ChainLine) LineFault). IfOk r AllLengths) said (lines_lengths 1 (slice_split is_newline text))
