@@ -14,7 +14,7 @@ cons_to : {A : Type 0} (o : Option A) (xs : List A) → cons_option o xs ≡ opt
 cons_to None xs = refl
 cons_to (Some x) xs = refl
 
--- the loop's invariant on the parts still holds with one more line
+-- after one more line, the parts so far followed by those of the remaining lines are still all parts
 pub parts_step : (lines : List ChainLine) (i : ℕ) (line : ChainLine) (devices rest : List RawDevice) (o : Option Part) (parts new all : List Part) → i < length lines → get_or lines i line ≡ line →
     o ≡ part_of_line line.statement devices → rest ≡ devices_after line.statement devices → new ≡ parts ++ option_to_list o → all ≡ parts ++ chain_parts (drop i lines) devices → all ≡ new ++ chain_parts (drop (i + 1) lines) rest
 parts_step lines i line devices rest o parts new all within read eo er en same =

@@ -17,7 +17,7 @@ number_there f [] i x within read = absurd (omega (arith, within))
 number_there f (y ∷ ys) zero x within read = ap f read
 number_there f (y ∷ ys) (suc i) x within read = number_there f ys i x (omega (arith, within)) read
 
--- the loop's invariant on the words still holds with one more line
+-- after one more line, the words so far followed by those of the remaining lines are still all words
 pub words_step : (names : List (List ℕ)) (lines : List NetLine) (i : ℕ) (line : NetLine) (numbers : List ℕ) (done new all : List NetWord) → i < length lines → get_or lines i line ≡ line →
     numbers ≡ map (λ (l : NetLine). net_number names l.name) lines → new ≡ done ++ line_words (unwrap_or (slice_get numbers i) 0) line.line 3 line.pins → all ≡ done ++ words_of names (drop i lines) →
     all ≡ new ++ words_of names (drop (i + 1) lines)

@@ -1,4 +1,4 @@
--- Each number that a chain selects is the number of an entity.
+-- The numbers that the selection of a chain returns are numbers of entities.
 use Rattle.std.proofs.Common.{◌≡◌, ℕ, ◌+◌, ◌<◌, Bool, true, false, cond, List, [], ◌∷◌, length, map, Option, Some, None, Result, Ok, Err, Vec, Global, refl, ap, sym, ◌∙◌, subst, arith, inl, inr}
 use Rattle.std.specs.Prelude.{IfOk, option_map, option_and_then, position, is_none, unwrap_or}
 use Rattle.std.specs.List.{All, AllByRecursion, position_from}
@@ -36,7 +36,7 @@ then_second : (a b : Option BoardFault) → (a then b) ≡ None → b ≡ None
 then_second None b e = e
 then_second (Some fault) b e = absurd cc
 
--- a place within a list of names has a spot
+-- each place within a list of names has a spot
 spot_there : (list : List Named) (place : ℕ) → place < length list → (spot : Spot) × (spot_at list place ≡ Some spot)
 spot_there list place within =
     elim (slice_get_cases list place).1 [
@@ -44,7 +44,7 @@ spot_there list place within =
       | inr (past, _) ↦ absurd (omega (arith, past, within))
     ]
 
--- a place within the list always gives a fault, so without a fault there is no place
+-- a place within the list gives a fault; so if there is no fault, there is no place
 found_none : (fault : Spot → BoardFault) (list : List Named) (place : Option ℕ) → ((k : ℕ) → place ≡ Some k → k < length list) → option_map fault (option_and_then (spot_at list) place) ≡ None → place ≡ None
 found_none fault list None within e = refl
 found_none fault list (Some k) within e =
@@ -58,7 +58,7 @@ within_more n k x xs rest more true found =
     omega (arith, same)
 within_more n k x xs rest more false found = omega (arith, more found)
 
--- a place that is found is within the list
+-- a place that a search returns is within the list
 place_within : (n : ℕ) (entities : List (List ℕ)) (name : List ℕ) (k : ℕ) → position_from (λ e. same_word e name) n entities ≡ Some k → k < n + length entities
 place_within n [] name k e = absurd cc
 place_within n (entity ∷ entities) name k e = within_more n k entity entities _ (place_within (n + 1) entities name k) (same_word entity name) e

@@ -1,4 +1,4 @@
--- The place of a pin, found by the pin's part and then by the pin's name.
+-- The place of a pin, which is found by the name of its part and then by the pin's own name.
 use Rattle.std.proofs.Common.{◌≡◌, ◌≢◌, ℕ, suc, ◌+◌, ◌-◌, ◌<◌, ◌≤◌, Bool, true, false, cond, ◌&&◌, List, [], ◌∷◌, ◌++◌, length, map, drop, take, get_or, Option, Some, None, refl, sym, ap, subst, ◌∙◌, arith}
 use Rattle.std.specs.Prelude.{find, slice_get, option_map, option_and_then, AllPairs}
 use Rattle.std.specs.Option.{option_or}
@@ -19,7 +19,7 @@ use Rattle.board_lines.specs.NetWords.{Pin, same_pin}
 use Rattle.board_lines.specs.ChainParts.{PinPlace, bit_places, with_place, part_places, places_from, pin_places, place_of_pin}
 use Rattle.board_lines.specs.PinRows.{AreRows, bit_of_pin, is_pin, pins_of, pins_of_bits, place_by_part, row_at}
 
--- the place of this port bit of the part with this number
+-- the place of this port bit of part `part`
 abbrev bit_in_part : ℕ → Option ℕ → Option PinAt
 bit_in_part part bit = option_map (λ b. record { part = part; bit = b }) bit
 
@@ -31,7 +31,7 @@ value_append {K} {V} eq xs ys q = ap (option_map (λ (i : K × V). i.1)) (find-a
     by_case None = refl
     by_case (Some i) = refl
 
--- a part with another name has no place of the pin
+-- the pins of a part with another name give no place of the pin
 bits_other : (part : ℕ) (name : List ℕ) (n : ℕ) (bits : List PortBit) (pin : Pin) → same_word name pin.0 ≡ false → first_value same_pin (bit_places part name n bits) pin ≡ None
 bits_other part name n [] pin other = refl
 bits_other part name n (bit ∷ bits) pin other = by_pin bit.pin (bits_other part name (n + 1) bits pin other)
@@ -40,7 +40,7 @@ bits_other part name n (bit ∷ bits) pin other = by_pin bit.pin (bits_other par
     by_pin None rest = rest
     by_pin (Some p) rest = ap (λ b. option_map (λ (i : PinPlace). i.1) (cond (b && same_word p pin.1) (Some ((name, p), record { part = part; bit = n })) (find (λ (i : PinPlace). same_pin i.0 pin) (bit_places part name (n + 1) bits)))) other ∙ rest
 
--- a pin of this part has the place of its port bit
+-- if the part has the name of the pin's part, the pin's place is that of the part's first port bit with this pin
 bits_same : (part : ℕ) (name : List ℕ) (n : ℕ) (bits : List PortBit) (pin : Pin) → same_word name pin.0 ≡ true → first_value same_pin (bit_places part name n bits) pin ≡ bit_in_part part (position_from (is_pin pin.1) n (pins_of_bits bits))
 bits_same part name n [] pin same = refl
 bits_same part name n (bit ∷ bits) pin same = by_pin bit.pin (bits_same part name (n + 1) bits pin same)
@@ -65,7 +65,7 @@ part_same n name (Bypass bits) pin same = refl
 abbrev names : List Part → List (List ℕ)
 names parts = map (λ part. part.name) parts
 
--- parts with other names have no place of the pin
+-- if no part has the name of the pin's part, the pin has no place
 parts_other : (n : ℕ) (parts : List Part) (pin : Pin) → AllByRecursion (λ name. same_word name pin.0 ≡ false) (names parts) → first_value same_pin (places_from n parts) pin ≡ None
 parts_other n [] pin others = refl
 parts_other n (part ∷ parts) pin others =
@@ -73,7 +73,7 @@ parts_other n (part ∷ parts) pin others =
     ∙ ap (λ o. option_or o (first_value same_pin (places_from (n + 1) parts) pin)) (part_other n part.name part.kind pin others.0)
     ∙ parts_other (n + 1) parts pin others.1
 
--- if R holds for every two items of a list, R holds for every two items behind the first
+-- if R holds for every two items of a list, it holds for every two items after the first item
 rest_differ : {X : Type 0} (R : X → X → Type 0) (x : X) (xs : List X) → AllPairs R (x ∷ xs) → AllPairs R xs
 rest_differ R x xs h = λ i j d less within. h (suc i) (suc j) d (omega (arith, less)) (omega (arith, within))
 
@@ -85,7 +85,7 @@ first_differs : (name : List ℕ) (others : List (List ℕ)) (q : List ℕ) → 
 first_differs name [] q same differ = tt
 first_differs name (other ∷ others) q same differ = (not_same name other q same (differ 0 (omega arith)) (same_word other q) refl, first_differs name others q same (λ j within. differ (suc j) (omega (arith, within))))
 
--- part `k`, which is at `index` in this list of parts, decides the place of the pin
+-- part `k`, which is item `index` of this list of parts, decides the place of the pin
 pub record Found (n : ℕ) (parts : List Part) (pin : Pin) (k : ℕ) : Type 0 where
   pub index : ℕ
   pub number : k ≡ n + index
@@ -137,7 +137,7 @@ found_some n (part ∷ parts) pin k differ found = by_test (found_some (n + 1) p
               ∙ r.place;
         }
 
--- the row of a part has the part's pins
+-- the row of a part has the pins of the part
 row_of_part : (rows : List (List (Option (List ℕ)))) (numbers : List ℕ) (parts : List Part) (k : ℕ) → AreRows rows numbers parts → row_at rows numbers k ≡ option_map (λ part. pins_of part.kind) (slice_get parts k)
 row_of_part rows numbers parts k are = joined (slice_get numbers k) (slice_get parts k) (sym (slice_get-map (λ number. slice_get rows number) numbers k) ∙ ap (λ v. slice_get v k) are ∙ slice_get-map (λ part. Some (pins_of part.kind)) parts k)
   where
@@ -166,7 +166,7 @@ place_by_rows rows numbers parts pin are differ = by_place (first_place same_wor
         ∙ ap (λ i. bit_in_part k (option_and_then (λ part. bit_of_pin (pins_of part.kind) pin.1) (slice_get parts i))) at
         ∙ sym r.place
 
--- each part still has its row when one more part with its row is added
+-- if one more part and its row are added, each part has its row
 pub rows_more : (rows longer : List (List (Option (List ℕ)))) (numbers : List ℕ) (done : List Part) (number : ℕ) (part : Part) → AreRows rows numbers done →
     ((k : ℕ) (row : List (Option (List ℕ))) → slice_get rows k ≡ Some row → slice_get longer k ≡ Some row) → slice_get longer number ≡ Some (pins_of part.kind) → AreRows longer (numbers ++ number ∷ []) (done ++ part ∷ [])
 rows_more rows longer [] [] number part are kept new = ap (λ o. o ∷ []) new
@@ -186,7 +186,7 @@ rows_step rows longer numbers pushed parts i number part within read are kept ne
     let cut : take (i + 1) parts ≡ take i parts ++ part ∷ [] = take_more parts i part within ∙ ap (λ p. take i parts ++ p ∷ []) (sym read) in
     subst P (sym is) (subst Q (sym cut) (rows_more rows longer numbers (take i parts) number part are kept new))
 
--- the map of the bits from `i` on becomes the map of the bits from `i - 1` on when bit `i - 1` is put in front
+-- if bit `i - 1` is put into the map of the bits from `i` on, it becomes the map of the bits from `i - 1` on
 pub bits_step : (bits : List PortBit) (i : ℕ) (default : PortBit) (name : List ℕ) (old new : Option ℕ) → 0 < i → i ≤ length bits →
     old ≡ position_from (λ (b : PortBit). is_pin name b.pin) i (drop i bits) → new ≡ cond (is_pin name (get_or bits (i - 1) default).pin) (Some (i - 1)) old →
     new ≡ position_from (λ (b : PortBit). is_pin name b.pin) (i - 1) (drop (i - 1) bits)

@@ -38,7 +38,7 @@ row = Some (codes "T1") ∷ Some (codes "A2") ∷ None ∷ Some (codes "7") ∷ 
 pins : map pins_of (Described device ∷ Bypass 4 ∷ []) ≡ row ∷ [] ∷ []
 pins = refl
 
--- a port bit without a pin has a number as well, and no pin has this number
+-- a port bit without a pin takes a number, too, and no pin has this number
 bits : map (bit_of_pin row) (codes "T1" ∷ codes "A2" ∷ codes "7" ∷ codes "" ∷ codes "8" ∷ []) ≡ Some 0 ∷ Some 1 ∷ Some 3 ∷ None ∷ None ∷ []
 bits = refl
 

@@ -49,12 +49,12 @@ chain_parts (line ∷ lines) devices = cons_option (part_of_line line.statement 
 abbrev pub PinPlace : Type 0
 PinPlace = Pin × PinAt
 
--- the places, preceded by the place of this port bit's pin if the port bit has a pin
+-- the pin of port bit `n` with its place, if the port bit has a pin, followed by `places`
 abbrev pub with_place : ℕ → List ℕ → ℕ → Option (List ℕ) → List PinPlace → List PinPlace
 with_place part name n None places = places
 with_place part name n (Some pin) places = ((name, pin), record { part = part; bit = n }) ∷ places
 
--- the places of the pins of these port bits, which are numbered from n
+-- the pins of these port bits with their places; the port bits are numbered from `n`
 abbrev pub bit_places : ℕ → List ℕ → ℕ → List PortBit → List PinPlace
 bit_places part name n [] = []
 bit_places part name n (bit ∷ bits) = with_place part name n bit.pin (bit_places part name (n + 1) bits)
@@ -63,12 +63,12 @@ abbrev pub part_places : ℕ → List ℕ → PartKind → List PinPlace
 part_places part name (Described device) = bit_places part name 0 device.bits
 part_places part name (Bypass bits) = []
 
--- the places of the pins of these parts, which are numbered from n
+-- the pins of these parts with their places; the parts are numbered from `n`
 abbrev pub places_from : ℕ → List Part → List PinPlace
 places_from n [] = []
 places_from n (part ∷ parts) = part_places n part.name part.kind ++ places_from (n + 1) parts
 
--- the places of the pins of the described parts
+-- the pins of the described parts with their places
 abbrev pub pin_places : List Part → List PinPlace
 pin_places parts = places_from 0 parts
 

@@ -14,7 +14,7 @@ abbrev pub unless : {V F : Type 0} → Option F → V → Result V F
 unless None value = Ok value
 unless (Some fault) value = Err fault
 
--- the fault, or nothing for a refusal of memory, since no definition speaks of memory
+-- the fault, or None for a refusal of memory, since no definition speaks of memory
 abbrev pub board_told : BoardFault → Option BoardFault
 board_told (Memory e) = None
 board_told fault = Some fault

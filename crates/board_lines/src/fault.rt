@@ -38,7 +38,7 @@ pub enum BoardFault {
     PullTwice(Spot),
 }
 
-// Returns what the limit with number `which` counts.
+// Returns the words for what the limit with number `which` counts.
 fn limit_name(which: u32) -> &'static str {
     match which {
         1 => "chain parts",

@@ -11,7 +11,7 @@ use indexmap::IndexMap;
 use std::alloc::{AllocError, Global};
 use std::marker::Model;
 
-/// The number of rows that a search for a row with the same pins compares. On a board of many different devices
+/// The number of rows that are compared when a row with the same pins is searched for. On a board of many different devices
 /// few rows can be shared, and comparing every two rows would take too long.
 const ROWS_COMPARED: usize = 16;
 
@@ -83,7 +83,7 @@ fn have_same_pins(a: &[PortBit], b: &[PortBit]) -> bool
     true
 }
 
-/// The pins of the port bits of a part. The model is the list of the pins.
+/// The pins of the port bits of a part. The value in contracts is the list of the pins.
 #[derive(Drop)]
 pub struct PinRow<'a> {
     bits: &'a [PortBit],

@@ -1,4 +1,4 @@
-// The place of each pin in the chain, found by the part and then by the pin.
+// The place of each pin in the chain, which is found by the name of its part and then by the pin's own name.
 ghost use Rattle.std.specs.Prelude.{◌≡◌, ◌≢◌, ◌<◌, ◌^◌, AllPairs, length, map, option_and_then, slice_get, IfOk, List, Option, Some, ℕ};
 ghost use Rattle.std.proofs.Common.{Bor};
 ghost use Rattle.indexmap.specs.IndexMap.{get_by};
@@ -89,10 +89,10 @@ fn place_in(
     }
 }
 
-/// The places of the pins of a chain's parts. The model is the list of the parts.
+/// The places of the pins of a chain's parts. The value in contracts is the list of the parts.
 ///
-/// Most boards have many equal devices. One row of pins for each different device stays
-/// in the processor's cache, but one table of all pins does not.
+/// Most boards have many equal devices. One row of pins for each different device stays in the processor's cache, but one
+/// table of all pins does not.
 #[derive(Drop)]
 pub struct PinPlaces<'a> {
     parts: &'a [Part],

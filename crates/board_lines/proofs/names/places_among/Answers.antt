@@ -1,4 +1,4 @@
--- Each name is looked up.
+-- The loop looks up each name.
 use Rattle.std.proofs.Common.{◌∙◌, map}
 use Rattle.std.proofs.lemmas.Result.{IfOk-weaker}
 use Rattle.first_places.specs.Places.{first_place}

@@ -2,7 +2,7 @@ use Rattle.std.proofs.Common.{◌≡◌, ◌+◌, ◌++◌, map, drop}
 use Rattle.board_lines.specs.NetWords.{lent_word, line_words}
 use Rattle.board_lines.proofs.words.push_line.Given as goal
 
--- the words so far, then the words of the remaining pins
+-- the words so far, followed by those of the remaining pins, are all words
 abbrev pub invariant-loop-pin : goal.invariant-loop-pin
 invariant-loop-pin l = record {
   number : l.word ≡ l.pin-index + 3;

@@ -1,4 +1,4 @@
--- The row's map agrees with the pins of the row.
+-- The map of a row gives the first port bit of each pin of the row.
 use Rattle.std.proofs.Common.{ap, ◌∙◌}
 use Rattle.board_lines.specs.PinRows.{bit_of_pin}
 use Rattle.board_lines.proofs.pin_rows.PinRow.bit_of.Goals as goal
