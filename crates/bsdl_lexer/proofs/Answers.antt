@@ -81,12 +81,12 @@ walk_stands text (token ∷ tokens) place line to last_line stop on w s =
       walk_stands text tokens token.«end» token.line to last_line stop n.after w.1 s,
     )
 
--- a walk that is extended by one token
+-- if the step after a walk finds a token, the walk with this token at its end is a walk
 pub walk_on : (text : List ℕ) (tokens : List Token) (place line to last_line : ℕ) (token : Token) → Walk text place line tokens to last_line → step text to last_line ≡ Ok (Some token) → Walk text place line (tokens ++ token ∷ []) token.«end» token.line
 walk_on text [] place line to last_line token w e = (ap (λ n. step text n line) w.0 ∙ ap (step text to) w.1 ∙ e, (refl, refl))
 walk_on text (first ∷ tokens) place line to last_line token w e = (w.0, walk_on text tokens first.«end» first.line to last_line token w.1 e)
 
--- the tokens of the text up to `stop` are those of a walk, except for the last gap
+-- the tokens up to `stop` are those of a walk, which ends before the last gap
 record Walked (text : List ℕ) (place line : ℕ) (tokens : List Token) (stop : ℕ) : Type 0 where
   to : ℕ
   last_line : ℕ
@@ -100,7 +100,7 @@ walked text (token ∷ tokens) place line stop l h =
     let k : Walked text token.«end» token.line tokens stop = walked text tokens token.«end» token.line stop (line_behind text token h.1) h.2 in
     record { to = k.to; last_line = k.last_line; walk = (step_to_token text place line token h.0 h.1 l, k.walk); gap = k.gap; line_is = k.line_is }
 
--- what steps find is an answer
+-- the tokens and the answer that steps find are an answer of the text
 pub lexed_answer : (text : List ℕ) (tokens : List Token) (answer : Result (Unit {0}) LexFault) → Lexed text tokens answer → IsAnswer text tokens answer
 lexed_answer text tokens answer h = go (step text h.to h.line) (step_finds text h.to h.line on.within on.line_is) h.ends
   where
@@ -162,7 +162,7 @@ compared text (t ∷ ts) (t' ∷ ts') place start_line to line to' line' w w' =
     let others : Walk text t.«end» t.line ts' to' line' = subst (λ (x : Token). Walk text x.«end» x.line ts' to' line') (sym is) w'.1 in
     longer text t t' ts ts' to line to' line' is (compared text ts ts' t.«end» t.line to line to' line' w.1 others)
 
--- if the step after the tokens finds a token, the limit is reached
+-- if the step after the tokens of an answer finds a token, the tokens have reached the limit
 full_there : (tokens : List Token) (answer : Result (Unit {0}) LexFault) (token : Token) (r : Result (Option Token) LexFault) → r ≡ Ok (Some token) → Ends r tokens answer → length tokens ≡ token_limit
 full_there tokens answer token r e h = (subst (λ r. Ends r tokens answer) e h).0
 
@@ -234,7 +234,7 @@ are_first text tokens to line w =
 pub some_answer : (text : List ℕ) → (tokens : List Token) × (answer : Result (Unit {0}) LexFault) × IsAnswer text tokens answer
 some_answer text = let k = are_first text [] 0 1 (record { walk = (refl, refl); limit = omega arith }) in (k.more, k.answer, k.whole)
 
--- the answer after the last step of a loop
+-- if the step after a walk ends the text or finds a fault, the tokens of the walk and this result are an answer
 ended : (text : List ℕ) (tokens : List Token) (to line : ℕ) (answer : Result (Unit {0}) LexFault) (r : Result (Option Token) LexFault) → WalksTo text tokens to line → step text to line ≡ r → Ends r tokens answer → IsAnswer text tokens answer
 ended text tokens to line answer r w e ends = lexed_answer text tokens answer (record { to = to; line = line; walk = w.walk; limit = w.limit; ends = subst (λ r. Ends r tokens answer) (sym e) ends })
 

@@ -15,7 +15,7 @@ chosen : {A : Type 0} (b : Bool) (x y z : A) → cond b x y ≡ z → ((b ≡ tr
 chosen true x y z e = inl (refl, e)
 chosen false x y z e = inr (refl, e)
 
--- the first `len` bytes have the form of this kind, and there are that many
+-- there are at least `len` bytes, and the first `len` of them have the form of this kind
 pub record IsFront (left : List ℕ) (kind : TokenKind) (len : ℕ) : Type 0 where
   pub form : HasForm kind (take len left)
   pub within : len ≤ length left
@@ -27,7 +27,7 @@ digits_front [] n e h = absurd (let k : n ≡ 0 = e in grind (arith, nat_tests))
 digits_front (x ∷ xs) zero e h = cc
 digits_front (x ∷ xs) (suc n) e h = subst (λ m. list_all is_ascii_digit (take m (x ∷ xs)) ≡ true) (sym e) (passes is_ascii_digit (x ∷ xs))
 
--- the longest fraction has the form of a fraction, if there is one
+-- the longest fraction at the front is empty or has the form of a fraction
 fraction_digits : (others : List ℕ) (first : ℕ) (b : Bool) → nat_eq (prefix_len is_ascii_digit others) 0 ≡ b → first ≡ point → IsFraction (take (cond b 0 (1 + prefix_len is_ascii_digit others)) (first ∷ others))
 fraction_digits others first true e p = tt
 fraction_digits others first false e p =
@@ -42,7 +42,7 @@ fraction_front : (bytes : List ℕ) → IsFraction (take (fraction_len bytes) by
 fraction_front [] = tt
 fraction_front (first ∷ others) = fraction_first first others (nat_eq first point) refl
 
--- the longest exponent has the form of an exponent, if there is one
+-- the longest exponent at the front is empty or has the form of an exponent
 exponent_signed : (e s : ℕ) (others : List ℕ) (b : Bool) → nat_eq (prefix_len is_ascii_digit others) 0 ≡ b → is_exponent_letter e ≡ true → is_sign s ≡ true
     → IsExponent (take (cond b 0 (2 + prefix_len is_ascii_digit others)) (e ∷ s ∷ others))
 exponent_signed e s others true none h k = tt
@@ -142,7 +142,7 @@ same_token k kind n len e =
     let same : first ≡ second = cc in
     (ap (λ (x : TokenKind × ℕ). x.0) same, ap (λ (x : TokenKind × ℕ). x.1) same)
 
--- the form of the front, for the kind and the length that were found
+-- the bytes at the front have the form of the kind that was found, up to the length that was found
 same_front : (left : List ℕ) (k kind : TokenKind) (n len : ℕ) → IsFront left k n → some_token k n ≡ some_token kind len → IsFront left kind len
 same_front left k kind n len h e =
     let both = same_token k kind n len e in

@@ -33,7 +33,7 @@ pub passes : (p : ℕ → Bool) (xs : List ℕ) → list_all p (take (prefix_len
 passes p [] = refl
 passes p (x ∷ xs) = passes_more p x xs (p x) refl (passes p xs)
 
--- the number of digits after `front` other bytes
+-- `with_digits` is at least the number of any digits after `front` other bytes plus `front`
 more_digits : (front n len : ℕ) → 0 < n → n ≤ len → front + n ≤ cond (nat_eq len 0) 0 (front + len)
 more_digits front n len some le = grind (arith, nat_tests)
 

@@ -20,7 +20,7 @@ use Rattle.bsdl_lexer.proofs.Gaps.{gap_front, only_gap, gap_len-le}
 pub drop-sum : (a b : ℕ) (xs : List ℕ) → drop (a + b) xs ≡ drop b (drop a xs)
 drop-sum a b xs = sym (drop-drop b a xs)
 
--- the `n` bytes of the text from a place on
+-- the bytes of a range of `n` bytes are the first `n` bytes from its start on
 pub range_from : (text : List ℕ) (from n : ℕ) → slice_range text from (from + n) ≡ take n (drop from text)
 range_from text from n = let e : from + n - from ≡ n = omega arith in ap (λ m. take m (drop from text)) e
 

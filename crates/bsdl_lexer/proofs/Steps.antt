@@ -109,7 +109,7 @@ step_finds text place line le l = by_rest (rest_at text place) refl
     by_rest [] e = at_end (subst (Separates text place) (end_reached text at s.within e) s)
     by_rest (first ∷ others) e = by_token first others e (token_at (first ∷ others)) refl
 
--- A step finds what comes after a gap.
+-- A step finds what comes after the gap: the next token, the end of the text, or a byte that begins no token.
 step_from : (text : List ℕ) (place at line : ℕ) (rest : List ℕ) → Separates text place at → begins_gap (drop at text) ≡ false → line ≡ line_of text place → drop at text ≡ rest → step text place line ≡ step_at at (line_of text at) rest
 step_from text place at line rest s none l e =
     let same : place + gap_len false (drop place text) ≡ at = separates_to text place at s none in

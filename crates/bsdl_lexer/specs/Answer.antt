@@ -15,7 +15,7 @@ pub record BeginsToken (rest : List ℕ) : Type 0 where
   pub form : HasForm kind (take len rest)
   pub no_comment : begins_comment rest ≡ false
 
--- the end of the input, byte 10 or byte 13, before which a string must be closed
+-- a string must be closed before these bytes: there are none, or the first is byte 10 or byte 13
 abbrev pub EndsOpen : List ℕ → Type 0
 EndsOpen [] = Unit {0}
 EndsOpen (byte ∷ others) = (byte ≡ line_feed) ⊎ (byte ≡ carriage_return)
