@@ -22,7 +22,7 @@ use Rattle.bsdl_parser.proofs.Decided.{decides_file}
 use Rattle.bsdl_parser.proofs.AttributeKinds.{have_kinds}
 use Rattle.bsdl_parser.proofs.Sizes.{is_small}
 
--- a list that ends with `token` is cut before `token` or earlier
+-- a list that ends with `token` is split into `ys` and `rest` before `token` or earlier
 pub record Halves (xs ys : List Lexeme) (token : Lexeme) (rest : List Lexeme) : Type 0 where
   pub middle : List Lexeme
   pub front : xs ≡ ys ++ middle
@@ -78,7 +78,7 @@ stray_read tokens before token after h (refused rest) is out =
 pub is_stray_read : (tokens before : List Lexeme) (token : Lexeme) (after : List Lexeme) → IsStray tokens before token after → StrayRead before token after (read tokens)
 is_stray_read tokens before token after h = stray_read tokens before token after h (read before) refl (decides_file.cut before h.begins)
 
--- a stray token after a whole file, and a stray token inside a file
+-- if the reader finds an entity, the next token is stray; if the reader refuses a token, that token is stray
 stray_behind : (tokens : List Lexeme) (entity : Entity) (token : Lexeme) (after : List Lexeme) (h : Reads read tokens entity (token ∷ after)) → IsStray tokens h.front token after
 stray_behind tokens entity token after h =
     let whole : read h.front ≡ found entity [] = ap read (sym (append-nil h.front)) ∙ h.again [] in
@@ -176,7 +176,7 @@ one_answer text tokens (Err (Package line)) h =
     ap (λ n. Err (Package n)) h.line_is ∙ stray_is text tokens h.before h.token h.after h.stray (read tokens) (is_stray_read tokens h.before h.token h.after h.stray) true (λ k. refl) (λ e. h.such)
 one_answer text tokens (Err (Memory error)) h = absurd h
 
--- the result of a function that returns what `judged` computes is an answer
+-- if a function returns what `judged` computes, its result is an answer of the text, and the only one
 pub answer_holds : (text : List ℕ) (tokens : List Lexeme) (result : Result Entity ParseFault) → Gives parse_told (λ entity. entity) (λ said. judged text tokens (reader_of file tokens) ≡ said) result → Gives parse_told (λ entity. entity) (IsAnswer text tokens) result
 answer_holds text tokens (Ok entity) e = subst (IsAnswer text tokens) e (is_answer text tokens)
 answer_holds text tokens (Err fault) e = IfSome_then (parse_told fault) e (λ f is. subst (IsAnswer text tokens) is (is_answer text tokens))

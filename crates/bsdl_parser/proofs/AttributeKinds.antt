@@ -58,7 +58,7 @@ used_fits name =
     last_fits true = refl
     last_fits false = tt
 
--- the value of a form has the kind of every number with that form
+-- a value of this form has the kind of each number that has this form
 value_kind : (form : AttrForm) → Yields (value_of form) (λ value. (number : ℕ) → FitsForm number form → HasKind number value)
 unfolding plain_value port_value clock_value number_value text_value
 value_kind forms.Plain n = keeps_in_turn keeps_nothing (λ _ _ _. keeps_in_turn keeps_nothing (λ _ _ _. keeps_in_turn keeps_nothing (λ _ _ _. keeps_done (λ number h. h))))

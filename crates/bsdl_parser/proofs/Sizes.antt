@@ -253,7 +253,7 @@ tokens_weight text (token ∷ tokens) from to h =
     let others : token.«end» + total weight (lexemes text tokens) ≤ to = tokens_weight text tokens token.«end» to h.2 in
     omega arith
 
--- the entity that a text's tokens derive is small
+-- if a text has fewer than 2^32 bytes, the entity that its tokens derive is small
 pub is_small : (text : List ℕ) (tokens : List Token) (entity : Entity) → length text < 2 ^ 32 → AreTokens text tokens → Derives (lexemes text tokens) entity → IsSmall entity
 is_small text tokens entity short h derives =
     let covers : 0 + entity_cost entity ≤ 0 + total weight (lexemes text tokens) = (file_cost 0).kept (lexemes text tokens) entity derives in

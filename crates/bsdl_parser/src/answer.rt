@@ -78,7 +78,7 @@ pub fn parse(alloc: Global, bytes: &[u8], tokens: &[Token]) -> Result<Entity, Pa
     // The definition allows no other answer.
     ensures only { Gives parse_told (λ entity. entity) (λ answer. (other : Result Entity ParseFault) → IsAnswer bytes.now (lexemes bytes.now tokens.now) other → other ≡ answer) result }
 
-    // Limits that every returned entity keeps.
+    // Every returned entity keeps these limits.
     ensures kinds { IfOk result HaveKinds }
     ensures small { IfOk result IsSmall }
 {

@@ -21,7 +21,7 @@ pub(crate) struct Front {
     pub line: u32,
 }
 
-/// The tokens of a text that are left, and the allocator for the values that are made of them.
+/// The tokens of a text that have not been read, and the allocator for the values that are made from them.
 #[derive(Drop)]
 pub(crate) struct Cursor<'a> {
     alloc: Global,

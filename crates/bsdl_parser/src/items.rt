@@ -109,7 +109,7 @@ impl<'a> Cursor<'a> {
         }
     }
 
-    /// Reads one item and adds it to `draft`. Returns false if there is no item but the word `end`.
+    /// Reads one item and adds it to `draft`. Returns false if the word `end` comes in place of an item.
     #[tactic(auto, unfolding(crate::specs::Bsdl::item, crate::specs::Bsdl::item_of))]
     fn item(&mut self, draft: &mut Draft) -> Result<bool, Stop>
         ensures { ReadsTokens (reader_of (item (items_of draft.old))) self.old self.new result (λ more. turn_of more (items_of draft.new)) }

@@ -4,7 +4,7 @@ use Rattle.bsdl_parser.specs.Bsdl.{item, no_items}
 use Rattle.bsdl_parser.specs.inner.Views.{items_of}
 use Rattle.bsdl_parser.proofs.cursor.Cursor.items.Given as goal
 
--- reading the rest after the items so far gives what reading the whole gives
+-- after the items so far, reading the rest of the tokens has the result of reading all tokens
 abbrev pub invariant-loop-draft : goal.invariant-loop-draft
 invariant-loop-draft l = reader_of (turns item (items_of l.draft)) l.self ≡ reader_of (turns item no_items) l.fn.self
 
