@@ -1,4 +1,4 @@
--- Lists inside a string: their entries can be read, and if an entry stops, the string stops at that entry.
+-- Lists inside a string. Their entries can be read, and if reading an entry stops, the string goes wrong at that entry.
 use Rattle.std.proofs.Common.{◌≡◌, ℕ, ◌<◌, ◌^◌, length, arith, subst, sym, ◌∙◌, ap, Bool, true, false, List, [], ◌∷◌, ◌++◌, Option, Some, None, inl}
 use Rattle.std.specs.Borrow.{Bor}
 use Rattle.grammars.specs.inner.Reader.{found}

@@ -10,7 +10,7 @@ abbrev pub fault_of : Stop → ℕ → StringFault
 fault_of (stops.Memory error) entries = faults.Memory error
 fault_of (stops.At rest) entries = faults.At (entries + 1)
 
--- `P` is true of the number that the fault has; nothing is said about a refusal of memory
+-- `P` is true of the number in the fault; nothing is said about a refusal of memory
 abbrev pub NamesEntry : (ℕ → Type 0) → StringFault → Type 0
 NamesEntry P (faults.At number) = P number
 NamesEntry P (faults.Memory error) = Unit {0}

@@ -19,7 +19,7 @@ pub struct Opcode {
 /// A port bit as a string names it.
 #[derive(Debug, Drop)]
 pub enum PortWord {
-    /// `*`, which stands in place of a port if the cell has none.
+    /// `*`, which is written in place of a port if the cell has none.
     Star,
     /// A port without an index.
     Plain(Name),

@@ -6,7 +6,7 @@ use Rattle.bsdl_strings.specs.declared.stop.Stop.{Stop}
 use Rattle.bsdl_strings.specs.declared.stop.Stop.TheVariants.{Memory, At}
 use Rattle.bsdl_strings.specs.Pieces.{pieces}
 
--- the reader refuses the text from the piece that does not fit, unless memory was refused
+-- the reader refuses the text from the piece that does not fit, which the function returns, unless memory was refused
 abbrev pub StopsOn : {A : Type 0} → Stop → Outcome (List ℕ) A → Type 0
 StopsOn (Memory error) outcome = Unit {0}
 StopsOn (At rest) outcome = outcome ≡ refused (pieces rest.now)
