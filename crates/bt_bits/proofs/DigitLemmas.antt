@@ -92,7 +92,7 @@ or_rest false false true d rest = refl
 or_rest false false false true rest = refl
 or_rest false false false false rest = refl
 
--- some digit is not 0 if and only if some bit is 1
+-- some digit of bits is not 0 if and only if some bit is 1
 pub any_digit : (bits : List Bool) → list_any (λ x. not (x == 0)) (digits_of bits) ≡ list_any (λ bit. bit) bits
 any_digit [] = refl
 any_digit (a ∷ []) = ap (λ some. some || false) (some_of a false false false) ∙ or_rest a false false false false
@@ -173,7 +173,7 @@ digits_of-zeros (suc (suc (suc (suc len)))) =
     let count : digit_count (suc (suc (suc (suc len)))) ≡ suc (digit_count len) = omega arith in
     ap (λ t. 0 ∷ t) (digits_of-zeros len) ∙ sym (ap (λ n. replicate n 0) count)
 
--- a digit with one bit subtracted and the new bit added
+-- replacing a bit of a digit is subtracting the old bit and adding the new one, each times its place value
 pub with_bit-sum : (digit k from : ℕ) (bit : Bool) → k < 4 → digit < 256 → from ≡ bit_value bit → digit - bit_and digit (1 * 2 ^ k % 256) + from * 2 ^ k % 256 ≡ with_bit digit k bit
 with_bit-sum digit zero from bit few fits is = omega (arith, and_pow digit 0, bit_value-le bit)
 with_bit-sum digit (suc zero) from bit few fits is = omega (arith, and_pow digit 1, bit_value-le bit)
@@ -197,7 +197,7 @@ digits_of-append k (a ∷ b ∷ c ∷ d ∷ low) high whole =
     let fewer : length low ≡ 4 * (k - 1) = omega arith in
     ap (λ t. digit_value a b c d ∷ t) (digits_of-append (k - 1) low high fewer)
 
--- the digits are filled so far, and one more is filled
+-- if the first `k` digits are filled and the next digit gets its value, the first `k + 1` digits are filled
 pub filled_values-more : (bits : List Bool) (digits : List ℕ) (k d : ℕ) → k < length digits → 4 * k + 3 < length bits → take k digits ≡ digits_of (take (4 * k) bits) → d ≡ digit_value (get_or bits (4 * k) false) (get_or bits (4 * k + 1) false) (get_or bits (4 * k + 2) false) (get_or bits (4 * k + 3) false) → take (k + 1) (set digits k d) ≡ digits_of (take (4 * (k + 1)) bits)
 filled_values-more bits digits k d place within so_far is_d =
     let next : 4 * (k + 1) ≡ 4 * k + 4 = omega arith in
@@ -205,7 +205,7 @@ filled_values-more bits digits k d place within so_far is_d =
     take_more_set digits k d place ∙ ap (λ t. t ++ d ∷ []) so_far ∙ ap (λ x. digits_of (take (4 * k) bits) ++ x ∷ []) is_d
     ∙ sym (ap (λ n. digits_of (take n bits)) next ∙ ap digits_of (take_four bits (4 * k) within) ∙ digits_of-append k (take (4 * k) bits) _ whole)
 
--- the last digit is filled with the bits after the last whole group of four
+-- if all digits but the last are filled and the last one gets the bits that are left, all digits are filled
 pub filled_values-top : (bits : List Bool) (digits : List ℕ) (w top : ℕ) → length digits ≡ w + 1 → 4 * w ≤ length bits → take w digits ≡ digits_of (take (4 * w) bits) → top ∷ [] ≡ digits_of (drop (4 * w) bits) → set digits w top ≡ digits_of bits
 filled_values-top bits digits w top sized few so_far is_top =
     let whole : length (take (4 * w) bits) ≡ 4 * w = length-take-le (4 * w) bits few in
@@ -244,7 +244,7 @@ pub drop-bits_of-whole : (digits : List ℕ) (len : ℕ) → length digits ≡ d
 drop-bits_of-whole digits len sized whole =
     drop_all len (bits_of digits) (omega (arith, length-bits_of digits))
 
--- the test of a bit for 1, as a number, is the bit
+-- a number below 2 is equal to the value of the test whether it is 1
 pub bit_value-test : (n : ℕ) → n < 2 → bit_value (eqb n 1) ≡ n
 bit_value-test zero small = refl
 bit_value-test (suc zero) small = refl

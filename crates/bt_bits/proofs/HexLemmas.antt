@@ -11,7 +11,7 @@ length-hex_text (a ∷ b ∷ c ∷ []) = refl
 length-hex_text (a ∷ b ∷ c ∷ d ∷ bits) =
     length-append (hex_text bits) (hex_digit a b c d ∷ []) ∙ omega (arith, length-hex_text bits)
 
--- taking four more bits appends these four
+-- the first `i + 4` bits are the first `i` bits followed by the next four
 pub take_four : (bits : List Bool) (i : ℕ) → i + 3 < length bits → take (i + 4) bits ≡ take i bits ++ get_or bits i false ∷ get_or bits (i + 1) false ∷ get_or bits (i + 2) false ∷ get_or bits (i + 3) false ∷ []
 take_four bits i within = grind (arith, take_more {X = Bool}, append_assoc {A = Bool})
 

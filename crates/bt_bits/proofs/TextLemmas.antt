@@ -52,7 +52,7 @@ digits_text-take_more : (digits : List ℕ) (k : ℕ) → k < length digits → 
 digits_text-take_more digits k within =
     ap digits_text (take_more digits k 0 within) ∙ digits_text-append (take k digits) (get_or digits k 0 ∷ [])
 
--- the text is filled from the right so far, and one more character is filled
+-- if the last `k` characters of the text are filled and the one before them gets its value, the last `k + 1` are filled
 pub filled_more : (digits text : List ℕ) (n k d : ℕ) → n ≡ length text → k < n → k < length digits → drop (n - k) text ≡ digits_text (take k digits) → d ≡ digit_char (get_or digits k 0) → drop (n - (k + 1)) (set text (n - 1 - k) d) ≡ digits_text (take (k + 1) digits)
 filled_more digits text n k d is_n below within so_far is_d =
     let place : n - (k + 1) ≡ n - 1 - k = omega arith in
@@ -94,7 +94,7 @@ both false second b other e f g = f b
 is_below : (x : ℕ) → nat_lt x 16 ≡ true → x < 16
 is_below x small = grind arith
 
--- if the text was read from the right so far, it is read up to one more byte to the left
+-- if the last `k` bytes of the text were read and the byte before them is read next, the last `k + 1` bytes were read
 pub read_digit : (text digits : List ℕ) (n k most x next : ℕ) → n ≡ length text → length digits ≡ n → k < n → next ≡ max x most → IsValueOf (get_or text (n - 1 - k) 0) x → AreRead text (n - k) (take k digits) (nat_lt most 16) → AreRead text (n - (k + 1)) (take (k + 1) (set digits k x)) (nat_lt next 16)
 read_digit text digits n k most x next is_n sized within is_next value so_far =
     let at : n - (k + 1) ≡ n - 1 - k = omega arith in
