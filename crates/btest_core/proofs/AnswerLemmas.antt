@@ -10,7 +10,7 @@ pub gives_more : {U V : Type 0} (view : U → V) (P Q : Result V InputFault → 
 gives_more view P Q (Ok value) more is = more (Ok (view value)) is
 gives_more view P Q (Err fault) more is = IfSome_then (input_told fault) is (λ f. more (Err f))
 
--- if the first step gives a value, the answer of the next step is the answer of the two steps together
+-- if the first step gives a value, an answer of the next step for this value is an answer of the two steps together
 pub goes_on : {W U V : Type 0} (view : U → V) (first : Result W InputFault → Type 0) (next : W → Result V InputFault → Type 0) (value : W) (answer : Result U InputFault) → first (Ok value) → Gives input_told view (next value) answer → Gives input_told view (Follows first next) answer
 goes_on view first next value answer found is = gives_more view (next value) (Follows first next) answer (λ a n. inl (value, found, n)) is
 

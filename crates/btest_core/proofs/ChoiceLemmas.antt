@@ -29,7 +29,7 @@ chooses_none entities choices = record {
   devices = λ i choice device chosen there. absurd (none-some device there);
 }
 
--- `AreOfChoices` still holds when the device of the next choice is added
+-- if each device so far belongs to its choice, this is still so after the device of the next choice is added
 of_more : (entities : List Entity) (choices : List Chosen) (front : List RawDevice) (device : RawDevice) → AreOfChoices entities choices front → ((choice : Chosen) → slice_get choices (length front) ≡ Some choice → IsDeviceOf entities choice (Ok device)) → AreOfChoices entities choices (front ++ device ∷ [])
 of_more entities [] front device are is i choice found chosen there = absurd (none-some choice chosen)
 of_more entities (first ∷ choices) [] device are is zero choice found chosen there = subst (λ d. IsDeviceOf entities choice (Ok d)) (ap (λ (o : Option RawDevice). unwrap_or o device) there) (is choice chosen)
@@ -41,7 +41,7 @@ of_more entities (first ∷ choices) (d ∷ front) device are is (suc i) choice 
 left_at : (choices : List Chosen) (n : ℕ) → n < length choices → drop n choices ≡ slice_index_or choices n (0, None) ∷ drop (n + 1) choices
 left_at choices n within = let next : n + 1 ≡ suc n = omega arith in rw next (drop-cons choices n (0, None) within)
 
--- the choice at place n is the borrowed choice at this place, with its package as a list
+-- the choice at place `n` is the borrowed choice at this place, with its package as a list
 pub choice_at : (chosen : List Lent) (n : ℕ) (d : Lent) (choice : Chosen) → n < length chosen → slice_get (choices_of chosen) n ≡ Some choice → ((slice_index_or chosen n d).0, option_copied (slice_index_or chosen n d).1) ≡ choice
 choice_at chosen n d choice within there =
     let view : Lent → Chosen = λ lent. (lent.0, option_copied lent.1) in
@@ -81,7 +81,7 @@ zip_firsts n [] ys all = tt
 zip_firsts n (x ∷ xs) [] all = tt
 zip_firsts n (x ∷ xs) (y ∷ ys) all = (all.0, zip_firsts n xs ys all.1)
 
--- one more line adds as many packages as names of entities
+-- if later lines have as many packages as names of entities, so have one more line and the later lines together
 count_more : (n : ℕ) (statement : ChainStatement) (lines : List ChainLine) → length (filter_map (λ line. package_in line.statement) lines) ≡ length (named EntityName lines) → length (filter_map (λ line. package_in line.statement) (record { line = n; statement = statement } ∷ lines)) ≡ length (named EntityName (record { line = n; statement = statement } ∷ lines))
 count_more n (DeviceLine part entity given) lines same = omega (arith, same)
 count_more n (Bypass part bits) lines same = same

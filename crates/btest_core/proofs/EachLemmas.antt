@@ -1,14 +1,14 @@
--- The values of items, found in turn.
+-- The values of items that are found one after another.
 use Rattle.std.proofs.Common.{◌≡◌, List, [], ◌∷◌, ◌++◌, Result, Ok, Err, ap, sym, refl, subst, inl, inr, append_assoc, append-nil}
 use Rattle.btest_core.specs.declared.fault.InputFault.{InputFault}
 use Rattle.btest_core.specs.Answers.{EachOf}
 
--- prepends the values of `front` to the values of the answer
+-- puts the values of `front` before the values of the answer
 abbrev pub behind : {B : Type 0} → List B → Result (List B) InputFault → Result (List B) InputFault
 behind front (Ok values) = Ok (front ++ values)
 behind front (Err fault) = Err fault
 
--- an answer for the remaining items, with the values of `front` before it, is an answer for all items
+-- if an answer for the remaining items is put behind the values of `front`, it is an answer for all items
 abbrev pub Completes : {A B : Type 0} → (A → Result B InputFault → Type 0) → List A → List A → List B → Type 0
 Completes {A} {B} IsOf all rest front = (answer : Result (List B) InputFault) → EachOf IsOf rest answer → EachOf IsOf all (behind front answer)
 

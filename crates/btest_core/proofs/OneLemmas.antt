@@ -1,4 +1,4 @@
--- Texts have at most one answer.
+-- Texts have at most one answer of each kind.
 use Rattle.std.proofs.Common.{◌≡◌, ℕ, List, [], ◌∷◌, Option, Some, None, Result, Ok, Err, ap, sym, ◌∙◌, subst, inl, inr}
 use Rattle.bsdl_lexer.specs.declared.token.Token.{Token}
 use Rattle.bsdl_lexer.specs.declared.token.LexFault.{LexFault}
@@ -18,7 +18,7 @@ use Rattle.btest_core.specs.DevicesRead.{Chosen, IsDeviceIn, IsDeviceOf, IsDevic
 use Rattle.btest_core.specs.BoardRead.{AreChainLengths, IsBoardRead}
 use Rattle.btest_core.specs.IdentsRead.{AreIdents}
 
--- `IsAnswer` holds of at most one answer
+-- `IsAnswer` is true of at most one answer
 abbrev pub AtMostOne : {A : Type 0} → (Result A InputFault → Type 0) → Type 0
 AtMostOne {A} IsAnswer = (a b : Result A InputFault) → IsAnswer a → IsAnswer b → a ≡ b
 
@@ -46,7 +46,7 @@ each_one : {A B : Type 0} (IsOf : A → Result B InputFault → Type 0) → ((it
 each_one IsOf ones [] = is_one (Ok [])
 each_one IsOf ones (item ∷ items) = follows_one (IsOf item) _ (ones item) (λ value. follows_one (EachOf IsOf items) _ (each_one IsOf ones items) (λ values. is_one (Ok (value ∷ values))))
 
--- laws of the lower crates, which these proofs take as arguments: the tokens, the entity and the device are unique
+-- the laws of lower crates that these proofs take as arguments; here, that tokens, entities and devices are unique
 abbrev pub OneLexed : Type 0
 OneLexed = (text : List ℕ) (tokens others : List Token) (answer other : Result (Unit {0}) LexFault) → lexer.IsAnswer text tokens answer → lexer.IsAnswer text others other → (tokens ≡ others) × (answer ≡ other)
 

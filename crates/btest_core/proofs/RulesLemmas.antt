@@ -36,7 +36,7 @@ use Rattle.btest_core.proofs.JoinLemmas.{kept}
 use Rattle.btest_core.proofs.OneLemmas.{same_ok}
 use Rattle.btest_core.proofs.SomeLemmas.{selected}
 
--- laws of the lower crates on devices, selections, chain files and boards, which these proofs take as arguments
+-- the laws of lower crates that these proofs take as arguments; here, those about devices, selections, chain files and boards
 abbrev pub SoundKeep : Type 0
 SoundKeep = (entity : Entity) (given : Option (List ℕ)) (device : RawDevice) → IsSound entity given device → IsDevice device
 
@@ -54,12 +54,12 @@ BoardsKeep = (chain : List ChainLine) (nets : List NetLine) (devices : List RawD
     → IsChain chain → AllByRecursion (λ line. HasLength line.statement) chain → AllByRecursion IsDevice devices → length devices ≡ length (named EntityName chain)
     → board_of chain nets devices ≡ Ok board → IsBoard board
 
--- if the answer is a value, the first step also gives a value
+-- if the answer of two steps is a value, the first step gave a value, too
 follows_ok : {A B : Type 0} (first : Result A InputFault → Type 0) (next : A → Result B InputFault → Type 0) (value : B) → Follows first next (Ok value) → (found : A) × first (Ok found) × next found (Ok value)
 follows_ok first next value (inl (found, is, answers)) = (found, is, answers)
 follows_ok first next value (inr (fault, is, answers)) = absurd cc
 
--- if `in_file` gives a value, the file has the same value; `in_link_ok` says this of joined files
+-- if `in_file` gives a value, reading the file gave the same value; `in_link_ok` says the same about joined files
 in_file_ok : {A : Type 0} (of_file : LineFault → InputFault) (answer : Result A LineFault) (value : A) → ◌≡◌ {A = Result A InputFault} (Ok value) (in_file of_file answer) → answer ≡ Ok value
 in_file_ok of_file (Ok v) value same = cc
 in_file_ok of_file (Err fault) value same = absurd cc
@@ -130,7 +130,7 @@ board_keeps sound chains counts lengths boards chain nets texts board is =
     (lengths chain of_chain.0 (in_file_ok Chain (chain_lines chain) of_chain.0 of_chain.1))
     (devices_keep sound chains counts of_chain.0 texts of_texts.0 of_texts.1) of_texts.2
 
--- the patterns are the patterns of the devices, and there is no BYPASS line
+-- there is no BYPASS line, and the patterns are those of the devices
 record ArePatternsOf (bypass : Option ℕ) (devices : List RawDevice) (idents : List Ident) : Type 0 where
   none : bypass ≡ None
   are : idents ≡ idents_of devices
@@ -139,7 +139,7 @@ idents_ok : (bypass : Option ℕ) (devices : List RawDevice) (idents : List Iden
 idents_ok None devices idents same = record { none = refl; are = same_ok idents (idents_of devices) same }
 idents_ok (Some line) devices idents same = absurd cc
 
--- 1 to 255 patterns, each of 32 symbols
+-- there are 1 to 255 patterns, each of 32 symbols or None
 abbrev AreWhole : List Ident → Type 0
 AreWhole idents = (0 < length idents) × (length idents ≤ most_parts) × All IsWhole idents
 

@@ -1,4 +1,4 @@
--- Texts have an answer.
+-- Texts have at least one answer of each kind.
 use Rattle.std.proofs.Common.{◌≡◌, ◌<◌, ℕ, zero, suc, arith, List, [], ◌∷◌, length, Option, Some, None, slice_get, Result, Ok, Err, refl, inl, inr}
 use Rattle.std.specs.Prelude.{All}
 use Rattle.std.specs.List.{AllByRecursion, enumerate_from, filter_map}
@@ -26,7 +26,7 @@ use Rattle.btest_core.specs.BoardRead.{AreChainLengths, IsBoardRead}
 use Rattle.btest_core.specs.IdentsRead.{AreIdents}
 use Rattle.btest_core.proofs.ChoiceLemmas.{zip_firsts}
 
--- `IsAnswer` holds of some answer
+-- `IsAnswer` is true of some answer
 abbrev pub HasAnswer : {A : Type 0} → (Result A InputFault → Type 0) → Type 0
 HasAnswer {A} IsAnswer = (answer : Result A InputFault) × IsAnswer answer
 
@@ -54,7 +54,7 @@ each_more : {A : Type 0} (P Q : A → Type 0) → ((item : A) → P item → Q i
 each_more P Q more [] all = tt
 each_more P Q more (item ∷ items) all = (more item all.0, each_more P Q more items all.1)
 
--- laws of the lower crates, which these proofs take as arguments: tokens, entities and devices have an answer
+-- the laws of lower crates that these proofs take as arguments; here, that tokens, entities and devices exist or have a fault
 abbrev pub SomeLexed : Type 0
 SomeLexed = (text : List ℕ) → (tokens : List Token) × (answer : Result (Unit {0}) LexFault) × lexer.IsAnswer text tokens answer
 
@@ -64,7 +64,7 @@ SomeParsed = (text : List ℕ) (tokens : List Lexeme) → (answer : Result Entit
 abbrev pub SomeChecked : Type 0
 SomeChecked = (entity : Entity) (given : Option (List ℕ)) → (answer : Result RawDevice DeviceFault) × check.IsAnswer entity given answer
 
--- the law of selections, which these proofs take as an argument
+-- the law about selections, which these proofs take as an argument
 abbrev pub SelectsWithin : Type 0
 SelectsWithin = (lines : List ChainLine) (entities : List Entity) (numbers : List ℕ) → selection lines entities ≡ Ok numbers → All (λ number. number < length entities) numbers
 

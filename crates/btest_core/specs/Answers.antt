@@ -8,7 +8,7 @@ abbrev pub Follows : {A B : Type 0} → (Result A InputFault → Type 0) → (A 
 Follows {A} first next answer =
     ((value : A) × first (Ok value) × next value answer) ⊎ ((fault : InputFault) × first (Err fault) × (answer ≡ Err fault))
 
--- the answer of a step is `this`
+-- the answer is `this`
 abbrev pub Is : {A : Type 0} → Result A InputFault → Result A InputFault → Type 0
 Is this answer = answer ≡ this
 
@@ -17,7 +17,7 @@ abbrev pub EachOf : {A B : Type 0} → (A → Result B InputFault → Type 0) �
 EachOf IsOf [] answer = Is (Ok []) answer
 EachOf IsOf (item ∷ items) answer = Follows (IsOf item) (λ value. Follows (EachOf IsOf items) (λ values. Is (Ok (value ∷ values)))) answer
 
--- the fault, or nothing for a refusal of memory, since no definition speaks of memory
+-- the fault, or None for a refusal of memory, since no definition speaks of memory
 abbrev pub input_told : InputFault → Option InputFault
 input_told (Memory error) = None
 input_told fault = Some fault

@@ -31,7 +31,8 @@ Chosen = ℕ × Option (List ℕ)
 abbrev pub chosen : List ChainLine → List ℕ → List Chosen
 chosen lines numbers = zip numbers (filter_map (λ line. package_in line.statement) lines)
 
--- the device of an entity in a package if this device keeps every rule, or the first rule or string that fails, with the number of the text
+-- the device of an entity in a package if this device keeps every rule; otherwise the first rule or string that fails, and
+-- the number of the text
 abbrev pub IsDeviceIn : Entity → Chosen → Result RawDevice InputFault → Type 0
 IsDeviceIn entity choice (Ok device) = IsSound entity choice.1 device
 IsDeviceIn entity choice (Err (Device text fault)) = (text ≡ choice.0) × IsFirst entity choice.1 fault
@@ -44,15 +45,16 @@ IsDeviceIn entity choice (Err (Link fault)) = ⊥
 IsDeviceIn entity choice (Err (NoIdent line)) = ⊥
 IsDeviceIn entity choice (Err (Memory error)) = ⊥
 
--- like `IsDeviceIn`, for the entity whose number the choice gives
+-- like `IsDeviceIn`, but for the entity whose number the choice gives
 abbrev pub IsDeviceOf : List Entity → Chosen → Result RawDevice InputFault → Type 0
 IsDeviceOf entities choice answer = (entity : Entity) × (slice_get entities choice.0 ≡ Some entity) × IsDeviceIn entity choice answer
 
--- the devices of the DEVICE lines, in order, or the first fault. A fault of the selection among the entities comes before the faults of the devices
+-- the devices of the DEVICE lines, in order, or the first fault. A fault of the selection among the entities comes before
+-- the faults of the devices.
 abbrev pub AreSelected : List ChainLine → List Entity → Result (List RawDevice) InputFault → Type 0
 AreSelected lines entities = Follows (Is (in_board (selection lines entities))) (λ numbers. EachOf (IsDeviceOf entities) (chosen lines numbers))
 
--- like `AreSelected`, for the entities that the texts describe
+-- like `AreSelected`, but for the entities that the texts describe
 abbrev pub AreDevices : List ChainLine → List (List ℕ) → Result (List RawDevice) InputFault → Type 0
 AreDevices lines texts = Follows (AreEntities texts) (AreSelected lines)
 

@@ -1,4 +1,4 @@
--- Faults of each kind as faults of the inputs.
+-- The faults of lower crates as faults of the inputs.
 use Rattle.std.specs.Prelude.{Result, Ok, Err}
 use Rattle.board_files.specs.declared.fault.LineFault.{LineFault}
 use Rattle.board_files.specs.declared.fault.LineFault.TheVariants as line
@@ -9,19 +9,19 @@ use Rattle.series_parts.specs.declared.fault.LinkFault.TheVariants as link
 use Rattle.btest_core.specs.declared.fault.InputFault.{InputFault}
 use Rattle.btest_core.specs.declared.fault.InputFault.TheVariants.{Board, Link, Memory}
 
--- a fault of a chain or net file as a fault of the inputs
+-- a fault of a chain file or a net file as a fault of the inputs
 abbrev pub file_fault : (LineFault → InputFault) → LineFault → InputFault
 file_fault of_file (line.Memory e) = Memory e
 file_fault of_file (line.Statement n) = of_file (line.Statement n)
 file_fault of_file (line.Word n) = of_file (line.Word n)
 file_fault of_file (line.Number n) = of_file (line.Number n)
 
--- the answer of a chain or net file, with its fault as a fault of the inputs
+-- the result of reading a chain file or a net file, with its fault as a fault of the inputs
 abbrev pub in_file : {A : Type 0} → (LineFault → InputFault) → Result A LineFault → Result A InputFault
 in_file of_file (Ok lines) = Ok lines
 in_file of_file (Err fault) = Err (file_fault of_file fault)
 
--- a fault of the board as a fault of the inputs
+-- a fault of the board's files as a fault of the inputs
 abbrev pub board_fault : BoardFault → InputFault
 board_fault (board.Memory e) = Memory e
 board_fault board.NoChain = Board board.NoChain
@@ -38,7 +38,7 @@ board_fault (board.Limit which) = Board (board.Limit which)
 board_fault (board.NoPullNet spot) = Board (board.NoPullNet spot)
 board_fault (board.PullTwice spot) = Board (board.PullTwice spot)
 
--- the answer of the board rules, with their fault as a fault of the inputs
+-- the result of the board rules, with their fault as a fault of the inputs
 abbrev pub in_board : {A : Type 0} → Result A BoardFault → Result A InputFault
 in_board (Ok value) = Ok value
 in_board (Err fault) = Err (board_fault fault)
@@ -48,7 +48,7 @@ abbrev pub link_fault : LinkFault → InputFault
 link_fault (link.Memory e) = Memory e
 link_fault (link.NoLinkPin spot) = Link (link.NoLinkPin spot)
 
--- the joined files, with their fault as a fault of the inputs
+-- the result of joining files, with its fault as a fault of the inputs
 abbrev pub in_link : {A : Type 0} → Result A LinkFault → Result A InputFault
 in_link (Ok value) = Ok value
 in_link (Err fault) = Err (link_fault fault)

@@ -20,7 +20,7 @@ pub record IsEntity (text : List ℕ) (entity : Entity) : Type 0 where
   pub are : AreTokens text tokens
   pub derives : Derives (lexemes text tokens) entity
 
--- `fault` is at the text's first bad place, which comes after some tokens
+-- `fault` is the fault of the text's first bad place, which comes after some tokens
 pub record IsLexFault (text : List ℕ) (fault : LexFault) : Type 0 where
   pub tokens : List Token
   pub stops : lexer.IsFault text tokens fault

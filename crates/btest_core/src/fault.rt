@@ -23,7 +23,7 @@ pub enum InputFault {
     /// The first bad place of a BSDL text. Texts are numbered from 0 in the order in which they are given.
     #[error("{fault}")]
     Lex { text: u32, fault: LexFault },
-    /// The reason why the tokens of a BSDL text are no entity.
+    /// The reason why the tokens of a BSDL text derive no entity.
     #[error("{fault}")]
     Parse { text: u32, fault: ParseFault },
     /// The first board rule that fails.

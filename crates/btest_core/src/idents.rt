@@ -93,11 +93,11 @@ fn file_idents(
     }
 }
 
-/// Returns the patterns of the identification codes of a chain's parts, in the order from TDI to TDO. There are
-/// 1 to 255 entries. An entry has 32 symbols, or is `None` for a device without such a code. Otherwise returns the
-/// first fault, in this order: the chain file, the BSDL texts, the board rules on the chain, and
-/// the devices of its DEVICE lines. Without these faults, a BYPASS line is the fault `NoIdent`, with
-/// the number of the first such line, since it isn't known what the part in BYPASS selects after a reset.
+/// Returns the patterns of the identification codes of a chain's parts, in the order from TDI to TDO. There are 1 to 255
+/// entries. An entry has 32 symbols, or is `None` for a device without such a code. Otherwise returns the first fault, in
+/// this order: the chain file, the BSDL texts, the board rules on the chain, and the devices of its DEVICE lines. Without
+/// these faults, a BYPASS line is the fault `NoIdent`, with the number of the first such line, since it isn't known which
+/// register a part in BYPASS selects after a reset.
 pub fn read_idents(
     alloc: Global,
     chain: &[u8],

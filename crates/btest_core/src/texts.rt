@@ -41,7 +41,7 @@ fn tokens_of(alloc: Global, bytes: &[u8], text: u32) -> Result<Vec<Token>, Input
     }
 }
 
-/// Returns the entities that BSDL texts describe, or the first fault of the first text that has one.
+/// Returns the entities that BSDL texts describe, or the first fault of the first text that has a fault.
 pub(crate) fn entities(alloc: Global, texts: &[Vec<u8>]) -> Result<Vec<Entity>, InputFault>
     requires each { All (λ text. length text.items < 2 ^ 32) texts.now }
     requires count { length texts.now < 2 ^ 32 }

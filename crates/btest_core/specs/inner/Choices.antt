@@ -1,4 +1,4 @@
--- The choices of the DEVICE lines with borrowed packages, and the devices of the first choices.
+-- Choices whose package is borrowed, and devices that belong to the choices at the same places.
 use Rattle.std.specs.Prelude.{◌≡◌, ℕ, List, Option, Some, Ok, map, option_copied, slice_get}
 use Rattle.std.specs.Borrow.{Bor}
 use Rattle.board_defs.specs.declared.device.RawDevice.{RawDevice}
