@@ -1,4 +1,4 @@
--- The result of the steps is the answer of the entity.
+-- The result that the function of each step returns is the answer of the entity.
 use Rattle.std.proofs.Common.{◌≡◌, ℕ, List, Option, Result, Ok, Err, inl, inr, refl, sym, subst}
 use Rattle.std.specs.Option.{IfSome}
 use Rattle.board_defs.specs.Limits.{most_bits, most_instruction_bits}
@@ -25,11 +25,11 @@ use Rattle.device_check.proofs.FoundLemmas.{found_is, lies_within}
 use Rattle.device_check.proofs.StringLemmas.{few_entries}
 use Rattle.device_check.proofs.TextLemmas.{short_strings}
 
--- V1 fails
+-- if V1 fails, its source is the answer
 pub needs_answer : (entity : Entity) (given : Option (List ℕ)) (source : Source) → v1 entity given ≡ Err source → IsAnswer entity given (Err (Rule 1 (source_number source)))
 needs_answer entity given source e = inl (record { number_is = refl; source = source; wrong = e; item_is = refl })
 
--- a string fails
+-- if V1 holds and a string leaves its grammar, the fault of the first such string is the answer
 pub text_answer : (entity : Entity) (given : Option (List ℕ)) (found : Found) (fault : DeviceFault) → v1 entity given ≡ Ok found → NamesPlace (LeavesFirst entity found in_order) fault → IfSome (device_told fault) (λ f. IsAnswer entity given (Err f))
 text_answer entity given found (Rule number item) e h = absurd h
 text_answer entity given found (Text attribute entry) e h = record { found = found; needed = e; leaves = h }

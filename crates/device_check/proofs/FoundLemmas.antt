@@ -1,4 +1,4 @@
--- If V1 holds, V1 returns the values of the sources.
+-- If V1 holds, it returns the values of the sources.
 use Rattle.std.proofs.Common.{◌≡◌, ℕ, ◌≤◌, ◌&&◌, nat_le, if◌then◌else◌, Bool, true, false, List, Option, Some, None, Result, Ok, Err, refl, subst}
 use Rattle.std.proofs.lemmas.Bool.{and_parts, leb-true}
 use Rattle.board_defs.specs.Limits.{most_bits, most_instruction_bits}
@@ -10,7 +10,7 @@ use Rattle.device_check.specs.declared.sources.Source.TheVariants as sources
 use Rattle.device_check.specs.Attributes.{only_number, only_text, chosen}
 use Rattle.device_check.specs.Needed.{FoundRegisters, Found, need, and_then, unless, within, found_taps, found_registers, wrong_option, found_package, v1}
 
--- the source has a value, and the next step has this result for the value
+-- there is a value, and the next step has this result for the value
 record Has {A B : Type 0} (value : Option A) (next : A → Result B Source) (result : B) : Type 0 where
   it : A
   value_is : value ≡ Some it
@@ -20,7 +20,7 @@ has : {A B : Type 0} (source : Source) (value : Option A) (next : A → Result B
 has source None next result e = cc
 has source (Some it) next result e = record { it = it; value_is = refl; goes_on = e }
 
--- the search has a value, and the next step has this result for the value
+-- the search returned a value, and the next step has this result for the value
 record Goes {A B : Type 0} (value : Result A Source) (next : A → Result B Source) (result : B) : Type 0 where
   it : A
   value_is : value ≡ Ok it
@@ -37,7 +37,7 @@ none_wrong None next result e = e
 same_value : {B : Type 0} (x y : B) → ◌≡◌ {A = Result B Source} (Ok x) (Ok y) → x ≡ y
 same_value x y e = cc e
 
--- the values of the attributes of the registers
+-- the values that the attributes of the two registers have
 record AreRegisters (entity : Entity) (found : FoundRegisters) : Type 0 where
   length_is : within 2 most_instruction_bits (only_number entity InstructionLength) ≡ Some found.instruction_length
   opcodes_are : only_text entity InstructionOpcode ≡ Some found.opcodes
@@ -56,7 +56,7 @@ registers_are entity found e =
     let same : ◌≡◌ {A = FoundRegisters} (record { instruction_length = a.it; opcodes = b.it; capture = c.it; boundary_length = d.it; boundary = f.it }) found = same_value _ _ f.goes_on in
     subst (AreRegisters entity) same (record { length_is = a.value_is; opcodes_are = b.value_is; capture_is = c.value_is; cells_are = d.value_is; boundary_is = f.value_is })
 
--- the values that V1 found
+-- the values that V1 returns are those of the attributes and of the package
 pub record IsFound (entity : Entity) (given : Option (List ℕ)) (found : Found) : Type 0 where
   pub length_is : within 2 most_instruction_bits (only_number entity InstructionLength) ≡ Some found.registers.instruction_length
   pub opcodes_are : only_text entity InstructionOpcode ≡ Some found.registers.opcodes

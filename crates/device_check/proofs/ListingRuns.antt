@@ -1,4 +1,4 @@
--- The listings of small devices, by computation.
+-- The listings of small devices, found by computation.
 use Rattle.std.proofs.Common.{◌≡◌, ℕ, Bool, true, false, List, [], ◌∷◌, ◌++◌, Option, None, Some, refl}
 use Rattle.std.specs.Prelude.{codes}
 use Rattle.std.specs.Fmt.{digits}
@@ -18,7 +18,7 @@ port_bit port index mode pin tap = record { port = port; index = index; mode = m
 abbrev unmapped : ℕ → PortBit
 unmapped port = record { port = port; index = None; mode = Linkage; pin = None; tap = false; compliance = false }
 
--- two outputs
+-- a device with two outputs
 abbrev drivers : RawDevice
 drivers = record {
   entity = codes "DRV";
@@ -37,7 +37,8 @@ drivers = record {
       record { num = 0; role = Output2; bit = Some 4; safe = Any; ctl = None } ∷ record { num = 1; role = Output2; bit = Some 5; safe = Any; ctl = None } ∷ [];
 }
 
--- a device of 2001: a three-state output, the input that enables this output, and a port without a pin. The entry of the last cell comes first
+-- a device of 2001: a three-state output, the input that enables this output, and a port without a pin. The entry of the
+-- last cell comes first.
 abbrev buffer : List Symbol → RawDevice
 buffer idcode = record {
   entity = codes "BUF";
@@ -57,7 +58,7 @@ buffer idcode = record {
       ∷ record { num = 0; role = Output3; bit = Some 1; safe = Any; ctl = Some (record { cell = 1; disable = true }) } ∷ [];
 }
 
--- the identification code of zeros, then XX1
+-- an identification pattern: 29 zeros followed by XX1
 abbrev sample_pattern : List Symbol
 sample_pattern =
     One ∷ Any ∷ Any ∷ Zero ∷ Zero ∷ Zero ∷ Zero ∷ Zero ∷ Zero ∷ Zero ∷ Zero ∷ Zero ∷ Zero ∷ Zero ∷ Zero ∷ Zero

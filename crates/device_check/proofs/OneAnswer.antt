@@ -1,4 +1,4 @@
--- There is one answer.
+-- An entity has at most one answer for each package.
 use Rattle.std.proofs.Common.{◌≡◌, ℕ, List, [], ◌∷◌, Option, Some, None, Result, Ok, Err, inl, inr, refl, sym, ◌∙◌, ap, subst}
 use Rattle.std.proofs.lemmas.Option.{IfSome_then}
 use Rattle.answers.specs.Gives.{Gives}
@@ -104,7 +104,7 @@ one_code text a b x y = x.1 ∙ sym y.1
 one_compliance : (text : List ℕ) (a b : Compliance) → IsCompliance text a → IsCompliance text b → a ≡ b
 one_compliance text a b x y = one_value strings_of.compliance compliance_takes (pieces text) a b x y
 
--- the strings have only one list of values
+-- a string has only one value, so the strings have only one list of values
 one_strings : (entity : Entity) (found : Found) (s t : Strings) → AreStrings entity found s → AreStrings entity found t → s ≡ t
 one_strings entity found s t x y =
     let map = one_value (list_of map_entry comma_or_end) (each_takes can_maps) (pieces found.chosen.pin_map) s.map t.map x.map_is y.map_is in
@@ -141,11 +141,11 @@ both_rules a n b m e f = rw (e, f) refl
 both_texts : (a n b m : ℕ) → a ≡ b → n ≡ m → ◌≡◌ {A = DeviceFault} (Text a n) (Text b m)
 both_texts a n b m e f = rw (e, f) refl
 
--- V1 finds only one value
+-- V1 returns only one result
 one_found : (entity : Entity) (given : Option (List ℕ)) (f g : Found) → v1 entity given ≡ Ok f → v1 entity given ≡ Ok g → f ≡ g
 one_found entity given f g x y = ok_is f g (sym x ∙ y)
 
--- an entity has only one draft
+-- an entity has only one draft for each package
 one_draft : (entity : Entity) (given : Option (List ℕ)) (f g : Found) (s t : Strings) → v1 entity given ≡ Ok f → v1 entity given ≡ Ok g → AreStrings entity f s → AreStrings entity g t → draft_of entity f s ≡ draft_of entity g t
 one_draft entity given f g s t e d x y =
     let found = one_found entity given f g e d in
@@ -170,13 +170,13 @@ same_text entity given a n b m x y =
     let same = one_first entity y.found in_order a n b m (subst (λ (h : Found). LeavesFirst entity h in_order a n) found x.leaves) y.leaves in
     both_texts a n b m same.0 same.1
 
--- a sound device excludes a broken rule
+-- if an entity has a sound device, none of the rules V2 to V14 fails
 not_broken : (entity : Entity) (given : Option (List ℕ)) (d : RawDevice) (b m : ℕ) {P : Type 0} → IsSound entity given d → FailsRule entity given b m → P
 not_broken entity given d b m x y =
     let same = one_draft entity given x.found y.found x.strings y.strings x.needed y.needed x.read y.read in
     none_is_some (first_rule (draft_of entity y.found y.strings)) (record { rule = b; item = m }) (sym (ap first_rule same) ∙ x.kept) y.broken
 
--- strings with values exclude one that leaves its grammar
+-- if all strings have values, none of them leaves its grammar
 not_left : (entity : Entity) (given : Option (List ℕ)) (found : Found) (strings : Strings) (b m : ℕ) {P : Type 0} → v1 entity given ≡ Ok found → AreStrings entity found strings → FailsText entity given b m → P
 not_left entity given found strings b m e read y =
     let same = one_found entity given found y.found e y.needed in

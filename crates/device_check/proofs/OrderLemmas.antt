@@ -1,4 +1,4 @@
--- The strings are read in their order.
+-- The strings of an entity are read in their order.
 use Rattle.std.proofs.Common.{ℕ, List, [], ◌∷◌, Option, inl, inr}
 use Rattle.board_defs.specs.declared.device.Symbol.{Symbol}
 use Rattle.bsdl_parser.specs.declared.entity.Entity.{Entity}
@@ -14,13 +14,13 @@ use Rattle.device_check.specs.Needed.{Found}
 use Rattle.device_check.specs.DeviceStrings.{MayBe, DeviceString, pin_map, opcodes, capture, idcode, compliance, boundary, IsRead, LeavesBy, LeavesFirst, in_order}
 use Rattle.device_check.specs.inner.Reading.{NamesPlace}
 
--- if P implies Q, a fault that names a place with P names a place with Q
+-- if P implies Q, a fault that names a place of which P is true names a place of which Q is true
 weaker : {P Q : ℕ → ℕ → Type 0} → ((attribute entry : ℕ) → P attribute entry → Q attribute entry) → (fault : DeviceFault) → NamesPlace P fault → NamesPlace Q fault
 weaker f (Rule number item) h = absurd h
 weaker f (Text attribute entry) h = f attribute entry h
 weaker f (Memory error) h = tt
 
--- the first string leaves its grammar, or it is read and one of the others is the first
+-- if the first string leaves its grammar, it is the first that does; if it is read, the first one that does is among the others
 first_leaves : (entity : Entity) (found : Found) (string : DeviceString) (strings : List DeviceString) (fault : DeviceFault) → NamesPlace (LeavesBy entity found string) fault → NamesPlace (LeavesFirst entity found (string ∷ strings)) fault
 first_leaves entity found string strings fault h = weaker (λ attribute entry k. inl k) fault h
 

@@ -1,4 +1,4 @@
--- There is an answer.
+-- An entity has at least one answer for each package.
 use Rattle.std.proofs.Common.{◌≡◌, ℕ, List, [], ◌∷◌, Option, Some, None, Result, Ok, Err, ◌⊎◌, inl, inr, refl, sym, ◌∙◌}
 use Rattle.board_defs.specs.declared.device.RawDevice.{RawDevice}
 use Rattle.bsdl_parser.specs.declared.entity.Entity.{Entity}
@@ -84,7 +84,7 @@ read_or_left entity needs idcode = maybe_answered IsPattern IsNoPattern pattern_
 read_or_left entity needs compliance = maybe_answered IsCompliance IsNoCompliance compliance_answered (text_of entity CompliancePatterns)
 read_or_left entity needs boundary = list_answered can_entries needs.registers.boundary
 
--- the values of all strings, or the first that leaves its grammar
+-- the values of all strings, or the first string that leaves its grammar
 pub data Gathered (entity : Entity) (needs : Found) : Type 0 where
   values : (strings : Strings) → AreStrings entity needs strings → Gathered entity needs
   leaves : (attribute entry : ℕ) → LeavesFirst entity needs in_order attribute entry → Gathered entity needs

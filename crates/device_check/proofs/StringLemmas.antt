@@ -14,12 +14,12 @@ use Rattle.bsdl_strings.specs.Places.{Part, comma_or_end, is_code, code_of, is_s
 use Rattle.bsdl_strings.specs.Strings.{IsListOf, IsPattern, IsNoPattern}
 use Rattle.bsdl_strings.proofs.PieceLemmas.{length_pieces}
 
--- a list, whose entries and marks take a token each, or the entry at which it goes wrong
+-- the tokens are a list whose entries and marks take at least one token each, or they go wrong at some entry
 pub data Answered {T A : Type 0} (entry : Grammar T A) (more : Grammar T Bool) (tokens : List T) : Type 0 where
   listed : (values : List A) → (production_of (list_of entry more)).Whole tokens values → 2 * length values ≤ length tokens → Answered entry more tokens
   wrong : (number : ℕ) → GoesWrongAt entry more number tokens → Answered entry more tokens
 
--- the list ended, and tokens are left after it
+-- if the list ends and tokens are left after it, the tokens go wrong at its last entry
 ends_early : {T A : Type 0} {entry : Grammar T A} {more : Grammar T Bool} → CanRead entry more → (tokens here mid : List T) (t : T) (rest : List T) (before : List A) (one : A)
     → Progress entry more tokens here before → reader_of entry here ≡ found one mid → reader_of more mid ≡ found false (t ∷ rest) → GoesWrongAt entry more (length before + 1) tokens
 ends_early {T} {A} {entry} {more} can tokens here mid t rest before one so_far e f = record {
@@ -43,7 +43,7 @@ ends_early {T} {A} {entry} {more} can tokens here mid t rest before one so_far e
         let yes : h.next.value ≡ true = h.next.next.0 in
         cc (k, f, yes)
 
--- the list ended with the tokens
+-- if the list ends and no tokens are left, the tokens are a list
 ends_there : {T A : Type 0} {entry : Grammar T A} {more : Grammar T Bool} → CanRead entry more → (tokens here mid : List T) (before : List A) (one : A)
     → Progress entry more tokens here before → reader_of entry here ≡ found one mid → reader_of more mid ≡ found false [] → Answered entry more tokens
 ends_there {T} {A} {entry} {more} can tokens here mid before one so_far e f =

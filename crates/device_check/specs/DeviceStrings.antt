@@ -82,7 +82,7 @@ LeavesFirst entity found (string ∷ strings) attribute entry =
 abbrev pub in_order : List DeviceString
 in_order = pin_map ∷ opcodes ∷ capture ∷ idcode ∷ compliance ∷ boundary ∷ []
 
--- the values of all strings
+-- the values of all strings, each by the grammar of the string
 pub record AreStrings (entity : Entity) (found : Found) (strings : Strings) : Type 0 where
   pub map_is : IsPinMap found.chosen.pin_map strings.map
   pub opcodes_are : AreOpcodes found.registers.opcodes strings.opcodes

@@ -15,7 +15,7 @@ use Rattle.board_defs.specs.declared.device.Cell.{Cell}
 use Rattle.board_defs.specs.declared.device.PortBit.{PortBit}
 use Rattle.board_defs.specs.declared.device.RawDevice.{RawDevice}
 
--- words
+-- the words that the listing uses for modes, functions, symbols and bits
 abbrev pub mode_word : Mode → List ℕ
 mode_word Inward = codes "IN"
 mode_word Outward = codes "OUT"
@@ -43,12 +43,12 @@ abbrev pub bit_word : Bool → List ℕ
 bit_word false = codes "0"
 bit_word true = codes "1"
 
--- a code, ending with the symbol nearest TDO, which is its first
+-- the text of a code, which ends with the symbol nearest TDO, the first of the code
 abbrev pub code_text : List Symbol → List ℕ
 code_text [] = []
 code_text (symbol ∷ symbols) = code_text symbols ++ symbol_word symbol
 
--- the codes of instructions: 1149.1-2001 splits SAMPLE/PRELOAD in two, and leaves the code of EXTEST free
+-- the texts of the instruction codes: 1149.1-2001 splits SAMPLE/PRELOAD in two, and does not prescribe the code of EXTEST
 abbrev pub instructions_text : Edition → List Symbol → List Symbol → List ℕ
 instructions_text Old sample extest = whole (codes " SAMPLE " ∷ code_text sample ∷ [])
 instructions_text Of2001 sample extest = whole (codes " PRELOAD " ∷ code_text sample ∷ codes " EXTEST " ∷ code_text extest ∷ [])
@@ -61,7 +61,7 @@ abbrev pub instruction_line : RawDevice → List ℕ
 instruction_line device =
     line_of (codes "IR " ∷ decimal device.ir ∷ instructions_text device.edition device.sample device.extest ∷ codes " IDCODE " ∷ pattern_text device.idcode ∷ [])
 
--- a port: its name, its mode and its pins
+-- a space and the pin of a port bit, or no text if the bit has no pin; and the pins of all bits of a port
 abbrev pub pin_text : Option (List ℕ) → List ℕ
 pin_text None = []
 pin_text (Some pin) = whole (codes " " ∷ pin ∷ [])
@@ -81,7 +81,7 @@ abbrev pub port_lines : List (List ℕ) → List PortBit → List ℕ
 port_lines ports bits =
     flat_map (λ port. port_line (port_name ports port) (filter (λ bit. bit.port == port) bits)) (range_with_len 0 (length ports))
 
--- the line of an entry: the number of its cell, its function, its port bit, its safe value, and its control with the disable value
+-- the index of a vector's bit in parentheses, or no text for a plain port; it is a part of the line of an entry, which `cell_line` defines
 abbrev pub index_text : Option ℕ → List ℕ
 index_text None = []
 index_text (Some index) = whole (codes "(" ∷ decimal index ∷ codes ")" ∷ [])
@@ -110,7 +110,7 @@ abbrev pub cell_lines : List (List ℕ) → List PortBit → List Cell → ℕ �
 cell_lines ports bits cells from count =
     flat_map (λ num. flat_map (cell_line ports bits) (entries_of num cells)) (range_with_len from count)
 
--- the listing
+-- the listing of a device
 unfoldable pub device_text : RawDevice → List ℕ
 device_text device =
     line_of (codes "ENTITY " ∷ device.entity ∷ [])

@@ -35,12 +35,12 @@ pub record Found : Type 0 where
   pub registers : FoundRegisters
   pub chosen : FoundPackage
 
--- the result of the next step for this value. If there is none, the search ends with its source
+-- the result of the next step for this value; if there is no value, the search ends with the source
 abbrev pub need : {A B : Type 0} → Source → Option A → (A → Result B Source) → Result B Source
 need source None next = Err source
 need source (Some value) next = next value
 
--- like `need`, but for the result of another search
+-- like `need`, but for the result of another search in place of a value
 abbrev pub and_then : {A B : Type 0} → Result A Source → (A → Result B Source) → Result B Source
 and_then (Err source) next = Err source
 and_then (Ok value) next = next value
@@ -50,7 +50,7 @@ abbrev pub unless : {B : Type 0} → Option Attribute → Result B Source → Re
 unless (Some attribute) next = Err (sources.Attribute attribute)
 unless None next = next
 
--- the entity has PIN_MAP and the four mandatory TAP attributes exactly once, and names these ports
+-- the entity has PIN_MAP and the four mandatory TAP attributes exactly once; the result has the ports that these attributes name
 unfoldable pub found_taps : Entity → Result FoundTaps Source
 found_taps entity =
     need (sources.Attribute PinMap) (only_value entity PinMap) (λ _.
@@ -87,7 +87,7 @@ is_edition text = is_text (codes "STD_1149_1_1990") text || (is_text (codes "STD
 abbrev pub conforms : Entity → Bool
 conforms entity = (times entity ComponentConformance == 0) || is_edition (only_text entity ComponentConformance)
 
--- the first optional attribute that is repeated or names no edition
+-- the first optional attribute that is repeated, or COMPONENT_CONFORMANCE if it names no edition
 unfoldable pub wrong_option : Entity → Option Attribute
 wrong_option entity =
     if is_repeated entity TapScanReset then Some TapScanReset else
@@ -105,8 +105,8 @@ abbrev pub found_package : Entity → Option (List ℕ) → Option FoundPackage
 found_package entity None = None
 found_package entity (Some name) = pin_map_in name (only_constant entity name)
 
--- V1: the values of all sources, or the first source that is missing, repeated or has a wrong value. The attributes are tried in the order
--- of their numbers, then the pin map
+-- V1: the values of all sources, or the first source that is missing, repeated or has a wrong value. The attributes are
+-- tried in the order of their numbers, and then the pin map is tried.
 unfoldable pub v1 : Entity → Option (List ℕ) → Result Found Source
 v1 entity given =
     and_then (found_taps entity) (λ taps.

@@ -26,7 +26,7 @@ taps_of entity found = record {
   reset = port_of entity TapScanReset;
 }
 
--- the draft of the entity, with what V1 found and the values of the strings
+-- the draft of the entity, made from the values that V1 returned and the values of the strings
 abbrev pub draft_of : Entity → Found → Strings → Draft
 draft_of entity found strings = record {
   entity = entity.name;
@@ -53,7 +53,7 @@ pub record IsSound (entity : Entity) (given : Option (List ℕ)) (device : RawDe
   pub kept : first_rule (draft_of entity found strings) ≡ None
   pub device_is : device ≡ raw_device (draft_of entity found strings)
 
--- V1 holds, the strings have values, and rule `number` is the first of V2 to V14 that fails, with its first item
+-- V1 holds, the strings have values, and rule `number` is the first of V2 to V14 that fails; `item` is the first item that breaks it
 pub record FailsRule (entity : Entity) (given : Option (List ℕ)) (number item : ℕ) : Type 0 where
   pub found : Found
   pub needed : v1 entity given ≡ Ok found
@@ -61,20 +61,20 @@ pub record FailsRule (entity : Entity) (given : Option (List ℕ)) (number item 
   pub read : AreStrings entity found strings
   pub broken : first_rule (draft_of entity found strings) ≡ Some (record { rule = number; item = item })
 
--- V1 holds, and the string with this number is the first that leaves its grammar, at this entry
+-- V1 holds, and the string with number `attribute` is the first that leaves its grammar, at entry `entry`
 pub record FailsText (entity : Entity) (given : Option (List ℕ)) (attribute entry : ℕ) : Type 0 where
   pub found : Found
   pub needed : v1 entity given ≡ Ok found
   pub leaves : LeavesFirst entity found in_order attribute entry
 
--- V1 fails, and `item` is the number of the first source that is not as needed
+-- V1 fails, and `item` is the number of the first source that is missing, repeated or has a wrong value
 pub record FailsNeed (entity : Entity) (given : Option (List ℕ)) (number item : ℕ) : Type 0 where
   pub number_is : number ≡ 1
   pub source : Source
   pub wrong : v1 entity given ≡ Err source
   pub item_is : item ≡ source_number source
 
--- the first step that fails: V1, then the strings, then V2 to V14
+-- the fault is that of the first step that fails: V1, then the strings, then V2 to V14
 abbrev pub IsFirst : Entity → Option (List ℕ) → DeviceFault → Type 0
 IsFirst entity given (Rule number item) = FailsNeed entity given number item ⊎ FailsRule entity given number item
 IsFirst entity given (Text attribute entry) = FailsText entity given attribute entry

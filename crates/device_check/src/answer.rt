@@ -57,15 +57,14 @@ fn answer(alloc: Global, entity: &Entity, package: Option<&[u8]>) -> Result<Devi
     judge(alloc, &draft)
 }
 
-/// Returns the device that the entity describes in this package. None stands for the default package of the generic.
+/// Returns the device that the entity describes in this package. If `package` is None, takes the default package of the generic.
 ///
 /// The rules are tried in this order: V1; the strings of the pin map and of INSTRUCTION_OPCODE, INSTRUCTION_CAPTURE,
-/// IDCODE_REGISTER, COMPLIANCE_PATTERNS and BOUNDARY_REGISTER; V2 to V14. The first rule or string that fails is the
-/// fault.
+/// IDCODE_REGISTER, COMPLIANCE_PATTERNS and BOUNDARY_REGISTER; V2 to V14. The first rule or string that fails is the fault.
 #[tactic(auto, using(crate::proofs::OneAnswer::only_answer))]
 pub fn device(alloc: Global, entity: &Entity, package: Option<&[u8]>) -> Result<Device, DeviceFault>
     requires small { IsSmall entity.now }
-    // The device is the sound device of the entity, or the fault is the first step that fails.
+    // The device is the sound device of the entity, or the fault is that of the first step that fails.
     ensures answer { Gives device_told (λ device. device) (IsAnswer entity.now (option_copied «package».entry)) result }
     // There is no other answer.
     ensures only { Gives device_told (λ device. device) (λ answer. (other : Result RawDevice DeviceFault) → IsAnswer entity.now (option_copied «package».entry) other → other ≡ answer) result }

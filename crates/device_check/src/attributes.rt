@@ -95,7 +95,7 @@ pub(crate) fn text_of(entity: &Entity, attribute: Attribute) -> Option<&[u8]>
     text_in(value_of(entity, attribute))
 }
 
-/// Like `port_of`, but of an attribute that the entity has exactly once.
+/// Like `port_of`, but for an attribute that the entity has exactly once.
 pub(crate) fn only_port(entity: &Entity, attribute: Attribute) -> Option<&[u8]>
     ensures { option_copied result ≡ only_port entity.now attribute }
 {
@@ -109,7 +109,7 @@ pub(crate) fn only_number(entity: &Entity, attribute: Attribute) -> Option<u32>
     number_in(only_value(entity, attribute))
 }
 
-/// Like `text_of`, but of an attribute that the entity has exactly once.
+/// Like `text_of`, but for an attribute that the entity has exactly once.
 pub(crate) fn only_text(entity: &Entity, attribute: Attribute) -> Option<&[u8]>
     ensures { option_copied result ≡ only_text entity.now attribute }
 {

@@ -70,7 +70,7 @@ fn parts_of(alloc: Global, entity: &Entity, needed: &Needed) -> Result<EntityPar
     Ok((name, package, Items::of(ports), taps))
 }
 
-/// Returns the draft of the entity, with what rule V1 found and the values of the strings.
+/// Returns the draft of the entity, made from the values that rule V1 found and the values of the strings.
 pub(crate) fn draft_of(
     alloc: Global,
     entity: &Entity,

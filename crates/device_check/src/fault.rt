@@ -1,4 +1,4 @@
-//! Why an entity describes no device.
+//! The faults because of which an entity describes no device.
 ghost use Rattle.std.specs.Prelude.{◌≡◌, alloc_error};
 ghost use Rattle.device_check.specs.declared.fault.DeviceFault.TheVariants.{Memory};
 
@@ -22,7 +22,7 @@ pub enum DeviceFault {
     Memory(AllocError),
 }
 
-// Returns the name of the attribute with this number, whose string has a grammar of its own.
+// Returns the name of the attribute with this number. Its string has a grammar of its own.
 fn attribute_name(attribute: u32) -> &'static str {
     match attribute {
         7 => "INSTRUCTION_OPCODE",

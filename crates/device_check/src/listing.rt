@@ -87,7 +87,7 @@ fn print_instruction<K: Sink>(
     print_code(code, line, out)
 }
 
-/// Prints the preload code, and the EXTEST code if the edition leaves it to the device.
+/// Prints the preload code, and the EXTEST code if the edition does not prescribe it.
 fn print_instructions<K: Sink>(
     device: &RawDevice,
     line: &mut Line,
@@ -446,7 +446,7 @@ fn put_block<K: Sink>(
     )
 }
 
-/// Writes the lines of all cells, block by block, so that no order of the entries makes this slow.
+/// Writes the lines of all cells, block by block. So the time does not depend on the order of the entries.
 fn put_blocks<K: Sink>(device: &RawDevice, line: &mut Line, out: &mut K) -> Result<(), PutFault>
     requires few { (num : ℕ) → length (entries_of num device.now.cells) ≤ 2 }
     requires most { device.now.boundary ≤ most_bits }

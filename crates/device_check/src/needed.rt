@@ -1,4 +1,4 @@
-//! Rule V1: what an entity must have.
+//! Rule V1: the attributes, strings and pin map that an entity must have.
 ghost use Rattle.std.specs.Prelude.{◌≡◌, option_copied, option_map};
 ghost use Rattle.device_check.specs.Attributes.{chosen};
 ghost use Rattle.device_check.specs.Needed.{within, is_repeated, is_edition, conforms, found_taps, found_registers, wrong_option, found_package, v1};

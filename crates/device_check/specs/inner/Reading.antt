@@ -19,7 +19,7 @@ use Rattle.device_check.specs.Sources.{source_number}
 use Rattle.device_check.specs.Needed.{FoundTaps, FoundRegisters, FoundPackage, Found}
 use Rattle.device_check.specs.DeviceStrings.{LeavesFirst, in_order, AreStrings}
 
--- what V1 found, without the references to the text
+-- the values that V1 returned, without the references to the text
 abbrev pub taps_view : NeededTaps → FoundTaps
 taps_view taps = record { scan_in = taps.scan_in.now; scan_out = taps.scan_out.now; mode = taps.mode.now; clock = taps.clock.now }
 
@@ -66,7 +66,7 @@ abbrev pub Gathers : Entity → Found → Result Strings DeviceFault → Type 0
 Gathers entity found (Ok strings) = AreStrings entity found strings
 Gathers entity found (Err fault) = NamesPlace (LeavesFirst entity found in_order) fault
 
--- the device of the draft, or the first rule that fails, with its item
+-- the result is the device of the draft, or the first rule that fails with the first item that breaks it
 abbrev pub IsJudged : Draft → Result RawDevice DeviceFault → Type 0
 IsJudged draft (Ok device) = (first_rule draft ≡ None) × (device ≡ raw_device draft)
 IsJudged draft (Err (faults.Rule number item)) = first_rule draft ≡ Some (record { rule = number; item = item })
