@@ -22,7 +22,7 @@ use Rattle.device_rules.proofs.RangeLemmas.{place_found, place_within, length_in
 use Rattle.device_rules.proofs.RuleLemmas.{holds}
 use Rattle.device_rules.proofs.IsDeviceLists.{none_has}
 
--- the first place in two lists, one after the other
+-- the first passing place in two joined lists is the first list's, or otherwise the second list's after the length of the first
 place_append_by : {A : Type 0} (p : A → Bool) (n : ℕ) (xs ys : List A) (b : Bool) → position_from p (n + 1) (xs ++ ys) ≡ or_else (position_from p (n + 1) xs) (position_from p (n + 1 + length xs) ys)
     → cond b (Some n) (position_from p (n + 1) (xs ++ ys)) ≡ or_else (cond b (Some n) (position_from p (n + 1) xs)) (position_from p (n + suc (length xs)) ys)
 place_append_by p n xs ys true e = refl
@@ -57,7 +57,7 @@ none_among name at number n (port ∷ ports) e =
     ∙ ap (λ o. or_else o (position_from (is_bit name at) (n + length (bits_of_port number port)) (bits_from (number + 1) ports))) (none_along name at number port 0 (indexes port.range) n parts.0)
     ∙ none_among name at (number + 1) (n + length (bits_of_port number port)) ports parts.1
 
--- no later port has the name of an earlier one, and the ranges are in order
+-- each port's range is in order, and no later port has the port's name
 abbrev pub Apart : List Port → Type 0
 Apart [] = Unit {0}
 Apart (port ∷ ports) = (in_order port.range ≡ true) × (list_any (port_named port.name) ports ≡ false) × Apart ports
@@ -70,7 +70,7 @@ none_else : {A : Type 0} (o : Option A) → or_else o None ≡ o
 none_else None = refl
 none_else (Some a) = refl
 
--- the place of a bit, found port by port
+-- the number of the bit with this name and index, found port by port; the first port's bits have the numbers from `start` on
 abbrev located : List ℕ → Option ℕ → ℕ → List Port → Option ℕ
 located name at start [] = None
 located name at start (port ∷ ports) = cond (bytes_eq port.name name) (option_map (λ k. start + k) (place_in port.range at)) (located name at (start + width port.range) ports)
@@ -108,7 +108,7 @@ place_later : {A : Type 0} (p : A → Bool) (n : ℕ) (xs : List A) → position
 place_later p n [] = refl
 place_later p n (x ∷ xs) = place_later_by p n x xs (p x) (place_later p (n + 1) xs)
 
--- the case in which no port has the name
+-- the step for one port, if no port has the name
 nowhere_by : (name : List ℕ) (at : Option ℕ) (start : ℕ) (port : Port) (ports : List Port) (b : Bool) → (position_from (port_named name) 0 ports ≡ None → located name at (start + width port.range) ports ≡ None)
     → cond b (Some 0) (position_from (port_named name) 1 ports) ≡ None → cond b (option_map (λ k. start + k) (place_in port.range at)) (located name at (start + width port.range) ports) ≡ None
 nowhere_by name at start port ports true later e = cc e
@@ -122,7 +122,7 @@ nowhere : (name : List ℕ) (at : Option ℕ) (start : ℕ) (ports : List Port) 
 nowhere name at start [] e = refl
 nowhere name at start (port ∷ ports) e = nowhere_by name at start port ports (bytes_eq port.name name) (λ none. nowhere name at (start + width port.range) ports none) e
 
--- the case in which some port has the name
+-- the step for one port, if port `n` is the first that has the name
 there_by : (name : List ℕ) (at : Option ℕ) (start n : ℕ) (d port : Port) (ports : List Port) (b : Bool)
     → ((m : ℕ) → position_from (port_named name) 0 ports ≡ Some m → located name at (start + width port.range) ports ≡ option_map (λ k. start + width port.range + bits_of (take m ports) + k) (place_in (get_or ports m d).range at))
     → cond b (Some 0) (position_from (port_named name) 1 ports) ≡ Some n
@@ -160,7 +160,7 @@ there : (name : List ℕ) (at : Option ℕ) (start n : ℕ) (d : Port) (ports : 
 there name at start n d [] e = cc e
 there name at start n d (port ∷ ports) e = there_by name at start n d port ports (bytes_eq port.name name) (λ m f. there name at (start + width port.range) m d ports f) e
 
--- no port that is left has the name of a port in `before`
+-- no port of the second list has the name of a port of the first
 abbrev Fresh : List Port → List Port → Type 0
 Fresh before [] = Unit {0}
 Fresh before (port ∷ ports) = (list_any (port_named port.name) before ≡ false) × Fresh before ports
@@ -199,7 +199,7 @@ pub apart : (ports : List Port) → v2 ports ≡ None → Apart ports
 unfolding v2
 apart ports e = (kept_from [] ports e).1
 
--- if the names differ, a port is the first that has its name
+-- if the names of ports differ, each port is the first that has its name
 pub is_first : (name : List ℕ) (ports : List Port) (n : ℕ) (port : Port) → Apart ports → slice_get ports n ≡ Some port → bytes_eq port.name name ≡ true → position_from (port_named name) 0 ports ≡ Some n
 is_first name [] n port h at is = cc at
 is_first name (first ∷ ports) zero port h at is = let same : first ≡ port = cc at in ap (λ b. cond b (Some 0) (position_from (port_named name) 1 ports)) (ap (port_named name) same ∙ is)
@@ -211,7 +211,7 @@ is_first name (first ∷ ports) (suc n) port h at is =
     differs : bytes_eq port.name first.name ≡ false → bytes_eq port.name name ≡ true → bytes_eq first.name name ≡ false
     differs e f = grind (arith, bytes_eq-Decides)
 
--- the first place of an item, compared with the place of this item
+-- if the first place of a passing item is `n`, item `n` is the one that `find` returns
 at_by : {A : Type 0} (p : A → Bool) (xs : List A) (n : ℕ) (b : Bool) → nat_lt (position_or_len p xs) (length xs) ≡ b → cond b (Some (position_or_len p xs)) None ≡ Some n → (n < length xs) × (find p xs ≡ slice_get xs n)
 at_by p xs n true e f =
     let is : position_or_len p xs ≡ n = cc f in
@@ -246,7 +246,7 @@ bits_few ports i port e less is =
     few : (n : ℕ) → nat_lt most_bits n ≡ false → n ≤ most_bits
     few n e = grind (arith, nat_tests)
 
--- the number of bits with one more port
+-- with port `i`, the ports before it have as many more bits as the range of port `i` is wide
 pub bits_more : (ports : List Port) (i : ℕ) (port : Port) → i < length ports → get_or ports i port ≡ port → bits_of (take (i + 1) ports) ≡ bits_of (take i ports) + width port.range
 bits_more ports i port less is =
     sum_by_more (λ port. width port.range) ports i port less ∙ ap (λ p. bits_of (take i ports) + width p.range) is
@@ -254,7 +254,7 @@ bits_more ports i port less is =
 pub found_item : {A : Type 0} (p : A → Bool) (xs : List A) (n : ℕ) (x : A) → position_from p 0 xs ≡ Some n → get_or xs n x ≡ x → Some x ≡ find p xs
 found_item p xs n x e is = sym (slice_get-get_or xs n x (number_below p xs n e) ∙ ap Some is) ∙ found_at p xs n e
 
--- the number of a bit, found by the number of its port
+-- the number of the bit with this name and index; it follows from the number of its port and its place in the port
 abbrev bit_by : List Port → List ℕ → Option ℕ → Option ℕ
 bit_by ports name at = position_from (is_bit name at) 0 (port_bits ports)
 
@@ -286,7 +286,7 @@ bit_fits ports name at n k start port kept e is here before =
     let within = place_within port.range at k here in
     omega (arith, few, within, before)
 
--- the number of a bit is less than the count of all bits
+-- the number of a bit, computed from its port and its place in the port, is less than the number of all bits
 pub bit_within : (ports : List Port) (name : List ℕ) (at : Option ℕ) (n k start : ℕ) (port : Port) → position_from (port_named name) 0 ports ≡ Some n → get_or ports n port ≡ port
     → place_in port.range at ≡ Some k → start ≡ bits_of (take n ports) → start + k < bits_of ports
 bit_within ports name at n k start port e is here before =

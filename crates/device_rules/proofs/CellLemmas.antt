@@ -18,13 +18,12 @@ use Rattle.device_rules.specs.Cells.{is_entry_of, is_control_of, has_control_ent
 another_cell : (cell boundary : ℕ) (entry : Entry) → boundary ≤ cell → entry.num < boundary → is_control_of cell entry ≡ false
 another_cell cell boundary entry le lt = ap (λ b. b && is_controlling entry.role) (lt-eqb entry.num cell (omega arith))
 
--- a cell number that is too large has no entry
+-- a cell whose number is not below the length of the register has no CONTROL or CONTROLR entry
 no_control_there : (cell boundary : ℕ) (entries : List Entry) → boundary ≤ cell → All (λ entry. entry.num < boundary) entries → false ≡ has_control_entry entries cell
 no_control_there cell boundary entries le below = sym (list_any_none (is_control_of cell) entries
     (All-weaker (λ entry. entry.num < boundary) (λ entry. is_control_of cell entry ≡ false) (λ entry lt. another_cell cell boundary entry le lt) entries below))
 
--- flags for the cells below the length of the register decide for every cell number whether it has a CONTROL or
--- CONTROLR entry
+-- if flags say for each cell of the register whether it has a CONTROL or CONTROLR entry, they say so for every cell number
 pub controls_known : (boundary : ℕ) (entries : List Entry) (flags : List Bool) → All (λ entry. entry.num < boundary) entries → Marks is_control_of entries boundary flags → (cell : ℕ) → slice_index_or flags cell false ≡ has_control_entry entries cell
 controls_known boundary entries flags below marks cell = elim (cases_lt cell boundary) [
   | inl less ↦ marks.each cell less

@@ -57,6 +57,6 @@ device_is draft lengths none =
       fits_ports = fits_ports draft stand kept.v14;
     }
 
--- like `device_is`, but for a record that was made from the text
+-- like `device_is`, but for a record that is equal to the record of the text
 pub device_of : (draft : Draft) (raw : RawDevice) → raw ≡ raw_device draft → HasLengths draft → first_rule draft ≡ None → IsDevice raw
 device_of draft raw made lengths none = subst IsDevice (sym made) (device_is draft lengths none)

@@ -22,7 +22,7 @@ use Rattle.device_rules.proofs.IsDeviceLists.{all_alike, made_at}
 use Rattle.device_rules.proofs.IsDevicePorts.{PortsStand, IsBitOf, is_bit_of, is_of_port}
 use Rattle.device_rules.proofs.IsDevicePins.{is_mapped}
 
--- lemmas on filters
+-- filtering a mapped list is mapping the list filtered by a test that agrees with the mapped one
 filter_made : {X Y : Type 0} (f : X → Y) (p : Y → Bool) (q : X → Bool) → ((x : X) → p (f x) ≡ q x) → (xs : List X) → filter p (map f xs) ≡ map f (filter q xs)
 filter_made f p q same [] = refl
 filter_made {X} {Y} f p q same (x ∷ xs) = ap (λ b. cond b (f x ∷ filter p (map f xs)) (filter p (map f xs))) (same x) ∙ by_test (q x) (filter_made f p q same xs)
@@ -39,7 +39,7 @@ filter_none : {X : Type 0} (p : X → Bool) (xs : List X) → ((x : X) → Has x
 filter_none p [] h = refl
 filter_none p (x ∷ xs) h = ap (λ b. cond b (x ∷ filter p xs) (filter p xs)) (h x (inl refl)) ∙ filter_none p xs (λ y k. h y (inr k))
 
--- the bits of one port
+-- of the bits of all ports, those with the number of one port are the bits of this port
 abbrev is_of : ℕ → Bit → Bool
 is_of k bit = bit.port == k
 
@@ -86,7 +86,7 @@ rises_from first [] = tt
 rises_from first (port ∷ ports) =
     rises_along first port 0 (indexes port.range) (bits_from (first + 1) ports) (lower first (first + 1) (map (λ bit. bit.port) (bits_from (first + 1) ports)) (omega arith) (rises_from (first + 1) ports))
 
--- the bits of the device
+-- the port bits of the device have the ports and the indexes of the bits from which they are made
 module _ (entries : List MapEntry) (taps : TapPorts) (compliance : Option Compliance) where
   ports_kept : (bits : List Bit) → map (λ bit. bit.port) (map (port_bit entries taps compliance) bits) ≡ map (λ bit. bit.port) bits
   ports_kept [] = refl
@@ -103,7 +103,7 @@ module _ (entries : List MapEntry) (taps : TapPorts) (compliance : Option Compli
       by_range None e = inl e
       by_range (Some range) e = inr (range.left, range.right, e)
 
-  -- the device's bits of the port with this number
+  -- of the device's port bits, those with the number of one port are made from the bits of this port
   kept_bits : (ports : List Port) (k : ℕ) (port : Port) → slice_get ports k ≡ Some port → filter (λ bit. bit.port == k) (map (port_bit entries taps compliance) (port_bits ports)) ≡ map (port_bit entries taps compliance) (bits_of_port k port)
   kept_bits ports k port at =
       filter_made (port_bit entries taps compliance) (λ bit. bit.port == k) (is_of k) (λ bit. refl) (port_bits ports) ∙ ap (map (port_bit entries taps compliance)) (bits_kept k 0 k ports port (omega arith) at)

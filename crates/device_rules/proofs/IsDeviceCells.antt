@@ -23,7 +23,7 @@ use Rattle.device_rules.proofs.CellLemmas.{all_below, counts_here}
 use Rattle.device_rules.proofs.IsDeviceCodes.{same_bits}
 use Rattle.device_rules.proofs.IsDeviceLists.{holds_at, Made, made_at, counted_once}
 
--- the cell numbers of the entries
+-- if V8 holds, the cell numbers of the device's entries are below the length of the register
 pub cells_below : (draft : Draft) → v8 draft.boundary draft.entries ≡ None → All (λ entry. entry.num < draft.boundary) (raw_device draft).cells
 unfolding raw_cells
 cells_below draft e = All-map (λ (cell : Cell). cell.num < draft.boundary) (cell_of draft.ports) draft.entries (all_below draft.boundary draft.entries e)
@@ -44,7 +44,7 @@ cells_all draft e cell less =
     let P : ℕ → Type 0 = λ n. Has (map (λ (c : Cell). c.num) (map (cell_of draft.ports) draft.entries)) n in
     has_contains (map (λ (c : Cell). c.num) (map (cell_of draft.ports) draft.entries)) cell (subst P (eqb-true r.0.num cell r.2) has)
 
--- the controls of the entries
+-- if V10 holds, each entry has a control exactly as its function requires or allows
 control_kept : (entries : List Entry) → v10 entries ≡ None → (entry : Entry) → Has entries entry → breaks_control entries entry ≡ false
 unfolding v10
 control_kept entries e entry has =
@@ -126,7 +126,8 @@ controls_below draft e8 e10 = All-map (λ (cell : Cell). IfSome cell.ctl (λ con
     by_control entry has None is = tt
     by_control entry has (Some control) is = control_below draft.boundary draft.entries e8 e10 entry has control is
 
--- the disable values of the controls
+-- if an entry's control is `cell` with the disable value `value`, `cell` controls an entry with this value; so V11 leaves
+-- one value for each cell
 disables : (entries : List Entry) (entry : Entry) → Has entries entry → (control : Control) → entry.ctl ≡ Some control → (cell : ℕ) → control.cell ≡ cell → (value : Bool) → control.disable ≡ value → list_any (controls_entry value cell) entries ≡ true
 disables entries entry has control is cell same value disable =
     has_any (controls_entry value cell) entries entry has (ap (is_disabled_by value cell) is ∙ and_from (control.cell == cell) (same_bit control.disable value) (eq-eqb control.cell cell same) (ap (λ b. same_bit b value) disable ∙ same_bits value))
@@ -154,7 +155,7 @@ one_disable draft e8 e10 e11 i j e d a b at_i at_j is_a is_b same =
         (and_from (list_any (controls_entry true a.cell) draft.entries) (list_any (controls_entry false a.cell) draft.entries) (disables draft.entries y has_y b ctl_y a.cell (sym same) true is_q) (disables draft.entries x has_x a ctl_x a.cell refl false is_p))
         (two_values draft.boundary draft.entries e11 a.cell (control_below draft.boundary draft.entries e8 e10 x has_x a ctl_x)))
 
--- the entries of one cell
+-- a cell has at most one entry that defines what it captures, and at most one for its update latch
 record IsSparse (entries : List Entry) (cell : ℕ) : Type 0 where
   loads : count_by (loads_cell cell) entries ≤ 1
   writes : count_by (writes_cell cell) entries ≤ 1

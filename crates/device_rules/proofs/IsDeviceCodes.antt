@@ -20,7 +20,7 @@ use Rattle.device_rules.specs.Raw.{raw_device, HasLengths}
 use Rattle.device_rules.proofs.RuleLemmas.{holds}
 use Rattle.device_rules.proofs.IsDeviceLists.{holds_at}
 
--- the lengths of codes
+-- each code of each opcode has the length of the instruction register
 abbrev AreLong : ℕ → List Opcode → Type 0
 AreLong ir ops = (op : Opcode) → Has ops op → list_all (has_length ir) op.codes ≡ true
 
@@ -53,7 +53,7 @@ preload_long ir Of2001 ops long code e = by_part (either_code (first_code (codes
     by_part (inl h) = code_long ir ops long (codes "PRELOAD") code h
     by_part (inr h) = code_long ir ops long (codes "SAMPLE") code h
 
--- 0 in place of X
+-- putting 0 in place of X keeps the bit of a symbol and leaves no X
 settled_bit : (s : Symbol) → bit_of (settled s) ≡ bit_of s
 settled_bit Zero = refl
 settled_bit One = refl
@@ -75,7 +75,7 @@ any_settled (s ∷ code) = ap (λ b. b || list_any bit_of (map settled code)) (s
 given : (code : List Symbol) → All (λ s. s ≢ Any) (map settled code)
 given code = all_from_has (λ (s : Symbol). s ≢ Any) (map settled code) (λ s has e. let r = map_has settled code s has in settled_given r.0 (r.2 ∙ e))
 
--- codes that are equal with 0 in place of each X
+-- if two codes are equal with 0 in place of each X, they are equal if X counts as 0
 pub same_bits : (b : Bool) → same_bit b b ≡ true
 same_bits true = refl
 same_bits false = refl
@@ -94,7 +94,7 @@ same_codes a b e =
     let lengths : length a ≡ length b = sym (length-map a settled) ∙ (ap length e ∙ length-map b settled) in
     and_from (length a == length b) _ (eq-eqb (length a) (length b) lengths) (same_pairs a b e)
 
--- codes of zeros
+-- a code of zeros has no 1, and if it has at least two symbols, it is not a code of ones
 none_one : (n : ℕ) → list_any bit_of (replicate n Zero) ≡ false
 none_one zero = refl
 none_one (suc n) = none_one n
@@ -106,7 +106,7 @@ not_ones (suc n) least = refl
 zero_given : Zero ≢ Any
 zero_given e = cc e
 
--- the preload code
+-- the preload code is listed, and it has not only ones
 record Preloads (edition : Edition) (preload : Option (List Symbol)) : Type 0 where
   code : List Symbol
   is : preload ≡ Some code
@@ -121,7 +121,7 @@ not_zeros : (o : Option (List Symbol)) (code : List Symbol) → o ≡ Some code 
 not_zeros None code same e = cc e
 not_zeros (Some c) code same e = let one : c ≡ code = cc same in ap (list_any bit_of) (sym one) ∙ not-false (list_any bit_of c) (not-true (is_all_zeros c) (and_parts (not (is_all_zeros c)) (not (is_all_ones c)) e).0)
 
--- the EXTEST code in the 2001 edition
+-- the EXTEST code of the 2001 edition is listed, has not only ones, and differs from the preload code
 record Extests (code preload : Option (List Symbol)) : Type 0 where
   own : List Symbol
   is : code ≡ Some own
@@ -134,7 +134,7 @@ extests (Some code) preload e =
     let parts = and_parts (not (is_all_ones code)) (not (is_same code preload)) e in
     record { own = code; is = refl; not_ones = not-true (is_all_ones code) parts.0; apart = not-true (is_same code preload) parts.1 }
 
--- the rules on the preload code and the EXTEST code hold
+-- the rules on the preload code and on the EXTEST code hold
 record CodesStand (edition : Edition) (ops : List Opcode) : Type 0 where
   may_load : may_preload edition (preload_code edition ops) ≡ true
   may_test : extest_holds edition ops ≡ true
@@ -161,7 +161,8 @@ idcode_long ir capture idcode e = by_tests (has_length ir capture && ends_in_01 
         by_length true is n = eqb-true (length code) 32 is
         by_length false is n = cc n
 
--- the EXTEST code in either edition
+-- in either edition, the EXTEST code has the right length and no X, has not only ones, and differs from the preload code;
+-- in the old edition, it has only zeros
 record ExtestStands (edition : Edition) (ir : ℕ) (ops : List Opcode) : Type 0 where
   long : length (extest edition ir ops) ≡ ir
   given : All (λ s. s ≢ Any) (extest edition ir ops)

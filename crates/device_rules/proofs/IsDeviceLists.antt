@@ -1,5 +1,4 @@
--- Lemmas on lists: the places of items, items with different keys, and what an unbroken rule says about items at
--- places.
+-- Lemmas about lists: the places of items, items with different keys, and what a rule that holds says about each item at its place.
 use Rattle.std.proofs.Common.{◌≡◌, ℕ, zero, suc, ◌+◌, ◌<◌, ◌≤◌, Bool, true, false, cond, List, [], ◌∷◌, ◌++◌, map, length, take, drop, Option, Some, None, refl, sym, ◌∙◌, ap, subst, arith, ◌⊎◌, inl, inr}
 use Rattle.std.specs.Prelude.{slice_get, All, AllPairs, count_by, is_some}
 use Rattle.std.specs.List.{list_any, position_from}
@@ -10,14 +9,14 @@ use Rattle.std.proofs.lemmas.Slice.Eq.{bytes_eq-Decides}
 use Rattle.board_defs.proofs.Members.{Has, has_at, has_place, has_append}
 use Rattle.first_places.specs.Items.{Holds}
 
--- a test of equality for names
+-- the test `bytes_eq` is true of two names if and only if the names are equal
 pub same_name : (a b : List ℕ) → bytes_eq a b ≡ true → a ≡ b
 same_name a b = (bytes_eq-Decides a b).0
 
 pub name_same : (a b : List ℕ) → a ≡ b → bytes_eq a b ≡ true
 name_same a b = (bytes_eq-Decides a b).1
 
--- the list before an item, the item, and the list after it
+-- a list is the list before an item, the item, and the list after it
 pub cut : {X : Type 0} (xs : List X) (j : ℕ) (x : X) → slice_get xs j ≡ Some x → xs ≡ take j xs ++ x ∷ drop (suc j) xs
 cut [] j x e = cc e
 cut (y ∷ ys) zero x e = let same : y ≡ x = cc e in ap (λ v. v ∷ ys) same
@@ -32,13 +31,13 @@ earlier (y ∷ ys) (suc i) (suc j) x less e = inr (earlier ys i j x (omega arith
 pub holds_at : {X : Type 0} (breaks : List X → X → Bool) (xs : List X) → Holds breaks xs → (j : ℕ) (x : X) → slice_get xs j ≡ Some x → breaks (take j xs) x ≡ false
 holds_at breaks xs h j x e = h (take j xs) x (drop (suc j) xs) (cut xs j x e)
 
--- lemmas on tests of lists
+-- if `list_any` is false, no item of the list passes
 pub none_has : {X : Type 0} (p : X → Bool) (xs : List X) (x : X) → list_any p xs ≡ false → Has xs x → p x ≡ false
 none_has p [] x e h = absurd h
 none_has p (y ∷ ys) x e (inl same) = sym (ap p same) ∙ (or_parts (p y) (list_any p ys) e).0
 none_has p (y ∷ ys) x e (inr h) = none_has p ys x (or_parts (p y) (list_any p ys) e).1 h
 
--- a function has the same value for all items
+-- if a function has the value `v` for all items, it has the same value for any two of them
 pub all_alike : {X K : Type 0} (key : X → K) (v : K) (xs : List X) → All (λ x. key x ≡ v) xs → AllPairs (λ a b. key a ≡ key b) xs
 all_alike key v xs h = λ i j d less within. h i d (omega arith) ∙ sym (h j d within)
 
@@ -73,7 +72,7 @@ once_append key (x ∷ xs) ys hx hy new =
     by_part b (inl k) e = once_head key x xs b hx k e
     by_part b (inr k) e = new x b (inl refl) k e
 
--- no item has the key of an earlier one
+-- if no item has the key of an earlier item, no two places have items with the same key
 pub once_by_order : {X K : Type 0} (key : X → K) (xs : List X) → ((i j : ℕ) (x y : X) → i < j → slice_get xs i ≡ Some x → slice_get xs j ≡ Some y → key x ≡ key y → ⊥) → Once key xs
 once_by_order key xs later i j x y ex ey e = by_order (cases_order i j)
   where
@@ -82,7 +81,7 @@ once_by_order key xs later i j x y ex ey e = by_order (cases_order i j)
     by_order (inr (inl less)) = absurd (later i j x y less ex ey e)
     by_order (inr (inr less)) = absurd (later j i y x less ey ex (sym e))
 
--- an item of a list that a map made, with the item from which it was made
+-- an item of a mapped list, with the item from which it was made
 pub record Made {X Y : Type 0} (f : X → Y) (xs : List X) (k : ℕ) (y : Y) : Type 0 where
   pub from : X
   pub at : slice_get xs k ≡ Some from
@@ -93,7 +92,7 @@ made_at f [] k y e = cc e
 made_at f (x ∷ xs) zero y e = record { from = x; at = refl; gives = cc e }
 made_at f (x ∷ xs) (suc k) y e = let r : Made f xs k y = made_at f xs k y e in record { from = r.from; at = r.at; gives = r.gives }
 
--- the item at a place that a search found
+-- the place that a search returned, with the item there, which passes the test
 pub record Placed {X : Type 0} (p : X → Bool) (xs : List X) (n k : ℕ) : Type 0 where
   pub place : ℕ
   pub item : X
@@ -124,7 +123,7 @@ pub never_found : {X : Type 0} (n : ℕ) (xs : List X) → position_from (λ x. 
 never_found n [] = refl
 never_found n (x ∷ xs) = never_found (n + 1) xs
 
--- items that pass a test, and their count
+-- if an item passes a test, the count of passing items is at least 1; if the count is at most 1, any two passing items are at one place
 pub counted : {X : Type 0} (p : X → Bool) (xs : List X) (j : ℕ) (y : X) → slice_get xs j ≡ Some y → p y ≡ true → 1 ≤ count_by p xs
 counted p [] j y e t = cc e
 counted p (x ∷ xs) zero y e t =
@@ -149,7 +148,7 @@ counted_once p (z ∷ xs) (suc i) zero x y most ex ey tx ty =
 counted_once p (z ∷ xs) (suc i) (suc j) x y most ex ey tx ty =
     ap suc (counted_once p xs i j x y (omega (arith, sum_by-cons (λ v. cond (p v) 1 0) z xs)) ex ey tx ty)
 
--- items with the same key are equal
+-- if no two places have items with the same key, items with the same key are equal
 pub once_item : {X K : Type 0} (key : X → K) (xs : List X) → Once key xs → (x y : X) → Has xs x → Has xs y → key x ≡ key y → x ≡ y
 once_item {X} key xs once x y hx hy e =
     let r = has_place xs x hx in

@@ -23,7 +23,7 @@ use Rattle.device_rules.proofs.IsDeviceLists.{same_name, name_same, earlier, hol
 use Rattle.device_rules.proofs.RangeLemmas.{length_indexes}
 use Rattle.device_rules.proofs.IsDevicePorts.{PortsStand, IsBitOf, is_bit_of, spot, spots_once}
 
--- the search for the name of a port finds the port
+-- the search for the name of a port finds the port, if port names differ
 pub port_is : (ports : List Port) → Once (λ port. port.name) ports → (name : List ℕ) (port : Port) → Has ports port → port.name ≡ name → port_of ports name ≡ Some port
 port_is ports once name port has same = by_found (port_of ports name) refl
   where
@@ -33,7 +33,7 @@ port_is ports once name port has same = by_found (port_of ports name) refl
         let r = find_has (port_named name) ports other e in
         e ∙ ap Some (once_item (λ p. p.name) ports once other port r.0 has (same_name other.name name r.1 ∙ sym same))
 
--- the facts about an entry that keeps the rule
+-- an entry of the pin map that keeps V4: its port is new and has as many bits as the entry has pins, and no pin is repeated
 record KeptEntry (ports : List Port) (before : List MapEntry) (entry : MapEntry) : Type 0 where
   new : list_any (maps_port entry.port) before ≡ false
   wide : has_width (port_of ports entry.port) (length entry.pins) ≡ true
@@ -45,7 +45,7 @@ kept_entry ports before entry e =
     let b = or_parts (not (has_width (port_of ports entry.port) (length entry.pins))) (some_repeats (pins_of before) entry.pins) a.1 in
     record { new = a.0; wide = not-false (has_width (port_of ports entry.port) (length entry.pins)) b.0; apart = b.1 }
 
--- none of these pins is among those that were seen
+-- if none of these pins repeats one that was seen, no pin is in both lists
 none_seen : (seen pins : List (List ℕ)) (pin : List ℕ) → some_repeats seen pins ≡ false → Has seen pin → Has pins pin → ⊥
 none_seen seen [] pin e h k = absurd k
 none_seen seen (p ∷ pins) pin e h (inl same) = clash (is_among seen p) (has_any (bytes_eq p) seen pin h (name_same p pin same)) (or_parts (is_among seen p) (some_repeats (seen ++ p ∷ []) pins) e).0
@@ -54,7 +54,7 @@ none_seen seen (p ∷ pins) pin e h (inr k) = none_seen (seen ++ p ∷ []) pins 
 abbrev itself : List ℕ → List ℕ
 itself pin = pin
 
--- none of these pins occurs twice
+-- if none of these pins repeats one that was seen or an earlier one, none of them occurs twice
 pins_once : (seen pins : List (List ℕ)) → some_repeats seen pins ≡ false → Once itself pins
 pins_once seen [] e = once_nil itself
 pins_once seen (pin ∷ pins) e =
@@ -88,7 +88,7 @@ same_pin ports entries h e d has_e has_d k l pin at_e at_d = by_order (has_place
         by_case (inr (inl less)) = absurd (ordered m n e d k l less at_m at_n at_e at_d)
         by_case (inr (inr less)) = absurd (ordered n m d e l k less at_n at_m at_d at_e)
 
--- the entry that assigns a pin to the bit
+-- an entry of the pin map that assigns this pin to the bit
 record PinFrom (entries : List MapEntry) (bit : Bit) (pin : List ℕ) : Type 0 where
   entry : MapEntry
   has : Has entries entry

@@ -28,7 +28,7 @@ use Rattle.device_rules.proofs.IsDeviceLists.{same_name, earlier, holds_at, none
 use Rattle.device_rules.proofs.IsDevicePorts.{PortsStand, IsBitOf, is_bit_of}
 use Rattle.device_rules.proofs.IsDevicePins.{port_is}
 
--- an entry has a port bit if and only if its function is not CONTROL, CONTROLR or INTERNAL
+-- if V9 holds, an entry has a port bit if and only if its function is not CONTROL, CONTROLR or INTERNAL
 star_is : (word : PortWord) → is_star word ≡ true → word ≡ Star
 star_is Star e = refl
 star_is (Plain name) e = cc e
@@ -63,7 +63,7 @@ places draft e =
     (all_from_has (λ (entry : Entry). HasPlace (length (map made (port_bits draft.ports))) entry.role (bit_number draft.ports entry.port)) draft.entries (λ entry has.
     subst (λ n. HasPlace n entry.role (bit_number draft.ports entry.port)) (sym many) (place_of draft.ports entry (place_kept draft.ports draft.entries e entry has))))
 
--- a port bit has at most one driving entry
+-- if V13 holds, a port bit has at most one driving entry
 driven : (ports : List Port) (bit : ℕ) (entry : Entry) → drives_bit bit (cell_of ports entry) ≡ true → driven_bit ports entry ≡ Some bit
 driven ports bit entry e =
     let parts = and_parts (is_on bit (bit_number ports entry.port)) (is_driving entry.role) e in
@@ -93,7 +93,7 @@ one_driver draft none i j bit e d at_i at_j drives_e drives_d =
     by_order x y at_x at_y drives_x drives_y (inr (inl less)) = absurd (driven_before draft.ports draft.entries none bit i j x y less at_x at_y drives_x drives_y)
     by_order x y at_x at_y drives_x drives_y (inr (inr less)) = absurd (driven_before draft.ports draft.entries none bit j i y x less at_y at_x drives_y drives_x)
 
--- the port that an entry names
+-- if an entry names a bit, the port that it names is the port of this bit
 named_is : (ports : List Port) → PortsStand ports → (bit : Bit) (of : IsBitOf ports 0 bit) (word : PortWord) → is_named word bit ≡ true → named_port ports word ≡ Some of.port
 named_is ports stand bit of Star e = cc e
 named_is ports stand bit of (Plain name) e =
@@ -107,7 +107,7 @@ mode_kept ports taps entries e entry has =
     let r = has_place entries entry has in
     holds_at (λ before entry. breaks_mode ports taps entry) entries (holds (λ before entry. breaks_mode ports taps entry) entries e) r.0 entry r.1
 
--- a port bit on which an entry with this function may be
+-- the port bit may have an entry with this function: it is on no TAP port, and the part can drive it if the function drives
 record Fits (taps : TapPorts) (role : Role) (bit : Bit) : Type 0 where
   no_tap : is_among (tap_names taps) bit.name ≡ false
   driven : is_driving role ≡ true → may_drive bit.mode ≡ true

@@ -14,7 +14,7 @@ use Rattle.device_rules.proofs.RuleLemmas.{holds}
 use Rattle.device_rules.proofs.BitLemmas.{length_bits}
 use Rattle.device_rules.proofs.IsDeviceLists.{name_same, earlier, holds_at, none_has, Once, once_nil, once_cons, once_tail, once_head, once_append, once_by_order}
 
--- rule V2 holds for the ports
+-- what V2 says about the ports: their names differ, their ranges are in order, and they have at most 65,535 bits
 pub record PortsStand (ports : List Port) : Type 0 where
   pub once : Once (λ port. port.name) ports
   pub ordered : (port : Port) → Has ports port → in_order port.range ≡ true
@@ -131,7 +131,7 @@ is_bit_of first (port ∷ ports) bit h = by_part (is_bit_of (first + 1) ports bi
         let r : IsBitOf ports (first + 1) bit = rest k in
         record { number = suc r.number; port = r.port; at = r.at; numbered = omega (arith, r.numbered); named = r.named; of_mode = r.of_mode; indexed = r.indexed }
 
--- the name of its port and its place determine a bit
+-- a bit is determined by the name of its port and its place in the port
 abbrev pub spot : Bit → List ℕ × ℕ
 spot bit = (bit.name, bit.place)
 

@@ -51,7 +51,7 @@ one_more ports (n ∷ names) (m ∷ modes) name mode h new tap =
     apart other new (inr (inl same)) e = clash (bytes_eq name n) (name_same name n (same ∙ sym e)) new
     apart other new (inr (inr k)) e = absurd k
 
--- the consequences of the rule for one attribute
+-- if a TAP attribute keeps the rule, its name is that of a plain port with the right mode
 no_range : (range : Option Range) → is_none range ≡ true → range ≡ None
 no_range None e = refl
 no_range (Some range) e = cc e
@@ -137,7 +137,7 @@ both_counted p q r (x ∷ xs) h =
     let rest : count_by p xs ≡ count_by q xs + count_by r xs = both_counted p q r xs h in
     omega (arith, sum_by-cons (λ v. cond (p v) 1 0) x xs, sum_by-cons (λ v. cond (q v) 1 0) x xs, sum_by-cons (λ v. cond (r v) 1 0) x xs, h x, rest)
 
--- the bit of a plain port
+-- the test that a bit has this name and a mode that passes; exactly one bit has the name of a plain port
 abbrev tapped_by : List ℕ → (Mode → Bool) → Bit → Bool
 tapped_by name mode bit = bytes_eq bit.name name && mode bit.mode
 
@@ -197,7 +197,7 @@ taps_counted ports stand (name ∷ names) (m ∷ modes) h mode =
     h.1 r.0 r.1 (sym (same_name bit.name name is) ∙ same_name bit.name r.0 r.2))) in
     omega (arith, sum_by-cons (λ v. cond (mode v) 1 0) m modes, here, rest, both)
 
--- the name of a TAP port has one of these modes
+-- the name is that of a TAP port with one of these modes
 record HasMode (ports : List Port) (name : List ℕ) (modes : List Mode) : Type 0 where
   mode : Mode
   has : Has modes mode

@@ -25,7 +25,7 @@ same_from p q n zero h = refl
 same_from p q n (suc count) h =
     ap (λ b. if b then Some n else least_from p (suc n) count) (h n (omega arith)) ∙ ap (λ o. if q n then Some n else o) (same_from p q (suc n) count (λ m less. h m (omega arith)))
 
--- two properties that agree below the bound
+-- if two properties agree below the bound, the lowest number with the first property is the lowest with the second
 pub least_same : (p q : ℕ → Bool) (bound : ℕ) → ((n : ℕ) → n < bound → p n ≡ q n) → least_below p bound ≡ least_below q bound
 least_same p q bound h = same_from p q 0 bound (λ m less. h m (omega arith))
 
@@ -35,7 +35,7 @@ none_left bound n le = omega arith
 pub least_end : (is : ℕ → Bool) (n bound : ℕ) (o : Option ℕ) → bound ≤ n → least_from is n (bound - n) ≡ o → None ≡ o
 least_end is n bound o le so_far = sym (ap (λ k. least_from is n k) (none_left bound n le)) ∙ so_far
 
--- the loop finds the lowest number with the property
+-- the loop returns the lowest number with the property, or None if no number from `from` on has it
 abbrev LeastFrom : (ℕ → Bool) → ℕ → ℕ → Option ℕ → Type 0
 LeastFrom is from count None = (n : ℕ) → from ≤ n → n < from + count → is n ≡ false
 LeastFrom is from count (Some least) = (from ≤ least) × (least < from + count) × (is least ≡ true) × ((n : ℕ) → from ≤ n → n < least → is n ≡ false)

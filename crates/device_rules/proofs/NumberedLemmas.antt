@@ -63,7 +63,7 @@ none_more boundary entry entries e h (x ∷ front) item back split =
     let rest : entries ≡ front ++ item ∷ back = cc in
     h front item back rest
 
--- the cell number of the first entry outside the register, if there is such an entry
+-- this is the cell number of the first entry outside the register, or None if there is no such entry
 abbrev FindsOutside : ℕ → List Entry → Option ℕ → Type 0
 FindsOutside boundary entries None = Holds (is_outside boundary) entries
 FindsOutside boundary entries (Some cell) = IsOutside boundary entries cell

@@ -27,7 +27,7 @@ miss i n a indexes e = ap (λ b. cond b (Some n) (place_of i (n + 1) indexes)) e
 here_or_above : (i a : ℕ) → a ≤ i → (a ≡ i) ⊎ (a + 1 ≤ i)
 here_or_above i a le = grind arith
 
--- the indexes of a range that counts up
+-- in a range that counts up, the place of an index is its distance from the first index
 up_step : (i n a count : ℕ) → (a + 1 ≤ i → place_of i (n + 1) (range_with_len (a + 1) count) ≡ Some ((n + 1) + (i - (a + 1)))) → (a ≡ i) ⊎ (a + 1 ≤ i) → place_of i n (range_with_len a (suc count)) ≡ Some (n + (i - a))
 up_step i n a count later (inl e) =
     let here : n ≡ n + (i - a) = omega (arith, e) in
@@ -87,7 +87,7 @@ down_below i n a (suc count) le =
     let over : a + count < i = omega arith in
     miss i n (a + count) (down a count) (lt-eqb (a + count) i over) ∙ down_below i (n + 1) a count (omega arith)
 
--- each bit of a vector has an index
+-- no bit of a vector is without an index, and the place of an index is its distance from the left bound
 none_at : (n : ℕ) (indexes : List ℕ) → position_from is_none n (map Some indexes) ≡ None
 none_at n [] = refl
 none_at n (i ∷ indexes) = none_at (n + 1) indexes
@@ -174,7 +174,7 @@ found_by : (left right i start : ℕ) (up : Bool) → (if up then nat_le left ri
 found_by left right i start true e = found_up left right i start (le_of left right e)
 found_by left right i start false e = found_down left right i start (le_of right left e)
 
--- the first place of an index in a range
+-- if a range is in order, the first place of an index in it is `start` plus `place_in`
 pub place_found : (range : Option Range) (at : Option ℕ) (start : ℕ) → in_order range ≡ true → position_from (has_index at) start (indexes range) ≡ option_map (λ k. start + k) (place_in range at)
 place_found None None start e = let sums : start ≡ start + 0 = omega arith in ap Some sums
 place_found None (Some i) start e = refl
@@ -221,7 +221,7 @@ place_within None (Some i) k e = cc e
 place_within (Some range) None k e = cc e
 place_within (Some range) (Some i) k e = within_by range.left range.right i range.up k e
 
--- the index at a place
+-- the index at place `k` of a range is `k` more than the left bound if the range counts up, and `k` less if it counts down
 get_down : (a count k : ℕ) → k < count → get_or (down a count) k 0 ≡ a + count - 1 - k
 get_down a zero k less = absurd (omega arith)
 get_down a (suc count) zero less = omega arith

@@ -25,7 +25,7 @@ use Rattle.device_rules.proofs.BitLemmas.{Apart, apart, length_bits}
 abbrev pub made : ℕ → Mode → Option ℕ → Option (List ℕ) → Bool → Bool → PortBit
 made number mode index pin tap named = record { port = number; index = index; mode = mode; pin = pin; tap = tap; compliance = named }
 
--- the bit with this index
+-- the bit of a port with this index and this place; bit `k` of a port has the index at place `k` of the port's range
 abbrev bit_with : ℕ → Port → Option ℕ → ℕ → Bit
 bit_with number port index place = record { port = number; name = port.name; index = index; place = place; mode = port.mode }
 
@@ -41,7 +41,7 @@ get_bit number port k d e less =
     let within : k < length (indexes port.range) = omega (arith, less, length_indexes port.range e) in
     get_along number port 0 (indexes port.range) k d within ∙ ap (λ p. bit_with number port (get_or (indexes port.range) k None) p) (omega arith) ∙ ap (λ i. bit_with number port i k) (index_found port.range k e less)
 
--- the bits of a port so far, and one more
+-- the first `k` bits of a port followed by bit `k` are the first `k + 1` bits
 pub bits_step : {B : Type 0} (f : Bit → B) (number : ℕ) (port : Port) (k : ℕ) (before : List B) → in_order port.range ≡ true → k < width port.range
     → (before ++ map f (take k (bits_of_port number port))) ++ f (bit_of_port number port k) ∷ [] ≡ before ++ map f (take (k + 1) (bits_of_port number port))
 bits_step f number port k before e less =
@@ -50,7 +50,7 @@ bits_step f number port k before e less =
     let more : take (k + 1) bits ≡ take k bits ++ bit_of_port number port k ∷ [] = take_more bits k (bit_of_port number port k) within ∙ ap (λ b. take k bits ++ b ∷ []) (get_bit number port k (bit_of_port number port k) e less) in
     append_assoc before (map f (take k bits)) (f (bit_of_port number port k) ∷ []) ∙ ap (λ bs. before ++ bs) (sym (map-append f (take k bits) (bit_of_port number port k ∷ [])) ∙ sym (ap (map f) more))
 
--- the bits of the ports so far, and those of the ports that are left
+-- after the bits of one more port, the bits so far followed by those of the ports that are left are still all bits
 pub ports_step : {B : Type 0} (f : Bit → B) (ports : List Port) (i : ℕ) (port : Port) (before all new : List B) → i < length ports → get_or ports i port ≡ port → all ≡ before ++ map f (bits_from i (drop i ports))
     → new ≡ before ++ map f (bits_of_port i port) → all ≡ new ++ map f (bits_from (i + 1) (drop (i + 1) ports))
 ports_step f ports i port before all new less is so_far added =

@@ -54,8 +54,8 @@ pub record IsOutside (boundary : ℕ) (entries : List Entry) (cell : ℕ) : Type
 abbrev pub IsMissing : ℕ → List Entry → Option ℕ → Type 0
 IsMissing boundary entries cell = Holds (is_outside boundary) entries × IsLeast (is_missing entries) boundary cell
 
--- V8 finds the cell number of the first entry outside the register, or otherwise the least number without an entry. V8 finds nothing if
--- there is neither
+-- V8 finds the cell number of the first entry outside the register, or otherwise the lowest cell number without an entry.
+-- V8 finds nothing if there is neither.
 abbrev pub IsWrongCell : ℕ → List Entry → Option ℕ → Type 0
 IsWrongCell boundary entries None = IsMissing boundary entries None
 IsWrongCell boundary entries (Some cell) = IsOutside boundary entries cell ⊎ IsMissing boundary entries (Some cell)

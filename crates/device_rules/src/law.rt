@@ -26,9 +26,9 @@ pub fn all_rules_hold()
     ensures { (draft : Draft) → first_rule draft ≡ None → KeepsRules draft }
 {}
 
-/// If a rule finds nothing, none of its items breaks the rule. Otherwise the rule finds the first port, entry or
-/// opcode, or the least number of an attribute, instruction, pattern or cell, that breaks the rule. V8 finds an entry
-/// outside the register before it looks for cells without an entry.
+/// If a rule finds nothing, none of its items breaks the rule. Otherwise the rule finds the first port, entry or opcode, or
+/// the lowest number of an attribute, instruction, pattern or cell, that breaks the rule. V8 finds an entry outside the
+/// register before it looks for cells without an entry.
 pub fn finds_the_first()
     ensures v2 { (ports : List Port) → IsFound breaks_port ports (v2 ports) }
     ensures v3 { (ports : List Port) (taps : TapPorts) (compliance : Option Compliance) → IsLeast (breaks_attribute ports taps compliance) 14 (v3 ports taps compliance) }

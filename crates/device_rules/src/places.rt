@@ -19,8 +19,8 @@ fn is_star(word: &PortWord) -> bool
     matches!(word, PortWord::Star)
 }
 
-/// Returns whether the entry is at a wrong place. A CONTROL, CONTROLR or INTERNAL entry must be at `*`, and any other
-/// entry on a port bit.
+/// Returns whether the entry is at a wrong place. A CONTROL, CONTROLR or INTERNAL entry must be at `*`, and any other entry
+/// must be on a port bit.
 fn breaks_place(ports: &PortIndex, near: &mut Near, entry: &Entry) -> bool
     ensures { result ≡ breaks_place ports.now entry.now }
 {
@@ -31,8 +31,8 @@ fn breaks_place(ports: &PortIndex, near: &mut Near, entry: &Entry) -> bool
     }
 }
 
-/// Checks rule V9. Returns the number of the first entry at a wrong place, counted from 1. A CONTROL, CONTROLR or
-/// INTERNAL entry must be at `*`, and any other entry on a port bit.
+/// Checks rule V9. Returns the number of the first entry at a wrong place, counted from 1. A CONTROL, CONTROLR or INTERNAL
+/// entry must be at `*`, and any other entry must be on a port bit.
 #[tactic(auto, unfolding(crate::specs::Places::v9))]
 pub(crate) fn wrong_place(ports: &PortIndex, entries: &[Entry]) -> Option<u32>
     requires { length entries.now < 2 ^ 32 }
