@@ -1,4 +1,4 @@
--- The number of a key among the different keys of a list.
+-- The number of a key among the distinct keys of a list.
 use Rattle.std.proofs.Common.{◌≡◌, ℕ, zero, suc, ◌+◌, ◌<◌, ◌≤◌, Bool, true, false, cond, not, ◌||◌, List, [], ◌∷◌, ◌++◌, length, map, take, get_or, Some, refl, sym, ap, ◌∙◌, append_assoc, arith}
 use Rattle.std.specs.Prelude.{unwrap_or}
 use Rattle.std.specs.List.{list_any, position_from, position_or_len}
@@ -36,7 +36,7 @@ found_at eq laws kept rest x false e =
     let start : 0 + position_or_len (eq x) kept ≡ position_or_len (eq x) kept = omega arith in
     ap (position_from (λ k. eq k x) 0) (append_assoc kept (x ∷ []) rest) ∙ found_next (λ k. eq k x) (eq x) (λ k. laws.symm k x) 0 kept x rest (sym e) (laws.refl x) ∙ ap Some start
 
--- the number of the next key, if the keys that were kept are the different keys so far
+-- the next key gets its number among the distinct keys, if the keys that were kept are the distinct keys so far
 pub number_step : {K : Type 0} (eq : K → K → Bool) → IsEquivalence eq → (keys : List K) (i : ℕ) (x : K) (old kept rest all : List K) (was : Bool) (number : ℕ) (before after : List ℕ) → i < length keys → get_or keys i x ≡ x →
     was ≡ list_any (eq x) old → kept ≡ cond was old (old ++ x ∷ []) → all ≡ kept ++ rest → number ≡ position_or_len (eq x) old →
     before ≡ map (number_in eq all) (take i keys) → after ≡ before ++ number ∷ [] → after ≡ map (number_in eq all) (take (i + 1) keys)

@@ -1,4 +1,4 @@
--- The items that were seen, and which of the later items are kept.
+-- The items that a walk over a list has seen, and the later items that it keeps.
 use Rattle.std.proofs.Common.{◌≡◌, ℕ, suc, ◌+◌, ◌<◌, ◌≤◌, Bool, true, false, cond, ◌||◌, List, [], ◌∷◌, ◌++◌, length, take, drop, get_or, Option, Some, None, refl, sym, ap, ◌∙◌, append_assoc, arith}
 use Rattle.std.proofs.lemmas.List.{drop_more, take_more}
 use Rattle.std.proofs.lemmas.List.Folds.{list_any-append}
@@ -17,7 +17,7 @@ either true false = refl
 either false true = refl
 either false false = refl
 
--- the items that were seen, and one more
+-- after one more item, the flag says whether one of the items seen so far passes the test
 pub seen_step : {I : Type 0} (test : I → Bool) (items : List I) (i : ℕ) (x : I) (new old : Bool) → i < length items → get_or items i x ≡ x →
     old ≡ list_any test (take i items) → new ≡ cond (test x) true old → new ≡ list_any test (take (i + 1) items)
 seen_step test items i x new old within read was now =
@@ -68,7 +68,7 @@ few : {I : Type 0} (was : Bool) (kept : List I) (i : I) (n : ℕ) → length kep
 few true kept i n within = omega arith
 few false kept i n within = omega arith
 
--- a list has no more different items than items
+-- a list has no more distinct items than items
 pub once_few : {I : Type 0} (eq : I → I → Bool) (seen items : List I) → length (once_from eq seen items) ≤ length items
 once_few eq seen [] = omega arith
 once_few eq seen (i ∷ items) = few (list_any (λ s. eq s i) seen) (once_from eq (seen ++ i ∷ []) items) i (length items) (once_few eq (seen ++ i ∷ []) items)
@@ -92,6 +92,6 @@ whole_from {I} eq fine h seen (i ∷ items) e = by_test (whole_from eq fine h (s
         ap (λ b. cond b (once_from fine (seen ++ i ∷ []) items) (i ∷ once_from fine (seen ++ i ∷ []) items)) (none_finer (λ s. eq s i) (λ s. fine s i) (λ s. h s i) seen t)
         ∙ ap (λ (v : List I). i ∷ v) (rest k)
 
--- if no item is repeated, all items are kept, even by a finer equality
+-- if no item is repeated, all items are kept, even with an equality that makes fewer items equal
 pub unrepeated : {I : Type 0} (eq fine : I → I → Bool) → ((a b : I) → eq a b ≡ false → fine a b ≡ false) → (items : List I) → first_repeated eq items ≡ None → once fine items ≡ items
 unrepeated eq fine h items e = whole_from eq fine h [] items e
