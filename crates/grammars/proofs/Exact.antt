@@ -1,4 +1,5 @@
--- The reader of a production decides it: on a whole list it finds the value, and on a cut it runs out of tokens.
+-- The reader of a production decides it: the reader finds the value of a list that has one, and runs out of tokens on a
+-- prefix of such a list.
 use Rattle.std.proofs.Common.{◌≡◌, true, false, List, [], ◌∷◌, ◌++◌, Option, Some, None, IsSome, inl, inr, refl, sym, ◌∙◌, ap, subst, append_assoc, append-nil}
 use Rattle.grammars.specs.Production.{Production}
 use Rattle.grammars.specs.Production as production
@@ -10,7 +11,7 @@ abbrev pub RunsOut : {T A : Type 0} → Outcome T A → Type 0
 RunsOut (found a rest) = rest ≡ []
 RunsOut (refused rest) = rest ≡ []
 
--- the answer of the reader depends only on the tokens that it read and, if it refuses, on the token that does not fit
+-- the reader finds the value `a` in the front of the tokens, whatever tokens follow that front
 pub record Reads {T A : Type 0} (read : Reader T A) (tokens : List T) (a : A) (rest : List T) : Type 0 where
   pub front : List T
   pub split : tokens ≡ front ++ rest
@@ -51,7 +52,7 @@ decides_none = record {
   is_cut = λ tokens h. h;
 }
 
--- the reader of one token's place
+-- the answer of the reader of one token depends on no token after this one
 local_value : {T A : Type 0} (value : T → Option A) (token : T) (tokens : List T) (v : Option A) → value token ≡ v
     → IsLocalAt (reader.place value) (token ∷ tokens) (reader.value_then v token tokens)
 local_value value token tokens (Some a) e = record { front = token ∷ []; split = refl; again = λ more. ap (λ v. reader.value_then v token more) e }
@@ -105,7 +106,7 @@ decides_place value = record {
   is_cut = is_cut_place value;
 }
 
--- the reader of a part that follows another part and depends on its value
+-- if each of two readers depends only on the tokens that it reads, so does the reader that runs them in turn
 local_second : {T A B : Type 0} (p : Reader T A) (q : A → Reader T B) (tokens : List T) (a : A) (mid : List T) → Reads p tokens a mid
     → (o : Outcome T B) → IsLocalAt (q a) mid o → IsLocalAt (reader.in_turn p q) tokens o
 local_second p q tokens a mid h (found b rest) k = record {

@@ -1,4 +1,4 @@
--- The reader of each grammar decides it.
+-- The reader of each grammar decides the grammar.
 use Rattle.std.proofs.Common.{◌≡◌, ◌<◌, List, length, ◌⊎◌, inl, inr, sym, ◌∙◌, ap}
 use Rattle.grammars.specs.Turn.{Turn, again, last}
 use Rattle.grammars.specs.Grammar.{Grammar, place, done, in_turn, turns, production_of, reader_of}
@@ -48,7 +48,7 @@ pub turn_at : {T S A : Type 0} (turn : S → Grammar T (Turn S A)) → ((s : S) 
     → reader_of (turns turn s) tokens ≡ after (reader_of (turn s) tokens) (reader.follow (λ s. reader_of (turns turn s)))
 turn_at turn h s tokens = turns_once (λ s. reader_of (turn s)) (λ s. (read_grammar (turn s) (h s).1).shrinks (h s).0) s tokens
 
--- the outcome of a loop that reads turns, if it goes on after this turn
+-- if another turn follows this one, reading the rest with the new state has the outcome of reading the whole
 pub goes_on : {T S A : Type 0} (turn : S → Grammar T (Turn S A)) → ((s : S) → TakesToken (turn s) × EachTurnTakes (turn s)) → (s s' : S) (tokens rest : List T) (outcome : Outcome T A)
     → reader_of (turns turn s) tokens ≡ outcome → reader_of (turn s) tokens ≡ found (again s') rest → reader_of (turns turn s') rest ≡ outcome
 goes_on turn h s s' tokens rest outcome so_far e =

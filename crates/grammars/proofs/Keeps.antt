@@ -51,7 +51,7 @@ keeps_in_turn {T} {A} {B} {weight} {p} {q} {given} {First} {Fact} first second =
   kept = kept_in_turn weight (production_of p) (λ a. production_of (q a)) given First Fact first.kept (λ a n h. (second a n h).kept);
 }
 
--- the fact after a turn, with the state or with the value
+-- the fact after a turn: about the state if another turn follows, or about the value after the last turn
 abbrev pub BehindTurn : {S A : Type 0} → (ℕ → S → Type 0) → (ℕ → A → Type 0) → ℕ → Turn S A → Type 0
 BehindTurn Before Fact n (again s) = Before n s
 BehindTurn Before Fact n (last a) = Fact n a
@@ -74,10 +74,10 @@ keeps_turns {T} {S} {A} {weight} {turn} {Before} {Fact} h s n before = record {
   kept = λ tokens a whole. kept_up_to whole.0 weight (λ s. production_of (turn s)) Before Fact (λ s n b. (h s n b).kept) s n before tokens a whole.1;
 }
 
--- nothing needs to be known of the value of a part
+-- the fact that says nothing is true of every value
 pub keeps_nothing : {T A : Type 0} {weight : T → ℕ} {g : Grammar T A} {given : ℕ} → Keeps weight g given (λ n a. Unit {0})
 keeps_nothing {T} {A} {weight} {g} {given} = record { kept = λ tokens a whole. tt }
 
--- the weight of tokens is never negative
+-- the number is at least `given`, since the weight of tokens is never negative
 pub keeps_more : {T A : Type 0} {weight : T → ℕ} {g : Grammar T A} {given : ℕ} → Keeps weight g given (λ n a. given ≤ n)
 keeps_more {T} {A} {weight} {g} {given} = record { kept = λ tokens a whole. omega arith }

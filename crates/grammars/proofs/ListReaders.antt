@@ -21,7 +21,7 @@ list_takes can before = (inl can.takes, (can.entries, λ one. (can.marks, λ ano
 pub each_takes : {T A : Type 0} {entry : Grammar T A} {more : Grammar T Bool} → CanRead entry more → EachTurnTakes (list_of entry more)
 each_takes can = λ before. list_takes can before
 
--- a part of a grammar that was read at the front of the tokens
+-- the tokens begin with a list that the grammar derives with the value `a`, and `rest` follows it
 pub record ReadFront {T A : Type 0} (g : Grammar T A) (tokens : List T) (a : A) (rest : List T) : Type 0 where
   pub front : List T
   pub split : tokens ≡ front ++ rest
@@ -63,7 +63,7 @@ front_after {T} {A} {entry} {more} can n one tokens mid rest e f h =
     let last : h.next.back ≡ rest = cc (here, f) in
     subst (λ ts. Fronts entry more n ts) last h.next.next.1
 
--- the state of the loop after these entries, of which the rest is still to be read
+-- the state of the loop after it has read the entries `before`, with `rest` still to be read
 pub record Progress {T A : Type 0} (entry : Grammar T A) (more : Grammar T Bool) (tokens rest : List T) (before : List A) : Type 0 where
   pub reads : reader_of (turns (list_turn entry more) before) rest ≡ reader_of (list_of entry more) tokens
   pub stand : (n : ℕ) → Fronts entry more n rest → Fronts entry more (n + length before) tokens

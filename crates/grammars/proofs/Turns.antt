@@ -1,4 +1,4 @@
--- Reading any number of turns: reading with enough turns is reading with one turn more than there are tokens.
+-- Reading any number of turns. A limit on the turns that exceeds the number of tokens does not change the outcome.
 use Rattle.std.proofs.Common.{◌≡◌, ℕ, zero, suc, ◌+◌, ◌<◌, ◌≤◌, List, [], ◌∷◌, ◌++◌, length, Option, Some, None, refl, sym, ◌∙◌, ap, subst, arith, length-append}
 use Rattle.std.proofs.lemmas.List.{append_cancel_right}
 use Rattle.grammars.specs.Turn.{Turn, again, last}
@@ -27,7 +27,8 @@ pub decides_up_to : {T S A : Type 0} (n : ℕ) {turn : S → Production T (Turn 
 decides_up_to zero d s = decides_none
 decides_up_to (suc n) d s = decides_bind (d s) (decides_follow (decides_up_to n d))
 
--- if two ways to go on are related on shorter lists, the two readings are related
+-- a relation of outcomes in which each outcome is related to itself; if two ways to go on are related on shorter lists, so
+-- are the two readings
 record Relation (T A : Type 0) : Type 1 where
   Related : Outcome T A → Outcome T A → Type 0
   same : (o : Outcome T A) → Related o o
@@ -75,7 +76,7 @@ raise_out (suc n) (suc m) read d shrinks s tokens le h =
     related outs (reader.turns_up_to n read) (reader.turns_up_to m read) (length tokens)
     (λ t rest lt. raise_out n m read d shrinks t rest (omega arith)) (read s tokens) (shrinks s tokens) h
 
--- reading with `n` turns, if `n` exceeds the number of tokens
+-- if `n` exceeds the number of tokens, reading up to `n` turns is reading any number of turns
 enough : {T S A : Type 0} (n : ℕ) (read : S → Reader T (Turn S A)) → EachShrinks read → (s : S) (tokens : List T) → length tokens < n
     → reader.turns_up_to n read s tokens ≡ reader.turns read s tokens
 unfolding reader.turns
@@ -128,7 +129,7 @@ turns_once read shrinks s tokens =
     related equal (reader.turns_up_to (length tokens) read) (reader.turns read) (length tokens)
     (λ t rest lt. enough (length tokens) read shrinks t rest lt) (read s tokens) (shrinks s tokens)
 
--- readers that take at least one token
+-- readers that take at least one token if they find a value
 shrinks_value : {T A : Type 0} (token : T) (tokens : List T) (v : Option A) (a : A) (rest : List T) → reader.value_then v token tokens ≡ found a rest → length rest < length (token ∷ tokens)
 shrinks_value token tokens (Some b) a rest e = let same : tokens ≡ rest = cc in subst (λ ts. length ts < length (token ∷ tokens)) same (omega arith)
 shrinks_value token tokens None a rest e = cc

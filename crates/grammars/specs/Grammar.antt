@@ -7,7 +7,7 @@ use Rattle.grammars.specs.inner.Reader.{Reader}
 use Rattle.grammars.specs.inner.Reader as reader
 
 pub data Grammar (T : Type 0) : Type 0 → Type 1 where
-  -- one token, which fits if `T → Option A` gives a value for it
+  -- one token, which fits if the function gives a value for it
   place : {A : Type 0} → (T → Option A) → Grammar T A
   -- no token, with the given value
   done : {A : Type 0} → A → Grammar T A

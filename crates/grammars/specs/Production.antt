@@ -28,7 +28,7 @@ done a = record { Whole = λ tokens b. (tokens ≡ []) × (b ≡ a); Cut = λ to
 abbrev pub none : {T A : Type 0} → Production T A
 none = record { Whole = λ tokens a. ⊥; Cut = λ tokens. tokens ≡ [] }
 
--- the tokens are a whole `p`, and `Next` is true of its value and the tokens after it
+-- the tokens begin with a list that `p` derives, and `Next` is true of the value of this list and of the tokens after it
 pub record Follows {T A : Type 0} (p : Production T A) (Next : A → List T → Type 0) (tokens : List T) : Type 0 where
   pub front : List T
   pub back : List T
@@ -37,8 +37,8 @@ pub record Follows {T A : Type 0} (p : Production T A) (Next : A → List T → 
   pub first : p.Whole front value
   pub next : Next value back
 
--- A part, followed by a part that depends on the first one's value. A cut is a cut of the first part, or the whole first
--- part and a cut of the second.
+-- A part, followed by a part that depends on the first one's value. A cut is a cut of the first part, or a whole first part
+-- followed by a cut of the second.
 abbrev pub in_turn : {T A B : Type 0} → Production T A → (A → Production T B) → Production T B
 in_turn p q = record {
   Whole = λ tokens b. Follows p (λ a back. (q a).Whole back b) tokens;
