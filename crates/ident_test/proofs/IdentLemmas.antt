@@ -50,7 +50,7 @@ abbrev selects : Option (List Symbol) → Instruction
 selects (Some pattern) = Idcode
 selects None = Bypass
 
--- the instruction that a part has after a reset
+-- a part with a pattern has IDCODE after a reset, and any other part has BYPASS
 coded_at : (pattern : Option (List Symbol)) (part : TestLogic) → IsCoded pattern part → part.at_reset ≡ Some (selects pattern)
 coded_at (Some pattern) part h = h.0
 coded_at None part h = h
@@ -59,7 +59,7 @@ no_other : (pattern : Option (List Symbol)) (i : Instruction) → i ≡ selects 
 no_other (Some pattern) i e h = let z : Idcode ≡ Other = sym e ∙ h in cc z
 no_other None i e h = let z : Bypass ≡ Other = sym e ∙ h in cc z
 
--- so each part selects a register of the model
+-- so after a reset each part selects a register of the model
 selecting : (patterns : List (Option (List Symbol))) (ps : List ChainPart) → AllIn RunTestIdle ps → AllSelected ps → AreCoded patterns (logics ps) →
     AllSelectingIn RunTestIdle ps
 selecting [] [] idle selected coded = tt
@@ -89,7 +89,7 @@ first_whole : (pattern : Option (List Symbol)) (patterns : List (Option (List Sy
 first_whole (Some pattern) patterns h = ((h.0, tt), h.1)
 first_whole None patterns h = (tt, h)
 
--- the expected bits of the registers of all parts
+-- the scan bits of the registers of all parts, and the registers that the parts load
 abbrev all_bits : List (Option (List Symbol)) → List (List ScanBit)
 all_bits patterns = map (λ part. map symbol_bit (register_pattern part)) patterns
 
@@ -147,7 +147,7 @@ module _ (patterns : List (Option (List Symbol))) (are : ArePatterns patterns) w
   sized : AllSized scans
   sized = ((some_bits, few_bits), tt)
 
-  -- a run on any chain of parts with these patterns
+  -- a run of the identity test on any chain of parts with these patterns
   module _ (wiring : Wiring) (parts : List TestLogic) (coded : AreCoded patterns parts) (chain : List ChainPart) (choices : Choices)
       (start : IsChainOf parts chain) where
     abbrev headed : List ChainPart
@@ -189,7 +189,7 @@ ident_test patterns are = record {
   fails = λ wiring parts coded fit chain choices start. decides patterns are wiring parts coded chain choices start ∙ fit;
 }
 
--- the parts of a board with assigned codes
+-- described parts with assigned codes of 32 bits are coded
 one_coded : (pattern : Option (List Symbol)) (device : RawDevice) (code : List Bool) → device.idcode ≡ pattern → length code ≡ 32 →
     IsCoded pattern (coded_by pattern code (test_logic (Described device)))
 one_coded (Some pattern) device code is size = (refl, size)
@@ -226,14 +226,14 @@ codes_assigned (first ∷ devices) codes zero device is =
     (coded_by first.idcode (codes 0) (test_logic (Described first)), refl, subst (λ (d : RawDevice). HasCode d (codes 0) (coded_by first.idcode (codes 0) (test_logic (Described first)))) same (coded_alone first.idcode first (codes 0) refl))
 codes_assigned (first ∷ devices) codes (suc k) device is = codes_assigned devices (λ n. codes (suc n)) k device is
 
--- the code of a part changes no instruction
+-- the code of a part does not change which instruction a code means
 pub codes_keep_instructions : (device : RawDevice) (code : List Bool) (part : TestLogic) → HasCode device code part → (bits : List Bool) → instruction_of part bits ≡ instruction_of (test_logic (Described device)) bits
 codes_keep_instructions device code part has bits =
     let given = test_logic (Described device) in
     ap (λ (extest : Option (List Bool)). cond (all_ones bits) Bypass (cond (is_code extest bits) Extest (cond (is_code part.preload bits) Sample Other))) has.extest
     ∙ ap (λ (preload : Option (List Bool)). cond (all_ones bits) Bypass (cond (is_code given.extest bits) Extest (cond (is_code preload bits) Sample Other))) has.preload
 
--- the promises on passing and on failing decide each run
+-- a test that passes if all codes fit and fails otherwise tells in each run whether all codes fit
 pub each_run_tells : (patterns : List (Option (List Symbol))) (text : List ℕ) → IsIdentTest patterns text → EachRunTells patterns text
 each_run_tells patterns text test clocks wiring parts chain choices means coded start = by_fit (all_fit patterns parts) refl
   where

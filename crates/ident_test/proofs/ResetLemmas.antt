@@ -36,7 +36,7 @@ moved_selected : (t : TapState) (ps : List ChainPart) → AllSelected ps → All
 moved_selected t [] h = tt
 moved_selected t (p ∷ ps) h = (h.0, moved_selected t ps h.1)
 
--- the fifth clock with TMS 1 enters Test-Logic-Reset
+-- after five clocks with TMS 1, each part has the instruction that it selects in Test-Logic-Reset, if that is known
 reset_selects : (wiring : Wiring) (choices : Choices) (ps : List ChainPart) → AllSelected (run wiring reset_clocks choices ps)
 unfolding run
 reset_selects wiring choices ps =
@@ -44,7 +44,7 @@ reset_selects wiring choices ps =
     let choice : Choice = choices 4 in
     chain_selects before (pins_at wiring choice before) choice.parts true (clock_tdi (plain true) choice) (run_resets wiring choices ps)
 
--- the sixth clock changes no instruction
+-- the sixth clock changes no instruction, so this is still so after the head
 pub head_selects : (wiring : Wiring) (choices : Choices) (ps : List ChainPart) → AllSelected (run wiring head_clocks choices ps)
 unfolding run
 head_selects wiring choices ps =

@@ -1,4 +1,4 @@
--- Lemmas on the rows of the identity test.
+-- Lemmas about the rows of the identity test.
 use Rattle.std.proofs.Common.{◌≡◌, ℕ, zero, suc, ◌+◌, ◌-◌, ◌<◌, ◌≤◌, Bool, false, List, [], ◌∷◌, ◌++◌, length, map, get_or, set, take, drop, replicate, sum_by, Option, refl, sym, ◌∙◌, ap, append_assoc, length-append, length-drop, arith}
 use Rattle.std.proofs.lemmas.List.{append-nil, length-map, map-append, set_at, drop_more, length-take-le, replicate-append-replicate, take_more, take-append-drop, take_at, drop_at, drop-drop, drop-replicate}
 use Rattle.std.proofs.lemmas.List.Sums.{sum_by-cons}
@@ -20,7 +20,7 @@ placed_nothing at bits =
     let here : at + 0 ≡ at = omega arith in
     ap (λ n. take at bits ++ drop n bits) here ∙ take-append-drop at bits
 
--- writing one more value
+-- writing values and then one more value after them is writing all of these values
 pub placed_more : (at : ℕ) (vs bits : List Bool) (v : Bool) → at + length vs < length bits → set (placed at vs bits) (at + length vs) v ≡ placed at (vs ++ v ∷ []) bits
 placed_more at vs bits v lt =
     let front : List Bool = take at bits in
@@ -36,7 +36,7 @@ placed_more at vs bits v lt =
     ∙ ap (λ t. front ++ t) (sym (append_assoc vs (v ∷ []) rest))
     ∙ ap (λ n. front ++ ((vs ++ v ∷ []) ++ drop n bits)) next
 
--- writing one more symbol of a pattern
+-- writing the symbols of a pattern so far and then the next symbol is writing one symbol more
 pub symbol_more : (g : ScanBit → Bool) (pattern : List Symbol) (i at position : ℕ) (now was : List Bool) (d : Symbol) (bit : Bool) → i < length pattern →
     at + length pattern ≤ length was → position ≡ at + i → now ≡ placed at (map g (map symbol_bit (take i pattern))) was →
     bit ≡ g (symbol_bit (get_or pattern i d)) →
@@ -57,7 +57,7 @@ symbol_more g pattern i at position now was d bit lt room is_at so_far is_bit =
     ∙ ap (λ b. placed at (vs ++ b ∷ []) was) is_bit
     ∙ ap (λ t. placed at t was) (sym values)
 
--- writing values where there were zeros
+-- values that are written over zeros replace these zeros
 placed_zeros : (done vs : List Bool) (at zeros : ℕ) → length done ≡ at → length vs ≤ zeros →
     placed at vs (done ++ replicate zeros false) ≡ (done ++ vs) ++ replicate (zeros - length vs) false
 placed_zeros done vs at zeros is_at few =
@@ -69,7 +69,7 @@ placed_zeros done vs at zeros is_at few =
     ∙ drop-replicate (length vs) zeros false)
     ∙ sym (append_assoc done vs (replicate (zeros - length vs) false))
 
--- the list from the part before on
+-- the parts from part `i - 1` on are this part followed by the parts from part `i` on
 pub part_before : (parts : List (Option (List Symbol))) (i : ℕ) (part : Option (List Symbol)) → 0 < i → i ≤ length parts → part ≡ get_or parts (i - 1) part →
     drop (i - 1) parts ≡ part ∷ drop i parts
 part_before parts i part some within is =
@@ -84,7 +84,7 @@ drop_bits [] (suc i) = omega arith
 drop_bits (part ∷ parts) zero = omega arith
 drop_bits (part ∷ parts) (suc i) = omega (arith, drop_bits parts i, length-ident_bits part parts)
 
--- a row after the register of one more part is written; those of the parts after this one are in the row already
+-- the row after the register of part `i - 1` is written; it already has the registers of the later parts
 pub record WritesMore (parts : List (Option (List Symbol))) (i at : ℕ) (pattern : List Symbol) : Type 0 where
   pub next : at + length pattern ≡ length (ident_bits (drop (i - 1) parts))
   pub room : at + length pattern ≤ length (ident_bits parts)
@@ -135,7 +135,7 @@ length-placed at vs bits le =
       length-drop (at + length vs) bits,
     )
 
--- only zeros are shifted in
+-- a scan of the identity test shifts only zeros in
 symbols_zero : (pattern : List Symbol) → tdi_bits (map symbol_bit pattern) ≡ replicate (length pattern) false
 symbols_zero [] = refl
 symbols_zero (symbol ∷ pattern) = ap (λ t. false ∷ t) (symbols_zero pattern)

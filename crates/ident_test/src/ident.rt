@@ -64,7 +64,7 @@ fn is_compared(symbol: Symbol) -> bool
     !matches!(symbol, Symbol::Any)
 }
 
-// Sets the expected bits and the mask of one register. Its lowest bit has position `at`.
+// Sets the expected bits and the mask of one register, whose lowest bit is at position `at`.
 fn set_register(at: u32, pattern: &[Symbol], tdo: &mut Row, mask: &mut Row)
     requires few { at + length pattern.now ≤ most_bits }
     requires tdo { at + length pattern.now ≤ length tdo.old.bits }
@@ -82,7 +82,7 @@ fn set_register(at: u32, pattern: &[Symbol], tdo: &mut Row, mask: &mut Row)
     }
 }
 
-// Sets the expected bits and the masks of all registers, beginning with the last part.
+// Sets the expected bits and the mask of each register, beginning with the last part.
 fn set_registers(parts: &[Option<Code>], tdo: &mut Row, mask: &mut Row)
     requires few { length (ident_bits parts.now) ≤ most_bits }
     requires tdo { tdo.old.bits ≡ replicate (length (ident_bits parts.now)) false }

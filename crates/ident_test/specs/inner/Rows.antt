@@ -1,4 +1,4 @@
--- Values that are written into a row.
+-- Writing values into a row.
 use Rattle.std.specs.Prelude.{ℕ, ◌+◌, Bool, List, ◌++◌, length, take, drop}
 
 -- writes these values into the bits from position `at` on
