@@ -15,7 +15,7 @@ prints_from {T} {E} {old} {new} {p} {q} {l} {a} {r} same prints = subst (λ t. P
 pub prints_to : {T E : Type 0} {old new : Shown} {p l m a : List ℕ} {r : Result T E} → l ≡ m → Prints old new p l a r → Prints old new p m a r
 prints_to {T} {E} {old} {new} {p} {l} {m} {a} {r} same prints = subst (λ t. Prints old new p t a r) same prints
 
--- nothing was put, and the text is in the line
+-- if nothing is put and the text is appended to the line, the contract holds with any value in the Ok
 pub prints_none : {T E : Type 0} {old : Shown} {p l a : List ℕ} (x : T) → l ≡ p ++ a → Prints {T = T} {E = E} old old p l a (Ok x)
 prints_none x holds = record { whole = inl (refl, holds); cut = tt; later = omega arith; cause = tt }
 
@@ -29,7 +29,7 @@ still_move m v l p a b first second = second ∙ ap (λ t. t ++ b) first ∙ app
 move_still : (u m l p a b : List ℕ) → u ++ m ≡ p ++ a → l ≡ m ++ b → u ++ l ≡ p ++ (a ++ b)
 move_still u m l p a b first second = ap (λ t. u ++ t) second ∙ sym (append_assoc u m b) ∙ ap (λ t. t ++ b) first ∙ append_assoc p a b
 
--- two texts in turn
+-- if two texts are appended in turn, their concatenation is appended
 moves_twice : {old mid new : Shown} (p m l a b : List ℕ) → Moves old mid p m a → Moves mid new m l b → Moves old new p l (a ++ b)
 moves_twice {old} {mid} {new} p m l a b (inl (same, holds)) (inl (same', holds')) = inl (same' ∙ same, holds' ∙ ap (λ t. t ++ b) holds ∙ append_assoc p a b)
 moves_twice {old} {mid} {new} p m l a b (inl (same, holds)) (inr (v, takes, holds')) =
@@ -110,7 +110,7 @@ prints_put {T} {E} {old} {new} {p} {l} {a} {b} {r} put same empty = by r put
       cause = put.cause;
     }
 
--- a text that is not empty was put, and the line is empty
+-- if a text that is not empty was printed from an empty line and the line is empty again, the text was put
 pub puts_of : {T E : Type 0} {old new : Shown} {c : ℕ} {a : List ℕ} {r : Result T E} → Prints old new [] [] (c ∷ a) r → Puts old new (c ∷ a) r
 puts_of {T} {E} {old} {new} {c} {a} {r} prints = by r prints
   where
@@ -130,7 +130,7 @@ lent-append : (a b : List (Bor (List ℕ))) → map (λ p. p.now) (a ++ b) ≡ m
 lent-append [] b = refl
 lent-append (x ∷ a) b = ap (λ t. x.now ∷ t) (lent-append a b)
 
--- the pieces before a place, followed by the piece there
+-- the pieces before a place followed by the piece at this place are the pieces up to and including this place
 pub whole-more : (pieces : List (Bor (List ℕ))) (i : ℕ) (d : Bor (List ℕ)) → i < length pieces
     → whole (map (λ p. p.now) (take i pieces)) ++ (get_or pieces i d).now ≡ whole (map (λ p. p.now) (take (i + 1) pieces))
 whole-more pieces i d within =
@@ -138,7 +138,7 @@ whole-more pieces i d within =
     ∙ sym (ap (λ l. whole (map (λ p. p.now) l)) (take_more pieces i d within) ∙ ap whole (lent-append (take i pieces) (get_or pieces i d ∷ []))
     ∙ whole-append (map (λ p. p.now) (take i pieces)) ((get_or pieces i d).now ∷ []))
 
--- all pieces: those before a place, the piece there and those after it
+-- the pieces before a place, the piece at this place and the pieces after it are all pieces
 pub whole-split : (pieces : List (Bor (List ℕ))) (i : ℕ) (d : Bor (List ℕ)) → i < length pieces
     → whole (map (λ p. p.now) (take i pieces)) ++ ((get_or pieces i d).now ++ whole (map (λ p. p.now) (drop (i + 1) pieces))) ≡ whole (map (λ p. p.now) pieces)
 whole-split pieces i d within =
@@ -146,6 +146,6 @@ whole-split pieces i d within =
     sym (ap (λ l. whole (map (λ p. p.now) l)) cut ∙ ap whole (lent-append (take i pieces) (get_or pieces i d ∷ drop (i + 1) pieces))
     ∙ whole-append (map (λ p. p.now) (take i pieces)) ((get_or pieces i d).now ∷ map (λ p. p.now) (drop (i + 1) pieces)))
 
--- a part of a text follows what is before it in the text
+-- the text before a place followed by the next `count` bytes is the text up to the end of these bytes
 pub taken_more : (at count : ℕ) (text : List ℕ) → take at text ++ take (at + count - at) (drop at text) ≡ take (at + count) text
 taken_more at count text = let same : at + count - at ≡ count = omega arith in ap (λ n. take at text ++ take n (drop at text)) same ∙ sym (take-add at count text)
