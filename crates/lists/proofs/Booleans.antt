@@ -1,4 +1,4 @@
--- Lemmas on truth values. Lemmas of std (`and_parts`, `not-true`, `false_from_ne_true`, `or-false`, ..) are cited from there.
+-- Lemmas about truth values. Proofs cite std for its lemmas (`and_parts`, `not-true`, `false_from_ne_true`, `or-false`, ..).
 use Rattle.std.proofs.Common.{◌≡◌, ℕ, suc, ◌<◌, ◌==◌, Bool, true, false, not, ◌&&◌, ◌||◌, refl, sym, arith}
 use Rattle.std.proofs.lemmas.Bool.{both_ways, eq-eqb, ne_eqb}
 
@@ -7,7 +7,7 @@ same_truth true b f g = sym (f refl)
 same_truth false true f g = g refl
 same_truth false false f g = refl
 
--- no truth value is true and false; `both_ways` of std takes the two proofs in the other order
+-- no truth value is both true and false; `both_ways` of std takes the two proofs in the other order
 pub clash : (b : Bool) → b ≡ true → b ≡ false → ⊥
 clash b yes_b no_b = both_ways b no_b yes_b
 

@@ -1,5 +1,4 @@
--- Lists and their places. Lemmas of std (`slice_get_within`, `length_push`, `list_any-append`, ..) are cited from
--- there.
+-- Lists and their places. Proofs cite std for its lemmas (`slice_get_within`, `length_push`, `list_any-append`, ..).
 use Rattle.std.proofs.Common.{◌≡◌, ℕ, zero, suc, ◌+◌, ◌<◌, Bool, true, false, cond, ◌||◌, List, [], ◌∷◌, ◌++◌, length, map, replicate, Some, refl, ap, ◌∙◌, arith, add-one}
 use Rattle.std.specs.Prelude.{slice_get, filter}
 use Rattle.std.specs.List.{list_any, position_from, range_with_len}
@@ -7,13 +6,13 @@ use Rattle.std.proofs.lemmas.Bool.{or_left, or_right}
 use Rattle.std.proofs.lemmas.List.Elements.{filter-append}
 use Rattle.std.proofs.lemmas.List.Folds.{list_any-append}
 
--- the item at a place of a list
+-- a list has an item at each place below its length
 pub item_there : {X : Type 0} (xs : List X) (i : ℕ) → i < length xs → (x : X) × (slice_get xs i ≡ Some x)
 item_there [] i h = absurd (omega (arith, h))
 item_there (x ∷ xs) zero h = (x, refl)
 item_there (x ∷ xs) (suc i) h = item_there xs i (omega (arith, h))
 
--- a map after a map
+-- mapping `f` and then `g` is mapping `f` followed by `g`
 pub map-map : {X Y Z : Type 0} (f : X → Y) (g : Y → Z) (xs : List X) → map g (map f xs) ≡ map (λ x. g (f x)) xs
 map-map f g [] = refl
 map-map {Z = Z} f g (x ∷ xs) = ap (λ (zs : List Z). g (f x) ∷ zs) (map-map f g xs)
@@ -26,7 +25,7 @@ pub list_any-map : {X Y : Type 0} (f : X → Y) (p : Y → Bool) (xs : List X) �
 list_any-map f p [] = refl
 list_any-map f p (x ∷ xs) = ap (λ b. p (f x) || b) (list_any-map f p xs)
 
--- tests that agree on every item agree on whether some item passes
+-- if two tests agree on every item, they agree on whether some item of a list passes
 pub list_any_same : {X : Type 0} (p q : X → Bool) → ((x : X) → p x ≡ q x) → (xs : List X) → list_any p xs ≡ list_any q xs
 list_any_same p q h [] = refl
 list_any_same p q h (x ∷ xs) = ap (λ b. b || list_any p xs) (h x) ∙ ap (λ b. q x || b) (list_any_same p q h xs)
@@ -41,7 +40,7 @@ pub none_of_zeros : (n : ℕ) → list_any (λ bit. bit) (replicate n false) ≡
 none_of_zeros zero = refl
 none_of_zeros (suc n) = none_of_zeros n
 
--- a range that is longer by one number
+-- a range that is longer by one number has this number at its end
 pub range_with_len_more : (a n : ℕ) → range_with_len a (suc n) ≡ range_with_len a n ++ (a + n) ∷ []
 range_with_len_more a zero = ap (λ k. k ∷ []) (omega arith)
 range_with_len_more a (suc n) = ap (λ ks. a ∷ ks) (range_with_len_more (a + 1) n ∙ ap (λ k. range_with_len (a + 1) n ++ k ∷ []) (omega arith))

@@ -26,7 +26,7 @@ pub fn note<T: Drop>(rows: &mut [Items<T>], place: usize, item: T) -> Result<(),
     Ok(())
 }
 
-/// Appends the item to the list at a place. Does nothing without a place or past the end.
+/// Appends the item to the list at a place. Does nothing if there is no place, or if the place is past the end.
 pub fn note_where<T: Drop>(
     rows: &mut [Items<T>],
     place: Option<u32>,
