@@ -1,4 +1,4 @@
--- The lines of a net file as points: their labels, compared with the nets that links join.
+-- The lines of a net file as points: the labels of the points give the new names of the nets that links join.
 use Rattle.std.proofs.Common.{◌≡◌, ℕ, zero, suc, ◌+◌, ◌<◌, ◌≤◌, Bool, true, List, [], ◌∷◌, ◌++◌, length, map, drop, get_or, Option, Some, None, refl, sym, ap, subst, ◌∙◌, arith, true≢false, ◌⊎◌, inl, inr, append_assoc}
 use Rattle.std.specs.Prelude.{All, option_map, unwrap_or}
 use Rattle.std.specs.List.{cons_option, position_from}
@@ -23,11 +23,11 @@ use Rattle.series_parts.proofs.FindLemmas.{place_found, place_none, place_of_ite
 abbrev pub at : List Word → ℕ → Word
 at names i = get_or names i []
 
--- the nets on the lines at the two ends of an edge
+-- the names of the nets on the lines at the two ends of an edge
 abbrev pub ends : List Word → ℕ × ℕ → Pair
 ends names e = (at names e.0, at names e.1)
 
--- the edges of the names so far, and one more line
+-- after the edge of line `i`, the edges so far followed by those of the later names are still all edges
 pub name_edges_step : (all : List Word) (i : ℕ) (name : Word) (first : ℕ) (done whole : Edges) → i < length all → name ≡ at all i → first ≡ unwrap_or (name_place all name) i →
     whole ≡ done ++ name_edges all i (drop i all) → whole ≡ (done ++ (i, first) ∷ []) ++ name_edges all (i + 1) (drop (i + 1) all)
 name_edges_step all i name first done whole within read is same =
@@ -60,7 +60,7 @@ cons_map : {A B : Type 0} (f : A → B) (o : Option A) (xs : List A) → cons_op
 cons_map f None xs = refl
 cons_map f (Some x) xs = refl
 
--- the pairs of nets that LINK lines join are those at the ends of the edges of these lines
+-- the pairs of nets that LINK lines join are the nets at the ends of the edges of these lines
 pub links_ends : (nets : List NetLine) (chain : List ChainLine) → links nets chain ≡ map (ends (line_names nets)) (link_edges nets chain)
 links_ends nets [] = refl
 links_ends nets (line ∷ chain) =
@@ -95,7 +95,7 @@ link_edges_within nets chain e h =
     let r = filter_map_has (λ (line : ChainLine). edge_on nets line.statement) chain e h in
     subst (λ (n : ℕ). IsWithin n e) (sym (length-map nets (λ (line : NetLine). line.name))) (edge_on_within nets r.0.statement e r.2)
 
--- an edge from a line to the first line with its name; the first of `names` is on line `n`
+-- the edge is from one of these lines to the first line with its name; the first of `names` is on line `n`
 abbrev NameEdge : List Word → ℕ → List Word → ℕ × ℕ → Type 0
 NameEdge all n names e = (k : ℕ) × (k < length names) × (e ≡ (n + k, unwrap_or (name_place all (at names k)) (n + k)))
 
@@ -115,7 +115,7 @@ has_name_edge all n [] k m lt e = absurd (omega arith)
 has_name_edge all n (name ∷ names) zero m lt e = let same : n ≡ m = omega arith in inl (ap (λ m. (m, unwrap_or (name_place all name) m)) same)
 has_name_edge all n (name ∷ names) (suc k) m lt e = inr (has_name_edge all (n + 1) names k m (omega arith) (omega arith))
 
--- the first line that has the name of line `k`
+-- the first line that has the name of line `k`, and the edge from line `k` to it
 record First (names : List Word) (k : ℕ) : Type 0 where
   first : ℕ
   edge : Has (name_edges names 0 names) (k, first)
@@ -148,7 +148,7 @@ is_name_edge names e h =
     let is : (r.0, f.first) ≡ e = ap (λ o. (r.0, unwrap_or o r.0)) (sym f.found) ∙ ap (λ m. (m, unwrap_or (name_place names (at names r.0)) m)) (sym here) ∙ sym r.2 in
     subst (IsNameEdge names) is (record { within = (lt, f.within); same = sym f.same })
 
--- each edge is an edge of names or of a LINK line
+-- each edge is between two lines with the same name, or is the edge of a LINK line
 pub edge_kind : (nets : List NetLine) (chain : List ChainLine) (e : ℕ × ℕ) → Has (edges nets chain) e → IsNameEdge (line_names nets) e ⊎ Has (link_edges nets chain) e
 edge_kind nets chain e h = by_part (has_append (name_edges (line_names nets) 0 (line_names nets)) (link_edges nets chain) e h)
   where
@@ -192,7 +192,7 @@ Labelled n labels es = (e : ℕ × ℕ) → Has es e → IsWithin n e × (get_or
 abbrev OneLabel : List Word → List ℕ → Type 0
 OneLabel names labels = (i j : ℕ) → i < length names → j < length names → at names i ≡ at names j → get_or labels i 0 ≡ get_or labels j 0
 
--- if these links lead from one net to another, the lines of the two nets have the same label
+-- if the links of these edges lead from one net to another, the lines of the two nets have the same label
 abbrev Rest : List Word → List ℕ → Edges → Type 0
 Rest names labels es = (u v : Word) → leads (map (ends names) es) u v ≡ true → (k l : ℕ) → k < length names → l < length names → at names k ≡ u → at names l ≡ v → get_or labels k 0 ≡ get_or labels l 0
 
@@ -258,7 +258,7 @@ same_maps f g [] (y ∷ ys) d e count same = absurd (omega arith)
 same_maps f g (x ∷ xs) [] d e count same = absurd (omega arith)
 same_maps f g (x ∷ xs) (y ∷ ys) d e count same = ap (λ z. z ∷ map f xs) (same 0 (omega arith)) ∙ ap (λ zs. g y ∷ zs) (same_maps f g xs ys d e (omega arith) (λ k lt. same (suc k) (omega arith)))
 
--- the joined names of the nets on all lines
+-- the names on the lines that are the labels are the joined names of the nets on all lines
 pub least_names : (nets : List NetLine) (chain : List ChainLine) (labels : List ℕ) → AreLabels (edges nets chain) labels → length labels ≡ length (line_names nets) →
     map (at (line_names nets)) labels ≡ map (joined_name (links nets chain) (line_names nets)) (line_names nets)
 least_names nets chain labels h count =
@@ -274,7 +274,7 @@ absent : (names : List Word) (es : Edges) (x y : Word) → ((i : ℕ) → i < le
 absent names [] x y none within p = same_is x y p
 absent names (e ∷ es) x y none within p = absent_way names e es x y none (within e (inl refl)) (λ v q. absent names es x v none (λ d has. within d (inr has)) q) (way (ends names e) (map (ends names) es) x y p)
 
--- a name that is on no line stays unchanged
+-- if a net is on no line, its joined name is its own name
 pub kept_name : (nets : List NetLine) (chain : List ChainLine) (name : Word) → name_place (line_names nets) name ≡ None → joined_name (links nets chain) (line_names nets) name ≡ name
 unfolding joined_name
 kept_name nets chain name none =
@@ -294,13 +294,13 @@ renames_by nets chain least name is (Some m) e =
     let inside : m < length names = omega (arith, r.2.within, same) in
     ap (λ l. get_or l m name) is ∙ get_or-map f names m [] name inside ∙ ap (λ i. f (at names i)) same ∙ ap f (same_is (at names r.0) name r.2.passes)
 
--- the new names on the lines determine the new name of every net
+-- the new names of the nets on the lines determine the joined name of every net
 pub renames : (nets : List NetLine) (chain : List ChainLine) (least : List Word) (name : Word) → least ≡ map (joined_name (links nets chain) (line_names nets)) (line_names nets) →
     renamed (line_names nets) least name ≡ joined_name (links nets chain) (line_names nets) name
 unfolding renamed
 renames nets chain least name is = renames_by nets chain least name is (name_place (line_names nets) name) refl
 
--- the labels of the lines determine the new name of every net
+-- the labels of the lines determine the joined name of every net
 pub new_names : (nets : List NetLine) (chain : List ChainLine) (names : List Word) (es : Edges) (labels : List ℕ) (least : List Word) → names ≡ line_names nets → es ≡ edges nets chain → AreLabels es labels → length labels ≡ length names →
     least ≡ map (at names) labels → (name : Word) → renamed names least name ≡ joined_name (links nets chain) names name
 new_names nets chain names es labels least is whole h count e name =
@@ -308,7 +308,7 @@ new_names nets chain names es labels least is whole h count e name =
     let all : least ≡ map (joined_name (links nets chain) (line_names nets)) (line_names nets) = e ∙ ap (λ ns. map (at ns) labels) is ∙ least_names nets chain labels labelled (count ∙ ap length is) in
     ap (λ ns. renamed ns least name) is ∙ renames nets chain least name all ∙ ap (λ ns. joined_name (links nets chain) ns name) (sym is)
 
--- renaming as a function, for the names that the code found
+-- renaming by the names that the code found gives the joined name of each net of a list
 pub renaming_is : (nets : List NetLine) (chain : List ChainLine) (names least seen : List Word) → names ≡ line_names nets → seen ≡ least → ((name : Word) → renamed names least name ≡ joined_name (links nets chain) names name) →
     renamed names seen ≡ renaming chain nets
 renaming_is nets chain names least seen is same h =

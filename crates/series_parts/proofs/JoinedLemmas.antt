@@ -34,7 +34,7 @@ joined_min : (edges : Edges) (x a b : ℕ) → Joined edges x a → Joined edges
 joined_min edges x a b p q (inl e) = subst (λ (y : ℕ). Joined edges x y) (sym e) p
 joined_min edges x a b p q (inr e) = subst (λ (y : ℕ). Joined edges x y) (sym e) q
 
--- a point is joined with its label after one more edge between points with the labels `a` and `b`
+-- if an edge is added between points with the labels `a` and `b`, each point is joined with its new label
 lowered_joined : (edges : Edges) (x a b v : ℕ) → Joined edges x v → Joined edges a b → (v ≡ a) ⊎ (v ≡ a → ⊥) → (v ≡ b) ⊎ (v ≡ b → ⊥) → Joined edges x (lowered a b v)
 lowered_joined edges x a b v p edge (inl e) other =
     let first : Joined edges x a = subst (λ (y : ℕ). Joined edges x y) e p in
@@ -53,7 +53,7 @@ ends_more edges i a b k c d label edge old lt e (inl same) =
     ap (merged label a b) ca ∙ lowered_at (label a) (label b) (label a) (inl refl) ∙ sym (lowered_at (label a) (label b) (label b) (inr refl)) ∙ ap (merged label a b) (sym db)
 ends_more edges i a b k c d label edge old lt e (inr ne) = ap (lowered (label a) (label b)) (old k c d (omega arith) e)
 
--- the labels take one more edge into account
+-- if the labels take the first `i` edges into account, the merged labels take one more edge into account
 pub reflects_more : (edges : Edges) (i a b : ℕ) (old new : List ℕ) (label : ℕ → ℕ) → slice_get edges i ≡ Some (a, b) → Reflects edges i old label → IsLabelling new (merged label a b) → Reflects edges (i + 1) new (merged label a b)
 reflects_more edges i a b old new label edge h labelling =
     let between : Joined edges (label a) (label b) = joined_trans edges (label a) a (label b) (joined_sym edges a (label a) (h.joined a)) (along i edge (h.joined b)) in
@@ -63,7 +63,7 @@ reflects_more edges i a b old new label edge h labelling =
       ends = λ k c d lt e. ends_more edges i a b k c d label edge h.ends lt e (cases_eq k i);
     }
 
--- the labels before any edge
+-- if each point is its own parent, the labels that are the points take no edge into account
 pub reflects_none : (edges : Edges) (parents : List ℕ) → ((x : ℕ) → x < length parents → get_or parents x 0 ≡ x) → Reflects edges 0 parents (λ x. x)
 reflects_none edges parents own = record {
   labelling = record {
@@ -76,7 +76,7 @@ reflects_none edges parents own = record {
   ends = λ k a b lt e. absurd (omega arith);
 }
 
--- the labels that were read are those of all edges
+-- if labels take all edges into account, the list of these labels has the labels of the edges
 pub labels_read : (edges : Edges) (parents labels : List ℕ) (label : ℕ → ℕ) → ((k a b : ℕ) → slice_get edges k ≡ Some (a, b) → (a < length labels) × (b < length labels)) →
     ((x : ℕ) → x < length labels → get_or labels x 0 ≡ label x) → Reflects edges (length edges) parents label → AreLabels edges labels
 labels_read edges parents labels label ends read h = record {

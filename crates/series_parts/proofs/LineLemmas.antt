@@ -1,4 +1,4 @@
--- Properties of the lines that joining does not change.
+-- The properties of lines that joining does not change.
 use Rattle.std.proofs.Common.{◌≡◌, ℕ, false, cond, ◌||◌, List, [], ◌∷◌, map, Option, Some, None, refl, sym, ap, ◌∙◌}
 use Rattle.std.specs.Prelude.{find, Ok, unwrap_or}
 use Rattle.std.specs.List.{AllByRecursion, cons_option}

@@ -1,4 +1,4 @@
--- The function that gives joined files meets the relation of joined files.
+-- The files that `joined_chain` and `joined_nets` define are the joined files, and there are no others.
 use Rattle.std.proofs.Common.{◌≡◌, ℕ, zero, suc, ◌<◌, ◌≤◌, Bool, true, false, List, [], ◌∷◌, length, map, get_or, Option, Some, None, refl, sym, ap, subst, ◌∙◌, arith, true≢false, inl, inr}
 use Rattle.std.specs.Prelude.{Contains, slice_get, find, unwrap_or}
 use Rattle.std.proofs.lemmas.Option.{slice_get-get_or, slice_get_within, get_or_from_slice_get, some_pair_parts, none-some}
@@ -23,7 +23,7 @@ joined_trans chain nets a b c itself q = q
 joined_trans chain nets a b c (along {b = d} link p) q = along link (joined_trans chain nets d b c p q)
 joined_trans chain nets a b c (back {b = d} link p) q = back link (joined_trans chain nets d b c p q)
 
--- the pairs of nets that the relation links are those of the function
+-- two nets are linked in the relation if and only if they are a pair of `links`
 has_of_link : (chain : List ChainLine) (nets : List NetLine) (a b : Word) → IsLink chain nets a b → Has (links nets chain) (a, b)
 has_of_link chain nets a b link =
     let line : ChainLine = record { line = link.line; statement = Link link.part link.first link.second } in
@@ -51,7 +51,7 @@ link_of_has chain nets p h =
     let s = has_place chain r.0 r.1 in
     link_at chain nets p.0 p.1 s.0 r.0.line r.0.statement s.1 r.2
 
--- two nets are joined if and only if the links lead from one to the other
+-- two nets are joined in the relation if and only if `leads` is true of them
 pub joined_leads_to : (chain : List ChainLine) (nets : List NetLine) (a b : Word) → AreJoined chain nets a b → leads (links nets chain) a b ≡ true
 joined_leads_to chain nets a b itself = leads_self (links nets chain) a
 joined_leads_to chain nets a b (along {b = d} link p) = leads_forth (links nets chain) a d b (has_of_link chain nets a d link) (joined_leads_to chain nets d b p)
@@ -123,7 +123,7 @@ kept_by : (chain : List ChainLine) (nets : List NetLine) (name : Word) → (Cont
 kept_by chain nets name none None e = kept_name nets chain name e
 kept_by chain nets name none (Some m) e = absurd (none (contains_found (line_names nets) name m e))
 
--- the function replaces each name as the relation says
+-- the renaming function replaces each name as the relation requires
 pub replaced : (chain : List ChainLine) (nets : List NetLine) (name : Word) → IsReplaced chain nets name (renaming chain nets name)
 replaced chain nets name = record {
   there = λ has. least_joined chain nets name has;
@@ -183,7 +183,7 @@ line_once chain nets old new h = let said = statement_once chain nets old.statem
 net_once : (chain : List ChainLine) (nets : List NetLine) (old new : NetLine) → IsJoinedNet chain nets old new → new ≡ joined_net (renaming chain nets) old
 net_once chain nets old new h = let name = replaced_once chain nets old.name new.name h.name in λ i. record { line = h.line i; name = name i; pins = h.pins i }
 
--- the files of the function are joined files
+-- the files that the functions define are joined files
 pub files_joined : (chain : List ChainLine) (nets : List NetLine) → AreJoinedFiles chain nets (joined_chain chain nets) (joined_nets chain nets)
 files_joined chain nets = record {
   chain_lines = each_map (IsJoinedLine chain nets) (joined_line (renaming chain nets)) (λ line. record { line = refl; statement = statement_joined chain nets line.statement }) chain;

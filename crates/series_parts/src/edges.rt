@@ -26,7 +26,7 @@ fn edge_between(pins: &Pins<'_>, part: &[u8], first: &[u8], second: &[u8]) -> Op
     edge_of(pins.place_of(part, first), pins.place_of(part, second))
 }
 
-/// Returns the edge of a LINK line. Returns None for any other line, and if a pin is on no line.
+/// Returns the edge of a LINK line. Returns None for any other line, or if one of the pins is on no line.
 fn edge_on(pins: &Pins<'_>, statement: &ChainStatement) -> Option<(usize, usize)>
     ensures { result ≡ edge_on pins.now statement.now }
 {

@@ -1,4 +1,4 @@
--- One more label is read.
+-- Each step of the loop reads one more label.
 use Rattle.std.proofs.Common.{◌≡◌, ◌∷◌, [], ◌++◌, length, get_or, ap, ◌∙◌, sym, arith, rules}
 use Rattle.series_parts.proofs.JoinedLemmas.{pushed}
 use Rattle.series_parts.proofs.classes.roots.Goals as goal
