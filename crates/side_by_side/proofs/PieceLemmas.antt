@@ -1,4 +1,4 @@
--- The first items of pieces, and how statements on all pieces give one on all items.
+-- The items at which pieces begin, and a fact about all items that follows from the facts about each piece.
 use Rattle.std.proofs.Common.{◌≡◌, ℕ, zero, suc, ◌+◌, ◌*◌, ◌/◌, ◌<◌, ◌≤◌, inl, inr, List, [], ◌∷◌, length, Result, Ok, Err, sym, ap, ◌∙◌, refl, append-nil, subst, arith}
 use Rattle.std.specs.Prelude.{slice_index_or}
 use Rattle.std.proofs.Math.Nat.{div-mul-le_self, mul-div_left, mul-le-mul_right}
@@ -32,9 +32,9 @@ of_one_piece view Gives IsRefusal items (Ok v) gives =
 of_one_piece view Gives IsRefusal items (Err fault) gives =
     inr (record { answers = Err fault ∷ []; count = refl; each = λ number none less. only_answer (λ n answer. Gives (piece_of items 1 n) answer) (Err fault) number none less gives; is = refl })
 
--- `Says from to said` is a statement on the items `from..to`
+-- `Says from to said` is a statement about the items `from..to`
 module _ {T E : Type 0} (items : ℕ) (Says : ℕ → ℕ → Result (List T) E → Type 0) where
-  -- an empty range gives an empty list, and statements on two neighboring ranges give one on the two together
+  -- the statement is true of an empty range and an empty list; if it is true of two neighboring ranges, it is true of the two together
   pub record IsOfRanges : Type 0 where
     pub nothing : (i : ℕ) → Says i i (Ok [])
     pub both : (from middle to : ℕ) (said later : Result (List T) E) → from ≤ middle → middle ≤ to → to ≤ items → Says from middle said → Says middle to later → Says from to (said_then said later)
@@ -43,7 +43,7 @@ module _ {T E : Type 0} (items : ℕ) (Says : ℕ → ℕ → Result (List T) E 
     abbrev start : ℕ → ℕ
     start number = piece_start items pieces number
 
-    -- the joined answers of the pieces from piece `k` on
+    -- if the statement is true of each piece from piece `k` on, it is true of all their items and the joined answers
     from_piece : (answers : List (Result V E)) (k : ℕ) → k + length answers ≡ pieces → ((i : ℕ) (none : Result V E) → i < length answers → Says (start (k + i)) (start (k + i + 1)) (seen view (slice_index_or answers i none))) → Says (start k) items (together view answers)
     from_piece [] k count each =
         let last : k ≡ pieces = omega (arith, count) in

@@ -5,7 +5,7 @@ use Rattle.std.proofs.lemmas.List.{drop_more, drop-drop}
 use Rattle.side_by_side.specs.Pieces.{items_between}
 
 module _ {X : Type 0} (items : List X) where
-  -- two neighboring ranges, joined
+  -- the items of a range are those of its two parts, joined
   pub range_sum : (from middle to : ℕ) → from ≤ middle → middle ≤ to → items_between items from to ≡ items_between items from middle ++ items_between items middle to
   range_sum from middle to low high =
       let sum : to - from ≡ (middle - from) + (to - middle) = omega arith in

@@ -13,7 +13,7 @@ piece_of items pieces number = record { number = number; first = piece_start ite
 abbrev pub items_between : {X : Type 0} → List X → ℕ → ℕ → List X
 items_between items from to = take (to - from) (drop from items)
 
--- the list, followed by the list of a later answer, or that answer's fault
+-- the list followed by the list of a later answer, or the fault if the later answer is one
 abbrev pub after : {T E : Type 0} → List T → Result (List T) E → Result (List T) E
 after list (Ok later) = Ok (list ++ later)
 after list (Err fault) = Err fault
@@ -33,7 +33,7 @@ abbrev pub together : {V T E : Type 0} → (V → List T) → List (Result V E) 
 together view [] = Ok []
 together view (answer ∷ later) = said_then (seen view answer) (together view later)
 
--- the answers of all pieces, joined, give `said`
+-- each of the pieces has an answer that `Gives` allows, and these answers, joined, are `said`
 pub record IsOfPieces {V T E : Type 0} (view : V → List T) (Gives : Piece → Result V E → Type 0) (items pieces : ℕ) (said : Result (List T) E) : Type 0 where
   pub answers : List (Result V E)
   pub count : length answers ≡ pieces
