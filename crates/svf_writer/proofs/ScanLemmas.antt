@@ -48,7 +48,7 @@ compares-scan_bits tdi tdo mask o m = sym (list_any-mask_bits (scan_bits tdi tdo
 pub length-scan_bits : (tdi tdo mask : List Bool) → length tdo ≡ length tdi → length mask ≡ length tdi → length (scan_bits tdi tdo mask) ≡ length tdi
 length-scan_bits tdi tdo mask o m = sym (length-map (scan_bits tdi tdo mask) (λ b. b.tdi)) ∙ ap length (tdi_bits-scan_bits tdi tdo mask o m)
 
--- the conditions on the rows of a scan that is written
+-- the conditions on the rows of a scan that is written: equal lengths, MASK wherever TDO has a 1, and the right flag
 pub record Written (tdi tdo mask : List Bool) (compare : Bool) : Type 0 where
   pub same_tdo : length tdo ≡ length tdi
   pub same_mask : length mask ≡ length tdi
@@ -90,7 +90,7 @@ fields_text-lines : (tdi tdo mask : List Bool) (compare : Bool) → fields_text 
 fields_text-lines tdi tdo mask true = simp append_assoc
 fields_text-lines tdi tdo mask false = simp append_assoc
 
--- the text of a scan that fits into one line
+-- if the statement of a scan fits into one line, this line is its text
 pub scan_text-short : (ir : Bool) (tdi tdo mask : List Bool) (compare : Bool) → Written tdi tdo mask compare → length (command_text ir tdi) + fields_length compare (digit_count (length tdi)) ≤ 80 → scan_text (scan_of ir tdi tdo mask) ≡ command_text ir tdi ++ (fields_text false tdi tdo mask compare ++ 10 ∷ [])
 scan_text-short ir tdi tdo mask compare w short =
     let fits : ltb 80 (length (form false (scan_of ir tdi tdo mask))) ≡ false =
@@ -99,7 +99,7 @@ scan_text-short ir tdi tdo mask compare w short =
     ∙ ap (λ t. t ++ 10 ∷ []) (form-rows false ir tdi tdo mask compare w)
     ∙ append_assoc (command_text ir tdi) (fields_text false tdi tdo mask compare) (10 ∷ [])
 
--- the text of a scan that does not fit into one line
+-- if the statement of a scan does not fit into one line, its text is the command followed by the fields in lines of their own
 pub scan_text-long : (ir : Bool) (tdi tdo mask : List Bool) (compare : Bool) → Written tdi tdo mask compare → 80 < length (command_text ir tdi) + fields_length compare (digit_count (length tdi)) → scan_text (scan_of ir tdi tdo mask) ≡ (command_text ir tdi ++ 10 ∷ []) ++ fields_lines tdi tdo mask compare
 scan_text-long ir tdi tdo mask compare w more =
     let long : ltb 80 (length (form false (scan_of ir tdi tdo mask))) ≡ true =
@@ -110,7 +110,7 @@ scan_text-long ir tdi tdo mask compare w more =
     ∙ ap (λ t. command_text ir tdi ++ t) (fields_text-lines tdi tdo mask compare)
     ∙ sym (append_assoc (command_text ir tdi) (10 ∷ []) (fields_lines tdi tdo mask compare))
 
--- the line with the command, if the fields fit into it
+-- if the fields fit into the line of the command, this line with the fields is the text of the scan
 pub line_short : (ir : Bool) (tdi tdo mask : List Bool) (compare : Bool) (line : List ℕ) → Written tdi tdo mask compare → line ≡ command_text ir tdi → length line + fields_length compare (digit_count (length tdi)) ≤ 80 → line ++ (fields_text false tdi tdo mask compare ++ 10 ∷ []) ≡ scan_text (scan_of ir tdi tdo mask)
 line_short ir tdi tdo mask compare line w begun short =
     ap (λ t. t ++ (fields_text false tdi tdo mask compare ++ 10 ∷ [])) begun
@@ -119,14 +119,14 @@ line_short ir tdi tdo mask compare line w begun short =
 not_short : (n : ℕ) → (n ≤ 80 → false ≡ true) → 80 < n
 not_short n refused = elim (cases_lt 80 n) [ inl more ↦ more | inr short ↦ (let bad : false ≡ true = refused short in absurd cc) ]
 
--- the line with the command, if the fields do not fit into it
+-- if the fields do not fit into the line of the command, the command and the fields in lines of their own are the text of the scan
 pub line_long : (ir : Bool) (tdi tdo mask : List Bool) (compare : Bool) (line : List ℕ) → Written tdi tdo mask compare → line ≡ command_text ir tdi → (length line + fields_length compare (digit_count (length tdi)) ≤ 80 → false ≡ true) → (line ++ 10 ∷ []) ++ fields_lines tdi tdo mask compare ≡ scan_text (scan_of ir tdi tdo mask)
 line_long ir tdi tdo mask compare line w begun refused =
     ap (λ t. (t ++ 10 ∷ []) ++ fields_lines tdi tdo mask compare) begun
     ∙ sym (scan_text-long ir tdi tdo mask compare w
     (subst (λ t. 80 < length t + fields_length compare (digit_count (length tdi))) begun (not_short (length line + fields_length compare (digit_count (length tdi))) refused)))
 
--- rows that hold the bits of a scan give that scan, and are masked
+-- rows that have the bits of a scan give this scan, and wherever TDO has a 1, MASK has a 1
 pub scan_of_rows : (bits : List ScanBit) (tdi tdo mask : List Bool) → tdi ≡ tdi_bits bits → tdo ≡ tdo_bits bits → mask ≡ mask_bits bits → scan_bits tdi tdo mask ≡ bits
 scan_of_rows bits tdi tdo mask is_tdi is_tdo is_mask =
     ap (λ t. scan_bits t tdo mask) is_tdi ∙ ap (λ t. scan_bits (tdi_bits bits) t mask) is_tdo ∙ ap (scan_bits (tdi_bits bits) (tdo_bits bits)) is_mask

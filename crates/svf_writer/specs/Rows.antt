@@ -5,7 +5,7 @@ use Rattle.std.specs.Prelude.{◌≡◌, ℕ, ◌+◌, ◌≤◌, Bool, true, fa
 abbrev pub IsMasked : List Bool → List Bool → Type 0
 IsMasked tdo mask = (i : ℕ) → slice_index_or tdo i false ≡ true → slice_index_or mask i false ≡ true
 
--- the room is enough for both scans of the chain test of parts with these instruction lengths
+-- a row with this room can have the bits of each scan of the chain test of parts with these instruction lengths
 pub record IsRoom (lengths : List ℕ) (room : ℕ) : Type 0 where
   pub codes : sum lengths ≤ room
   pub marks : length lengths + 8 ≤ room

@@ -29,7 +29,7 @@ fn fill_ones(len: u32, row: &mut Row)
     }
 }
 
-// Sets the bits of the marks A5 that are 1. The lowest bit of A5 has position `at`. No other bit changes.
+// Sets the bits of the marks A5 that are 1. The lowest bit of A5 is at position `at`. No other bit changes.
 fn set_marks(at: u32, row: &mut Row)
     requires few { at ≤ most_parts }
     requires bits { at + 8 ≤ length row.old.bits }
@@ -56,8 +56,7 @@ fn fill_marks(parts: u32, rows: &mut ScanRows)
     fill_ones(parts + MARKS, rows.mask);
 }
 
-// Sets the compared bits of one part's instruction register: the value 01 in the two lowest bits. The lowest bit has
-// position `at`.
+// Sets the compared bits of one part's instruction register, which are 01 in the two lowest bits. The lowest bit is at position `at`.
 fn set_capture(at: u32, tdo: &mut Row, mask: &mut Row)
     requires few { at ≤ most_bits }
     requires tdo { at + 2 ≤ length tdo.old.bits }

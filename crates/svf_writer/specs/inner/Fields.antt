@@ -3,7 +3,7 @@ use Rattle.std.specs.Prelude.{ℕ, ◌+◌, ◌*◌, Bool, true, false, List, �
 use Rattle.bt_bits.specs.Hex.{hex_text}
 use Rattle.tap_defs.specs.chain.Text.{command_word, gap, laid, broken}
 
--- the command and the length of a scan
+-- the command of a scan statement and the scan's length in bits
 abbrev pub command_text : Bool → List Bool → List ℕ
 command_text ir tdi = command_word ir ++ 32 ∷ decimal (length tdi)
 
@@ -22,7 +22,7 @@ abbrev pub fields_length : Bool → ℕ → ℕ
 fields_length true digits = 3 * digits + 23
 fields_length false digits = digits + 8
 
--- the text of the fields, each in lines of its own
+-- the text of the fields if each field is in lines of its own
 abbrev pub fields_lines : List Bool → List Bool → List Bool → Bool → List ℕ
 fields_lines tdi tdo mask false = codes "TDI (" ++ (broken 64 (hex_text tdi) ++ codes ");\n")
 fields_lines tdi tdo mask true =
