@@ -1,4 +1,4 @@
--- Lemmas on the board around its chain.
+-- Lemmas about the board around its chain.
 pub mod InTestLemmas
 pub mod RowScanLemmas
 pub mod WrongLemmas

@@ -1,4 +1,4 @@
--- Lemmas on the chain.
+-- Lemmas about the chain.
 pub mod ListLemmas
 pub mod MoveLemmas
 pub mod RunLemmas

@@ -104,7 +104,7 @@ walk_harmless board walk rules safe =
     only zero p e = let z : walk ≡ p = cc e in subst (λ (q : List Ctl). IsSafe board (holds q)) z safe
     only (suc x) p e = cc e
 
--- if each pass is safe, the text of the passes may be applied to the board, whatever the codes are
+-- if each pass is safe, the text of the passes is harmless, whatever the width of the codes
 pub passes_harmless : (board : RawBoard) (passes : List (List Ctl)) (width : ℕ) → IsBoard board →
     ((x : ℕ) (pass : List Ctl) → slice_get passes x ≡ Some pass → IsSafe board (holds pass)) →
     IsHarmless board (pass_text board passes width)

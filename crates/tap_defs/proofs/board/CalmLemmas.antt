@@ -1,4 +1,4 @@
--- The scans of a whole test are quiet.
+-- If every pass is safe, the text of the passes keeps the board quiet.
 use Rattle.std.specs.Prelude.{option_map, slice_get}
 use Rattle.std.proofs.Common.{◌≡◌, false, ◌<◌, List, suc, ◌∷◌, ◌∙◌, ◌++◌, true, Some, None, Bool, zero, [], ℕ, Option, ◌&&◌, refl, length, arith, cond, append_assoc, subst, sym, ap, map, inl, take, drop}
 use Rattle.board_defs.specs.declared.board.Net.{Net}
@@ -87,7 +87,7 @@ pub record Moment (board : RawBoard) (setting : Enabling) (s : List PinState) : 
 moment_off : (board : RawBoard) (setting : Enabling) (s : List PinState) → IsOff s → Moment board setting s
 moment_off board setting s off = record { quiet_moment = off_quiet board s off; within = λ n net i p en ei on. absurd (both_ways (live board s p) (off_live board s off p) on) }
 
--- a smaller setting enables no more drivers
+-- the big setting contains every control of the small one
 abbrev pub Within : Enabling → Enabling → Type 0
 Within small big = (c : Ctl) → small c ≡ true → big c ≡ true
 
@@ -121,7 +121,7 @@ moments_apart : (board : RawBoard) (setting : Enabling) → IsSafe board setting
     Moment board setting next → IsUncontested board now next
 moments_apart board setting safe now next f g = uncontested board setting safe now next f.within g.within
 
--- the setting without controls is safe
+-- the setting without controls, which is safe
 abbrev pub nothing : Enabling
 nothing c = false
 
@@ -149,7 +149,7 @@ nothing_safe board rule = record {
     always_on : (net : Net) (p : NetPin) → enables board nothing p ≡ true → drive board net p ≡ Some AlwaysOn
     always_on net p h = by_at net p.at h
 
--- during these clocks the board stays quiet, provided that it stays quiet afterwards
+-- if the board stays quiet after these clocks, it stays quiet during them, too
 abbrev pub StaysBy : RawBoard → Wiring → List Clock → Choices → List ChainPart → Type 0
 StaysBy board wiring cs free chain = (rest : List (List PinState)) → StaysQuiet board (pin_states (run wiring cs free chain)) rest → StaysQuiet board (pin_states chain) (shown wiring cs free chain ++ rest)
 
@@ -235,7 +235,7 @@ preload_off (p ∷ ps) (n ∷ chain) e =
     one (Described device) = refl
     one (WithoutDescription m) = refl
 
--- the scans of passes stay quiet, and leave the quiet row in the latches
+-- during these clocks the board stays quiet, and after them the quiet row is in the latches
 pub record Stayed (board : RawBoard) (wiring : Wiring) (clocks : List Clock) (free : Choices) (chain : List ChainPart) : Type 0 where
   pub stays : StaysBy board wiring clocks free chain
   pub last : TestRow
@@ -310,7 +310,7 @@ module _ (board : RawBoard) (rules : IsBoard board) (faults : FaultSet) where
       (stay_scans (setting p) (safe 0 p refl) (rows p) (within p) width 0 quiet_row before (nothing_within (setting p)) free chain h)
       (λ f m b k. stay_passes setting rows width ps (λ x. safe (suc x)) within b f m k)
 
-  -- the tail stays quiet
+  -- if the quiet row is in the latches, the board stays quiet during the tail
   tail_stays : (before : TestRow) (free : Choices) (chain : List ChainPart) → IsBoardChain board chain →
       InTest board (shifted_row board (record { now = quiet_row; before = before })) chain → StaysBy board around reset_clocks free chain
   unfolding run shown
@@ -352,7 +352,7 @@ module _ (board : RawBoard) (rules : IsBoard board) (faults : FaultSet) where
       let off : LogicsOff (logics n4) = subst (λ (l : List TestLogic). LogicsOff l) (sym (run_logics around four free states ∙ start.logics_are)) (logics_off board.chain) in
       chain_off n4 (pins_at around (f 0) n4) (f 0).parts true (f 0).tdi (run_resets around free states) off
 
-  -- a whole run stays quiet from the fifth clock on
+  -- if every pass is safe, the board stays quiet from the fifth clock of the text to its end
   whole_stays : (setting : List Ctl → Enabling) (rows : List Ctl → ℕ → TestRow) (width : ℕ) (ps : List (List Ctl)) →
       ((x : ℕ) (p : List Ctl) → slice_get ps x ≡ Some p → IsSafe board (setting p)) →
       ((p : List Ctl) (j : ℕ) → Within (rows p j).setting (setting p)) → (states : List ChainPart) (free : Choices) →
@@ -411,7 +411,7 @@ module _ (board : RawBoard) (rules : IsBoard board) (faults : FaultSet) where
       let whole = stays_two board around (plain false ∷ rest0) reset_clocks f5 fifth scans tail in
       (m5.quiet_moment, subst (λ (l : List (List PinState)). StaysQuiet board (pin_states fifth) l) (append-nil (shown around ((plain false ∷ rest0) ++ reset_clocks) f5 fifth)) (whole [] tt))
 
-  -- the text of safe passes is quiet
+  -- if every pass is safe, the text of the passes is quiet
   pub whole_quiet : (setting : List Ctl → Enabling) (rows : List Ctl → ℕ → TestRow) (width : ℕ) (ps : List (List Ctl)) →
       ((x : ℕ) (p : List Ctl) → slice_get ps x ≡ Some p → IsSafe board (setting p)) →
       ((p : List Ctl) (j : ℕ) → Within (rows p j).setting (setting p)) → (states : List ChainPart) (free : Choices) →

@@ -32,7 +32,7 @@ use Rattle.tap_defs.proofs.board.RowScanLemmas.{row_scan_by}
 use Rattle.tap_defs.proofs.board.EntryLemmas.{stays_of, row_scan_some, AllSilent, quiet_silent, entered, f3, scan2, in_test_after}
 use Rattle.tap_defs.proofs.chain.HeadLemmas.{scans_decide}
 
--- the visible state of a part while the row is in its latches
+-- if a part is under test and its latches hold its bits of the row, its visible state is the one that the row gives
 part_shows : (board : RawBoard) (t : RowScan) (k : ℕ) (kind : PartKind) (logic : TestLogic) (s : PartState) → logic ≡ test_logic kind →
     IsStateOf logic s →
     s.current ≡ in_test kind → held_bits s ≡ tdi_bits (part_bits board t k kind) → record { current = s.current; latches = s.latches } ≡ shown_by_part board t.now k kind
@@ -84,7 +84,7 @@ module _ (board : RawBoard) (rules : IsBoard board) (faults : FaultSet) where
   abbrev Held : TestRow → TestRow → List ChainPart → Type 0
   Held row before chain = IsBoardChain board chain × InTest board (shifted_row board (record { now = row; before = before })) chain
 
-  -- one scan, with what it compares and what it leaves in the chain
+  -- the result of one scan: it compares its bits with those that the board captures for the row, and then its own row is in the latches
   record Scanned (t : RowScan) (row : TestRow) (scan : Scan) (free : Choices) (chain : List ChainPart) : Type 0 where
     compares : run_passes (scan_clocks scan) (tdos around (scan_clocks scan) free chain) ≡ scan_passes scan.bits (row_captured board faults row (free 2))
     held : Held t.now t.before (run around (scan_clocks scan) free chain)
@@ -105,7 +105,7 @@ module _ (board : RawBoard) (rules : IsBoard board) (faults : FaultSet) where
             held = (stays_of board rules faults (sdr_clocks scan.bits) free chain h.0, d.in_test);
           }
 
-  -- if the scans pass with the bits that are captured, a run of the scans passes
+  -- if the scans pass with the bits that the board captures for their rows, a run of the scans passes
   pub run_follows : (ts : List RowScan) (scans : List Scan) (row before : TestRow) (free : Choices) (chain : List ChainPart) →
       Held row before chain → ShiftRows board ts scans →
       CapturesPass board faults row ts scans → run_passes (all_clocks scans) (tdos around (all_clocks scans) free chain) ≡ true
@@ -277,7 +277,7 @@ pub silent_compares : (bits : List ScanBit) → AllSilent bits → compares bits
 silent_compares [] h = refl
 silent_compares (b ∷ bits) h = ap (λ (o : Option Bool). is_some o || compares bits) h.0 ∙ silent_compares bits h.1
 
--- some state of a part's test logic
+-- a state of a part with this test logic, in which all registers and latches are 0
 abbrev some_state : TestLogic → PartState
 some_state logic = record {
   tap = RunTestIdle;
@@ -311,8 +311,8 @@ some_start board = record { logics_are = same (board_logics board); states_are =
       states parts,
     )
 
--- The head of a test and its first three scans. With a log in place of the expected bits they compare nothing, and the parts
--- enter EXTEST as before.
+-- The head of a test and its first three scans. With a log in place of the expected bits, these scans compare nothing, and
+-- the parts still have EXTEST after them.
 module _ (board : RawBoard) (rules : IsBoard board) (faults : FaultSet) (ts : List RowScan) (log : List (List Bool)) where
   abbrev env : Wiring
   env = board_wiring board faults
@@ -387,7 +387,7 @@ module _ (board : RawBoard) (rules : IsBoard board) (faults : FaultSet) (ts : Li
         ∙ after-append (sir_clocks preload) (sdr_clocks quiet ++ sir_clocks extest) f
         ∙ after-append (sdr_clocks quiet) (sir_clocks extest) (choices_after (sir_clocks preload) f)
 
-    -- only the scans of the rows decide whether the run agrees with the log
+    -- whether a run agrees with the log depends only on the scans of the rows
     pub log_decides : run_passes (test_clocks (scans_by_log (board_scans board ts) log)) (tdos env (test_clocks (scans_by_log (board_scans board ts) log)) free chain)
         ≡ run_passes (all_clocks compared) (tdos env (all_clocks compared) left under_extest)
     log_decides =

@@ -33,7 +33,8 @@ filled_inv zero g j a e = cc e
 filled_inv (suc n) g zero a e = (omega arith, cc e)
 filled_inv (suc n) g (suc j) a e = let r = filled_inv n (λ k. g (suc k)) j a e in (omega (arith, r.0), r.1)
 
--- a value for each cell of a described part, and one for any other part, joined as in a data scan
+-- a value for each cell of a described part, and one value for any other part; the values of all parts are joined in the
+-- order of a data scan
 module _ {A : Type 0} (f : ℕ → RawDevice → ℕ → A) (z : A) where
   abbrev pub part_laid : ℕ → PartKind → List A
   part_laid k (Described device) = filled device.boundary (λ cell. f k device cell)
@@ -74,7 +75,7 @@ module _ {A : Type 0} (f : ℕ → RawDevice → ℕ → A) (z : A) where
       front_at (joined (laid (suc k) ps)) (part_laid k q.kind) at (slice_get_within (joined (laid (suc k) ps)) at (f (suc k + n) device cell) ih)
       ∙ ih ∙ ap (λ (m : ℕ). Some (f m device cell)) moved
 
-  -- the site of a position: a cell of a described part, or the only bit of another part
+  -- the owner of the value at position `i` of the joined values: a cell of a described part, or another part
   pub data Site (k : ℕ) (ps : List Part) (i : ℕ) (a : A) : Type 0 where
     cell_site : (n : ℕ) (p : Part) (device : RawDevice) (cell : ℕ) → slice_get ps n ≡ Some p → p.kind ≡ Described device → cell < device.boundary →
         i ≡ bits_of (drop (suc n) ps) + cell → f (k + n) device cell ≡ a → Site k ps i a
@@ -107,7 +108,7 @@ module _ {A : Type 0} (f : ℕ → RawDevice → ℕ → A) (z : A) where
           let at : i ≡ length (joined (laid (suc k) ps)) + j = omega (arith, le) in
           by_kind j at q.kind refl (sym (rest_at (joined (laid (suc k) ps)) (part_laid k q.kind) j i at) ∙ e)
 
--- the bits of a scan are the bits of its cells
+-- the scan bit of a cell; the bits of a data scan are those of the cells of its parts
 abbrev pub scan_cell : RawBoard → RowScan → ℕ → RawDevice → ℕ → ScanBit
 scan_cell board t part device cell = record { tdi = row_bit board t.now part device cell; expect = expect_bit board t.before part device cell }
 
@@ -122,7 +123,7 @@ bits_laid board t k (p ∷ ps) = cons_path (one p.kind) (bits_laid board t (suc 
     one (Described device) = refl
     one (WithoutDescription n) = refl
 
--- the bits that a scan captures are those that its cells capture
+-- the bit that a cell captures in these visible states; the bits that a data scan captures are those of the cells of its parts
 abbrev pub captured_cell : RawBoard → FaultSet → List PinState → Choice → ℕ → RawDevice → ℕ → Bool
 captured_cell board faults states choice part device cell = read_entry board faults states choice.shorts ((choice.parts part).cells cell) part (reading_entry device cell)
 
@@ -153,7 +154,7 @@ captured_laid board faults row choice =
         ap (λ (o : Option Part). register_of p.kind (unwrap_or (option_map (λ q. captured_by board faults states choice.shorts (choice.parts j).cells j q.kind) o) [])) e
         ∙ by_kind j p.kind
 
--- rows that agree wherever they are compared, seen at one position
+-- if two rows agree wherever a scan compares, their bits at each position agree if that position is compared
 pub agree_at : (bits : List ScanBit) (xs ys : List Bool) (i : ℕ) (b : ScanBit) (x y : Bool) → AgreeWhereCompared bits xs ys →
     slice_get bits i ≡ Some b → slice_get xs i ≡ Some x → slice_get ys i ≡ Some y → AgreeAt b.expect x y
 agree_at [] xs ys i b x y h eb ex ey = cc eb
@@ -173,7 +174,7 @@ agree_from (a ∷ bits) [] ys h = tt
 agree_from (a ∷ bits) (u ∷ xs) [] h = tt
 agree_from (a ∷ bits) (u ∷ xs) (v ∷ ys) h = (h 0 a u v refl refl refl, agree_from bits xs ys (λ i. h (suc i)))
 
--- a compared cell reads a pin that is on a net
+-- if a cell is compared, it reads a pin that is on a net
 module _ (board : RawBoard) (row : TestRow) (part : ℕ) where
   place_by_bit : (o : Option ℕ) (v : Bool) → expect_pin board row part o ≡ Some v →
       (p : Place) × (option_and_then (λ b. place_of (record { part = part; bit = b }) 0 board.nets) o ≡ Some p)
@@ -202,7 +203,7 @@ module _ (board : RawBoard) (row : TestRow) (part : ℕ) where
   pub place_is : (device : RawDevice) (cell : ℕ) (v : Bool) → expect_bit board row part device cell ≡ Some v → (p : Place) × (read_place board part device cell ≡ Some p)
   place_is device cell v e = place_by_entry (reading_entry device cell) v e
 
--- two rows agree wherever the scan compares if and only if each compared cell has the same bit in both
+-- a row agrees with the given bits of the cells wherever the scan compares if and only if it has the given bit of each compared cell
 module _ (board : RawBoard) (t : RowScan) (f : ℕ → RawDevice → ℕ → Bool) (logged : List Bool) where
   abbrev bits : List ScanBit
   bits = joined (row_bits board t)

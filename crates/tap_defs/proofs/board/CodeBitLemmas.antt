@@ -25,7 +25,7 @@ HasBit c w v = (j : ℕ) × (j < w) × (code_bit c j ≡ v)
 shifted : (c w : ℕ) (v : Bool) → HasBit (c / 2) w v → HasBit c (suc w) v
 shifted c w v h = (suc h.0, omega (arith, h.1), later_bit c h.0 ∙ h.2)
 
--- half of a code needs one bit less
+-- if a code fits into `w + 1` bits, half of it fits into `w` bits
 half_below : (c w : ℕ) → c < 2 ^ suc w → c / 2 < 2 ^ w
 half_below c w h = omega (arith, pow-suc 2 w, h)
 
@@ -68,7 +68,7 @@ codes_differ (suc w) c d fc fd ne =
     by_parity zero (suc (suc s)) e f ih = absurd (omega (arith, f))
     by_parity (suc zero) (suc (suc s)) e f ih = absurd (omega (arith, f))
 
--- the count of the items that pass rises at each of them
+-- if the item at place `a` passes, the first `b` items have more passing items than the first `a`, for each `b` above `a`
 pub count_up : {A : Type 0} (p : A → Bool) (xs : List A) (a b : ℕ) (x : A) → slice_get xs a ≡ Some x → p x ≡ true → a < b →
     count_by p (take a xs) < count_by p (take b xs)
 count_up p [] a b x e h lt = cc e

@@ -67,7 +67,7 @@ module _ (board : RawBoard) (rules : IsBoard board) where
       (any_at (λ x. is_some x.expect) (filled c.device.boundary cells) c.cell (cells c.cell) (filled_at c.device.boundary cells c.cell c.below)
       (ap (λ (o : Option Bool). is_some o) (expects board row n net c ∙ carried)))
 
--- a row that observes no net compares nothing
+-- if a row observes no net, no cell is compared in it
 module _ (board : RawBoard) (now row : TestRow) (none : (n : ℕ) (net : Net) → slice_get board.nets n ≡ Some net → observing_driver board row.setting net ≡ None) where
   expects_nothing : (k : ℕ) (device : RawDevice) (cell : ℕ) → expect_bit board row k device cell ≡ None
   expects_nothing k device cell = by_entry (reading_entry device cell)
@@ -114,7 +114,7 @@ filter_all p [] h = refl
 filter_all p (x ∷ xs) h =
     ap (λ (b : Bool). cond b (x ∷ filter p xs) (filter p xs)) (h 0 x refl) ∙ cons_path refl (filter_all p xs (λ i. h (suc i)))
 
--- the scans of a pass without the first, which compares the quiet row
+-- the scans of a pass except its first scan; the first scan compares the quiet row, and the others compare the rows of the pass
 abbrev pub compared_in : (ℕ → TestRow) → ℕ → List RowScan
 compared_in rows width = drop 1 (pass_scans rows width 0 quiet_row)
 
@@ -132,7 +132,7 @@ compared_in_at rows width j h =
     after_first (pass_scans rows width 0 quiet_row) j
     ∙ pass_scan_at rows width width 0 (suc j) (suc j) quiet_row refl (omega arith) (omega arith) (omega (arith, h))
 
--- the scans of all passes without the first of each
+-- if the first scan of each pass is left out, the scans of all passes compare the rows of the passes
 gathered : (rows : List Ctl → ℕ → TestRow) (width : ℕ) (passes : List (List Ctl)) →
     CompareRows rows width passes (flat_map (λ pass. compared_in (rows pass) width) passes)
 gathered rows width passes = record { count = count passes; each = λ x pass j e h. each passes x pass j (x * width + j) e h refl }
@@ -156,7 +156,7 @@ gathered rows width passes = record { count = count passes; each = λ x pass j e
         rest_at (compared_in (rows p) width) (flat_map (λ q. compared_in (rows q) width) ps) (x * width + j) k (omega (arith, length-compared_in (rows p) width, z))
         ∙ each ps x pass j (x * width + j) e h refl
 
--- the setting of each row is that of its pass, and each row carries a bit on every net
+-- rows that have the setting of their pass and carry a bit on every net
 pub record AreRowsOf (rows : List Ctl → ℕ → TestRow) : Type 0 where
   pub setting : (pass : List Ctl) (j : ℕ) → (rows pass j).setting ≡ holds pass
   pub carried : (pass : List Ctl) (j n : ℕ) → (v : Bool) × ((rows pass j).carried n ≡ Some v)
@@ -198,7 +198,7 @@ module _ (board : RawBoard) (rules : IsBoard board) (rows : List Ctl → ℕ →
   first_silent : (now : TestRow) → test (record { now = now; before = quiet_row }) ≡ false
   first_silent now = silent_compares (joined (row_bits board (record { now = now; before = quiet_row }))) (quiet_silent board now 0 board.chain)
 
-  -- the scans of a pass after one that shifted row `i` in
+  -- of the scans of a pass after the one that shifts in row `i`, all compare some bit if `b` is true, and none does if `b` is false
   kept : (pass : List Ctl) (b : Bool) → ((j : ℕ) (now : TestRow) → Row pass j now b) → (more j i : ℕ) →
       filter test (pass_scans (rows pass) more j (rows pass i)) ≡ cond b (pass_scans (rows pass) more j (rows pass i)) []
   kept pass true h zero j i =
@@ -239,7 +239,7 @@ module _ (board : RawBoard) (rules : IsBoard board) (rows : List Ctl → ℕ →
       by_test ih true e = ap (λ (l : List RowScan). l ++ filter test (row_scans rows width ps)) (in_pass p true e width) ∙ ap (λ (l : List RowScan). compared_in (rows p) width ++ l) ih
       by_test ih false e = ap (λ (l : List RowScan). l ++ filter test (row_scans rows width ps)) (in_pass p false e width) ∙ ih
 
-  -- the compared scans are those of the rows of the passes that observe some net
+  -- the scans that compare some bit are those of the rows of the passes that observe some net
   pub compare_rows : (passes : List (List Ctl)) → CompareRows rows width (filter (observes_some board) passes) (compared_scans board (row_scans rows width passes))
   compare_rows passes =
       subst (λ (l : List RowScan). CompareRows rows width (filter (observes_some board) passes) l) (sym (compared_are passes)) (gathered rows width (filter (observes_some board) passes))
@@ -274,7 +274,7 @@ passes_compare board passes width rules are =
     subst (λ (ps : List (List Ctl)). CompareRows (code_row board passes) width ps (compared_scans board (row_scans (code_row board passes) width passes)))
     (all_observe board passes are) (compare_rows board rules (code_row board passes) (code_rows_are board passes) width passes)
 
--- if no net is a walk net, the walking test has no row
+-- if no net is a walk net, the number of walk nets is 0
 none_counted : (p : Net → Bool) (nets : List Net) → list_any p nets ≡ false → count_by p nets ≡ 0
 none_counted p nets h =
     sym (length-filter p nets)

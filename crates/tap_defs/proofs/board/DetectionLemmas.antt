@@ -1,4 +1,4 @@
--- Under every nonempty observable fault set, some scan is wrong.
+-- Under every nonempty observable fault set, some scan of a test is wrong.
 use Rattle.std.proofs.Common.{◌≡◌, ◌≢◌, ℕ, zero, suc, ◌+◌, ◌<◌, ◌==◌, Bool, true, false, not, ◌⊎◌, inl, inr, List, [], ◌∷◌, ◌++◌, Option, Some, None, refl, sym, ◌∙◌, ap, subst, arith}
 use Rattle.std.specs.Prelude.{slice_get, unwrap_or}
 use Rattle.board_defs.specs.declared.board.PinAt.{PinAt}
@@ -37,7 +37,7 @@ after_append : (board : RawBoard) (faults : FaultSet) (row : List (List Bool)) (
 after_append board faults row [] us w = w row
 after_append board faults row (t ∷ ts) us w = inr (after_append board faults (shifted_row board t) ts us w)
 
--- the scan that follows the one that shifts row `j` in is wrong
+-- if the scan after one that shifts row `j` in is wrong, the pass has a wrong scan after row `j`
 next_wrong : (board : RawBoard) (faults : FaultSet) (rows : ℕ → TestRow) (more j : ℕ) (before : TestRow) → WrongAt board faults (rows j) →
     SomeWrong board faults (shifted_row board (record { now = rows j; before = before })) (pass_scans rows more (suc j) (rows j))
 next_wrong board faults rows zero j before w = inl (w before quiet_row)
@@ -62,13 +62,14 @@ in_passes board faults rows width (q ∷ ps) zero p j row e h w =
 in_passes board faults rows width (q ∷ ps) (suc x) p j row e h w =
     after_append board faults row (pass_scans (rows q) width 0 quiet_row) (row_scans rows width ps) (λ r. in_passes board faults rows width ps x p j r e h w)
 
--- the pass observes the net by the pin at place `d`
+-- the pass observes net `n` by the pin at place `d`
 pub record Sees (board : RawBoard) (pass : List Ctl) (n d : ℕ) : Type 0 where
   pub net : Net
   pub rules : NetRules board n net
   pub observing : observing_driver board (holds pass) net ≡ Some d
 
--- the passes and the codes of the nets that they observe are those of a plan
+-- a plan: safe passes that observe every covered net, tested driver, tested receiver and pair, with codes that have both
+-- bits for each covered net
 pub record IsPlan (board : RawBoard) (passes : List (List Ctl)) (width : ℕ) : Type 0 where
   pub read : AllRead board
   pub safe : (x : ℕ) (pass : List Ctl) → slice_get passes x ≡ Some pass → IsSafe board (holds pass)
@@ -91,7 +92,7 @@ short_cases None a b = a refl
 short_cases (Some u) a b = b u refl
 
 module _ (board : RawBoard) (passes : List (List Ctl)) (width : ℕ) (plan : IsPlan board passes width) (faults : FaultSet) (row : List (List Bool)) where
-  -- the pin of a compared cell is not a live driver
+  -- while a row of a pass is in the latches, the pin of a compared cell is not a live driver
   dead : (x : ℕ) (pass : List Ctl) → slice_get passes x ≡ Some pass →
       (n d : ℕ) (s : Sees board pass n d) (j : ℕ) (c : Compared board (holds pass) n s.net) →
       IsDead board (code_row board passes pass j) (record { part = c.k; bit = c.bit })
@@ -109,7 +110,7 @@ module _ (board : RawBoard) (passes : List (List Ctl)) (width : ℕ) (plan : IsP
       (j : ℕ) (before : TestRow) (free : Choice) (chain : List ChainPart) → InTest board (shifted_row board (record { now = code_row board passes pass j; before = before })) chain →
       unwrap_or (faults.opened n place) (unwrap_or (net_bit board faults (pin_states chain) free.shorts n net) ((free.parts k).cells cell)) ≡ u
 
-  -- a compared cell that reads the constant `u` in each row is wrong in some row
+  -- if a compared cell reads the constant `u` in each row, some scan is wrong
   constant : (x : ℕ) (pass : List Ctl) → slice_get passes x ≡ Some pass →
       (n d : ℕ) (s : Sees board pass n d) (c : Compared board (holds pass) n s.net) (u : Bool) → IsCovered board n →
       Reads pass n d s.net c.place c.k c.cell u → SomeWrong board faults row (row_scans (code_row board passes) width passes)
@@ -124,7 +125,7 @@ module _ (board : RawBoard) (passes : List (List Ctl)) (width : ℕ) (plan : IsP
   opened x pass is_there n d s c u cov e =
       constant x pass is_there n d s c u cov (λ j before free chain h. ap (λ (o : Option Bool). unwrap_or o (unwrap_or (net_bit board faults (pin_states chain) free.shorts n s.net) ((free.parts c.k).cells c.cell))) e)
 
-  -- a compared cell of a constant net is wrong in some row, whether or not the cell's own pin is open
+  -- if a net has the constant `u` in each row, some scan is wrong, whether or not the pin of the compared cell is open
   constant_net : (x : ℕ) (pass : List Ctl) → slice_get passes x ≡ Some pass →
       (n d : ℕ) (s : Sees board pass n d) (c : Compared board (holds pass) n s.net) (u : Bool) → IsCovered board n →
       ((j : ℕ) (before : TestRow) (free : Choice) (chain : List ChainPart) → InTest board (shifted_row board (record { now = code_row board passes pass j; before = before })) chain → net_bit board faults (pin_states chain) free.shorts n s.net ≡ Some u) →
@@ -174,7 +175,7 @@ module _ (board : RawBoard) (passes : List (List Ctl)) (width : ℕ) (plan : IsP
       let c = compared_at board (holds r.1) n r.4.net r.3 i r.5 plan.read r.4.rules r.4.observing r.6 r.7 r.8 in
       opened r.0 r.1 r.2 n r.3 r.4 c.0 u cov (ap (λ (x : ℕ). faults.opened n x) c.1 ∙ e)
 
-  -- an open driver makes some scan wrong, since its net is stuck, in a short, or reads a constant
+  -- if a tested driver is open, some scan is wrong: the driver's net is stuck, in a short, or has a constant
   pub open_driver : IsObservable board faults → (n d : ℕ) (u : Bool) → faults.opened n d ≡ Some u → IsTestedDriver board n d →
       IsCovered board n → SomeWrong board faults row (row_scans (code_row board passes) width passes)
   open_driver observable n d u e tested cov =

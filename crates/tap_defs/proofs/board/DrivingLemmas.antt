@@ -67,7 +67,7 @@ module _ (board : RawBoard) (row : TestRow) (safe : IsSafe board row.setting) (r
       live board (pin_states chain) p ≡ false
   not_live i p ep off = false_from_ne_true (live board (pin_states chain) p) (λ on. both_ways (enables board row.setting p) off (live_on board row safe rules before chain h n net i p en ep on))
 
-  -- the enabled driver is the only live driver
+  -- since the enabled driver is the only live driver, it alone decides how the net is driven
   module _ (d : ℕ) (pin : NetPin) (stands : slice_get net.pins d ≡ Some pin) (enabled : enables board row.setting pin ≡ true) where
     alone_is : feeding_from board (pin_states chain) 0 net.pins ≡ counted (live board (pin_states chain) pin) d (driver_bit board (pin_states chain) pin.at) Undriven
     alone_is =

@@ -1,4 +1,4 @@
--- After the head and the first three scans, from any state, the quiet row is in the latches under EXTEST.
+-- From any state, the head of a test and its first three scans lead to EXTEST with the quiet row in the latches.
 use Rattle.std.proofs.Common.{not, ◌≡◌, ◌≢◌, ℕ, zero, suc, ◌<◌, ◌≤◌, Bool, true, false, cond, ◌&&◌, List, [], ◌∷◌, length, map, Option, Some, refl, sym, ◌∙◌, ap, subst, length-append, take, arith, ◌++◌, ◌==◌, None}
 use Rattle.std.specs.Prelude.{slice_get, option_map, unwrap_or}
 use Rattle.std.specs.List.{list_all, AllByRecursion}
@@ -47,14 +47,14 @@ use Rattle.tap_defs.proofs.chain.HeadLemmas.{chain_logics, chain_lengths, ir_siz
 use Rattle.tap_defs.proofs.chain.InstructLemmas.{AllRoom, tdi_bits-instructs, instructs_pass, length-instructs}
 use Rattle.tap_defs.proofs.chain.RowLemmas.{all_ones-replicate}
 
--- each part of a board keeps its rules; this form recurses on the chain
+-- each of these parts keeps the rules of parts (a definition by recursion on the chain)
 abbrev pub Parts : List Part → Type 0
 Parts ps = AllByRecursion (λ p. IsPart p.kind) ps
 
 pub parts_of : (board : RawBoard) → IsBoard board → Parts board.chain
 parts_of board rules = recursion_from_All (λ (p : Part). IsPart p.kind) board.chain rules.parts
 
--- the bits that the board gives a part's boundary cells are as many as the part has
+-- the board gives each part as many bits as the part has boundary cells
 captured_size : (board : RawBoard) (faults : FaultSet) (free : Choice) (chain : List ChainPart) (k : ℕ) (p : Part) →
     slice_get board.chain k ≡ Some p → length (pins_at (board_wiring board faults) free chain k) ≡ (test_logic p.kind).boundary_length
 captured_size board faults free chain k p e =
@@ -107,7 +107,7 @@ code_lengths : (code : PartKind → List Bool) (ps : List Part) → CodesFit cod
 code_lengths code [] h = refl
 code_lengths code (p ∷ ps) h = cons_path h.0 (code_lengths code ps h.1)
 
--- the codes mean these instructions
+-- in each part, its code means its instruction
 abbrev pub CodesMean : (PartKind → List Bool) → (PartKind → Instruction) → List Part → Type 0
 CodesMean code instruction [] = Unit {0}
 CodesMean code instruction (p ∷ ps) = (instruction_of (test_logic p.kind) (code p.kind) ≡ instruction p.kind) × CodesMean code instruction ps
@@ -125,7 +125,7 @@ meanings code instruction (p ∷ ps) (n ∷ chain) h f c =
     let c1 : ir_registers chain ≡ map (λ p. code p.kind) ps = cc c in
     cons_path (ap (λ (x : TestLogic). instruction_of x n.state.ir) f0 ∙ ap (λ (x : List Bool). instruction_of (test_logic p.kind) x) c0 ∙ h.0) (meanings code instruction ps chain h.1 f1 c1)
 
--- an instruction scan on the board, after which the parts have these instructions
+-- the effect of an instruction scan on the board: the scan passes, and each part then has its instruction
 pub record Instructed (board : RawBoard) (instruction : PartKind → Instruction) (clocks : List Clock) (out : List Bool) (chain next : List ChainPart) : Type 0 where
   pub passes : run_passes clocks out ≡ true
   pub is_start : IsBoardChain board next
@@ -244,7 +244,7 @@ pub extest_means : (ps : List Part) → Parts ps → CodesMean extest_code in_te
 extest_means [] h = tt
 extest_means (p ∷ ps) h = (extest_means_one p.kind h.0, extest_means ps h.1)
 
--- a scan that compares nothing
+-- the scan compares no bit
 abbrev pub AllSilent : List ScanBit → Type 0
 AllSilent [] = Unit {0}
 AllSilent (b ∷ bits) = (b.expect ≡ None) × AllSilent bits
@@ -266,7 +266,7 @@ pub only_if-None : (b : Bool) → only_if b None ≡ None
 only_if-None true = refl
 only_if-None false = refl
 
--- in the quiet row no bit is expected
+-- in the quiet row, no cell is compared
 pub quiet_expects : (board : RawBoard) (k : ℕ) (device : RawDevice) (cell : ℕ) → expect_bit board quiet_row k device cell ≡ None
 quiet_expects board k device cell = by_entry (reading_entry device cell)
   where
@@ -352,7 +352,7 @@ preload_sizes board t k (p ∷ ps) (n ∷ chain) pins free e f h =
     one (Described device) q = length-filled (length n.state.boundary) (free 0).cells ∙ q ∙ sym (length-filled {A = ScanBit} device.boundary (λ cell. record { tdi = row_bit board t.now k device cell; expect = expect_bit board t.before k device cell }))
     one (WithoutDescription m) q = refl
 
--- the quiet row goes into the latches
+-- the effect of the scan that shifts the quiet row in: it passes, and the quiet row is then in the latches
 pub record Preloaded (board : RawBoard) (t : RowScan) (clocks : List Clock) (out : List Bool) (next : List ChainPart) : Type 0 where
   pub passes : run_passes clocks out ≡ true
   pub is_start : IsBoardChain board next
@@ -435,7 +435,7 @@ enters board t chain ms e s g h tap f = record {
   stays = stored_same board.chain chain ms e f g ∙ s;
 }
 
--- the first three scans of a board's test, from any state
+-- the registers, choices and states of the chain during the first three scans of a board's test
 module _ (board : RawBoard) (rules : IsBoard board) (faults : FaultSet) (states : List ChainPart) (free : Choices) (start : IsBoardChain board states) where
   abbrev pub wiring : Wiring
   wiring = board_wiring board faults

@@ -25,15 +25,16 @@ use Rattle.std.proofs.lemmas.Bool.{and_parts, both_ways, eq-eqb, false_from_ne_t
 use Rattle.tap_defs.proofs.board.InTestLemmas.{InTest, shifted_row}
 use Rattle.tap_defs.proofs.board.LiveLemmas.{IsWired, found, find_some, control_on, latch_is, extest_is, dead_if_off}
 
--- the facts about a pin of a net that follow from the rules of boards: its part is not described, or the pin has its
--- place in the chain and in the nets
+-- what the rules of boards say about a pin of a net: its part is not described, or the part is in the chain and the pin has
+-- this place in the nets
 pub data PinRules (board : RawBoard) (n : ℕ) (net : Net) (i : ℕ) (p : NetPin) : Type 0 where
   apart : p.at ≡ None → PinRules board n net i p
   placed : (at : PinAt) (part : Part) (device : RawDevice) → p.at ≡ Some at → slice_get board.chain at.part ≡ Some part →
       part.kind ≡ Described device → IsWired device → is_pinned board at ≡ true →
       place_of at 0 board.nets ≡ Some (record { number = n; net = net; place = i }) → PinRules board n net i p
 
--- if a pin of the net switches at all, it switches on this net
+-- what the rules of boards say about net `n`: its place, the facts about its pins, and that if a pin of the net switches,
+-- it switches on this net
 pub record NetRules (board : RawBoard) (n : ℕ) (net : Net) : Type 0 where
   pub stands : slice_get board.nets n ≡ Some net
   pub pins : (i : ℕ) (p : NetPin) → slice_get net.pins i ≡ Some p → PinRules board n net i p
@@ -79,7 +80,7 @@ observing_at board setting net d e = go (guarded board net) refl e
         let z : r.0 ≡ d = omega (arith, r.2) in
         record { pin = r.1; stands = subst (λ (i : ℕ). slice_get net.pins i ≡ Some r.1) z r.3; enabled = r.4; unguarded = q }
 
--- if no pin is live, the net is driven by no driver
+-- if no pin is live, the net is undriven
 pub all_dead : (board : RawBoard) (pin_state : List PinState) (m : ℕ) (ps : List NetPin) →
     ((i : ℕ) (p : NetPin) → slice_get ps i ≡ Some p → live board pin_state p ≡ false) → feeding_from board pin_state m ps ≡ Undriven
 all_dead board pin_state m [] q = refl
@@ -110,7 +111,7 @@ all_pass f (p ∷ ps) q = ap (λ (b : Bool). b && list_all f ps) (q 0 p refl) �
 differ : (i d : ℕ) → i ≢ d → (d == i) ≡ false
 differ i d h = false_from_ne_true (d == i) (λ e. h (sym (eqb-true d i e)))
 
--- the net carries the bit: a driver drives the net with it, or no driver is live and the net is pulled to it
+-- the net carries bit `v`: driver `d` drives it to `v`, or the net is undriven and pulled to `v`
 pub data Carries (d : ℕ) (pull : Option Bool) (v : Bool) (f : Feeding) : Type 0 where
   driven : f ≡ Driven d v → Carries d pull v f
   pulled : f ≡ Undriven → pull ≡ Some v → Carries d pull v f
@@ -134,7 +135,7 @@ module _ (board : RawBoard) (row : TestRow) (safe : IsSafe board row.setting) (n
       ∙ ap (λ (o : Option ℕ). data_observed (row.carried n) i o) observing
       ∙ ap (λ (b : Bool). only_if b (row.carried n)) (differ i d ne))
 
-  -- no pin except the enabled driver's is live
+  -- no pin other than the enabled driver is live
   pub dead_at : (i : ℕ) (p : NetPin) → slice_get net.pins i ≡ Some p → i ≢ d → live board (pin_states chain) p ≡ false
   dead_at i p e ne = dead_by i p e ne (rules.pins i p e)
 
@@ -275,7 +276,7 @@ pub good_bit : (d n : ℕ) (pull : Option Bool) (v : Bool) (f : Feeding) → Car
 good_bit d n pull v f (driven e) = ap (λ (x : Feeding). unshorted_bit no_faults n pull x) e
 good_bit d n pull v f (pulled e p) = ap (λ (x : Feeding). unshorted_bit no_faults n pull x) e ∙ ap (λ (o : Option Bool). or_else None (or_else o None)) p
 
--- if the driver is open, the net has a constant: its pull if it has one, else the constant of the pin
+-- if the driver is open, the net has a constant: its pull, or the constant of the driver if the net has no pull
 pub cut_bit : (faults : FaultSet) (d n : ℕ) (pull : Option Bool) (u v : Bool) (f : Feeding) → faults.opened n d ≡ Some u →
     Carries d pull v f → unshorted_bit faults n pull f ≡ or_else pull (Some u)
 cut_bit faults d n pull u v f o (driven e) =

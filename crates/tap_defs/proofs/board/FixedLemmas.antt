@@ -37,7 +37,7 @@ one_feeds board states m (p ∷ ps) one = by_head (one_feeds board states (suc m
         ap (λ (f : Feeding). is_decided (counted true m (driver_bit board states p.at) f))
         (all_dead board states (suc m) ps (λ i q eq. false_from_ne_true (live board states q) (λ on. one 0 (suc i) p q refl eq (λ z. absurd (omega (arith, z))) e on)))
 
--- if each net of a short passes a test, the test is true of the whole list of the short's nets
+-- if each net of short `k` passes a test, all items of the list of these nets pass it
 shorted_pass : (faults : FaultSet) (k n : ℕ) (nets : List Net) (test : OfNet Net → Bool) →
     ((i : ℕ) (net : Net) → slice_get nets i ≡ Some net → faults.short (n + i) ≡ Some k → test (n + i, net) ≡ true) → list_all test (shorted_nets faults k n nets) ≡ true
 shorted_pass faults k n [] test h = refl
@@ -98,7 +98,7 @@ module _ (board : RawBoard) (row : TestRow) (safe : IsSafe board row.setting) (r
       ap (λ (o : Option PinAt). extest_where (pin_states chain) o) a
       ∙ extest_is board (record { now = row; before = before }) chain at.part part device h ek ed
 
-  -- every unguarded net is ruled and has at most one live driver
+  -- while the row is in the latches, every unguarded net is ruled and has at most one live driver
   pub decided : (n : ℕ) (net : Net) → slice_get board.nets n ≡ Some net → guarded board net ≡ false →
       is_decided (feeding board (pin_states chain) net) ≡ true
   decided n net en unguarded =
@@ -126,7 +126,7 @@ module _ (board : RawBoard) (row : TestRow) (safe : IsSafe board row.setting) (r
         let z : 0 + i ≡ i = omega arith in
         decided i x e (covered_open i x e (subst (λ (m : ℕ). IsCovered board m) z (is_set.covered (0 + i) k s))))
 
-    -- a net that the row observes, with the bit that the net carries
+    -- a net that the row observes carries the bit that the row gives it
     module _ (n : ℕ) (net : Net) (en : slice_get board.nets n ≡ Some net) (d : ℕ) (observing : observing_driver board row.setting net ≡ Some d) (v : Bool) (carried_is : row.carried n ≡ Some v) where
       carries_v : Carries d net.pull v (feeding board (pin_states chain) net)
       carries_v = carries board row safe n net (rules.nets n net en) d observing before chain h v carried_is
@@ -158,7 +158,7 @@ module _ (board : RawBoard) (row : TestRow) (safe : IsSafe board row.setting) (r
             ∙ combined_fixed (faults.kind k) fs hs (n, v) (is_given carries_v) free other
             ∙ sym (ap (λ (b : Bool). cond b (first_combined (faults.kind k) fs hs other) other) (all_decided k))
 
-      -- the net has the same bit whatever the free bits are
+      -- the net has one bit, whatever the free bits are
       abbrev Fixed : Type 0
       Fixed = (bit : Bool) × ((shorts : ℕ → Bool) → net_bit board faults (pin_states chain) shorts n net ≡ Some bit)
 

@@ -1,4 +1,4 @@
--- The state of the chain between two scans of a board's test, and wrong scans.
+-- The state of the chain between two scans of a board's test, and scans that are wrong.
 use Rattle.std.proofs.Common.{◌≡◌, false, [], ◌⊎◌, List, ◌∷◌, Bool, map}
 use Rattle.board_defs.specs.declared.board.RawBoard.{RawBoard}
 use Rattle.board_defs.specs.declared.board.PartKind.{PartKind}
@@ -29,12 +29,12 @@ pub record InTest (board : RawBoard) (row : List (List Bool)) (chain : List Chai
 abbrev pub shifted_row : RawBoard → RowScan → List (List Bool)
 shifted_row board t = map tdi_bits (row_bits board t)
 
--- in every run, the scan finds a wrong bit if the row before it is in the latches
+-- the scan is wrong: in every run in which `row` is in the latches before the scan, it finds a wrong bit
 abbrev pub IsWrong : RawBoard → FaultSet → List (List Bool) → RowScan → Type 0
 IsWrong board faults row t =
     (chain : List ChainPart) (free : Choice) → InTest board row chain → scan_passes (joined (row_bits board t)) (joined (registers (pins_at (board_wiring board faults) free chain) board.chain)) ≡ false
 
--- in every run, one of these scans finds a wrong bit
+-- at least one of these scans is wrong
 abbrev pub SomeWrong : RawBoard → FaultSet → List (List Bool) → List RowScan → Type 0
 SomeWrong board faults row [] = ⊥
 SomeWrong board faults row (t ∷ ts) = IsWrong board faults row t ⊎ SomeWrong board faults (shifted_row board t) ts

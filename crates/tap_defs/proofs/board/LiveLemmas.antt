@@ -32,7 +32,7 @@ use Rattle.tap_defs.proofs.board.InTestLemmas.{in_test, InTest, shifted_row}
 use Rattle.tap_defs.proofs.chain.ScanLemmas.{filled_at}
 use Rattle.tap_defs.proofs.board.WrongLemmas.{bits_at}
 
--- the rules of devices on controls
+-- the rules of devices on control cells
 pub record IsWired (device : RawDevice) : Type 0 where
   pub below : (i : ℕ) (e : Cell) (control : Control) → slice_get device.cells i ≡ Some e → e.ctl ≡ Some control →
       control.cell < device.boundary
@@ -67,7 +67,7 @@ find_some p (y ∷ xs) (suc i) x e q = by_head (p y) (find_some p xs i x e q)
     by_head true r = (y, refl)
     by_head false r = r
 
--- the state of a described part during a test
+-- the state of a described part during a test: it has EXTEST, and its latches hold its bits of the row
 pub record UnderTest (row : List Bool) (chain : List ChainPart) (k : ℕ) : Type 0 where
   pub node : ChainPart
   pub at_k : slice_get chain k ≡ Some node
@@ -201,7 +201,7 @@ dead_if_off board row before chain k b part device h ek ed wired pinned off idle
         let f = found (drives_bit b) device.cells c e in
         by_ctl c f.1.0 f.0 f.1.1 c.ctl refl (sym (ap (λ (o : Option Cell). enables_entry row.setting k o) e) ∙ off_entry)
 
--- a control of the setting that is not the driver's own cell enables the driver
+-- if a control of the setting is not the driver's own cell, its latch has the opposite of the disable value
 pub control_on : (board : RawBoard) (row before : TestRow) (chain : List ChainPart) (at : PinAt) (part : Part) (device : RawDevice) →
     InTest board (shifted_row board (record { now = row; before = before })) chain → slice_get board.chain at.part ≡ Some part →
     part.kind ≡ Described device → IsWired device → is_pinned board at ≡ true → (e : Cell) (i : ℕ) → drives_bit at.bit e ≡ true →

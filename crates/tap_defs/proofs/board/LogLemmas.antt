@@ -1,4 +1,4 @@
--- Logs of a test: the statements whose bits they have, and the faults that explain a log of the expected bits.
+-- Logs of a test: the statements that have rows in a log, and the faults that explain a log of the expected bits.
 use Rattle.std.proofs.Common.{◌≡◌, ◌↔◌, ℕ, suc, ◌+◌, ◌≤◌, ◌^◌, Bool, true, false, cond, ◌||◌, List, [], ◌∷◌, length, map, filter, Option, Some, None, refl, sym, ◌∙◌, ap, subst, arith, length-append}
 use Rattle.std.specs.Prelude.{is_some, count_by}
 use Rattle.std.specs.List.{AllByRecursion, sum_by}
@@ -57,7 +57,7 @@ rows_counted board scans =
     ∙ ap (λ (l : List Scan). length l) (statements_compared board scans)
     ∙ length-map (compared_scans board scans) (scan_of_row board)
 
--- a data scan has a bit for each position
+-- a data scan has as many bits as the data registers of its parts together
 length-bits_by_part : (board : RawBoard) (t : RowScan) (k : ℕ) (ps : List Part) →
     length (joined (bits_by_part board t k ps)) ≡ sum_by (λ p. data_length p.kind) ps
 length-bits_by_part board t k [] = refl
@@ -72,7 +72,7 @@ length-bits_by_part board t k (p ∷ ps) =
 pub length-row_bits : (board : RawBoard) (t : RowScan) → length (joined (row_bits board t)) ≡ data_bits board
 length-row_bits board t = length-bits_by_part board t 0 board.chain
 
--- a row that passes a scan of the same length has the bits that the scan expects
+-- if a bit of a log passes a comparison, it is the expected bit
 value_is : (o : Option Bool) (r : Bool) → bit_passes o r ≡ true → cond (is_some o) (Some r) None ≡ o
 value_is None r h = refl
 value_is (Some true) true h = refl
@@ -95,7 +95,7 @@ silent_same (b ∷ bits) e = by_expect (silent_same bits) b.expect refl e
     by_expect ih None q h = cons_path (ap (λ (o : Option Bool). record b { expect = o }) (sym q)) (ih h)
     by_expect ih (Some v) q h = cc h
 
--- with the rows of an expected log in place of the expected bits, the statements are unchanged
+-- if a log has the expected bits, the statements are the same with its rows in place of the expected bits
 module _ (board : RawBoard) where
   abbrev statement : RowScan → Scan
   statement t = scan_of_row board t
@@ -138,7 +138,8 @@ module _ (board : RawBoard) where
       (recursion_from_All (λ (row : List Bool). length row ≡ data_bits board) log e.shape.bits)
       (ap (λ (scans : List Scan). are_expected scans log) (filter-map is_compared statement ts ∙ sym (statements_compared board ts)) ∙ e.bits)
 
-  -- the text passes if and only if its scans pass with the bits that the board captures for the rows
+  -- the statements of a test shift its rows in; so the text passes if and only if its scans pass with the bits that the
+  -- board captures for the rows
   plain_shifts : (ts : List RowScan) → ShiftRows board ts (map statement ts)
   plain_shifts [] = tt
   plain_shifts (t ∷ ts) = (refl, refl, plain_shifts ts)
@@ -164,7 +165,7 @@ module _ (board : RawBoard) where
             captures_follow board rules faults choice ts (map statement ts) quiet_row quiet_row under_extest (in_extest_held board rules faults ts [] chain free start) (plain_shifts ts)
             (sym (ap (λ (g : Choices). run_passes clocks (tdos (board_wiring board faults) clocks g under_extest)) (left_always board rules faults ts [] choice chain start)) ∙ run_ok)
 
-    -- the faults that explain an expected log are those under which the text passes
+    -- the faults that explain a log of the expected bits are those under which the text passes
     pub expected_explained : (log : List (List Bool)) → IsExpected board ts log →
         ExplainedBy board faults ts log ↔ PassOnBoard board faults (test_clocks (board_scans board ts))
     expected_explained log e =
@@ -177,7 +178,7 @@ module _ (board : RawBoard) where
           },
         )
 
-  -- so no fault set that the text detects explains an expected log
+  -- a text can't both pass and fail under a fault set; so a fault set that the text detects explains no log of the expected bits
   not_both : (faults : FaultSet) (clocks : List Clock) → FailOnBoard board faults clocks → PassOnBoard board faults clocks → ⊥
   not_both faults clocks fails passes =
       let free : Choices = λ k. some_choice in

@@ -39,7 +39,7 @@ agree_self : (o : Option Bool) (x y : Bool) → x ≡ y → AgreeAt o x y
 agree_self None x y e = tt
 agree_self (Some v) x y e = e
 
--- one cell captures the same bit with two choices of the free bits
+-- a compared cell captures the same bit with two choices of the free bits
 module _ (board : RawBoard) (row : TestRow) (safe : IsSafe board row.setting) (rules : BoardRules board) (before : TestRow) (chain : List ChainPart) (h : InTest board (shifted_row board (record { now = row; before = before })) chain) (faults : FaultSet) (is_set : IsFaultSet board faults) (no_open : NoOpenShorted faults) where
   module _ (k : ℕ) (free other : Bool) (shorts others : ℕ → Bool) where
     reads : (at : PinAt) (p : Place) (v : Bool) → row.carried p.number ≡ Some v → place_of at 0 board.nets ≡ Some p → (d : ℕ) →
@@ -123,7 +123,7 @@ agree_append (b ∷ bs) cs [] ys us vs p q h k = absurd (omega (arith, p))
 agree_append (b ∷ bs) cs (x ∷ xs) [] us vs p q h k = absurd (omega (arith, q))
 agree_append (b ∷ bs) cs (x ∷ xs) (y ∷ ys) us vs p q h k = (h.0, agree_append bs cs xs ys us vs (omega (arith, p)) (omega (arith, q)) h.1 k)
 
--- the captures of all parts agree, part by part
+-- if the captures of each part agree wherever the scan compares, so do the joined captures
 parts_agree : (board : RawBoard) (t : RowScan) (k : ℕ) (ps : List Part) (pins others : ℕ → List Bool) → FitsPins pins ps →
     FitsPins others ps →
     ((i : ℕ) (p : Part) → slice_get ps i ≡ Some p → AgreeWhereCompared (part_bits board t (k + i) p.kind) (register_of p.kind (pins i)) (register_of p.kind (others i))) →
@@ -141,7 +141,7 @@ parts_agree board t k (p ∷ ps) pins others f g q =
     (length-joined (bits_by_part board t (suc k) ps) (registers (λ j. others (suc j)) ps) (bits_fit board t (suc k) ps (λ j. others (suc j)) (λ j. g (suc j))))
     rest here
 
--- the captures agree while the row is in the latches
+-- while the row is in the latches, any two captures of the scan agree wherever it compares
 pub row_agrees : (board : RawBoard) (t : RowScan) → IsSafe board t.before.setting → BoardRules board →
     (earlier : TestRow) (chain : List ChainPart) → InTest board (shifted_row board (record { now = t.before; before = earlier })) chain →
     (faults : FaultSet) → IsFaultSet board faults → NoOpenShorted faults → (choice other : Choice) →
@@ -171,7 +171,7 @@ row_agrees board t safe rules earlier chain h faults is_set no_open choice other
         (λ c. read_entry board faults (pin_states chain) other.shorts ((other.parts k).cells c) k (reading_entry device c))
         (λ c. cell_agrees board t.before safe rules earlier chain h faults is_set no_open k ((choice.parts k).cells c) ((other.parts k).cells c) choice.shorts other.shorts (reading_entry device c))))
 
--- a chain that has the row in its latches
+-- the state of a part that holds its bits of the row in its latches
 abbrev pub holding : RawBoard → TestRow → ℕ → PartKind → PartState
 holding board row k (Described device) = record {
   tap = RunTestIdle;

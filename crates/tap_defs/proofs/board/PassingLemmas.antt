@@ -40,7 +40,7 @@ all_cells (suc n) f g q =
     ap (λ (b : Bool). b && scan_passes (filled n (λ k. f (suc k))) (filled n (λ k. g (suc k)))) (q 0 (omega arith))
     ∙ all_cells n (λ k. f (suc k)) (λ k. g (suc k)) (λ c h. q (suc c) (omega arith))
 
--- the place that was found for a pin is the place of that pin
+-- place `p`, which a search in the nets returned, is the place of the pin at this port bit
 pub record Stands (board : RawBoard) (at : PinAt) (p : Place) (m : ℕ) (nets : List Net) : Type 0 where
   pub index : ℕ
   pub number_is : p.number ≡ m + index

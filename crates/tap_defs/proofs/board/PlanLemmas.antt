@@ -1,4 +1,4 @@
--- Passes that meet the requirements on passes, with codes of enough bits, make a plan.
+-- Passes that meet the requirements on passes form a plan, if their codes have enough bits.
 use Rattle.std.specs.Prelude.{is_some, nat_lt, slice_get}
 use Rattle.std.proofs.Common.{◌≡◌, ◌+◌, ◌∷◌, true, ◌≢◌, [], false, ◌&&◌, ◌<◌, Some, suc, ◌≤◌, ◌∙◌, ◌==◌, zero, ◌^◌, refl, ℕ, Bool, List, None, ◌||◌, Option, cond, arith, ap, not, ltb-true, ltb-false, sym, subst}
 use Rattle.board_defs.specs.declared.board.Ctl.{Ctl}
@@ -22,7 +22,7 @@ use Rattle.tap_defs.proofs.board.NetRuleLemmas.{all_read, net_rules}
 use Rattle.tap_defs.proofs.board.CodeBitLemmas.{has_one, count_whole, count_up, has_zero, codes_differ}
 use Rattle.tap_defs.proofs.board.DetectionLemmas.{IsPlan, Sees}
 
--- if a setting enables only one of some pins, that pin is the first one that it enables
+-- if a setting enables only one of some pins, that pin is the first enabled pin
 first_is : (board : RawBoard) (setting : Enabling) (m d : ℕ) (ps : List NetPin) (p : NetPin) → slice_get ps d ≡ Some p →
     enables board setting p ≡ true →
     ((i : ℕ) (q : NetPin) → slice_get ps i ≡ Some q → enables board setting q ≡ true → i ≡ d) → first_enabled board setting m ps ≡ Some (m + d)
@@ -98,7 +98,7 @@ module _ (board : RawBoard) (rules : IsBoard board) (passes : List (List Ctl)) (
       slice_get board.nets n ≡ Some net → ObservesBy board (holds pass) net d → Sees board pass n d
   sees x pass e n net d en o = record { net = net; rules = net_rules board rules n net en; observing = observing_is board (holds pass) (are.safe x pass e) n net d en o }
 
-  -- a covered net is observed, so it has a code
+  -- a covered net, which some pass observes, so that the net has a code
   record Coded (n : ℕ) : Type 0 where
     net : Net
     stands : slice_get board.nets n ≡ Some net
@@ -165,7 +165,7 @@ module _ (board : RawBoard) (rules : IsBoard board) (passes : List (List Ctl)) (
     differ = differ;
   }
 
--- the nets that some pass observes are the covered nets
+-- some pass observes a net if and only if the net is covered
 pub observed_covered : (board : RawBoard) → IsBoard board → (passes : List (List Ctl)) → ArePasses board passes → (n : ℕ) (net : Net) →
     slice_get board.nets n ≡ Some net →
     is_observed board passes net ≡ is_covered board net

@@ -1,4 +1,4 @@
--- The rows of a pass are quiet.
+-- The rows of a safe pass are quiet.
 use Rattle.std.proofs.Common.{◌≡◌, ℕ, ◌<◌, ◌==◌, Bool, true, false, cond, not, ◌&&◌, ◌||◌, inr, List, Option, Some, None, refl, sym, ◌∙◌, ap, subst, arith}
 use Rattle.std.specs.Prelude.{slice_get, unwrap_or, option_map, option_and_then}
 use Rattle.std.specs.List.{list_any}
@@ -32,7 +32,7 @@ use Rattle.tap_defs.proofs.board.FeedingLemmas.{PinRules, apart, placed, NetRule
 use Rattle.tap_defs.proofs.board.ReadingLemmas.{any_is}
 use Rattle.tap_defs.proofs.board.PassingLemmas.{stands_at}
 
--- the facts about the board that these proofs need
+-- the rules of nets and devices that these proofs need
 pub record BoardRules (board : RawBoard) : Type 0 where
   pub nets : (n : ℕ) (net : Net) → slice_get board.nets n ≡ Some net → NetRules board n net
   pub devices : (k : ℕ) (part : Part) (device : RawDevice) → slice_get board.chain k ≡ Some part → part.kind ≡ Described device →
@@ -80,7 +80,7 @@ module _ (board : RawBoard) (row : TestRow) (safe : IsSafe board row.setting) (r
   abbrev t : RowScan
   t = record { now = row; before = before }
 
-  -- a cell that carries a net's bit is that of an enabled driver
+  -- if a cell carries a net's bit, the pin of the cell is an enabled driver of the net
   carries_code : (at : PinAt) (p : Place) (i : ℕ) → place_of at 0 board.nets ≡ Some p → observing_driver board row.setting p.net ≡ Some i →
       (i == p.place) ≡ true →
       (enables_at board row.setting at ≡ true) × ((guarded board p.net ≡ false) × ((pin : NetPin) × (slice_get p.net.pins p.place ≡ Some pin) × (pin.at ≡ Some at)) × (slice_get board.nets p.number ≡ Some p.net))
@@ -131,7 +131,7 @@ module _ (board : RawBoard) (row : TestRow) (safe : IsSafe board row.setting) (r
       by_rules (apart a) = absurd (both_ways (live board (pin_states chain) p) (ap (λ (o : Option PinAt). live_where board (pin_states chain) o) a) on)
       by_rules (placed at part device a ek ed wired pinned place) = by_test at part device a ek ed wired pinned (enables_at board row.setting at) refl
 
-  -- every control that is on belongs to the setting
+  -- every control that is on belongs to the setting of the row
   set_within : (c : Ctl) → latched_setting board (pin_states chain) c ≡ true → row.setting c ≡ true
   set_within c on = by_device (device_at board c.part) refl on
     where

@@ -36,7 +36,7 @@ any_is p (x ∷ xs) e = go (any_is p xs) (p x) refl e
     go ih true q h = (0, x, refl, q)
     go ih false q h = let r = ih h in (suc r.0, r.1, r.2, r.3)
 
--- some pin at another place is a receiver
+-- if `reads_beside` holds, some pin at a place other than the driver's is a receiver
 pub beside : (board : RawBoard) (driver m : ℕ) (ps : List NetPin) → reads_beside board driver m ps ≡ true →
     (i : ℕ) × (p : NetPin) × (slice_get ps i ≡ Some p) × (receives board p ≡ true) × ((driver == (m + i)) ≡ false)
 beside board driver m [] e = cc e

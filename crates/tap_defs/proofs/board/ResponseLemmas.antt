@@ -13,7 +13,7 @@ use Rattle.tap_defs.proofs.board.FeedingLemmas.{Carries, NetRules, pulled, drive
 use Rattle.tap_defs.proofs.board.InTestLemmas.{InTest, shifted_row}
 use Rattle.tap_defs.proofs.board.WrongLemmas.{Compared, captured_here}
 
--- the bit of a net that carries `v`, which depends on its pull and on the constant of its driver if the driver is open
+-- the bit of a net that carries `v`: `v`, or, if its driver is open, its pull or otherwise the constant of the driver
 abbrev pub driven_bit : Option Bool → Option Bool → Bool → Bool
 driven_bit None pull v = v
 driven_bit (Some u) pull v = unwrap_or pull u

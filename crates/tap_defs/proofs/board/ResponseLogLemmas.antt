@@ -1,5 +1,5 @@
--- Faults explain a log if each of its rows is what the cells capture while the right row is in the latches, whatever the free
--- bits are.
+-- Faults explain a log if and only if its rows have the bits that the cells capture, for each scan, while the row of the
+-- scan before is in the latches.
 use Rattle.std.proofs.Common.{◌≡◌, ◌↔◌, ℕ, zero, suc, Bool, true, false, cond, ◌⊎◌, inl, inr, List, [], ◌∷◌, ◌++◌, length, map, filter, Option, Some, None, refl, sym, ◌∙◌, ap, subst, arith}
 use Rattle.std.specs.Prelude.{slice_get, is_some, option_map, unwrap_or, count_by}
 use Rattle.std.specs.List.{AllByRecursion}
@@ -34,7 +34,7 @@ use Rattle.tap_defs.proofs.board.CaptureLemmas.{silent_compares, log_captured}
 use Rattle.tap_defs.proofs.board.LogLemmas.{rows_counted, length-row_bits}
 use Rattle.tap_defs.proofs.board.OneResponseLemmas.{one_response}
 
--- bits of a scan with a row of a log in place of the expected bits
+-- a scan without compared bits passes with any capture
 uncompared_passes : (bits : List ScanBit) (cap : List Bool) → scan_passes (uncompared bits) cap ≡ true
 uncompared_passes [] cap = refl
 uncompared_passes (b ∷ bits) [] = refl
@@ -85,7 +85,7 @@ module _ (board : RawBoard) (faults : FaultSet) where
   abbrev Captures : RowScan → List Bool → Type 0
   Captures t row = (choice : Choice) → AgreeWhereCompared (joined (row_bits board t)) row (row_captured board faults t.before choice)
 
-  -- for every choice, each row of the log has the compared bits that the board captures for the row's scan
+  -- for every choice of the free bits, each row of the log has the compared bits that the board captures for the row's scan
   abbrev Captured : List RowScan → List (List Bool) → Type 0
   Captured [] log = Unit {0}
   Captured (t ∷ ts) [] = Unit {0}
@@ -174,7 +174,7 @@ module _ (board : RawBoard) (rules : IsBoard board) (faults : FaultSet) (scans :
   pub explained_by_rows : (log : List (List Bool)) → ExplainedBy board faults scans log ↔ (HasShape board scans log × IsCapturedBy board faults scans log)
   explained_by_rows log = (λ h. (h.shape, captured_rows log h), λ h. explained_rows log h.0 h.1)
 
-  -- a scan captures a bit for each position
+  -- a scan captures as many bits as it has
   captures_all : (t : RowScan) (choice : Choice) → length (joined (row_bits board t)) ≡ length (row_captured board faults t.before choice)
   captures_all t choice =
       length-joined (row_bits board t) (registers (board_wiring board faults (row_states board t.before) choice) board.chain)
@@ -216,7 +216,7 @@ module _ (board : RawBoard) (rules : IsBoard board) (faults : FaultSet) (scans :
             subst (λ (l : List Bool). AgreeWhereCompared (joined (row_bits board scan)) l (row_captured board faults scan.before choice)) same
             (one_response board faults scan rules is_set no_open (safe x scan e) some_choice choice)
 
--- each scan of a test compares the row that the scan before it shifted in
+-- the row that the last of these scans shifted in, or the given row if there are no scans
 abbrev last_row : List RowScan → TestRow → TestRow
 last_row [] row = row
 last_row (t ∷ ts) row = last_row ts t.now
@@ -247,7 +247,7 @@ kept_each {A} test P (y ∷ xs) h j x e = by_test (kept_each test P xs (λ i. h 
     by_test ih true q (suc k) f = ih k x f
     by_test ih false q k f = ih k x f
 
--- each scan of a test compares the quiet row or a row of a safe setting
+-- each scan of a test compares the quiet row or a row with a safe setting
 module _ (board : RawBoard) (rows : List Ctl → ℕ → TestRow) (width : ℕ) where
   abbrev Before : RowScan → Type 0
   Before t = (t.before ≡ quiet_row) ⊎ IsSafe board t.before.setting

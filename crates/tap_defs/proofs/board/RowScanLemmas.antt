@@ -1,4 +1,4 @@
--- If one scan is wrong, the whole text fails.
+-- If one scan of a test is wrong, the whole text fails.
 use Rattle.std.proofs.Common.{◌≡◌, ℕ, suc, ◌<◌, Bool, false, inl, inr, List, [], ◌∷◌, length, map, Option, Some, refl, sym, ◌∙◌, ap}
 use Rattle.std.specs.Prelude.{slice_get}
 use Rattle.board_defs.specs.declared.device.RawDevice.{RawDevice}
@@ -27,7 +27,7 @@ use Rattle.tap_defs.proofs.chain.ScanLemmas.{joined_same, tdi_bits-joined, lengt
 use Rattle.tap_defs.proofs.chain.RunLemmas.{two_pass}
 use Rattle.std.proofs.lemmas.Simd.{map-map}
 
--- the bits of the registers after Capture-DR
+-- during a test, Capture-DR loads the bits of the pins into the register of a described part, and 0 into that of any other part
 loads_in_test : (logic : TestLogic) (kind : PartKind) (pins : List Bool) (free : FreeBits) (n : ℕ) →
     dr_capture logic pins free (in_test kind) n ≡ register_of kind pins
 loads_in_test logic (Described device) pins free n = refl
@@ -64,7 +64,7 @@ bits_fit board t k (p ∷ ps) pins q = cons_path (one p.kind (λ device e. q 0 p
     one (Described device) h = length-filled device.boundary _ ∙ sym (h device refl)
     one (Bypass n) h = refl
 
--- the effect of a scan of a pass, whichever bits it compares
+-- the effect of a data scan that shifts a row of the test in, whichever bits the scan compares
 pub record RowScanDone (board : RawBoard) (faults : FaultSet) (t : RowScan) (bits : List ScanBit) (free : Choice) (out : List Bool) (chain next : List ChainPart) : Type 0 where
   pub compares : run_passes (sdr_clocks bits) out ≡ scan_passes bits (joined (registers (pins_at (board_wiring board faults) free chain) board.chain))
   pub in_test : InTest board (shifted_row board t) next
@@ -102,14 +102,14 @@ row_scan_by board faults t bits shifts free row chain h pos =
       };
     }
 
--- the effect of a scan of a pass that compares the bits of the test
+-- the effect of a data scan that shifts a row of the test in and compares the bits that the test compares
 pub row_scan_done : (board : RawBoard) (faults : FaultSet) (t : RowScan) (free : Choices) (row : List (List Bool)) (chain : List ChainPart) →
     InTest board row chain → 0 < length (joined (row_bits board t)) →
     let bits : List ScanBit = joined (row_bits board t) in
     RowScanDone board faults t bits (free 2) (tdos (board_wiring board faults) (sdr_clocks bits) free chain) chain (run (board_wiring board faults) (sdr_clocks bits) free chain)
 row_scan_done board faults t free row chain h pos = row_scan_by board faults t (joined (row_bits board t)) refl free row chain h pos
 
--- if one of the scans is wrong, they fail in every run
+-- if at least one of the scans is wrong, the run of the scans fails
 pub fails_by : (board : RawBoard) (faults : FaultSet) → ((t : RowScan) → 0 < length (joined (row_bits board t))) →
     (row : List (List Bool)) (ts : List RowScan) (free : Choices) (chain : List ChainPart) → InTest board row chain →
     SomeWrong board faults row ts →

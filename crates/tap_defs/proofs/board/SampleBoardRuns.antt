@@ -21,7 +21,7 @@ use Rattle.tap_defs.proofs.chain.SampleTexts.{on, off, read, sdr, two_nets_scans
 use Rattle.tap_defs.proofs.chain.SampleRun.{choices}
 use Rattle.tap_defs.proofs.board.SampleBoards.{drv, rcv, pin, net, board, wires}
 
--- a state of the board's chain, in which each part has another TAP state
+-- a state of the board's chain in which the two parts are in different TAP states
 abbrev driving : PartState
 driving = record { tap = PauseDR; ir = on ∷ off ∷ []; current = Extest; boundary = on ∷ off ∷ []; bypass = on; identification = []; latches = off ∷ off ∷ [] }
 
@@ -40,7 +40,7 @@ start = record {
   );
 }
 
--- the test whether these scans pass in the run from this state with these choices
+-- whether these scans pass in the run from this state with these choices
 abbrev run_of : FaultSet → List Scan → Bool
 run_of faults scans = run_passes (test_clocks scans) (tdos (board_wiring wires faults) (test_clocks scans) choices chain)
 
@@ -64,7 +64,7 @@ short : run_of (set_of (Short 0 1 And)) two_nets_scans ≡ false
 unfolding tdos
 short = refl
 
--- logs that have 0 on both nets in the first row, and these bits in the second row
+-- a row of a log in which the two nets have these bits
 abbrev row : Bool → Bool → List Bool
 row first second = first ∷ second ∷ off ∷ off ∷ []
 

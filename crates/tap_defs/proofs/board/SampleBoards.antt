@@ -17,7 +17,7 @@ use Rattle.board_defs.specs.declared.board.NetPin.{NetPin}
 use Rattle.board_defs.specs.declared.board.Net.{Net}
 use Rattle.board_defs.specs.declared.board.RawBoard.{RawBoard}
 
--- port bits of a device, of which those of the test access port come first
+-- a port bit of a device; the four port bits of the test access port (`taps`) come first
 abbrev pub port_bit : ℕ → Option ℕ → Mode → List ℕ → Bool → PortBit
 port_bit port index mode pin tap = record { port = port; index = index; mode = mode; pin = Some pin; tap = tap; compliance = false }
 
@@ -36,7 +36,7 @@ one_bit mode = port_bit 4 None mode (codes "1") false ∷ []
 abbrev pub entry : ℕ → Role → ℕ → Option Control → Cell
 entry num role bit ctl = record { num = num; role = role; bit = Some bit; safe = Any; ctl = ctl }
 
--- a control cell with safe value 1, and a driver's control that disables the driver at 1
+-- a control cell with safe value 1, and the control of a driver that this cell disables at 1
 abbrev pub control : ℕ → Cell
 control num = record { num = num; role = ControlRole; bit = None; safe = One; ctl = None }
 
@@ -58,8 +58,8 @@ device bits cells boundary = record {
   cells = cells;
 }
 
--- devices: two outputs that are always on; the same in the 2001 edition, with the PRELOAD code 00 and the EXTEST code 01; two
--- inputs; one input
+-- devices: two outputs that are always on (`drv`); the same in the 2001 edition, with the PRELOAD code 00 and the EXTEST
+-- code 01 (`drv1`); two inputs (`rcv`); one input (`rcv1`)
 abbrev pub drv : RawDevice
 drv = device (two_bits Outward) (entry 0 Output2 4 None ∷ entry 1 Output2 5 None ∷ []) 2
 
@@ -72,7 +72,7 @@ rcv = device (two_bits Inward) (entry 0 Input 4 None ∷ entry 1 Input 5 None �
 abbrev pub rcv1 : RawDevice
 rcv1 = device (one_bit Inward) (entry 0 Input 4 None ∷ []) 1
 
--- devices: a three-state output, and an output that drives only low and is enabled by its own cell
+-- devices: a three-state output (`ts`), and an output that drives only low and is enabled by its own cell (`od`)
 abbrev pub ts : RawDevice
 ts = device (one_bit Outward) (entry 0 Output3 4 (by 1) ∷ control 1 ∷ []) 2
 
@@ -91,7 +91,7 @@ buf2 = device
 abbrev pub pin_at_bit : ℕ → ℕ → NetPin
 pin_at_bit k b = record { part = codes "U"; pin = codes "1"; at = Some (record { part = k; bit = b }); inert = false }
 
--- the pin of part `k` at port bit `b`, where port bits count from those after the test access port
+-- the pin of part `k` at port bit `b`, counted from the first port bit after the test access port
 abbrev pub pin : ℕ → ℕ → NetPin
 pin k b = pin_at_bit k (b + 4)
 
@@ -125,7 +125,8 @@ wires_round = board (Described drv ∷ Bypass 3 ∷ Described rcv ∷ []) (two_w
 abbrev pub bus : RawBoard
 bus = board (Described ts ∷ Described ts ∷ Described rcv1 ∷ []) (net (pin 0 0 ∷ pin 1 0 ∷ pin 2 0 ∷ []) ∷ [])
 
--- a board of two buffers, of which the first drives the second, with enable inputs without a driver, a supply net, and the TCK net
+-- a board of two buffers, the first of which drives the second; their enable inputs have no driver, and there are a supply
+-- net and the TCK net
 abbrev pub buffers : RawBoard
 buffers = board (Described buf2 ∷ Described buf2 ∷ []) (
     net (pin 0 4 ∷ pin 1 2 ∷ []) ∷ net (pin 0 3 ∷ pin 1 1 ∷ []) ∷ net (pin 0 0 ∷ pin 1 0 ∷ [])

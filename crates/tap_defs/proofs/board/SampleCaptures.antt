@@ -31,7 +31,7 @@ ts0 = device (one_bit Outward) (entry 0 Output3 4 (Some (record { cell = 1; disa
 abbrev drivers : RawBoard
 drivers = board (Described ts ∷ Described drv ∷ Described od ∷ Described ts0 ∷ []) []
 
--- for each part, whether its driver is live, with these latches of its cell and of the cell after it
+-- for each of the four parts, whether its driver is live if cell 0 has the first of these latches and cell 1 the second
 abbrev live_of : Instruction → Bool → Bool → List Bool
 live_of instruction first second =
     let states : List PinState = map (λ latches. shows instruction latches) ((first ∷ second ∷ []) ∷ (first ∷ second ∷ []) ∷ (first ∷ []) ∷ (first ∷ second ∷ []) ∷ []) in
@@ -51,7 +51,8 @@ live_own = refl
 live_under_other : map (λ i. live_of i off off) (Sample ∷ Bypass ∷ Idcode ∷ Other ∷ []) ≡ map (λ (i : Instruction). false ∷ false ∷ false ∷ false ∷ []) (Sample ∷ Bypass ∷ Idcode ∷ Other ∷ [])
 live_under_other = refl
 
--- how a net of two three-state drivers and a receiver is driven, with these latches of the controls
+-- the visible states of two three-state drivers and a receiver on one net, with these latches of the drivers' controls, and
+-- how the net is then driven
 abbrev states_of : Bool → Bool → Instruction → List PinState
 states_of first second receiver = under_test (on ∷ first ∷ []) ∷ under_test (off ∷ second ∷ []) ∷ shows receiver (off ∷ []) ∷ []
 
@@ -90,7 +91,7 @@ beside_inert = refl
 on_supply : feeding bus (states_of off on Extest) (record (net (pin 0 0 ∷ pin 2 0 ∷ [])) { supply = true }) ≡ Unruled
 on_supply = refl
 
--- fault sets with one fault more: an open pin, a stuck net, or a short of the nets with lower numbers
+-- the given faults and one more, an open pin or a stuck net; and a short of the first `count` nets
 abbrev opened : ℕ → ℕ → Bool → FaultSet → FaultSet
 opened net place constant faults = record faults { opened = λ n i. cond ((n == net) && (i == place)) (Some constant) (faults.opened n i) }
 
@@ -156,7 +157,7 @@ giving (Some bit) = under_test (bit ∷ off ∷ [])
 abbrev three_give : Option Bool → Option Bool → Option Bool → List PinState
 three_give first second third = giving first ∷ giving second ∷ giving third ∷ under_test (off ∷ off ∷ []) ∷ under_test (off ∷ off ∷ []) ∷ []
 
--- the bits of the first two nets, shorted in each way: And, Or, the first dominant, and the second dominant
+-- four shorts of the first two nets (And, Or, the first dominant, and the second dominant), and the bits of the two nets under each
 abbrev kinds : List ShortKind
 kinds = And ∷ Or ∷ Dominant 0 ∷ Dominant 1 ∷ []
 
@@ -167,7 +168,7 @@ pair_by short pull other first second =
 abbrev pair : Option Bool → Option Bool → Option Bool → Option Bool → List (List (Option Bool))
 pair pull other first second = pair_by off pull other first second
 
--- the expected bits of both nets in each of these four ways
+-- the expected bits of both nets under each of these four shorts
 abbrev read : Bool → Bool → Bool → Bool → List (List (Option Bool))
 read and or first second = map (λ bit. Some bit ∷ Some bit ∷ []) (and ∷ or ∷ first ∷ second ∷ [])
 
@@ -201,7 +202,7 @@ one_pull = refl
 nothing_decides : map (λ bit. pair_by bit None None None None) (off ∷ on ∷ []) ≡ read off off off off ∷ read on on on on ∷ []
 nothing_decides = refl
 
--- three shorted nets: if the dominant net is not driven, the And of the other nets' bits is taken, driven or pulled
+-- three shorted nets: if the dominant net is not driven, the bit of the short is the And of the bits of the other nets, driven or pulled
 abbrev all_three : ShortKind → RawBoard → Option Bool → Option Bool → Option Bool → List (Option Bool)
 all_three kind b first second third = net_bits on b (shorted 3 kind) (three_give first second third)
 
@@ -241,7 +242,7 @@ open_short_free : map (λ bit. net_bits bit (three None None None) (opened 0 0 o
     (Some off ∷ Some off ∷ None ∷ []) ∷ (Some on ∷ Some on ∷ None ∷ []) ∷ []
 open_short_free = refl
 
--- the bit of a short is free if one of its nets is not ruled or has two live drivers, whatever the nets are driven to
+-- the bit of a short is free if one of its nets is not ruled or has two live drivers, whatever bits drive the other nets
 abbrev one_unruled : Bool → List (Option Bool)
 one_unruled bit =
     net_bits bit (three None None None) (record (shorted 3 Or) { short = λ n. cond (n == 1) None (Some 0) })

@@ -59,7 +59,7 @@ safe_bits : map (safe_bit keeper) cells ≡
     Some on ∷ Some on ∷ Some off ∷ Some on ∷ Some on ∷ Some on ∷ Some on ∷ None ∷ Some on ∷ Some on ∷ Some on ∷ []
 safe_bits = refl
 
--- the visible state in which each latch except that of `cell` has the cell's safe value
+-- the visible state in which the latch of `cell` has the opposite of the cell's safe value, and each other latch has its cell's safe value
 abbrev but : ℕ → List PinState
 but cell = record {
   current = Extest;
@@ -87,7 +87,8 @@ driver_of_guarded keeps = let low : false ≡ true = keeps 0 9 keeper true refl 
 driver_of_no_net : KeepsSafeValues keeping (but 10) → ⊥
 driver_of_no_net keeps = let low : false ≡ true = keeps 0 10 keeper true refl refl (omega arith) refl refl refl in cc low
 
--- the controls that are on, with this bit in each latch: cell 5 if the bit is 0, and never cell 8, whose driver has no pin
+-- for each cell, whether it is a control that is on, with this bit in each latch: cell 5 if the bit is 0, and never cell 8,
+-- whose driver has no pin
 abbrev latched : Bool → List Bool
 latched bit = map (λ cell. latched_setting keeping (record { current = Extest; latches = map (λ k. bit) cells } ∷ []) (record { part = 0; cell = cell })) cells
 
@@ -169,7 +170,7 @@ abbrev later_moments : RawBoard → RawDevice → List Clock → List (List PinS
 later_moments b first clocks =
     shown (board_wiring b no_faults) (drop 5 clocks) (choices_after (take 5 clocks) choices) (run (board_wiring b no_faults) (take 5 clocks) choices (two_parts first))
 
--- a test breaks (a) in the update of its third scan, since it leaves one part with SAMPLE
+-- a test that breaks (a) in the update of its third scan, since one part then still has SAMPLE
 abbrev one_left : List Clock
 one_left = test_clocks (take 2 (svf_scans wire) ++ instructs ((off ∷ off ∷ []) ∷ (off ∷ on ∷ []) ∷ []) ∷ [])
 
@@ -179,7 +180,7 @@ all_in_extest quiet =
     let moments = (quiet no_faults (two_parts inner) choices (no_set wire) wire_start).1 in
     half_unsafe (moment_at wire (after_reset wire inner one_left) (later_moments wire inner one_left) moments 27 half_in_test refl).0
 
--- a test breaks (a) in the update of its fourth scan, since it enables a driver on a dark net
+-- a test that breaks (a) in the update of its fourth scan, since it enables a driver on a dark net
 abbrev dark_driven : List Clock
 dark_driven = test_clocks (take 3 (svf_scans dark) ++ sdr (sent off ∷ sent off ∷ sent off ∷ []) ∷ [])
 
@@ -189,7 +190,7 @@ dark_nets_are_left quiet =
     let moments = (quiet no_faults (two_parts ts) choices (no_set dark) dark_start).1 in
     dark_unsafe (moment_at dark (after_reset dark ts dark_driven) (later_moments dark ts dark_driven) moments 35 dark_on refl).0
 
--- a test breaks (c) in the update that makes EXTEST current, since it preloads 0 into an internal cell with safe value 1
+-- a test that breaks (c) in the update that makes EXTEST current, since it preloaded 0 into an internal cell with safe value 1
 abbrev zeros_preloaded : List Clock
 zeros_preloaded = test_clocks (take 1 (svf_scans wire) ++ sdr (sent off ∷ sent off ∷ sent off ∷ []) ∷ take 1 (drop 2 (svf_scans wire)))
 

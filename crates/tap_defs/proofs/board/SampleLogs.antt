@@ -57,7 +57,7 @@ captures board log single bit =
 abbrev explaining : RawBoard → List (List Bool) → List Single
 explaining board log = filter (λ single. captures board log single off && captures board log single on) (singles board)
 
--- the single faults that explain a log, found by the bit of each compared cell
+-- the single faults that explain a log, found by comparing each compared cell with the bit that `single_bit` gives
 abbrev agrees : RawBoard → Single → TestRow → Bool → Option Place → Option Bool → Bool
 agrees board single row logged place None = true
 agrees board single row logged None (Some expected) = false

@@ -1,4 +1,4 @@
--- Wrong tests of a net with two drivers, which are not quiet.
+-- Tests of a net with two drivers that are wrong because they are not quiet.
 use Rattle.std.proofs.Common.{◌≡◌, ℕ, zero, suc, Bool, true, false, List, [], ◌∷◌, ◌++◌, take, drop, Some, refl, inl, inr, subst, arith}
 use Rattle.std.specs.Prelude.{slice_get}
 use Rattle.board_defs.specs.declared.board.PartKind.TheVariants.{Described}

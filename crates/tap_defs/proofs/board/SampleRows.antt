@@ -13,7 +13,7 @@ use Rattle.tap_defs.proofs.chain.SampleTexts.{on, off}
 use Rattle.tap_defs.proofs.board.SampleBoards.{one_bit, entry, by, control, device, ts, drv, rcv, pin, foreign, net, board}
 use Rattle.tap_defs.proofs.board.SampleKeeping.{keeper, keeping, cells}
 
--- the widths of `n` codes, counted from 1, of which none has only zeros or only ones
+-- the code widths for 0 to 7 nets, at which no code of a net has only zeros or only ones
 widths : map code_width (range_with_len 0 8) ≡ 1 ∷ 2 ∷ 2 ∷ 3 ∷ 3 ∷ 3 ∷ 3 ∷ 4 ∷ []
 widths = refl
 
@@ -62,7 +62,7 @@ observed_by_first = refl
 observed_by_second : observing (c 0 1 ∷ []) ≡ None ∷ Some 1 ∷ None ∷ None ∷ []
 observed_by_second = refl
 
--- the nets that some pass observes are numbered from 1
+-- two passes; the nets that at least one of them observes are numbered from 1
 abbrev passes : List (List Ctl)
 passes = (c 1 1 ∷ c 7 1 ∷ []) ∷ (c 0 1 ∷ c 2 1 ∷ []) ∷ []
 
@@ -104,7 +104,7 @@ driver_of_1 = refl
 driver_of_2 : rows_of (c 1 1 ∷ c 2 1 ∷ []) 2 ts0 ≡ (off ∷ on ∷ []) ∷ (on ∷ on ∷ []) ∷ []
 driver_of_2 = refl
 
--- a driver that is not enabled, a driver whose net is not observed and a driver on a dark net have the bits of the quiet row
+-- the bits of the quiet row are in the cells of a driver that is not enabled, of one whose net is not observed, and of one on a dark net
 other_driver : rows_of (c 1 1 ∷ c 2 1 ∷ []) 0 bi ≡ (off ∷ on ∷ []) ∷ (off ∷ on ∷ []) ∷ []
 other_driver = refl
 

@@ -34,7 +34,7 @@ bus_text : board_text bus ≡ sample_text (
 unfolding svf_text digits
 bus_text = refl
 
--- guarded nets and nets without a driver have no part in the test
+-- the test leaves out guarded nets and nets without a driver
 buffers_text : board_text buffers ≡ sample_text (
     codes "SIR 4 TDI (A) TDO (5) MASK (F);" ∷ codes "SDR 10 TDI (210);" ∷ codes "SIR 4 TDI (0) TDO (5) MASK (F);"
     ∷ codes "SDR 10 TDI (030);" ∷ codes "SDR 10 TDI (050) TDO (004) MASK (00C);" ∷ codes "SDR 10 TDI (210) TDO (008) MASK (00C);" ∷ [])

@@ -1,5 +1,4 @@
--- Under a single fault, each compared cell captures the same bit whatever the free bits are: that of its stuck net, its open pin or its
--- short.
+-- Under a single fault, each compared cell captures a bit that depends only on the row in the latches, whatever the free bits are.
 use Rattle.std.proofs.Common.{◌≡◌, ◌≢◌, ◌⊎◌, inl, inr, ℕ, zero, suc, ◌+◌, ◌<◌, ◌==◌, Bool, true, false, cond, not, ◌&&◌, ◌||◌, List, [], ◌∷◌, Option, Some, None, refl, sym, ◌∙◌, ap, subst, arith}
 use Rattle.std.specs.Prelude.{slice_get, unwrap_or, option_and_then}
 use Rattle.std.specs.List.{cons_option}
@@ -172,7 +171,7 @@ module _ (a b : ℕ) (less : a < b) (kind : Kind) (one two : Net) where
       step n net nets false (neither n (λ q. omega (arith, q, z)) (λ q. omega (arith, q, w)))
       ∙ two_after (suc n) i j nets e (omega (arith, z)) f (omega (arith, w))
 
-  -- combining one bit, and combining two bits
+  -- the combined bit of one net of the short is the bit of this net, and two nets are combined by the kind of the short
   alone : (k : Kind) (c : ℕ) (u : Bool) → combined (short_kind a b k) ((c, u) ∷ []) ≡ u
   alone And c u = and-true u
   alone Or c u = or-false u
@@ -224,7 +223,7 @@ module _ (a b : ℕ) (less : a < b) (kind : Kind) (one two : Net) where
       none_carries (driven e) = cc e
       none_carries (pulled e f) = cc f
 
--- the driver by which a net is observed is its enabled driver
+-- if a setting observes a net by driver `d`, `d` is the net's first enabled driver
 first_driver : (board : RawBoard) (row : TestRow) (net : Net) (d : ℕ) → observing_driver board row.setting net ≡ Some d → first_enabled board row.setting 0 net.pins ≡ Some d
 first_driver board row net d e = go (guarded board net) e
   where
@@ -240,7 +239,7 @@ first_driver board row net d e = go (guarded board net) e
     go true h = cc h
     go false h = inner (first_enabled board row.setting 0 net.pins) h
 
--- the bit that a compared cell captures
+-- the bit that a compared cell captures while a row with a safe setting is in the latches
 module _ (board : RawBoard) (rules : IsBoard board) (row : TestRow) (safe : IsSafe board row.setting) where
   abbrev chain : List ChainPart
   chain = holding_chain board row 0 board.chain
@@ -288,7 +287,7 @@ module _ (board : RawBoard) (rules : IsBoard board) (row : TestRow) (safe : IsSa
         by_tests true false true = refl
         by_tests true false false = refl
 
-    -- the two nets of the short
+    -- the case of a short of two nets
     module _ (a b : ℕ) (kind : Kind) (is_single : IsSingle board (Short a b kind)) where
       abbrev faults : FaultSet
       faults = set_of (Short a b kind)
@@ -360,7 +359,7 @@ module _ (board : RawBoard) (rules : IsBoard board) (row : TestRow) (safe : IsSa
     value (OpenPin pin u) is_single = open_value pin u
     value (Short a b kind) is_single = short_value a b kind is_single
 
-  -- the bit that the cell captures while the row is in the latches
+  -- while the row is in the latches, a compared cell captures the bit that `single_bit` gives
   pub cell_value : (single : Single) → IsSingle board single → (part : ℕ) (device : RawDevice) (cell : ℕ) (place : Place) (v : Bool) →
       IsCompared board row part device cell place v → (choice : Choice) →
       captured_cell board (set_of single) (row_states board row) choice part device cell ≡ single_bit board single row place v

@@ -48,7 +48,7 @@ open_observable board pin value tested = record {
   shorts = λ n k e. nothing k e;
 }
 
--- the short of two nets
+-- the fault set of a short of two paired nets
 module _ (board : RawBoard) (a b : ℕ) (kind : Kind) (less : a < b) (paired : ArePaired board a b) where
   abbrev is_member : ℕ → Bool
   is_member n = (n == a) || (n == b)

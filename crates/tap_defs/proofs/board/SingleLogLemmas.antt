@@ -169,7 +169,8 @@ module _ (board : RawBoard) where
     pub expected_bits : IsExpected board scans log ↔ (HasShape board scans log × Expected)
     expected_bits = (λ h. (h.shape, expected_shows h), λ h. record { shape = h.0; bits = shows_expected h.1 })
 
--- the shape of the logs of a board's passes
+-- a log has the shape of the logs of the passes if and only if it has `width` rows for each pass and each row has a bit for
+-- each position of a data scan
 pub passes_shape : (board : RawBoard) (passes : List (List Ctl)) (width : ℕ) (log : List (List Bool)) → IsBoard board → ArePasses board passes →
     HasShape board (row_scans (code_row board passes) width passes) log ↔ ((length log ≡ length passes * width) × All (λ row. length row ≡ data_bits board) log)
 passes_shape board passes width log rules are =

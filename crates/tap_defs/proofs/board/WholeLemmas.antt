@@ -50,7 +50,7 @@ module _ (board : RawBoard) (rules : IsBoard board) where
   abbrev good_env : Wiring
   good_env = board_wiring board no_faults
 
-  -- if one scan passes, and the scans after it pass, all of them pass
+  -- if one scan passes and the scans after it pass, all of them together pass
   passed_then : (t : RowScan) (ts : List RowScan) (free : Choices) (row : List (List Bool)) (chain : List ChainPart) →
       InTest board row chain →
       scan_passes (joined (row_bits board t)) (joined (registers (pins_at good_env (free 2) chain) board.chain)) ≡ true →

@@ -68,7 +68,8 @@ expects board row n net c =
     ∙ ap (λ (o : Option ℕ). expect_observed (row.carried n) c.place o) c.observing_is
     ∙ ap (λ (b : Bool). only_if (not b) (row.carried n)) c.other
 
--- the cell captures the bit of its net, since its pin is not a live driver
+-- if the pin of a compared cell is not a live driver, the cell captures the pin's constant if the pin is open, and
+-- otherwise the bit of its net
 pub captures : (board : RawBoard) (faults : FaultSet) (setting : Enabling) (n : ℕ) (net : Net) (pin_state : List PinState) (shorts : ℕ → Bool) (w : Bool) (c : Compared board setting n net) →
     live_where board pin_state (Some (record { part = c.k; bit = c.bit })) ≡ false →
     read_entry board faults pin_state shorts w c.k (reading_entry c.device c.cell) ≡ unwrap_or (faults.opened n c.place) (unwrap_or (net_bit board faults pin_state shorts n net) w)
@@ -142,7 +143,7 @@ abbrev pub IsDead : RawBoard → TestRow → PinAt → Type 0
 IsDead board row at =
     (before : TestRow) (chain : List ChainPart) → InTest board (shifted_row board (record { now = row; before = before })) chain → live_where board (pin_states chain) (Some at) ≡ false
 
--- if a compared cell captures a constant, the scan is wrong in every row in which the cell's net carries the other bit
+-- if a compared cell captures a constant, each scan that compares a row in which the cell's net carries the opposite bit is wrong
 pub wrong_if_constant : (board : RawBoard) (faults : FaultSet) (row before now : TestRow) (n : ℕ) (net : Net) (c : Compared board row.setting n net) (u : Bool) →
     IsDead board row (record { part = c.k; bit = c.bit }) →
     ((free : Choice) (chain : List ChainPart) → InTest board (shifted_row board (record { now = row; before = before })) chain → captured_here board faults free chain n net c.place c.k c.cell ≡ u) →
@@ -152,7 +153,8 @@ wrong_if_constant board faults row before now n net c u dead const carried chain
     false_from_ne_true (scan_passes (joined (row_bits board (record { now = now; before = row }))) (joined (registers (pins_at (board_wiring board faults) free chain) board.chain)))
     (λ ok. not_itself u (sym (passes_at board faults row now n net (not u) carried c free chain (dead before chain h) ok) ∙ const free chain h))
 
--- if two nets are in one short, a scan is wrong in every row in which they carry different bits
+-- if two nets are in one short and the pins of their compared cells are not open, a scan is wrong that compares a row in
+-- which the nets carry different bits
 pub wrong_if_shorted : (board : RawBoard) (faults : FaultSet) (row before now : TestRow) (a b s : ℕ) (v : Bool) (one two : Net) (c : Compared board row.setting a one) (d : Compared board row.setting b two) →
     IsDead board row (record { part = c.k; bit = c.bit }) → IsDead board row (record { part = d.k; bit = d.bit }) →
     faults.opened a c.place ≡ None → faults.opened b d.place ≡ None → faults.stuck a ≡ None → faults.stuck b ≡ None → faults.short a ≡ Some s → faults.short b ≡ Some s →

@@ -84,7 +84,7 @@ selecting_by : (ps : List ChainPart) → AllIn RunTestIdle ps → AllBypass ps �
 selecting_by [] t h = tt
 selecting_by (p ∷ ps) t h = ((t.0, not_other p.state.current h.0), selecting_by ps t.1 h.1)
 
--- each part loads 0 into its bypass bit
+-- `k` zeros followed by a 0 are a 0 followed by `k` zeros; so parts with BYPASS load one 0 each
 zero_behind : (k : ℕ) → replicate k false ++ false ∷ [] ≡ false ∷ replicate k false
 zero_behind zero = refl
 zero_behind (suc k) = cons_path refl (zero_behind k)
@@ -98,7 +98,7 @@ loads_zeros (p ∷ ps) pins free h =
     ∙ ap (λ (r : List Bool). r ++ false ∷ []) (loads_zeros ps (λ k. pins (suc k)) (λ k. free (suc k)) h.1)
     ∙ zero_behind (length ps)
 
--- the marks come out after one zero for each part
+-- a scan that expects the bits `out` passes if `out` comes out first
 compared_passes : (ins out rest : List Bool) → length out ≤ length ins → scan_passes (compared ins out) (out ++ rest) ≡ true
 compared_passes [] [] rest h = refl
 compared_passes (i ∷ ins) [] rest h = refl
@@ -106,7 +106,7 @@ compared_passes [] (o ∷ out) rest h = absurd (omega (arith, h))
 compared_passes (i ∷ ins) (true ∷ out) rest h = compared_passes ins out rest (omega (arith, h))
 compared_passes (i ∷ ins) (false ∷ out) rest h = compared_passes ins out rest (omega (arith, h))
 
--- if another number of zeros comes out, the marks are not at the expected places
+-- if the number of zeros that come out before the marks is not the expected one, the scan fails
 count_fails : (ins : List Bool) (k j : ℕ) (rest : List Bool) → k ≢ j → length (replicate k false ++ marks) ≤ length ins →
     scan_passes (compared ins (replicate k false ++ marks)) (replicate j false ++ (marks ++ rest)) ≡ false
 count_fails [] k j rest ne h = absurd (omega (arith, h, length-append (replicate k false) marks))
@@ -123,7 +123,7 @@ length-compared (i ∷ ins) (o ∷ out) h = ap suc (length-compared ins out (ome
 count_by_logics : (ps : List ChainPart) (parts : List TestLogic) → logics ps ≡ parts → length ps ≡ length parts
 count_by_logics ps parts e = sym (length-map ps (λ p. p.logic)) ∙ ap (λ (l : List TestLogic). length l) e
 
--- each length is at least 2
+-- if each length is at least 2, each instruction register has at least two bits
 room_by : (lengths : List ℕ) → All (λ n. 2 ≤ n) lengths → AllRoom lengths
 room_by [] h = tt
 room_by (n ∷ lengths) h = (h 0 0 (omega arith), room_by lengths (λ k d lt. h (suc k) d (omega (arith, lt))))
@@ -136,7 +136,7 @@ module _ (lengths : List ℕ) (are : AreIrLengths lengths) (most : sum lengths �
   abbrev zeros : List Bool
   zeros = replicate (length lengths) false
 
-  -- the bits of the two scans
+  -- the bits of the first scan, which shifts codes of ones in, and of the second scan, which counts the parts
   abbrev code_part : List ScanBit
   code_part = joined (map code_bits (ones lengths))
 
@@ -170,7 +170,7 @@ module _ (lengths : List ℕ) (are : AreIrLengths lengths) (most : sum lengths �
       let counts_fit : length count_part < 2 ^ 64 = omega (arith, count_size, few_parts, most) in
       ((some_codes, codes_fit), ((some_counts, counts_fit), tt))
 
-  -- a run on a chain of these parts, from any state
+  -- a run of the test on a chain of these parts, from any state
   module _ (wiring : Wiring) (parts : List TestLogic) (chain : List ChainPart) (choices : Choices) (start : IsChainOf parts chain) where
     abbrev headed : List ChainPart
     headed = run wiring head_clocks choices chain
@@ -219,7 +219,7 @@ module _ (lengths : List ℕ) (are : AreIrLengths lengths) (most : sum lengths �
         count_by_logics coded parts
         (run_logics wiring (sir_clocks code_part) f6 headed ∙ run_logics wiring head_clocks choices chain ∙ start.logics_are)
 
-    -- if the instruction registers have no more bits in total, every part has BYPASS
+    -- if the instruction registers have no more bits in total than the codes, every part has BYPASS after the first scan
     all_bypass : sum (ir_lengths parts) ≤ sum lengths → AllBypass coded
     all_bypass few =
         bypass_by coded code_scan.currents

@@ -17,7 +17,7 @@ use Rattle.tap_defs.proofs.chain.ListLemmas.{cons_path, take_front, drop_front, 
 use Rattle.tap_defs.proofs.chain.MoveLemmas.{with_tap, at_tap, moved_to, chain_moves, map-moved_to, ir_captures-moved_to, moved_in, run_moves}
 use Rattle.tap_defs.proofs.chain.RunLemmas.{run-append, tdos-append, shifts_pass}
 
--- the properties of a part that an instruction scan does not change are still the same
+-- the part still has the properties that an instruction scan does not change
 abbrev SameFrame : TestLogic → PartState → PartState → Type 0
 SameFrame logic s after = ◌≡◌ {A = CodeFrame} (code_frame (record { logic = logic; state = after })) (code_frame (record { logic = logic; state = s }))
 
@@ -120,7 +120,7 @@ all_shifts wiring b (c ∷ bits) choices ps h =
       count = ap suc ih.count;
     }
 
--- one part that enters Update-IR, where its test logic gives the meaning of the code
+-- a part that enters Update-IR: its current instruction is then the one that its code means
 record Updates (logic : TestLogic) (s after : PartState) : Type 0 where
   code : after.ir ≡ s.ir
   current : after.current ≡ instruction_of logic after.ir
@@ -155,7 +155,7 @@ pub lengths-ir_captures : (ps : List ChainPart) (free : ℕ → FreeBits) → ma
 lengths-ir_captures [] free = refl
 lengths-ir_captures (p ∷ ps) free = cons_path (length-captured_ir p.state.ir (free 0).ir) (lengths-ir_captures ps (λ k. free (suc k)))
 
--- the capture of a scan, for the chain before the scan
+-- the clock in Capture-IR captures the bits that `codes_captured` gives for the chain before the scan
 captures_moved : (wiring : Wiring) (choices : Choices) (ps : List ChainPart) →
     ChainCaptures (codes_captured choices ps) ps (clock_after wiring (plain false) (choices 3) (map (moved_to CaptureIR) ps))
 captures_moved wiring choices ps =
@@ -168,7 +168,7 @@ captures_moved wiring choices ps =
       taps = e.taps;
     }
 
--- an instruction scan of any length, on any chain
+-- an instruction scan of any length has the effect that `LongCodeTransport` states, on any chain
 pub long_code_transport : LongCodeTransport
 unfolding run tdos
 long_code_transport wiring [] choices ps h some = absurd (omega (arith, some))

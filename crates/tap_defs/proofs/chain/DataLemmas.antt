@@ -140,7 +140,7 @@ all_shifts wiring b (c ∷ bits) choices ps h =
       count = ap suc ih.count;
     }
 
--- one part that enters Update-DR
+-- a part that enters Update-DR
 record Updates (logic : TestLogic) (s after : PartState) : Type 0 where
   held : held_bits after ≡ data_register s
   frame : (◌≡◌ {A = DataFrame} (data_frame (record { logic = logic; state = after })) (data_frame (record { logic = logic; state = s })))
@@ -179,7 +179,7 @@ chain_updates (p ∷ ps) pins free tdi h =
       selecting = (e.selecting, ih.selecting);
     }
 
--- the capture of a scan, for the chain before the scan
+-- the clock in Capture-DR captures the bits that `data_captured` gives for the chain before the scan
 captures_moved : (wiring : Wiring) (choices : Choices) (ps : List ChainPart) → AllSelectingIn RunTestIdle ps →
     ChainCaptures (data_captured wiring choices ps) ps (clock_after wiring (plain false) (choices 2) (map (moved_to CaptureDR) ps))
 captures_moved wiring choices ps h =
@@ -196,7 +196,7 @@ captures_moved wiring choices ps h =
       selecting = e.selecting;
     }
 
--- a data scan of any length, on any chain
+-- a data scan of any length has the effect that `LongDataTransport` states, on any chain
 pub long_data_transport : LongDataTransport
 unfolding run tdos
 long_data_transport wiring [] choices ps h some = absurd (omega (arith, some))

@@ -29,7 +29,7 @@ run_logics wiring cs choices ps =
     run_keeps (λ (qs : List ChainPart). logics qs ≡ logics ps) wiring
     (λ c choice qs e. chain_logics qs (pins_at wiring choice qs) choice.parts c.tms (clock_tdi c choice) ∙ e) cs choices ps refl
 
--- a clock keeps the lengths of the instruction registers
+-- a clock keeps the lengths of the instruction registers, since the actions of the old state and of the new state keep them
 old_ir : (t : TapState) (i : Instruction) (logic : TestLogic) (pins : List Bool) (free : FreeBits) (tdi : Bool) (s : PartState) →
     length (old_state_acts t i logic pins free tdi s).ir ≡ length s.ir
 old_ir CaptureIR i logic pins free tdi s = length-captured_ir s.ir free.ir
@@ -82,7 +82,7 @@ states_ir (p ∷ ps) h = cons_path h.0.ir (states_ir ps h.1)
 pub chain_lengths : (parts : List TestLogic) (ps : List ChainPart) → IsChainOf parts ps → ir_sizes ps ≡ ir_lengths parts
 chain_lengths parts ps h = states_ir ps h.states_are ∙ ap (λ (l : List TestLogic). ir_lengths l) h.logics_are
 
--- a clock moves the TAP state as the table says
+-- the new state's action does not change the TAP state; so a clock moves the TAP state as the state table says
 new_tap : (t : TapState) (i : Instruction) (logic : TestLogic) (free : FreeBits) (s : PartState) →
     (new_state_acts t i logic free s).tap ≡ s.tap
 new_tap UpdateIR i logic free s = refl
@@ -156,7 +156,7 @@ run_resets wiring choices ps = run_leads wiring TestLogicReset reset_clocks choi
 pub head_idles : (wiring : Wiring) (choices : Choices) (ps : List ChainPart) → AllIn RunTestIdle (run wiring head_clocks choices ps)
 head_idles wiring choices ps = run_leads wiring RunTestIdle head_clocks choices ps (all_idle ps)
 
--- the scans of a text decide whether it passes
+-- a text passes if and only if its scans pass after the head
 pub scans_decide : (wiring : Wiring) (scans : List Scan) (choices : Choices) (ps : List ChainPart) →
     run_passes (test_clocks scans) (tdos wiring (test_clocks scans) choices ps)
     ≡ run_passes (all_clocks scans) (tdos wiring (all_clocks scans) (choices_after head_clocks choices) (run wiring head_clocks choices ps))

@@ -38,7 +38,7 @@ tdi_bits-instructs (c ∷ codes) =
     ∙ ap (λ (r : List Bool). r ++ tdi_bits (code_bits c)) (tdi_bits-instructs codes)
     ∙ ap (λ (r : List Bool). joined codes ++ r) (tdi_bits-code_bits c)
 
--- a part captures 01 in its two lowest bits
+-- the scan bits of a part's code pass with the bits that the part captures, since the lowest two of these are 01
 code_passes : (code ir : List Bool) (free : ℕ → Bool) → length code ≡ length ir → 2 ≤ length ir →
     scan_passes (code_bits code) (captured_ir ir free) ≡ true
 code_passes code [] free e h = absurd (omega (arith, h))

@@ -18,7 +18,7 @@ use Rattle.tap_defs.proofs.chain.TokenLemmas.{is_bare, all_append, all_bare, hex
 use Rattle.tap_defs.proofs.chain.TokenLemmas.{scan_tokens, form_read}
 use Rattle.tap_defs.proofs.chain.StatementLemmas.{statement_is}
 
--- the statements of tokens
+-- the statements that these tokens form
 abbrev statements_in : List Token → Option (List Statement)
 statements_in tokens = option_and_then statements_of (pieces_from [] tokens)
 
@@ -201,7 +201,7 @@ text_read scans h =
     ∙ head_read (scan_texts scans ++ tail_text)
     ∙ ap head_then (scans_read scans tail_text tail_statements h tail_read)
 
--- The clocks of these statements. After the head, the controllers are in Run-Test/Idle, and scans end there.
+-- the state after the head, in which the controllers are in Run-Test/Idle and scans end there; it is needed for the clocks of the scans
 abbrev idle : Standing
 idle = record { idle = true; ends_ir = true; ends_dr = true }
 

@@ -23,14 +23,14 @@ with_tap t s = record {
   latches = s.latches;
 }
 
--- what is true of a part with its TAP state written out is true of the part
+-- if a part is in TAP state `t`, a fact about the part with its TAP state set to `t` is a fact about the part
 pub at_tap : (P : PartState → Type 0) (t : TapState) (s : PartState) → s.tap ≡ t → P (with_tap t s) → P s
 at_tap P t s e p = subst (λ (u : TapState). P (with_tap u s)) (sym e) p
 
 abbrev pub moved_to : TapState → ChainPart → ChainPart
 moved_to t p = record p { state = with_tap t p.state }
 
--- the old state changes no register
+-- the action of the old state changes no register
 abbrev pub rests : TapState → Bool
 rests CaptureDR = false
 rests ShiftDR = false
@@ -38,7 +38,7 @@ rests CaptureIR = false
 rests ShiftIR = false
 rests _ = true
 
--- the new state changes the instruction or the latches
+-- the action of the new state changes the instruction or the latches
 abbrev pub changes : TapState → Bool
 changes TestLogicReset = true
 changes UpdateDR = true
@@ -79,7 +79,7 @@ chain_moves t (p ∷ ps) pins free tms tdi h e f =
     ∙ ap (λ (u : TapState). with_tap (next_state u tms) p.state) h.0))
     (chain_moves t ps (λ k. pins (suc k)) (λ k. free (suc k)) tms (part_tdo (free 0) tdi p.state) h.1 e f)
 
--- a property that does not depend on the TAP state
+-- a function that does not depend on the TAP state has the same values after the controllers have moved
 pub map-moved_to : {A : Type 0} (g : ChainPart → A) (t : TapState) → ((p : ChainPart) → g (moved_to t p) ≡ g p) → (ps : List ChainPart) →
     map g (map (moved_to t) ps) ≡ map g ps
 map-moved_to g t q [] = refl

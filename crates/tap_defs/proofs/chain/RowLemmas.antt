@@ -6,7 +6,7 @@ use Rattle.tap_defs.specs.chain.Codes.{sent, code_bits}
 use Rattle.tap_defs.specs.chain.ChainScans.{compared}
 use Rattle.tap_defs.proofs.chain.ListLemmas.{cons_path}
 
--- the row of TDI
+-- the row of TDI of a scan has the bits that were given for shifting in
 pub tdi_bits-sent : (code : List Bool) → tdi_bits (map sent code) ≡ code
 tdi_bits-sent [] = refl
 tdi_bits-sent (b ∷ code) = cons_path refl (tdi_bits-sent code)
@@ -21,7 +21,7 @@ tdi_bits-compared [] out h = refl
 tdi_bits-compared (i ∷ ins) [] h = absurd (omega (arith, h))
 tdi_bits-compared (i ∷ ins) (o ∷ out) h = cons_path refl (tdi_bits-compared ins out (omega (arith, h)))
 
--- a code of ones
+-- a code of ones has only ones
 pub all_ones-replicate : (n : ℕ) → all_ones (replicate n true) ≡ true
 all_ones-replicate zero = refl
 all_ones-replicate (suc n) = all_ones-replicate n
@@ -46,7 +46,7 @@ one_masked (b ∷ bits) zero one = by_expect b.expect one
     by_expect (Some o) e = refl
 one_masked (b ∷ bits) (suc i) one = one_masked bits i one
 
--- the row of MASK of a scan that is made from rows
+-- the row of MASK of a scan that is made from rows is the given one
 is_compared : (o m : Bool) → is_some (cond m (Some o) None) ≡ m
 is_compared o true = refl
 is_compared o false = refl

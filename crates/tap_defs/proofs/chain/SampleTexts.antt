@@ -132,7 +132,7 @@ pub scan_means : headed (codes "SDR 5 TDI (08) TDO (01) MASK (05);" ∷ []) ≡ 
 unfolding meaning text_statements tokens_from
 scan_means = refl
 
--- a meaning in spite of comments, blanks, line ends between digits, digits in either case, and TDO bits that are not compared
+-- the text has a meaning in spite of comments, blanks, line ends between digits, digits in either case, and TDO bits that are not compared
 pub comment_means : headed (codes "! a; (" ∷ codes "SDR 5 // 6" ∷ codes "TDI (0!8" ∷ codes "8) TDO (0" ∷ codes " 1 )MASK (05 ) ;//" ∷ []) ≡ one_scan
 unfolding meaning text_statements tokens_from
 comment_means = refl
@@ -146,8 +146,8 @@ pub resets_mean : headed (codes "STATE RESET;STATE IDLE;TRST OFF;STATE RESET;" �
 unfolding meaning text_statements tokens_from
 resets_mean = refl
 
--- No meaning: STATE IDLE that is not right after STATE RESET, and a scan that does not begin in Run-Test/Idle or has no ENDDR IDLE
--- before it.
+-- Texts without a meaning: STATE IDLE is not right after STATE RESET, or a scan does not begin in Run-Test/Idle or has no
+-- ENDDR IDLE before it.
 pub idle_late : meaning (codes "STATE RESET; ENDDR IDLE; STATE IDLE;") ≡ None
 unfolding meaning text_statements tokens_from
 idle_late = refl
@@ -164,8 +164,9 @@ pub scan_unended : meaning (codes "ENDIR IDLE; STATE RESET; STATE IDLE; SDR 4 TD
 unfolding meaning text_statements tokens_from
 scan_unended = refl
 
--- No meaning: scans without TDI, with only one of TDO and MASK, with fields in another order, with too many or too few digits, or with
--- a 1 above the bits. Nor has a scan of no bits, a command in lower case, another command, or a statement without its semicolon.
+-- Scans without a meaning: without TDI, with only one of TDO and MASK, with fields in another order, with too many or too
+-- few digits, or with a 1 above the bits. A scan of no bits, a command in lower case, another command, and a statement
+-- without its semicolon have no meaning either.
 pub no_meaning : list_all (λ l. is_none (headed (l ∷ []))) (
     codes "SDR 4;" ∷ codes "SDR 4 TDO (1) MASK (1);" ∷ codes "SDR 4 TDI (0) TDO (1);" ∷ codes "SDR 4 TDI (0) MASK (1);"
     ∷ codes "SDR 4 TDI (0) MASK (1) TDO (1);" ∷ codes "SDR 4 TDI (0) TDO (1) MASK (1) MASK (1);"

@@ -10,7 +10,7 @@ use Rattle.tap_defs.specs.chain.Transport.{scan_passes}
 use Rattle.tap_defs.proofs.chain.ListLemmas.{cons_path, length-joined}
 use Rattle.tap_defs.proofs.chain.RunLemmas.{scan_passes-append}
 
--- a list that is split at the same length in two ways has the same parts
+-- if two lists are equal and are split at the same length, their parts are equal
 pub split : (a b c d : List Bool) → length a ≡ length b → a ++ c ≡ b ++ d → (a ≡ b) × (c ≡ d)
 split [] [] c d h e = (refl, e)
 split [] (y ∷ b) c d h e = absurd (omega (arith, h))

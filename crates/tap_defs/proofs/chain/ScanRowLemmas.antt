@@ -37,7 +37,7 @@ module _ {bits : List ScanBit} {shifted expected marks : List Bool} (are : AreBi
   pub rows_masked : (i : ℕ) → get_or expected i false ≡ true → get_or marks i false ≡ true
   rows_masked i one = ap (λ (l : List Bool). get_or l i false) are.mask ∙ one_masked bits i (sym (ap (λ (l : List Bool). get_or l i false) are.tdo) ∙ one)
 
--- if `Fits` implies `Holds`, rows with room for the first have room for the second
+-- if `Fits` implies `Holds` and each row has a room that fits, each row has a room that holds
 pub each_room : {Fits Holds : ℕ → Type 0} {rows : ScanRows} → ((room : ℕ) → Fits room → Holds room) → EachHasRoom Fits rows → EachHasRoom Holds rows
 each_room {Fits} {Holds} {rows} holds each = record {
   tdi = holds rows.tdi.now.room each.tdi;

@@ -29,7 +29,7 @@ command_is : (ir : Bool) → scan_command (command_word ir) ≡ Some ir
 command_is true = refl
 command_is false = refl
 
--- the fields that tokens form, one by one
+-- a field with the digits of these bits, and the lemmas that tokens form such fields
 abbrev field : List ℕ → List Bool → Field
 field name bits = record { name = name; digits = hex_text bits }
 
@@ -65,7 +65,7 @@ fields_are long bits b =
     field_is long (codes "TDI") (tdi_bits bits) (compare_tokens long bits b)
     ∙ ap (λ (o : Option (List Field)). option_map (λ fields. field (codes "TDI") (tdi_bits bits) ∷ fields) o) (compare_fields_are long bits b)
 
--- the bits of the fields
+-- the digits of a row of a scan are read as this row
 digits_are : (bits : List ScanBit) (f : ScanBit → Bool) → field_bits (length bits) (hex_text (map f bits)) ≡ Some (map f bits)
 digits_are bits f = ap (λ (n : ℕ). field_bits n (hex_text (map f bits))) (sym (length-map bits f)) ∙ field_bits-hex_text (map f bits)
 

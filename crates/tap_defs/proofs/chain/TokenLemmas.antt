@@ -106,7 +106,7 @@ digit_plain b h =
 pub decimal_plain : (n : ℕ) → n < 2 ^ 64 → list_all is_plain (decimal n) ≡ true
 decimal_plain n h = all_by is_ascii_digit is_plain digit_plain (decimal n) (decimal_digits n h)
 
--- lemmas on words
+-- a byte of a word is added to the part of the word that has been read
 solid_goes_on : (word : List ℕ) (b : ℕ) (rest : List ℕ) → is_solid b ≡ true →
     tokens_from word (b ∷ rest) ≡ tokens_from (word ++ b ∷ []) rest
 unfolding tokens_from
@@ -144,7 +144,7 @@ abbrev pub run_on : List (List ℕ) → List ℕ
 run_on [] = []
 run_on (w ∷ words) = w ++ run_on words
 
--- the words of digits that are laid out in lines, if a word has begun and its line has this room
+-- the words into which line ends divide the digits, if a word has begun and its line has this room
 abbrev pub pieces : List ℕ → ℕ → List ℕ → List (List ℕ)
 pieces word room [] = word ∷ []
 pieces word zero (d ∷ digits) = word ∷ pieces (d ∷ []) 63 digits
@@ -172,7 +172,7 @@ pub worded-append : (words : List (List ℕ)) (ts us : List Token) → worded wo
 worded-append [] ts us = refl
 worded-append (w ∷ words) ts us = ap (λ (r : List Token). Word w ∷ r) (worded-append words ts us)
 
--- the tokens of laid out digits and a closing parenthesis, if a word has begun
+-- if a word has begun, the tokens of laid-out digits and a closing parenthesis are the words of the digits and the parenthesis
 pieces_read : (word : List ℕ) (room : ℕ) (digits rest : List ℕ) → 0 < length word → list_all is_solid digits ≡ true →
     tokens_from word (broken room digits ++ 41 ∷ rest) ≡ worded (pieces word room digits) (Close ∷ tokens_from [] rest)
 unfolding tokens_from
@@ -196,7 +196,7 @@ laid_read true (d ∷ digits) rest some h =
     solid_goes_on [] d (broken 63 digits ++ 41 ∷ rest) both.0 ∙ pieces_read (d ∷ []) 63 digits rest (omega arith) both.1
 laid_read false digits rest some h = word_goes_on [] digits (41 ∷ rest) h ∙ word_ends digits (Close ∷ tokens_from [] rest) some
 
--- the tokens of a field's digits and its closing parenthesis
+-- the tokens of a field's digits and its closing parenthesis are the words of the digits and the parenthesis
 bits_read : (long : Bool) (bits : List Bool) (rest : List ℕ) → 0 < length bits →
     tokens_from [] (laid long (hex_text bits) ++ 41 ∷ rest) ≡ worded (words_of long (hex_text bits)) (Close ∷ tokens_from [] rest)
 bits_read long bits rest h = laid_read long (hex_text bits) rest (hex_text_some bits h) (all_solid (hex_text bits) (hex_text_plain bits))
@@ -234,7 +234,7 @@ field_tokens-append : (long : Bool) (name : List ℕ) (bits : List Bool) (ts us 
     field_tokens long name bits ts ++ us ≡ field_tokens long name bits (ts ++ us)
 field_tokens-append long name bits ts us = ap (λ (r : List Token). Word name ∷ Open ∷ r) (worded-append (words_of long (hex_text bits)) (Close ∷ ts) us)
 
--- the tokens of the text of MASK, in front of any text
+-- the tokens of the text of MASK, which may be followed by any text
 mask_read : (long : Bool) (bits : List Bool) (rest : List ℕ) → 0 < length bits →
     tokens_from [] (gap long ∷ codes "MASK (" ++ (laid long (hex_text bits) ++ (codes ");" ++ rest)))
     ≡ field_tokens long (codes "MASK") bits (End ∷ tokens_from [] rest)
@@ -291,7 +291,7 @@ command-append : (ir : Bool) (more rest : List ℕ) → (command_word ir ++ (32 
 command-append true more rest = refl
 command-append false more rest = refl
 
--- the tokens of a scan's text, in one line or in several lines
+-- the tokens of a scan's text, in one line or in several lines, are `scan_tokens` and the semicolon
 pub form_read : (long : Bool) (scan : Scan) (rest : List ℕ) → 0 < length scan.bits → length scan.bits < 2 ^ 64 →
     tokens_from [] (form long scan ++ 10 ∷ rest) ≡ scan_tokens long scan ++ End ∷ tokens_from [] rest
 unfolding tokens_from

@@ -74,7 +74,7 @@ pub data Feeding : Type 0 where
   Driven : ℕ → Bool → Feeding
   Contended : Feeding
 
--- the driving of a net with one more pin, which may be live
+-- the driving of a net after one more pin, which counts only if it is live
 abbrev pub counted : Bool → ℕ → Bool → Feeding → Feeding
 counted false place bit feeding = feeding
 counted true place bit Undriven = Driven place bit
@@ -202,8 +202,9 @@ net_bit_by board faults states shorts n net (Some constant) short = Some constan
 net_bit_by board faults states shorts n net None (Some k) = Some (short_bit board faults states (shorts k) k)
 net_bit_by board faults states shorts n net None None = unshorted_bit faults n net.pull (feeding board states net)
 
--- The bit of net `n`: its constant if it is stuck, else the bit of its short if it is in one, else the bit that its driver and its pull
--- give. None means a free bit for each cell that captures. `shorts k` is the bit of short `k` if nothing decides that bit.
+-- The bit of net `n`: its constant if it is stuck, else the bit of its short if it is in one, else the bit that its driver
+-- and its pull give. None means that each cell on the net captures a free bit. `shorts k` is the bit of short `k` if
+-- nothing decides that bit.
 abbrev pub net_bit : RawBoard → FaultSet → List PinState → (ℕ → Bool) → ℕ → Net → Option Bool
 net_bit board faults states shorts n net = net_bit_by board faults states shorts n net (faults.stuck n) (faults.short n)
 

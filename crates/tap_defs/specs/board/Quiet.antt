@@ -36,7 +36,7 @@ abbrev pub set_in : RawBoard → ℕ → ℕ → Bool → Option RawDevice → B
 set_in board part cell bit None = false
 set_in board part cell bit (Some device) = list_any (controls_driver board part cell) device.cells && differs bit (disable_of device cell)
 
--- the setting of the controls of drivers whose latches differ from the disable value
+-- the setting that the latches show: it contains a control if the control's latch differs from the disable value of a driver
 abbrev pub latched_setting : RawBoard → List PinState → Enabling
 latched_setting board states c = set_in board c.part c.cell (latch states c.part c.cell) (device_at board c.part)
 

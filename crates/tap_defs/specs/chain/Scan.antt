@@ -32,8 +32,7 @@ abbrev pub scan_bits : List Bool → List Bool → List Bool → List ScanBit
 scan_bits (i ∷ is) (o ∷ os) (m ∷ ms) = record { tdi = i; expect = cond m (Some o) None } ∷ scan_bits is os ms
 scan_bits _ _ _ = []
 
--- The registers of parts, joined to one register. The parts are in the order from TDI to TDO, and the last part has the
--- lowest positions.
+-- The registers of parts, joined into one register. The parts are in the order from TDI to TDO, and the last part has the lowest positions.
 abbrev pub joined : {A : Type 0} → List (List A) → List A
 joined [] = []
 joined (r ∷ rs) = joined rs ++ r

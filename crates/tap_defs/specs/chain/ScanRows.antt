@@ -1,4 +1,4 @@
--- Facts about the three rows of a scan in code: their bits, their room, and that a call does not exchange them.
+-- The three rows of a scan in code: the bits that they have, the room that they have, and that a call keeps the same three rows.
 use Rattle.std.specs.Prelude.{◌≡◌, ℕ, ◌≤◌, Bool, List, length}
 use Rattle.tap_defs.specs.declared.scan.ScanRows.{ScanRows}
 use Rattle.tap_defs.specs.declared.scan.StoredRows.{StoredRows}
