@@ -14,12 +14,12 @@ pub no_place : (p : ℕ → Bool) (xs : List ℕ) → Nowhere (Passes p xs) 0 (l
 no_place p xs nowhere =
     prefix_len_is (λ x. not (p x)) xs (length xs) 0 (omega arith) (λ k within. not_from_false (p (get_or xs k 0)) (false_from_ne_true (p (get_or xs k 0)) (nowhere k (omega arith) within))) (λ within. absurd (omega arith))
 
--- the position of the first byte that passes
+-- if byte `k` passes and no byte before it does, `k` is the position of the first passing byte
 pub first_place : (p : ℕ → Bool) (xs : List ℕ) (k : ℕ) → NoneBefore (Passes p xs) 0 (length xs) k → Passes p xs k → position_or_len p xs ≡ k
 first_place p xs k before passes =
     prefix_len_is (λ x. not (p x)) xs k 0 (omega (arith, before.high)) (λ j within. not_from_false (p (get_or xs j 0)) (false_from_ne_true (p (get_or xs j 0)) (before.before j (omega arith) within))) (λ within. ap not passes)
 
--- the parts before and after that byte
+-- if byte `k` is the first that passes, the bytes before it and the bytes after it are the parts of the cut
 pub cut_there : (p : ℕ → Bool) (xs : List ℕ) (k : ℕ) → (NoneBefore (Passes p xs) 0 (length xs) k × Passes p xs k) → IsCut p xs (Some (take k xs, take (length xs - (k + 1)) (drop (k + 1) xs)))
 cut_there p xs k (before, passes) =
     let place = first_place p xs k before passes in (
@@ -48,7 +48,7 @@ unfolding words_of
 words_of_empty [] h = refl
 words_of_empty (b ∷ bs) h = absurd (omega arith)
 
--- a measure of the text that is left
+-- the number of bytes of the text that is left, plus one, or 0 if no text is left; it falls with each line
 abbrev pub text_left : Option (List ℕ) → ℕ
 text_left None = 0
 text_left (Some text) = 1 + length text
@@ -66,7 +66,7 @@ has_bytes view words (b ∷ bs) e h = omega arith
 pub at_some : {A : Type 0} (P : A → Type 0) (o : Option A) (x : A) → o ≡ Some x → IfSome o P → P x
 at_some P o x e h = subst (λ v. IfSome v P) e h
 
--- the line number stays within its bound at the next line
+-- if a text and the line number are within a bound, so are the rest of the text and the number of the next line
 pub next_place : {A : Type 0} (view : A → List ℕ) (r : Option A) (line text : List ℕ) (n b : ℕ) → IfSome r (λ rest. length line + length (view rest) + 1 ≡ length text) → n + length text ≤ 1 + b → IfSome r (λ rest. n + 1 + length (view rest) ≤ 1 + b)
 next_place view None line text n b h place = tt
 next_place view (Some rest) line text n b h place = omega arith
@@ -75,12 +75,12 @@ pub line_within : {A : Type 0} (view : A → List ℕ) (r : Option A) (line text
 line_within view None line text h whole = omega arith
 line_within view (Some rest) line text h whole = omega arith
 
--- the bytes that are left
+-- the number of bytes of the text that is left
 abbrev pub bytes_left : Option (List ℕ) → ℕ
 bytes_left None = 0
 bytes_left (Some text) = length text
 
--- A line that counts has at least one byte. So no more lines count than bytes were read.
+-- A line that counts has at least one byte. So no more lines count than the text has bytes.
 pub count_at : (left : Option (List ℕ)) (text : List ℕ) (count b : ℕ) → left ≡ Some text → count + bytes_left left ≤ b → count + length text ≤ b
 count_at left text count b is within = subst (λ (o : Option (List ℕ)). count + bytes_left o ≤ b) is within
 
@@ -103,7 +103,7 @@ taken_first : (b : ℕ) (bs : List ℕ) (pieces : List (List ℕ)) → not (b ==
 taken_first b bs pieces word =
     take_while-cons begins_no_comment (b ∷ bs) pieces ∙ ap (λ t. cond t ((b ∷ bs) ∷ take_while begins_no_comment pieces) []) word
 
--- the first word of a line, and the text after it
+-- the words of a line are its first word, if it begins with one, followed by the words of the text after this word
 pub words_of-cons : (line before behind : List ℕ) → slice_split is_blank line ≡ before ∷ slice_split is_blank behind → begins_word before ≡ true → words_of line ≡ before ∷ words_of behind
 unfolding words_of
 words_of-cons line [] behind split word = absurd (false≢true word)

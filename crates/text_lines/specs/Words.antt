@@ -21,7 +21,7 @@ abbrev pub begins_no_comment : Word → Bool
 begins_no_comment [] = true
 begins_no_comment (b ∷ bs) = not (b == 35)
 
--- the nonempty pieces between blanks, before the first piece that begins with `#`
+-- the words of a line: the nonempty pieces between blanks, before the first piece that begins with `#`
 unfoldable pub words_of : List ℕ → List Word
 words_of line = take_while begins_no_comment (filter is_filled (slice_split is_blank line))
 

@@ -64,8 +64,8 @@ pub fn is_word(word: &[u8]) -> bool
     is_filled(word) && word.len() <= MOST_WORD_BYTES && is_graphic(word)
 }
 
-// Returns the place of the first such byte. A text may have millions of empty lines, so the first byte is compared
-// before the search begins.
+// Returns the place of the first byte that equals `byte`. A text may have millions of empty lines, so the first byte is
+// compared before the search begins.
 fn place_of(text: &[u8], byte: u8) -> Option<usize>
     ensures { IsFirstByte (is_byte byte) text.now result }
 {
@@ -75,7 +75,7 @@ fn place_of(text: &[u8], byte: u8) -> Option<usize>
     }
 }
 
-/// Returns the parts before and after the first such byte, or None if there is no such byte.
+/// Returns the parts before and after the first byte that equals `byte`, or None if there is no such byte.
 pub fn cut_at(text: &[u8], byte: u8) -> Option<(&[u8], &[u8])>
     ensures { IsCut (λ b. b == byte) text.now (option_map (λ cut. (cut.0.now, cut.1.now)) result) }
 {
