@@ -45,7 +45,7 @@ unless_none : (fault : Option BoardFault) (whole board : RawBoard) → unless fa
 unless_none None whole board is = (refl, cc)
 unless_none (Some fault) whole board is = absurd cc
 
--- the board of lines and devices keeps the rules of a board
+-- if lines and devices keep their rules and denote a board, the board keeps the rules of boards
 pub board_is : (chain : List ChainLine) (nets : List NetLine) (devices : List RawDevice) (board : RawBoard) → IsChain chain → AllByRecursion (λ line. HasLength line.statement) chain → AllByRecursion IsDevice devices → length devices ≡ length (named EntityName chain)
     → board_of chain nets devices ≡ Ok board → IsBoard board
 unfolding board_answer

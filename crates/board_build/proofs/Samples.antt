@@ -149,7 +149,7 @@ one_has_a_place = refl
 flags : map (is_flagged ((false ∷ true ∷ []) ∷ [])) (place 0 1 ∷ place 0 0 ∷ place 0 2 ∷ place 1 1 ∷ []) ≡ true ∷ false ∷ false ∷ false ∷ []
 flags = refl
 
--- U1 and U2 are described, and U3 is in BYPASS
+-- a chain in which U1 and U2 are described, and U3 is in BYPASS
 abbrev parts : List Part
 parts = record { name = codes "U1"; kind = Described drv } ∷ record { name = codes "U2"; kind = Described rcv } ∷ record { name = codes "U3"; kind = BypassPart 4 } ∷ []
 

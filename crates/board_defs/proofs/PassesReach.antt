@@ -19,7 +19,7 @@ use Rattle.board_defs.proofs.Covered.{net_same, tested_can, tested_driver_of, pa
 use Rattle.board_defs.proofs.PassSettings.{driver_pass_enables, safe_setting}
 use Rattle.board_defs.proofs.PassesKept.{Good, good_passes, reason_at, fold_keeps, fold_makes, all_drivers, on_board_driver, has_tested, tested_drives, in_nets, enabled_observes, shows_observes, Compatible, pair_shows}
 
--- some pass enables the driver, or observes both nets; adding passes keeps this true
+-- some pass enables the driver (`Enabled`), or observes both nets (`Shown`); this stays true when passes are added
 abbrev pub Enabled : Drive → List (List Ctl) → Type 0
 Enabled d passes = list_any (λ pass. is_enabled pass d) passes ≡ true
 

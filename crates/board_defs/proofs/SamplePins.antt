@@ -72,7 +72,7 @@ upward = refl
 downward : range_indexes 3 1 ≡ 3 ∷ 2 ∷ 1 ∷ []
 downward = refl
 
--- the pins of these devices are named A, B and so on
+-- the name of a pin of these devices: A, B and so on
 abbrev letter : ℕ → List ℕ
 letter b = (65 + b) ∷ []
 
@@ -112,7 +112,7 @@ kinds_rules = board_of kinds refl
 abbrev is : RawBoard → ℕ → Bool × Bool × Option Drive
 is b port = (is_dark b (leg 0 port), receives b (leg 0 port), drive b (net 0 None []) (leg 0 port))
 
--- a linkage pin is dark, and is no receiver although an entry reads it
+-- a linkage pin is dark, and it is not a receiver, although an entry reads it
 linkage : is kinds 0 ≡ (true, false, None)
 linkage = refl
 
@@ -126,7 +126,7 @@ input_alone = refl
 input_read : is kinds 3 ≡ (false, true, None)
 input_read = refl
 
--- an input with an OBSERVE_ONLY entry is no receiver, and one with a CLOCK entry is
+-- an input with an OBSERVE_ONLY entry is not a receiver, and an input with a CLOCK entry is
 input_observed : is kinds 4 ≡ (false, false, None)
 input_observed = refl
 
@@ -220,7 +220,7 @@ undescribed_drives = refl
 undescribed_lengths : instruction_bits undescribed ∷ data_bits undescribed ∷ [] ≡ 6 ∷ 3 ∷ []
 undescribed_lengths = refl
 
--- a net with pin `p` and a pin that does not guard the net
+-- whether a net is guarded that has pin `p` and a pin that does not guard it
 abbrev guarded_by : NetPin → Bool
 guarded_by p = guarded kinds (net 0 None (leg 0 3 ∷ p ∷ []))
 

@@ -49,7 +49,7 @@ one_code rules = rules.codes_differ refl
 short_idcode : HasCodes (record ts { idcode = Some (replicate 31 One) }) → ⊥
 short_idcode rules = let short = rules.idcode_length in omega (arith, short)
 
--- the ports of the test access port are one output and three or four inputs, all plain
+-- port bits of a test access port, which must be one output and three or four inputs, all plain
 abbrev tap : ℕ → Mode → PortBit
 tap port mode = port_bit port None mode (Some (codes "P")) true
 
@@ -75,7 +75,7 @@ five_inputs rules = neither 5 (λ e. omega (arith, e)) (λ e. omega (arith, e)) 
 vector_tap : HasTap (record tap_in { index = Some 1 } ∷ []) → ⊥
 vector_tap rules = let index : Some 1 ≡ None = (rules.plain 0 tap_in (omega arith) refl).0 in cc index
 
--- a port has one mode, and pins for all of its bits or for none; no two port bits have the same pin
+-- a bit of port 4; the bits of a port must have one mode, and pins for all of them or for none, and no two port bits may have the same pin
 abbrev of_port : ℕ → Mode → Option (List ℕ) → PortBit
 of_port index mode pin = port_bit 4 (Some index) mode pin false
 

@@ -119,7 +119,7 @@ clock_receives = refl
 both_receives : alone (pin 0 0 ∷ leg 3 12 ∷ []) ≡ None ∷ []
 both_receives = refl
 
--- one control enables two drivers of the net, so the net is blocked
+-- a board with a control that enables two drivers of one net, which is therefore blocked
 abbrev twins : RawBoard
 twins = board (two ∷ rcv ∷ []) (net 0 None (pin 0 0 ∷ pin 0 1 ∷ pin 1 0 ∷ []) ∷ net 1 None (pin 0 2 ∷ pin 1 1 ∷ []) ∷ [])
 
@@ -152,7 +152,7 @@ steady_rules = board_of steady refl
 steady_passes : passes_of steady ≡ [] ∷ []
 steady_passes = refl
 
--- a dark net can have an always-on driver, but is not covered
+-- a board with an always-on driver on a dark net, which keeps the rules; the net is not covered
 abbrev dark_steady : RawBoard
 dark_steady = board (mixed ∷ rcv ∷ []) (net 0 None (leg 0 9 ∷ pin 1 0 ∷ foreign (codes "RAM") ∷ []) ∷ [])
 
@@ -162,7 +162,7 @@ dark_steady_rules = board_of dark_steady refl
 dark_steady_reasons : reasons dark_steady ≡ Some Dark ∷ []
 dark_steady_reasons = refl
 
--- The cell of a one-sided driver is in no safe setting, whether or not the driver is on a net. Without a pin there is no such driver.
+-- A one-sided driver, which may be on a net or not. Its cell is in no safe setting. Without a pin there is no such driver.
 abbrev unpinned : RawDevice
 unpinned = device (codes "Q" ∷ []) (port_bit 4 None Outward None false ∷ []) (entry 0 Output2 4 (Some (record { cell = 0; disable = true })) ∷ []) 1
 
@@ -172,7 +172,7 @@ loose = board (od ∷ unpinned ∷ ts ∷ od ∷ rcv ∷ []) (net 0 None (pin 3 
 loose_safe : map (is_safe_alone loose) (c 0 0 ∷ c 1 0 ∷ c 2 1 ∷ c 3 0 ∷ []) ≡ false ∷ true ∷ true ∷ false ∷ []
 loose_safe = refl
 
--- two drivers of a bus are not together; each is together with itself and with the driver of another net
+-- a board on which two drivers of a bus are not together; each is together with itself and with the driver of another net
 abbrev split : RawBoard
 split = board (ts ∷ ts ∷ ts ∷ rcv ∷ []) (net 0 None (pin 0 0 ∷ pin 3 0 ∷ []) ∷ net 1 None (pin 1 0 ∷ pin 2 0 ∷ pin 3 1 ∷ []) ∷ [])
 
@@ -200,7 +200,7 @@ more_fours = board (four ∷ rcv ∷ rcv ∷ rcv ∷ ts ∷ []) (fours.nets ++ n
 more_fours_passes : passes_of more_fours ≡ (c 0 8 ∷ c 0 9 ∷ c 4 1 ∷ []) ∷ (c 0 10 ∷ c 0 11 ∷ c 4 1 ∷ []) ∷ (c 0 9 ∷ c 0 10 ∷ c 4 1 ∷ []) ∷ []
 more_fours_passes = refl
 
--- a driver is tested only if another pin receives, and a receiver only if another pin drives
+-- a net with two pins; a driver is tested only if another pin receives, and a receiver only if another pin drives
 abbrev duo : Net
 duo = net 0 None (pin 0 0 ∷ pin 1 0 ∷ [])
 
@@ -246,7 +246,8 @@ bus_faults : singles bus ≡
     StuckNet 0 false ∷ StuckNet 0 true ∷ OpenPin (at 0 0) false ∷ OpenPin (at 0 0) true ∷ OpenPin (at 0 1) false ∷ OpenPin (at 0 1) true ∷ OpenPin (at 0 2) false ∷ OpenPin (at 0 2) true ∷ []
 bus_faults = refl
 
--- a board may not have an always-on driver on a supply net or on a net with a TAP or compliance pin, or two such drivers on one net
+-- boards that break the rules on always-on drivers: the driver is on a supply net or on a net with a TAP or compliance pin,
+-- or two of them are on one net
 abbrev steady_net : Bool → List NetPin → Net
 steady_net supply more = record (net 0 None (leg 0 9 ∷ more)) { supply = supply }
 

@@ -199,7 +199,7 @@ buffers_passes = refl
 buffers_bits : data_bits buffers ≡ 10
 buffers_bits = refl
 
--- a net with a foreign pin is dark, and a net with a pin of an inert part is not
+-- a net with one pin more; a foreign pin makes the net dark, and a pin of an inert part does not
 abbrev beside : NetPin → RawBoard
 beside p = board (ts ∷ rcv ∷ []) (net 0 None (pin 0 0 ∷ pin 1 0 ∷ p ∷ []) ∷ [])
 
@@ -250,7 +250,8 @@ one_sided_passes = refl
 switching_faults : singles (pull (Some true)) ≡ StuckNet 0 false ∷ StuckNet 0 true ∷ OpenPin (at 0 0) false ∷ OpenPin (at 0 0) true ∷ OpenPin (at 0 1) false ∷ OpenPin (at 0 1) true ∷ []
 switching_faults = refl
 
--- each control enables two drivers; the third pass is for two nets that neither of the first two passes observes together
+-- a device in which each control enables two drivers; on its board, the third pass is for two nets that neither of the
+-- first two passes observes together
 abbrev pub four : RawDevice
 four = device (codes "Q" ∷ []) (vector 4 Outward 1 (codes "1" ∷ codes "2" ∷ codes "3" ∷ codes "4" ∷ codes "5" ∷ codes "6" ∷ codes "7" ∷ codes "8" ∷ []))
     (entry 0 Output3 4 (by 8) ∷ entry 1 Output3 5 (by 8) ∷ entry 2 Output3 6 (by 9) ∷ entry 3 Output3 7 (by 9) ∷ entry 4 Output3 8 (by 10) ∷ entry 5 Output3 9 (by 10)

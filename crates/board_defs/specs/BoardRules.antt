@@ -52,8 +52,7 @@ pub record AreInertAlike (board : RawBoard) : Type 0 where
   pub in_chain : All (λ net. All (λ pin. pin.inert ≡ true → All (λ part. part.name ≢ pin.part) board.chain) net.pins) board.nets
   pub agree : (m n i j : ℕ) (first second : Net) (p q : NetPin) → Stands board m first i p → Stands board n second j q → p.part ≡ q.part → p.inert ≡ q.inert
 
--- a net with a driver that is always on is no supply net, and has no pin of a test access port or of compliance
--- patterns
+-- a net with a driver that is always on is not a supply net, and has no pin of a test access port or of compliance patterns
 abbrev pub NoGuardedDriver : RawBoard → Type 0
 NoGuardedDriver board =
     (n place : ℕ) (net : Net) (pin : NetPin) → Stands board n net place pin → drive board net pin ≡ Some AlwaysOn → (net.supply ≡ false) × (list_any (is_test_pin board) net.pins ≡ false)

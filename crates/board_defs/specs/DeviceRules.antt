@@ -15,7 +15,7 @@ use Rattle.board_defs.specs.declared.device.Cell.{Cell}
 use Rattle.board_defs.specs.declared.device.PortBit.{PortBit}
 use Rattle.board_defs.specs.declared.device.RawDevice.{RawDevice}
 
--- the function of a driving entry: OUTPUT2, OUTPUT3 or BIDIR
+-- an entry with this function drives its port: OUTPUT2, OUTPUT3 or BIDIR
 abbrev pub is_driving : Role → Bool
 is_driving Output2 = true
 is_driving Output3 = true
@@ -27,7 +27,7 @@ is_driving Internal = false
 is_driving Clock = false
 is_driving ObserveOnly = false
 
--- the function of a reading entry: INPUT, CLOCK, OBSERVE_ONLY or BIDIR
+-- an entry with this function reads its port: INPUT, CLOCK, OBSERVE_ONLY or BIDIR
 abbrev pub is_reading : Role → Bool
 is_reading Input = true
 is_reading Clock = true
@@ -39,7 +39,7 @@ is_reading ControlRole = false
 is_reading ControlR = false
 is_reading Internal = false
 
--- the function of a receiver's entry, whose cell a test compares: INPUT, CLOCK or BIDIR
+-- an entry with this function can make its pin a receiver: INPUT, CLOCK or BIDIR. A test compares the cells of such entries.
 abbrev pub is_receiving : Role → Bool
 is_receiving Input = true
 is_receiving Clock = true
@@ -51,7 +51,7 @@ is_receiving ControlRole = false
 is_receiving ControlR = false
 is_receiving Internal = false
 
--- the function of an entry for an update latch: OUTPUT2, OUTPUT3, BIDIR, CONTROL, CONTROLR or INTERNAL
+-- an entry with this function is for its cell's update latch: OUTPUT2, OUTPUT3, BIDIR, CONTROL, CONTROLR or INTERNAL
 abbrev pub is_writing : Role → Bool
 is_writing Output2 = true
 is_writing Output3 = true
@@ -63,18 +63,18 @@ is_writing Input = false
 is_writing Clock = false
 is_writing ObserveOnly = false
 
--- the function of an entry that defines what its cell captures: a reading function, or INTERNAL
+-- an entry with this function defines what its cell captures: a reading function, or INTERNAL
 abbrev pub is_loading : Role → Bool
 is_loading Internal = true
 is_loading role = is_reading role
 
--- the function of an entry that makes its cell a control cell: CONTROL or CONTROLR
+-- an entry with this function makes its cell a control cell: CONTROL or CONTROLR
 abbrev pub is_controlling : Role → Bool
 is_controlling ControlRole = true
 is_controlling ControlR = true
 is_controlling role = false
 
--- the function of an entry that has no port: CONTROL, CONTROLR or INTERNAL
+-- an entry with this function has no port: CONTROL, CONTROLR or INTERNAL
 abbrev pub is_inner : Role → Bool
 is_inner Internal = true
 is_inner role = is_controlling role

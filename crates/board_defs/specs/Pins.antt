@@ -140,7 +140,7 @@ abbrev pub switches_by : RawBoard → Net → Cell → Option Control → Bool
 switches_by board net cell None = false
 switches_by board net cell (Some control) = (control.cell == cell.num) && lets_switch board net control.disable
 
--- like `switches_by`, but for the driving entry of a pin; a pin without a driving entry is no switching driver
+-- like `switches_by`, but for the driving entry of a pin; a pin without a driving entry is not a switching driver
 abbrev pub switches_entry : RawBoard → Net → Option Cell → Bool
 switches_entry board net None = false
 switches_entry board net (Some cell) = switches_by board net cell cell.ctl

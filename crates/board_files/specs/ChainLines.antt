@@ -19,7 +19,7 @@ Read = Result ChainStatement LineFault
 abbrev pub package_of : Word → Option Word
 package_of word = if bytes_eq word (codes "-") then None else Some (upper word)
 
--- the number that is spelled by the digits of `n` followed by these digits, or None if one of these is no digit
+-- the number that is spelled by the digits of `n` followed by these digits, or None if one of these is not a digit
 abbrev pub decimal_from : ℕ → Word → Option ℕ
 decimal_from n [] = Some n
 decimal_from n (digit ∷ digits) = if is_ascii_digit digit then decimal_from (10 * n + (digit - 48)) digits else None

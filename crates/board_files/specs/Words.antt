@@ -7,14 +7,14 @@ use Rattle.text_lines.specs.Words.{Word, is_word}
 abbrev pub is_dot : ℕ → Bool
 is_dot b = b == 46
 
--- the name of a part: an allowed word without `.`
+-- the word may be the name of a part: it is an allowed word without `.`
 abbrev pub is_part : Word → Bool
 is_part word = is_word word && not (list_any is_dot word)
 
 abbrev pub is_symbol_byte : ℕ → Bool
 is_symbol_byte b = is_ascii_alphanumeric b || (b == 95)
 
--- an allowed word of letters, digits and `_`
+-- the word is an allowed word of letters, digits and `_`
 abbrev pub is_symbol : Word → Bool
 is_symbol word = is_word word && list_all is_symbol_byte word
 

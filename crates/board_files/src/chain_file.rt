@@ -196,7 +196,7 @@ fn device(
     }
 }
 
-/// Returns the number that at most three digits spell, or None if a byte is no digit. No digits spell 0.
+/// Returns the number that at most three digits spell, or None if a byte is not a digit. A word without bytes spells 0.
 fn decimal(word: &[u8]) -> Option<u32>
     requires { length word.now ≤ 3 }
     ensures { result ≡ decimal_from 0 word.now }

@@ -50,7 +50,7 @@ whole = refl
 first : bit_of_pin (None ∷ Some (codes "A2") ∷ row) (codes "A2") ≡ Some 1
 first = refl
 
--- U1 and U3 are the same device and share a row, and U2 is in BYPASS
+-- a chain in which U1 and U3 are the same device and share a row, and U2 is in BYPASS
 abbrev parts : List Part
 parts = record { name = codes "U1"; kind = Described device } ∷ record { name = codes "U2"; kind = Bypass 4 } ∷ record { name = codes "U3"; kind = Described device } ∷ []
 

@@ -16,7 +16,7 @@ line_feeds-append xs ys = sum_by-append (λ byte. cond (nat_eq byte line_feed) 1
 line_feeds-cons : (x : ℕ) (xs : List ℕ) → line_feeds (x ∷ xs) ≡ cond (nat_eq x line_feed) 1 0 + line_feeds xs
 line_feeds-cons x xs = sum_by-cons (λ byte. cond (nat_eq byte line_feed) 1 0) x xs
 
--- a byte that passes a test which a line feed does not pass is no line feed
+-- if a byte passes a test that a line feed does not pass, the byte is not a line feed
 other_byte : (p : ℕ → Bool) (x : ℕ) → p line_feed ≡ false → p x ≡ true → nat_eq x line_feed ≡ false
 other_byte p x n h = go (nat_eq x line_feed) refl
   where

@@ -46,7 +46,7 @@ separates_to text from to h none =
     let long : length (slice_range text from to) ≡ to - from = length-range text from to h.within in
     omega (arith, h.order, len, long)
 
--- the first byte of a token is no blank
+-- the first byte of a token is not a blank
 letter_no_blank : (b : ℕ) → is_ascii_alphabetic b ≡ true → is_blank b ≡ false
 letter_no_blank b h = grind (arith, nat_tests)
 

@@ -20,7 +20,7 @@ use Rattle.bsdl_lexer.proofs.OpenTexts.{begins_open, open_no_token, open_no_gap}
 use Rattle.bsdl_lexer.proofs.LineFeeds.{line_feeds-append, no_line_feeds}
 use Rattle.bsdl_lexer.proofs.Places.{drop-sum, separates_found, separates_to, no_gap, some_bytes, token_is_found, found_is_token}
 
--- the line of a later place
+-- the line of a later place is the line of the place plus the number of lines that end between the two
 pub line_past : (text : List ℕ) (place n line : ℕ) → line ≡ line_of text place → line + line_feeds (take n (drop place text)) ≡ line_of text (place + n)
 line_past text place n line e =
     let whole : line_feeds (take (place + n) text) ≡ line_feeds (take place text ++ take n (drop place text)) = ap line_feeds (take-add place n text) in
@@ -29,7 +29,7 @@ line_past text place n line e =
     let there : line_of text (place + n) ≡ 1 + line_feeds (take (place + n) text) = refl in
     omega (arith, whole, sum, here, there)
 
--- no line ends inside a token
+-- the last byte of a token is on the same line as the first
 pub line_behind : (text : List ℕ) (token : Token) → IsToken text token → token.line ≡ line_of text token.«end»
 line_behind text token h =
     let some : token.start < token.«end» = some_bytes text token.start token.«end» token.kind h.form in

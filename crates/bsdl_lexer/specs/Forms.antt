@@ -22,56 +22,56 @@ dash = 45
 abbrev pub point : ℕ
 point = 46
 
--- space, tab, or a byte from 10 to 13
+-- the byte is a space, a tab, or a byte from 10 to 13
 abbrev pub is_blank : ℕ → Bool
 is_blank byte = byte == 32 || is_in_range 9 13 byte
 
--- a letter, a digit or `_`
+-- the byte is a letter, a digit or `_`
 abbrev pub is_word_byte : ℕ → Bool
 is_word_byte byte = is_ascii_alphanumeric byte || byte == 95
 
--- `e` or `E`
+-- the byte is `e` or `E`
 abbrev pub is_exponent_letter : ℕ → Bool
 is_exponent_letter byte = byte == 69 || byte == 101
 
--- `+` or `-`
+-- the byte is `+` or `-`
 abbrev pub is_sign : ℕ → Bool
 is_sign byte = byte == 43 || byte == 45
 
--- a byte that may be between the quotes of a string: any byte except a quote, byte 10 and byte 13
+-- the byte may be between the quotes of a string: it is not a quote, byte 10 or byte 13
 abbrev pub is_text_byte : ℕ → Bool
 is_text_byte byte = not (byte == quote || (byte == line_feed || byte == carriage_return))
 
--- a byte from 33 to 126 that is not a letter, a digit or a quote
+-- the byte is from 33 to 126, and is not a letter, a digit or a quote
 abbrev pub is_mark : ℕ → Bool
 is_mark byte = is_ascii_graphic byte && not (is_ascii_alphanumeric byte || byte == quote)
 
--- a letter, followed by letters, digits and `_`
+-- the bytes are a letter, followed by letters, digits and `_`
 abbrev pub IsWord : List ℕ → Type 0
 IsWord [] = ⊥
 IsWord (first ∷ others) = IsTrue (is_ascii_alphabetic first) × IsTrue (list_all is_word_byte others)
 
--- one or more digits
+-- the bytes are one or more digits
 abbrev pub IsDigits : List ℕ → Type 0
 IsDigits [] = ⊥
 IsDigits (first ∷ others) = IsTrue (list_all is_ascii_digit (first ∷ others))
 
--- nothing, or a point and digits
+-- there are no bytes, or they are a point and digits
 abbrev pub IsFraction : List ℕ → Type 0
 IsFraction [] = Unit {0}
 IsFraction (first ∷ others) = (first ≡ point) × IsDigits others
 
--- digits, with an optional sign before them
+-- the bytes are digits, with an optional sign before them
 abbrev pub IsSigned : List ℕ → Type 0
 IsSigned [] = ⊥
 IsSigned (first ∷ others) = IsDigits (first ∷ others) ⊎ (IsTrue (is_sign first) × IsDigits others)
 
--- nothing, or `e` or `E`, an optional sign, and digits
+-- there are no bytes, or they are `e` or `E`, an optional sign, and digits
 abbrev pub IsExponent : List ℕ → Type 0
 IsExponent [] = Unit {0}
 IsExponent (first ∷ others) = IsTrue (is_exponent_letter first) × IsSigned others
 
--- digits, an optional fraction, and an optional exponent
+-- the bytes are digits, an optional fraction, and an optional exponent
 pub record IsNumber (bytes : List ℕ) : Type 0 where
   pub whole : List ℕ
   pub fraction : List ℕ
@@ -81,13 +81,13 @@ pub record IsNumber (bytes : List ℕ) : Type 0 where
   pub after_point : IsFraction fraction
   pub after_letter : IsExponent exponent
 
--- a quote, bytes that a string may have, and a second quote
+-- the bytes are a quote, bytes that a string may have, and a second quote
 pub record IsText (bytes : List ℕ) : Type 0 where
   pub inner : List ℕ
   pub quoted : bytes ≡ quote ∷ (inner ++ quote ∷ [])
   pub allowed : IsTrue (list_all is_text_byte inner)
 
--- one byte that is a mark
+-- there is one byte, and it is a mark
 abbrev pub IsMark : List ℕ → Type 0
 IsMark [] = ⊥
 IsMark (byte ∷ []) = IsTrue (is_mark byte)
@@ -100,7 +100,7 @@ HasForm Number = IsNumber
 HasForm Text = IsText
 HasForm Mark = IsMark
 
--- two dashes, which begin a comment
+-- the first two bytes are dashes, which begin a comment
 abbrev pub begins_comment : List ℕ → Bool
 begins_comment [] = false
 begins_comment (first ∷ []) = false

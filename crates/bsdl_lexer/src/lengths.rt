@@ -101,7 +101,7 @@ fn fraction_length(bytes: &[u8]) -> usize
     }
 }
 
-/// Returns the length of an exponent, given the bytes after its letter. Returns 0 if they are no exponent.
+/// Returns the length of an exponent, given the bytes after its letter. Returns 0 if they are not an exponent.
 fn signed_length(bytes: &[u8]) -> usize
     ensures value { result ≡ signed_len bytes.now }
     ensures within { result ≤ 1 + length bytes.now }

@@ -21,7 +21,7 @@ use Rattle.bsdl_parser.specs.Entity.{is_among, HasKind, HaveKinds}
 abbrev Yields : {A : Type 0} → Phrase A → (A → Type 0) → Type 0
 Yields g Fact = (n : ℕ) → Keeps (λ token. 0) g n (λ m a. Fact a)
 
--- attributes with this number have this form
+-- an attribute with this number has a value of this form
 abbrev FitsForm : ℕ → AttrForm → Type 0
 FitsForm number forms.Plain = number ≡ 1
 FitsForm number forms.Port = IsTrue (is_among (2 ∷ 3 ∷ 4 ∷ 5 ∷ 11 ∷ []) number)

@@ -7,7 +7,7 @@ use Rattle.std.specs.Char.{is_ascii_alphanumeric}
 abbrev pub is_blank : ℕ → Bool
 is_blank byte = (byte == 32) || (byte == 9)
 
--- a letter, a digit or `_`
+-- the byte is a letter, a digit or `_`
 abbrev pub is_word_byte : ℕ → Bool
 is_word_byte byte = is_ascii_alphanumeric byte || (byte == 95)
 

@@ -43,15 +43,15 @@ abbrev pub starts_with_letter : List ℕ → Bool
 starts_with_letter [] = false
 starts_with_letter (first ∷ bytes) = is_ascii_alphabetic first
 
--- one or more letters, digits and `_`
+-- the piece is one or more letters, digits and `_`
 abbrev pub is_pin : List ℕ → Bool
 is_pin piece = nat_lt 0 (length piece) && list_all is_word_byte piece
 
--- a letter, followed by letters, digits and `_`
+-- the piece is a letter, followed by letters, digits and `_`
 abbrev pub is_word : List ℕ → Bool
 is_word piece = starts_with_letter piece && list_all is_word_byte piece
 
--- the character 0, 1 or X
+-- the byte is the character 0, 1 or X
 abbrev pub is_symbol : ℕ → Bool
 is_symbol byte = (byte == 48) || ((byte == 49) || (to_ascii_uppercase byte == 88))
 
@@ -59,7 +59,7 @@ is_symbol byte = (byte == 48) || ((byte == 49) || (to_ascii_uppercase byte == 88
 abbrev pub symbol_of : ℕ → Symbol
 symbol_of byte = if byte == 48 then Zero else if byte == 49 then One else Any
 
--- one or more of 0, 1 and X
+-- the piece is one or more of 0, 1 and X
 abbrev pub is_code : List ℕ → Bool
 is_code piece = nat_lt 0 (length piece) && list_all is_symbol piece
 
@@ -80,7 +80,7 @@ role_of word =
     if bytes_eq word (codes "BIDIR") then Some roles.Bidir else
     some_if (bytes_eq word (codes "OBSERVE_ONLY")) roles.ObserveOnly
 
--- the state of a disabled driver; in each of these states the driver does not drive
+-- the word is the state of a disabled driver; in each of these states the driver does not drive
 abbrev pub is_result : List ℕ → Bool
 is_result word =
     bytes_eq word (codes "Z") || (bytes_eq word (codes "WEAK0") || (bytes_eq word (codes "WEAK1") ||

@@ -1,4 +1,4 @@
--- Lemmas on the puts that are chosen to fail.
+-- Lemmas about the puts that are chosen to fail.
 use Rattle.std.proofs.Common.{◌≡◌, ℕ, ◌≤◌, Bool, true, false, List, [], ◌∷◌, min, nat_eq, cond, refl, arith}
 use Rattle.std.specs.Prelude.{◌||◌}
 use Rattle.bt_base.specs.declared.memory.FailingPut.{FailingPut}

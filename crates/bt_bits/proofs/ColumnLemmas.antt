@@ -1,4 +1,4 @@
--- Lemmas on words that have one digit for each of 16 rows.
+-- Lemmas about words that have one digit for each of 16 rows.
 use Rattle.std.proofs.Common.{◌≡◌, ℕ, zero, suc, ◌+◌, ◌-◌, ◌*◌, ◌/◌, ◌%◌, ◌^◌, ◌<◌, Bool, true, [], ◌∷◌, get_or, refl, sym, ap, ◌∙◌, arith, nat_lt, eqb-true, ltb-true, div-one, mod-eq_of_lt, div-add-mod'}
 use Rattle.std.specs.Prelude.{bit_and, bit_or, ◌==◌}
 use Rattle.std.specs.Int.{bit_at}
@@ -128,7 +128,7 @@ joined_is a b c d p q r s =
 abbrev spread_word : ℕ → ℕ
 spread_word n = joined (part n) (part (n / 2 ^ 4)) (part (n / 2 ^ 8)) (part (n / 2 ^ 12))
 
--- the spread word as a sum
+-- the spread word is the sum of its four quarters, each at its place
 spread_word-is : (n : ℕ) → spread_word n ≡ (part (n / 2 ^ 12) * 2 ^ 16 + part (n / 2 ^ 8)) * 2 ^ 32 + (part (n / 2 ^ 4) * 2 ^ 16 + part n)
 spread_word-is n = joined_is (part n) (part (n / 2 ^ 4)) (part (n / 2 ^ 8)) (part (n / 2 ^ 12)) (part-lt n) (part-lt (n / 2 ^ 4)) (part-lt (n / 2 ^ 8)) (part-lt (n / 2 ^ 12))
 

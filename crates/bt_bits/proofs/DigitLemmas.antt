@@ -1,4 +1,4 @@
--- Lemmas on bits that are kept in digits of four.
+-- Lemmas about bits that are kept in digits of four.
 use Rattle.std.proofs.Common.{◌≡◌, ℕ, ◌+◌, ◌-◌, ◌*◌, ◌/◌, ◌%◌, ◌^◌, ◌<◌, ◌≤◌, zero, suc, Bool, true, false, not, List, [], ◌∷◌, ◌++◌, length, take, drop, get_or, set, replicate, refl, sym, ap, ◌∙◌, arith, eqb, length-set}
 use Rattle.std.specs.Prelude.{All, bit_and, ◌||◌, ◌==◌}
 use Rattle.std.specs.List.{list_all, list_any}

@@ -19,7 +19,7 @@ joined_bits-none : (bits : Option (List Bool)) → joined_bits bits None ≡ Non
 joined_bits-none None = refl
 joined_bits-none (Some bits) = refl
 
--- a text with a byte that is no digit has no bits
+-- a text with a byte that is not a digit has no bits
 pub text_bits-none : (text : List ℕ) (i : ℕ) → i < length text → digit_bits (get_or text i 0) ≡ None → text_bits text ≡ None
 text_bits-none [] i within bad = absurd (omega arith)
 text_bits-none (c ∷ cs) zero within bad = ap (joined_bits (text_bits cs)) bad ∙ joined_bits-none (text_bits cs)

@@ -1,4 +1,4 @@
--- Lemmas on rows that are kept side by side.
+-- Lemmas about rows that are kept side by side.
 use Rattle.std.proofs.Common.{◌≡◌, ℕ, ◌*◌, ◌/◌, ◌%◌, ◌<◌, zero, suc, Bool, true, List, [], ◌∷◌, length, get_or, set, refl, sym, ap, ◌∙◌, arith, length-set}
 use Rattle.std.specs.Prelude.{All, ◌==◌, map}
 use Rattle.std.proofs.lemmas.Bool.{agree_below, agree_below_at}

@@ -1,4 +1,4 @@
--- Lemmas on digits and their hexadecimal text.
+-- Lemmas about digits and their hexadecimal text.
 use Rattle.std.proofs.Common.{◌≡◌, ℕ, ◌+◌, ◌-◌, ◌<◌, ◌≤◌, suc, subst, Some, None, Bool, true, false, not, cond, option_and_then, List, [], ◌∷◌, ◌++◌, length, take, drop, get_or, set, refl, sym, ap, ◌∙◌, append_assoc, length-append, length-drop, arith}
 use Rattle.std.specs.List.{list_all}
 use Rattle.std.proofs.lemmas.List.{append-nil, take_all, take_more, take_more_set, length-take-le, drop-set, take-append-drop, take_at, drop_at}

@@ -208,8 +208,8 @@ pub fn fill_field(text: &[u8], len: usize, digits: &mut [u8]) -> bool
     fill_digits(text, digits) && is_cut(digits, len)
 }
 
-// Like `fill_field`, but replaces the content of a vector, which must have room for the digits. If the text is no such field,
-// the digits become those of `len` zero bits.
+// Like `fill_field`, but replaces the content of a vector, which must have room for the digits. If the text is not such a
+// field, the digits become those of `len` zero bits.
 pub fn read_field(text: &[u8], len: usize, digits: &mut Vec<u8>) -> bool
     requires few { len < 2 ^ 63 }
     requires digits { length text.now ≡ digit_count len }

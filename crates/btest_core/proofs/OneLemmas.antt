@@ -46,7 +46,7 @@ each_one : {A B : Type 0} (IsOf : A → Result B InputFault → Type 0) → ((it
 each_one IsOf ones [] = is_one (Ok [])
 each_one IsOf ones (item ∷ items) = follows_one (IsOf item) _ (ones item) (λ value. follows_one (EachOf IsOf items) _ (each_one IsOf ones items) (λ values. is_one (Ok (value ∷ values))))
 
--- the laws of lower crates that these proofs take as arguments; here, that tokens, entities and devices are unique
+-- the laws of lower crates that these proofs take as arguments: the tokens, the entity and the device of a text are unique
 abbrev pub OneLexed : Type 0
 OneLexed = (text : List ℕ) (tokens others : List Token) (answer other : Result (Unit {0}) LexFault) → lexer.IsAnswer text tokens answer → lexer.IsAnswer text others other → (tokens ≡ others) × (answer ≡ other)
 

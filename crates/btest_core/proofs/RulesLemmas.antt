@@ -36,7 +36,7 @@ use Rattle.btest_core.proofs.JoinLemmas.{kept}
 use Rattle.btest_core.proofs.OneLemmas.{same_ok}
 use Rattle.btest_core.proofs.SomeLemmas.{selected}
 
--- the laws of lower crates that these proofs take as arguments; here, those about devices, selections, chain files and boards
+-- the laws of lower crates about devices, selections, chain files and boards that these proofs take as arguments
 abbrev pub SoundKeep : Type 0
 SoundKeep = (entity : Entity) (given : Option (List ℕ)) (device : RawDevice) → IsSound entity given device → IsDevice device
 

@@ -54,7 +54,7 @@ each_more : {A : Type 0} (P Q : A → Type 0) → ((item : A) → P item → Q i
 each_more P Q more [] all = tt
 each_more P Q more (item ∷ items) all = (more item all.0, each_more P Q more items all.1)
 
--- the laws of lower crates that these proofs take as arguments; here, that tokens, entities and devices exist or have a fault
+-- the laws of lower crates that these proofs take as arguments: each text has an answer for its tokens, its entity and its device
 abbrev pub SomeLexed : Type 0
 SomeLexed = (text : List ℕ) → (tokens : List Token) × (answer : Result (Unit {0}) LexFault) × lexer.IsAnswer text tokens answer
 

@@ -3,7 +3,7 @@ use Rattle.std.specs.Prelude.{◌≡◌, ◌⊎◌, List, [], ◌∷◌, Option,
 use Rattle.btest_core.specs.declared.fault.InputFault.{InputFault}
 use Rattle.btest_core.specs.declared.fault.InputFault.TheVariants.{Memory}
 
--- the answer of two steps: the next step's answer for the value of the first step, or the first step's fault
+-- the answer of two steps is the next step's answer for the value of the first step, or the first step's fault
 abbrev pub Follows : {A B : Type 0} → (Result A InputFault → Type 0) → (A → Result B InputFault → Type 0) → Result B InputFault → Type 0
 Follows {A} first next answer =
     ((value : A) × first (Ok value) × next value answer) ⊎ ((fault : InputFault) × first (Err fault) × (answer ≡ Err fault))
@@ -12,7 +12,7 @@ Follows {A} first next answer =
 abbrev pub Is : {A : Type 0} → Result A InputFault → Result A InputFault → Type 0
 Is this answer = answer ≡ this
 
--- the answer for a list of items: the values of the items in order, or the fault of the first item that has one
+-- the answer for a list of items is the values of the items in order, or the fault of the first item that has one
 abbrev pub EachOf : {A B : Type 0} → (A → Result B InputFault → Type 0) → List A → Result (List B) InputFault → Type 0
 EachOf IsOf [] answer = Is (Ok []) answer
 EachOf IsOf (item ∷ items) answer = Follows (IsOf item) (λ value. Follows (EachOf IsOf items) (λ values. Is (Ok (value ∷ values)))) answer

@@ -18,23 +18,23 @@ use Rattle.btest_core.specs.Answers.{Follows, Is}
 use Rattle.btest_core.specs.InputFaults.{in_file, in_link, in_board}
 use Rattle.btest_core.specs.DevicesRead.{AreDevices}
 
--- the instruction lengths of the parts in these lines of a chain file, in chain order, or the first fault
+-- the answer is the instruction lengths of the parts in these lines of a chain file, in chain order, or the first fault
 abbrev pub AreFileLengths : List ChainLine → List (List ℕ) → Result (List ℕ) InputFault → Type 0
 AreFileLengths lines texts = Follows (AreDevices lines texts) (λ devices. Is (Ok (map (λ part. instruction_length part.kind) (chain_parts lines devices))))
 
--- the instruction lengths of the chain file in a text, or the first fault
+-- the answer is the instruction lengths of the chain file in a text, or the first fault
 abbrev pub AreChainLengths : List ℕ → List (List ℕ) → Result (List ℕ) InputFault → Type 0
 AreChainLengths chain texts = Follows (Is (in_file Chain (chain_lines chain))) (λ lines. AreFileLengths lines texts)
 
--- the board of these lines and devices, made from the joined files, or the first fault
+-- the answer is the board of these lines and devices, made from the joined files, or the first fault
 abbrev pub IsJoinedBoard : List ChainLine → List NetLine → List RawDevice → Result RawBoard InputFault → Type 0
 IsJoinedBoard lines nets devices = Follows (Is (in_link (joined_files lines nets))) (λ joined. Is (in_board (board_of joined.chain joined.nets devices)))
 
--- the board of these lines and BSDL texts, or the first fault
+-- the answer is the board of these lines and BSDL texts, or the first fault
 abbrev pub IsFilesBoard : List ChainLine → List NetLine → List (List ℕ) → Result RawBoard InputFault → Type 0
 IsFilesBoard lines nets texts = Follows (AreDevices lines texts) (IsJoinedBoard lines nets)
 
--- the board that the files and the BSDL texts denote, or the first fault
+-- the answer is the board that the files and the BSDL texts denote, or the first fault
 abbrev pub IsBoardRead : List ℕ → List ℕ → List (List ℕ) → Result RawBoard InputFault → Type 0
 IsBoardRead chain nets texts =
     Follows (Is (in_file Chain (chain_lines chain))) (λ lines. Follows (Is (in_file Nets (net_lines nets))) (λ net_lines. IsFilesBoard lines net_lines texts))
@@ -43,7 +43,7 @@ IsBoardRead chain nets texts =
 abbrev pub Denotes : List ℕ → List ℕ → List (List ℕ) → RawBoard → Type 0
 Denotes chain nets texts board = IsBoardRead chain nets texts (Ok board)
 
--- 1 to 255 instruction lengths of 2 to 255 bits
+-- there are 1 to 255 instruction lengths, each of 2 to 255 bits
 pub record AreLengths (lengths : List ℕ) : Type 0 where
   pub some : 1 ≤ length lengths
   pub most : length lengths ≤ most_parts

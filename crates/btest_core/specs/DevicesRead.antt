@@ -31,8 +31,8 @@ Chosen = ℕ × Option (List ℕ)
 abbrev pub chosen : List ChainLine → List ℕ → List Chosen
 chosen lines numbers = zip numbers (filter_map (λ line. package_in line.statement) lines)
 
--- the device of an entity in a package if this device keeps every rule; otherwise the first rule or string that fails, and
--- the number of the text
+-- The answer is the device of an entity in a package if this device keeps every rule. Otherwise it is the first rule or
+-- string that fails, with the number of the text.
 abbrev pub IsDeviceIn : Entity → Chosen → Result RawDevice InputFault → Type 0
 IsDeviceIn entity choice (Ok device) = IsSound entity choice.1 device
 IsDeviceIn entity choice (Err (Device text fault)) = (text ≡ choice.0) × IsFirst entity choice.1 fault
@@ -49,8 +49,8 @@ IsDeviceIn entity choice (Err (Memory error)) = ⊥
 abbrev pub IsDeviceOf : List Entity → Chosen → Result RawDevice InputFault → Type 0
 IsDeviceOf entities choice answer = (entity : Entity) × (slice_get entities choice.0 ≡ Some entity) × IsDeviceIn entity choice answer
 
--- the devices of the DEVICE lines, in order, or the first fault. A fault of the selection among the entities comes before
--- the faults of the devices.
+-- the answer is the devices of the DEVICE lines, in order, or the first fault. A fault of the selection among the entities
+-- comes before the faults of the devices.
 abbrev pub AreSelected : List ChainLine → List Entity → Result (List RawDevice) InputFault → Type 0
 AreSelected lines entities = Follows (Is (in_board (selection lines entities))) (λ numbers. EachOf (IsDeviceOf entities) (chosen lines numbers))
 
@@ -58,6 +58,6 @@ AreSelected lines entities = Follows (Is (in_board (selection lines entities))) 
 abbrev pub AreDevices : List ChainLine → List (List ℕ) → Result (List RawDevice) InputFault → Type 0
 AreDevices lines texts = Follows (AreEntities texts) (AreSelected lines)
 
--- the device that a text describes in its default package, or the text's first fault
+-- the answer is the device that a text describes in its default package, or the text's first fault
 abbrev pub IsDeviceText : List ℕ → Result RawDevice InputFault → Type 0
 IsDeviceText text = Follows (IsEntityOf text 0) (λ entity. IsDeviceIn entity (0, None))

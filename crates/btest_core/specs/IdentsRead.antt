@@ -34,7 +34,8 @@ abbrev pub idents_unless : Option ℕ → List RawDevice → Result (List Ident)
 idents_unless None devices = Ok (map (λ device. device.idcode) devices)
 idents_unless (Some line) devices = Err (NoIdent line)
 
--- the patterns of the chain file's parts, in chain order, or the first fault; the fault of a part without a description comes last
+-- the answer is the patterns of the chain file's parts, in chain order, or the first fault; the fault of a part without a
+-- description comes last
 abbrev pub AreFileIdents : List ChainLine → List (List ℕ) → Result (List Ident) InputFault → Type 0
 AreFileIdents lines texts = Follows (AreDevices lines texts) (λ devices. Is (idents_unless (first_bypass lines) devices))
 

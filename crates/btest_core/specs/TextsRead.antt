@@ -31,7 +31,7 @@ pub record IsParseFault (text : List ℕ) (fault : ParseFault) : Type 0 where
   pub are : AreTokens text tokens
   pub stops : parser.IsFault text (lexemes text tokens) fault
 
--- the first fault of BSDL text n
+-- the fault is the first fault of BSDL text `n`
 abbrev pub IsTextFault : List ℕ → ℕ → InputFault → Type 0
 IsTextFault text n (Lex number fault) = (number ≡ n) × IsLexFault text fault
 IsTextFault text n (Parse number fault) = (number ≡ n) × IsParseFault text fault
@@ -43,7 +43,7 @@ IsTextFault text n (Link fault) = ⊥
 IsTextFault text n (NoIdent line) = ⊥
 IsTextFault text n (Memory error) = ⊥
 
--- the answer of BSDL text n: its entity, or its first fault
+-- the answer of BSDL text `n` is its entity, or its first fault
 abbrev pub IsEntityOf : List ℕ → ℕ → Result Entity InputFault → Type 0
 IsEntityOf text n (Ok entity) = IsEntity text entity
 IsEntityOf text n (Err fault) = IsTextFault text n fault
@@ -51,6 +51,6 @@ IsEntityOf text n (Err fault) = IsTextFault text n fault
 abbrev pub IsEntityOfText : ℕ × List ℕ → Result Entity InputFault → Type 0
 IsEntityOfText numbered = IsEntityOf numbered.1 numbered.0
 
--- the answer of texts: their entities, or the first fault of the first text that has a fault
+-- the answer of texts is their entities, or the first fault of the first text that has a fault
 abbrev pub AreEntities : List (List ℕ) → Result (List Entity) InputFault → Type 0
 AreEntities texts = EachOf IsEntityOfText (enumerate_from 0 texts)

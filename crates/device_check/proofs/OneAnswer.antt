@@ -104,7 +104,7 @@ one_code text a b x y = x.1 ∙ sym y.1
 one_compliance : (text : List ℕ) (a b : Compliance) → IsCompliance text a → IsCompliance text b → a ≡ b
 one_compliance text a b x y = one_value strings_of.compliance compliance_takes (pieces text) a b x y
 
--- a string has only one value, so the strings have only one list of values
+-- each string has at most one value, so the strings have at most one list of values
 one_strings : (entity : Entity) (found : Found) (s t : Strings) → AreStrings entity found s → AreStrings entity found t → s ≡ t
 one_strings entity found s t x y =
     let map = one_value (list_of map_entry comma_or_end) (each_takes can_maps) (pieces found.chosen.pin_map) s.map t.map x.map_is y.map_is in

@@ -50,7 +50,7 @@ abbrev pub unless : {B : Type 0} → Option Attribute → Result B Source → Re
 unless (Some attribute) next = Err (sources.Attribute attribute)
 unless None next = next
 
--- the entity has PIN_MAP and the four mandatory TAP attributes exactly once; the result has the ports that these attributes name
+-- the ports that the four mandatory TAP attributes name, if the entity has PIN_MAP and each of these attributes exactly once
 unfoldable pub found_taps : Entity → Result FoundTaps Source
 found_taps entity =
     need (sources.Attribute PinMap) (only_value entity PinMap) (λ _.
@@ -65,7 +65,7 @@ abbrev pub within : ℕ → ℕ → Option ℕ → Option ℕ
 within least most None = None
 within least most (Some number) = if nat_le least number && nat_le number most then Some number else None
 
--- the entity has each attribute of the two registers exactly once, and each length is in its range
+-- the values of the attributes of the two registers, if the entity has each attribute exactly once and each length is in its range
 unfoldable pub found_registers : Entity → Result FoundRegisters Source
 found_registers entity =
     need (sources.Attribute InstructionLength) (within 2 most_instruction_bits (only_number entity InstructionLength)) (λ instruction_length.
@@ -79,7 +79,7 @@ found_registers entity =
 abbrev pub is_repeated : Entity → Attribute → Bool
 is_repeated entity attribute = nat_lt 1 (times entity attribute)
 
--- the editions of the standard that COMPONENT_CONFORMANCE may name
+-- the text is an edition of the standard that COMPONENT_CONFORMANCE may name
 abbrev pub is_edition : Option (List ℕ) → Bool
 is_edition text = is_text (codes "STD_1149_1_1990") text || (is_text (codes "STD_1149_1_1993") text || is_text (codes "STD_1149_1_2001") text)
 

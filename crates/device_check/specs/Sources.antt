@@ -5,7 +5,7 @@ use Rattle.device_check.specs.declared.sources.Attribute.TheVariants as attribut
 use Rattle.device_check.specs.declared.sources.Source.{Source}
 use Rattle.device_check.specs.declared.sources.Source.TheVariants as sources
 
--- the number of an attribute, as the parser gives it
+-- the number that the parser gives an attribute
 abbrev pub attribute_number : Attribute → ℕ
 attribute_number attributes.PinMap = 1
 attribute_number attributes.TapScanIn = 2

@@ -39,7 +39,7 @@ filter_none : {X : Type 0} (p : X → Bool) (xs : List X) → ((x : X) → Has x
 filter_none p [] h = refl
 filter_none p (x ∷ xs) h = ap (λ b. cond b (x ∷ filter p xs) (filter p xs)) (h x (inl refl)) ∙ filter_none p xs (λ y k. h y (inr k))
 
--- of the bits of all ports, those with the number of one port are the bits of this port
+-- the bit belongs to port `k`; of the bits of all ports, those of which this is true are the bits of port `k`
 abbrev is_of : ℕ → Bit → Bool
 is_of k bit = bit.port == k
 
@@ -57,7 +57,7 @@ bits_kept k first (suc m) (p ∷ ports) port here at =
     filter-append (is_of k) (bits_of_port first p) (bits_from (first + 1) ports) ∙ (ap (λ v. v ++ filter (is_of k) (bits_from (first + 1) ports)) none
     ∙ bits_kept k (first + 1) m ports port (omega arith) at)
 
--- numbers that do not decrease, the first of which is at least `low`
+-- the numbers do not decrease, and the first is at least `low`
 abbrev Rises : ℕ → List ℕ → Type 0
 Rises low [] = Unit {0}
 Rises low (x ∷ xs) = (low ≤ x) × Rises x xs

@@ -131,7 +131,7 @@ is_bit_of first (port ∷ ports) bit h = by_part (is_bit_of (first + 1) ports bi
         let r : IsBitOf ports (first + 1) bit = rest k in
         record { number = suc r.number; port = r.port; at = r.at; numbered = omega (arith, r.numbered); named = r.named; of_mode = r.of_mode; indexed = r.indexed }
 
--- a bit is determined by the name of its port and its place in the port
+-- the name of a bit's port and the bit's place in the port, which together determine the bit
 abbrev pub spot : Bit → List ℕ × ℕ
 spot bit = (bit.name, bit.place)
 

@@ -35,7 +35,7 @@ none_left bound n le = omega arith
 pub least_end : (is : ℕ → Bool) (n bound : ℕ) (o : Option ℕ) → bound ≤ n → least_from is n (bound - n) ≡ o → None ≡ o
 least_end is n bound o le so_far = sym (ap (λ k. least_from is n k) (none_left bound n le)) ∙ so_far
 
--- the loop returns the lowest number with the property, or None if no number from `from` on has it
+-- this is the lowest of the numbers with the property, or None if none of them has it; the loop returns it
 abbrev LeastFrom : (ℕ → Bool) → ℕ → ℕ → Option ℕ → Type 0
 LeastFrom is from count None = (n : ℕ) → from ≤ n → n < from + count → is n ≡ false
 LeastFrom is from count (Some least) = (from ≤ least) × (least < from + count) × (is least ≡ true) × ((n : ℕ) → from ≤ n → n < least → is n ≡ false)

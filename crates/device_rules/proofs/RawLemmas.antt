@@ -70,7 +70,7 @@ ordered_at ports i port e less is = ordered_in ports i port (apart ports e) less
 pub map_place_is : (names : List (List ℕ)) (entries : List MapEntry) (q : List ℕ) → names ≡ map (λ entry. entry.port) entries → first_place bytes_eq names q ≡ position_from (maps_port q) 0 entries
 map_place_is names entries q e = ap (λ ns. first_place bytes_eq ns q) e ∙ sym (position_from-map (λ entry. entry.port) (λ n. bytes_eq n q) 0 entries)
 
--- the bit at a place of a port, made from its fields
+-- the bit at a place of a port, made from its fields, is the bit that the definition gives for this place
 pub bit_is : (entries : List MapEntry) (taps : TapPorts) (compliance : Option Compliance) (number : ℕ) (port : Port) (place : ℕ) (name : List ℕ) (index : Option ℕ) (pin : Option (List ℕ)) (tap named : Bool)
     → name ≡ port.name → index ≡ index_at port.range place → pin ≡ option_and_then (λ entry. slice_get entry.pins place) (find (maps_port port.name) entries) → tap ≡ is_among (tap_names taps) port.name
     → named ≡ list_any (names_bit name index) (words_of compliance)

@@ -22,7 +22,7 @@ rising = Some (record { left = 2; right = 4; up = true })
 abbrev ports : List Port
 ports = port (codes "D") falling ∷ port (codes "C") None ∷ port (codes "Q") rising ∷ []
 
--- the first bits of the ports have the numbers 0, 8 and 9, and there are 12 bits
+-- the numbers of the first bits of the ports, which are 0, 8 and 9, followed by the number of all bits
 abbrev firsts : List ℕ
 firsts = 0 ∷ 8 ∷ 9 ∷ 12 ∷ []
 

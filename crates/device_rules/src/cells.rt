@@ -151,7 +151,7 @@ fn count_one(table: &mut Vec<u32>, cell: u32)
     table[cell as usize] += 1;
 }
 
-/// Returns a number for each cell: how many of the cell's entries are for the stage.
+/// Returns, for each cell, the number of its entries that are for the stage.
 fn counts_of(
     alloc: Global,
     stage: Stage,

@@ -7,7 +7,7 @@ pub record Production (T A : Type 0) : Type 1 where
   pub Whole : List T → A → Type 0
   pub Cut : List T → Type 0
 
--- a cut of one token's place: no token, or a token that fits
+-- the tokens are a cut of one token's place: there is no token, or one token that fits
 abbrev pub CutsPlace : {T A : Type 0} → (T → Option A) → List T → Type 0
 CutsPlace value [] = Unit {0}
 CutsPlace value (token ∷ []) = IsSome (value token)

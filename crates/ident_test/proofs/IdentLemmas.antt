@@ -45,7 +45,7 @@ code_passes (symbol ∷ pattern) (bit ∷ code) =
     ap (λ (b : Bool). b && scan_passes (map symbol_bit pattern) code) (bit_fits symbol bit)
     ∙ ap (λ (b : Bool). fits symbol bit && b) (code_passes pattern code)
 
--- a part with a pattern selects its identification register, and any other part its bypass register
+-- the instruction of a part after a reset: IDCODE if it has a pattern, and BYPASS otherwise
 abbrev selects : Option (List Symbol) → Instruction
 selects (Some pattern) = Idcode
 selects None = Bypass

@@ -45,7 +45,7 @@ coded code = record { ir_length = 4; boundary_length = 0; extest = None; preload
 abbrev bypassed : TestLogic
 bypassed = record { ir_length = 2; boundary_length = 0; extest = None; preload = None; at_reset = Some Bypass; idcode = [] }
 
--- before the test, the two parts are in different TAP states and have different instructions
+-- a chain before the test; its two parts are in different TAP states and have different instructions
 abbrev two : List Bool → List ChainPart
 two code =
     record { logic = coded code; state = record pausing { identification = on ∷ on ∷ on ∷ [] } }

@@ -1,4 +1,4 @@
--- Lemmas on texts that are printed in pieces, whole or cut short.
+-- Lemmas about texts that are printed in pieces, whole or cut short.
 use Rattle.std.proofs.Common.{◌≡◌, ℕ, ◌+◌, ◌-◌, ◌<◌, min, List, [], ◌∷◌, ◌++◌, length, take, refl, sym, ap, ◌∙◌, append_assoc, append-nil, arith, subst, Result, Ok, Err, IsErr, true, false, inl, inr, map, drop, Bor, get_or}
 use Rattle.std.proofs.Math.Seq.{take-add}
 use Rattle.std.proofs.lemmas.List.{drop_more, take_more, take-append-drop}

@@ -1,4 +1,4 @@
--- Lemmas on the fields of a scan statement.
+-- Lemmas about the fields of a scan statement.
 use Rattle.std.proofs.Common.{◌≡◌, ℕ, ◌+◌, ◌-◌, ◌<◌, ◌≤◌, zero, suc, Bool, List, [], ◌∷◌, ◌++◌, length, take, drop, Result, refl, ap, subst, ◌∙◌, append_assoc, length-drop, arith}
 use Rattle.std.proofs.lemmas.List.{take_all, drop-drop}
 use Rattle.bt_base.specs.Puts.{Puts, Shown}

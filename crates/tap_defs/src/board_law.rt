@@ -74,8 +74,9 @@ pub fn singles_observable()
     ensures no_open_shorted { (single : Single) → NoOpenShorted (set_of single) }
 {}
 
-/// Take clocks that scan the rows of a test and compare what comes out with a log. They pass on the faulty board if and only if the log has
-/// what the cells capture. For each scan, the cells capture while the row of the scan before is in the latches.
+/// Clocks that scan the rows of a test and compare the bits at TDO with a log pass on the faulty board if and only if the
+/// log has the bits that the cells capture. For each scan, the cells capture while the row of the scan before is in the
+/// latches.
 pub fn logs_captured()
     ensures { (board : RawBoard) (faults : FaultSet) (scans : List RowScan) (log : List (List Bool)) → IsBoard board → PassOnBoard board faults (test_clocks (scans_by_log (board_scans board scans) log)) ↔ CapturesPass board faults quiet_row scans (scans_by_log (map (scan_of_row board) scans) log) }
 {}

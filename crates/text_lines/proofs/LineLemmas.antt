@@ -37,7 +37,7 @@ split_behind : (p : ℕ → Bool) (x : ℕ) (xs : List ℕ) (b : Bool) → cond 
 split_behind p x xs true e ih = absurd (omega arith)
 split_behind p x xs false e ih = let same : position_or_len p xs ≡ length xs = omega arith in ap (onto_first x) (ih same)
 
--- if no byte passes, the list is the only part
+-- if no byte passes, splitting the list gives only the list itself
 pub split_whole : (p : ℕ → Bool) (xs : List ℕ) → position_or_len p xs ≡ length xs → slice_split p xs ≡ xs ∷ []
 split_whole p [] h = refl
 split_whole p (x ∷ xs) h = split_behind p x xs (p x) (h ∙ omega arith) (split_whole p xs)

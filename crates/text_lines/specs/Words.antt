@@ -9,7 +9,7 @@ Word = List ℕ
 abbrev pub is_newline : ℕ → Bool
 is_newline b = b == 10
 
--- a carriage return, a tab or a space
+-- the byte is a carriage return, a tab or a space
 abbrev pub is_blank : ℕ → Bool
 is_blank b = (b == 13) || (b == 9) || (b == 32)
 
@@ -38,7 +38,7 @@ abbrev pub lines_of : Option (List ℕ) → List (List ℕ)
 lines_of None = []
 lines_of (Some text) = slice_split is_newline text
 
--- the parts before and after the first byte that passes the test, or None if no byte passes
+-- the result is the parts before and after the first byte that passes the test, or None if no byte passes
 abbrev pub IsCut : (ℕ → Bool) → List ℕ → Option (List ℕ × List ℕ) → Type 0
 IsCut p text None = position_or_len p text ≡ length text
 IsCut p text (Some (before, behind)) = (position_or_len p text < length text) × (before ≡ before_first p text) × (behind ≡ after_first p text)

@@ -16,7 +16,7 @@ abbrev pub digits_text : List ℕ → List ℕ
 digits_text [] = []
 digits_text (x ∷ xs) = digits_text xs ++ digit_char x ∷ []
 
--- the value of a byte as a digit, or 16 or more if it is not a digit
+-- `x` is the value of byte `c` as a digit, or at least 16 if the byte is not a digit
 abbrev pub IsValueOf : ℕ → ℕ → Type 0
 IsValueOf c x = MatchBool (nat_lt x 16) (digit_bits c ≡ Some (bits_of (x ∷ []))) (digit_bits c ≡ None)
 

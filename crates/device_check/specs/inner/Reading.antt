@@ -61,7 +61,7 @@ abbrev pub fault_of : Source → StringFault → DeviceFault
 fault_of source (At entry) = faults.Text (source_number source) entry
 fault_of source (Memory error) = faults.Memory error
 
--- the values of all strings, or the fault of the first one that leaves its grammar
+-- the result is the values of all strings, or the fault of the first one that leaves its grammar
 abbrev pub Gathers : Entity → Found → Result Strings DeviceFault → Type 0
 Gathers entity found (Ok strings) = AreStrings entity found strings
 Gathers entity found (Err fault) = NamesPlace (LeavesFirst entity found in_order) fault

@@ -81,6 +81,6 @@ words_of (Some compliance) = compliance.ports
 abbrev pub has_key : {S : Type 0} → HashSet (Bor (List ℕ) × Option ℕ) S → Bor (List ℕ) × Option ℕ → Bool
 has_key bits key = contains (λ x y. bytes_eq x.0.now y.0.now && option_eq nat_eq x.1 y.1) bits key
 
--- the set has the bits that these words name
+-- the set has exactly the bits that these words name
 abbrev pub HasBits : {S : Type 0} → HashSet (Bor (List ℕ) × Option ℕ) S → List PortWord → Type 0
 HasBits bits words = (name : Bor (List ℕ)) (index : Option ℕ) → has_key bits (name, index) ≡ list_any (names_bit name.now index) words

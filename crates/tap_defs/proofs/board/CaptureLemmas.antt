@@ -66,7 +66,7 @@ pub row_shown : (board : RawBoard) (t : RowScan) (chain : List ChainPart) → Is
     InTest board (shifted_row board t) chain → pin_states chain ≡ row_states board t.now
 row_shown board t chain start h = parts_show board t 0 board.chain chain h.logics_are start.states_are h.currents h.stays
 
--- data scans that shift these rows in, whatever they compare
+-- the scans are data scans that shift these rows in, whatever they compare
 abbrev pub ShiftRows : RawBoard → List RowScan → List Scan → Type 0
 ShiftRows board [] [] = Unit {0}
 ShiftRows board [] (s ∷ scans) = ⊥
@@ -157,7 +157,7 @@ module _ (board : RawBoard) (rules : IsBoard board) (faults : FaultSet) where
   with_any (t ∷ ts) [] row h = tt
   with_any (t ∷ ts) (s ∷ scans) row h = ((λ choice. (h choice).0), with_any ts scans t.now (λ choice. (h choice).1))
 
--- clocks that differ only in what they compare
+-- the clocks differ only in what they compare
 abbrev pub Alike : List Clock → List Clock → Type 0
 Alike [] [] = Unit {0}
 Alike [] (d ∷ ds) = ⊥
@@ -219,7 +219,7 @@ after-append : (xs ys : List Clock) (free : Choices) → choices_after (xs ++ ys
 after-append [] ys free = refl
 after-append (x ∷ xs) ys free = after-append xs ys (later free)
 
--- clocks that compare nothing
+-- the clocks compare nothing
 abbrev Silent : List Clock → Type 0
 Silent [] = Unit {0}
 Silent (c ∷ cs) = (c.expect ≡ None) × Silent cs

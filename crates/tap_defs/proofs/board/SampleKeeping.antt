@@ -98,7 +98,7 @@ latched_low = refl
 latched_high : latched on ≡ map (λ cell. false) cells
 latched_high = refl
 
--- one part has EXTEST and the other does not
+-- the visible state of a part with this instruction and these latches; in these samples one of two parts has EXTEST and the other does not
 abbrev shows : Instruction → List Bool → PinState
 shows instruction latches = record { current = instruction; latches = latches }
 

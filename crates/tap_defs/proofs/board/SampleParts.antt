@@ -25,7 +25,7 @@ identified = test_logic (Described with_idcode)
 abbrev unknown : TestLogic
 unknown = test_logic (WithoutDescription 2)
 
--- all free bits are this bit
+-- the free bits of a part, all of which are this bit
 abbrev free : Bool → FreeBits
 free bit = record { ir = λ k. bit; cells = λ k. bit; latches = λ k. bit; tdo = bit; other = bit }
 

@@ -45,7 +45,7 @@ observer = device (one_bit Inward) (entry 0 ObserveOnly 4 None ∷ []) 1
 abbrev clocked : RawDevice
 clocked = device (one_bit Inward) (entry 0 Clock 4 None ∷ []) 1
 
--- Net 0 is dark. Nets 1 and 2 are observed. Net 3 has no receiver except its driver.
+-- A board. Net 0 is dark, nets 1 and 2 are observed, and net 3 has no receiver except its driver.
 abbrev mixed : RawBoard
 mixed = board (Described bi ∷ Described ts ∷ Described ts0 ∷ Described rcv ∷ Described observer ∷ Described clocked ∷ Described drv ∷ Described bi ∷ []) (
     net (pin 6 0 ∷ foreign ∷ []) ∷ net (pin 1 0 ∷ pin 0 0 ∷ pin 3 0 ∷ pin 4 0 ∷ pin 5 0 ∷ []) ∷ net (pin 2 0 ∷ pin 3 1 ∷ []) ∷ net (pin 7 0 ∷ []) ∷ [])

@@ -177,29 +177,29 @@ long_code_transport wiring (b ∷ bits) choices ps h some =
     let tail : List Clock = plain true ∷ plain false ∷ [] in
     let shifts : List Clock = shift_clocks (b ∷ bits) in
     let clocks : List Clock = sir_clocks (b ∷ bits) in
-    -- from Run-Test/Idle to Capture-IR
+    -- the clocks from Run-Test/Idle to Capture-IR
     let moved : List ChainPart = map (moved_to CaptureIR) ps in
     let n3 : List ChainPart = run wiring front choices ps in
     let n3_is : n3 ≡ moved = run_moves wiring RunTestIdle front choices ps h refl in
-    -- the capture
+    -- the clock in Capture-IR
     let captured : List (List Bool) = codes_captured choices ps in
     let n4 : List ChainPart = clock_after wiring (plain false) (choices 3) n3 in
     let capture : ChainCaptures captured ps n4 =
     subst (λ (qs : List ChainPart). ChainCaptures captured ps (clock_after wiring (plain false) (choices 3) qs)) (sym n3_is)
     (captures_moved wiring choices ps) in
-    -- the shifts
+    -- the shift clocks
     let f4 : Choices = later (later (later (later choices))) in
     let shift = all_shifts wiring b bits f4 n4 capture.taps in
     let n5 : List ChainPart = run wiring shifts f4 n4 in
     let out : List Bool = tdos wiring shifts f4 n4 in
-    -- the update, and back to Run-Test/Idle
+    -- the clocks of the update and back to Run-Test/Idle
     let f5 : Choices = choices_after shifts f4 in
     let n6 : List ChainPart = clock_after wiring (plain true) (f5 0) n5 in
     let update = chain_updates n5 (pins_at wiring (f5 0) n5) (f5 0).parts (f5 0).tdi shift.taps in
     let n7 : List ChainPart = clock_after wiring (plain false) (f5 1) n6 in
     let n7_is : n7 ≡ map (moved_to RunTestIdle) n6 = chain_moves UpdateIR n6 (pins_at wiring (f5 1) n6) (f5 1).parts false (f5 1).tdi update.taps refl refl in
     let after_is : run wiring clocks choices ps ≡ map (moved_to RunTestIdle) n6 = run-append wiring shifts tail f4 n4 ∙ n7_is in
-    -- the bits that come out, and the bits that are held
+    -- the bits that come out at TDO, and the bits that the instruction registers hold afterwards
     let early : List Bool = tdos wiring (front ++ plain false ∷ []) choices ps in
     let tdo_is : tdos wiring clocks choices ps ≡ early ++ (out ++ tdos wiring tail f5 n5) =
     ap (λ (r : List Bool). early ++ r) (tdos-append wiring shifts tail f4 n4) in

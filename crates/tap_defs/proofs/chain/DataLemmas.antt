@@ -205,22 +205,22 @@ long_data_transport wiring (b ∷ bits) choices ps h some =
     let tail : List Clock = plain true ∷ plain false ∷ [] in
     let shifts : List Clock = shift_clocks (b ∷ bits) in
     let clocks : List Clock = sdr_clocks (b ∷ bits) in
-    -- from Run-Test/Idle to Capture-DR
+    -- the clocks from Run-Test/Idle to Capture-DR
     let moved : List ChainPart = map (moved_to CaptureDR) ps in
     let n2 : List ChainPart = run wiring front choices ps in
     let n2_is : n2 ≡ moved = run_moves wiring RunTestIdle front choices ps (all_in RunTestIdle ps h) refl in
-    -- the capture
+    -- the clock in Capture-DR
     let captured : List (List Bool) = data_captured wiring choices ps in
     let n3 : List ChainPart = clock_after wiring (plain false) (choices 2) n2 in
     let capture : ChainCaptures captured ps n3 =
     subst (λ (qs : List ChainPart). ChainCaptures captured ps (clock_after wiring (plain false) (choices 2) qs)) (sym n2_is)
     (captures_moved wiring choices ps h) in
-    -- the shifts
+    -- the shift clocks
     let f3 : Choices = later (later (later choices)) in
     let shift = all_shifts wiring b bits f3 n3 capture.selecting in
     let n4 : List ChainPart = run wiring shifts f3 n3 in
     let out : List Bool = tdos wiring shifts f3 n3 in
-    -- the update, and back to Run-Test/Idle
+    -- the clocks of the update and back to Run-Test/Idle
     let f4 : Choices = choices_after shifts f3 in
     let n5 : List ChainPart = clock_after wiring (plain true) (f4 0) n4 in
     let update = chain_updates n4 (pins_at wiring (f4 0) n4) (f4 0).parts (f4 0).tdi shift.selecting in
@@ -228,7 +228,7 @@ long_data_transport wiring (b ∷ bits) choices ps h some =
     let n6_is : n6 ≡ map (moved_to RunTestIdle) n5 =
     chain_moves UpdateDR n5 (pins_at wiring (f4 1) n5) (f4 1).parts false (f4 1).tdi (all_in UpdateDR n5 update.selecting) refl refl in
     let after_is : run wiring clocks choices ps ≡ map (moved_to RunTestIdle) n5 = run-append wiring shifts tail f3 n3 ∙ n6_is in
-    -- the bits that come out, and the bits that are held
+    -- the bits that come out at TDO, and the bits that the chain holds afterwards
     let early : List Bool = tdos wiring (front ++ plain false ∷ []) choices ps in
     let tdo_is : tdos wiring clocks choices ps ≡ early ++ (out ++ tdos wiring tail f4 n4) =
     ap (λ (r : List Bool). early ++ r) (tdos-append wiring shifts tail f3 n3) in

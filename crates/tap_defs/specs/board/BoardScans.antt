@@ -18,7 +18,8 @@ use Rattle.tap_defs.specs.chain.Codes.{instructs}
 use Rattle.tap_defs.specs.chain.Text.{svf_text}
 use Rattle.tap_defs.specs.board.TestRows.{TestRow, quiet_row, code_row, row_bit, expect_bit, observing_driver, observed_count, code_width}
 
--- A data scan: the row that it shifts in, and the row before. The row before is in the latches during the scan, and its bits are compared.
+-- A data scan: the row `now` that it shifts in, and the row `before` that the scan before it shifted in. The row `before`
+-- is in the latches during the scan, and its bits are compared.
 pub record RowScan : Type 0 where
   pub now : TestRow
   pub before : TestRow

@@ -43,7 +43,7 @@ abbrev pub live_entry : List PinState → ℕ → Option Cell → Bool
 live_entry states part None = false
 live_entry states part (Some cell) = in_extest states part && is_on_by states part cell.ctl
 
--- The pin at this port bit is a live driver. A pin of a part without a description is no driver in the model.
+-- The pin at this port bit is a live driver. In the model, a pin of a part without a description is not a driver.
 abbrev pub live_where : RawBoard → List PinState → Option PinAt → Bool
 live_where board states None = false
 live_where board states (Some at) = live_entry states at.part (entry_at board at)

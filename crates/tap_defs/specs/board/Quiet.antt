@@ -80,7 +80,7 @@ KeepsSafeValues board states =
     list_any (controls_driver board part cell) device.cells ≡ false → list_any (drives_unguarded board part cell) device.cells ≡ false →
     safe_bit device cell ≡ Some value → latch states part cell ≡ value
 
--- (a) and (c) at one moment
+-- conditions (a) and (c) hold at this moment
 abbrev pub IsQuietMoment : RawBoard → List PinState → Type 0
 IsQuietMoment board states = IsSafelySet board states × KeepsSafeValues board states
 

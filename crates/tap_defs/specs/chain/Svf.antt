@@ -33,7 +33,7 @@ clocks_of standing (StateIdle ∷ more) = None
 clocks_of standing (ScanOf scan ∷ more) =
     if may_scan standing scan.ir then followed_by (scan_clocks scan) (clocks_of standing more) else None
 
--- nothing is established before the text
+-- what is established before the text: nothing
 abbrev pub at_start : Standing
 at_start = record { idle = false; ends_ir = false; ends_dr = false }
 

@@ -83,7 +83,8 @@ LongDataTransport =
     ScansData bits captured (take (length bits) stream) (drop (length bits) stream)
     (tdos wiring (sdr_clocks bits) choices parts) parts (run wiring (sdr_clocks bits) choices parts)
 
--- an instruction scan as long as the instruction registers, under any current instructions
+-- an instruction scan as long as the instruction registers, under any current instructions: the captured bits come out, and
+-- each part then has the instruction of its code
 abbrev pub CodeTransport : Type 0
 CodeTransport =
     (wiring : Wiring) (bits : List ScanBit) (choices : Choices) (parts : List ChainPart) →
@@ -91,7 +92,8 @@ CodeTransport =
     ScansCodes bits (joined (codes_captured choices parts)) (tdi_bits bits)
     (tdos wiring (sir_clocks bits) choices parts) parts (run wiring (sir_clocks bits) choices parts)
 
--- an instruction scan of any length
+-- An instruction scan of any length `n`. Of the captured bits followed by the bits that are shifted in, the first `n` come
+-- out, and the instruction registers then hold the others.
 abbrev pub LongCodeTransport : Type 0
 LongCodeTransport =
     (wiring : Wiring) (bits : List ScanBit) (choices : Choices) (parts : List ChainPart) →
