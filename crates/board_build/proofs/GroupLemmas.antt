@@ -31,7 +31,7 @@ group_more words i w n within read =
     ∙ map-append pin_with (filter (λ m. number_of m == n) (map seen (take i words))) (filter (λ m. number_of m == n) (seen w ∷ []))
     ∙ ap (λ v. group_of (map seen (take i words)) n ++ v) (one_pin (seen w) (w.net == n))
 
--- if the pin of word `i` is added to the group of its net, the groups are right for the words up to and including word `i`
+-- if the pin of word `i` is added to the group of its net, the groups are those of the words up to and including word `i`
 pub groups_step : (words : List MarkedWord) (i : ℕ) (w : MarkedWord) (count : ℕ) (old new : List (List NetPin)) → i < length words → get_or words i w ≡ w → w.net < length old →
     new ≡ set old w.net (get_or old w.net [] ++ pin_with (seen w) ∷ []) → ((n : ℕ) → n < count → get_or old n [] ≡ group_of (map seen (take i words)) n) →
     (n : ℕ) → n < count → get_or new n [] ≡ group_of (map seen (take (i + 1) words)) n
@@ -51,7 +51,7 @@ groups_step words i w count old new within read inside changed was n less = by_t
         wrong : true ≡ false → ⊥
         wrong h = cc h
 
--- if word `i` belongs to none of the nets, the groups are right for the words up to and including word `i`
+-- if word `i` belongs to none of the nets, the groups are those of the words up to and including word `i`
 pub groups_kept : (words : List MarkedWord) (i : ℕ) (w : MarkedWord) (count : ℕ) (old : List (List NetPin)) → i < length words → get_or words i w ≡ w → (w.net < count → ⊥) →
     ((n : ℕ) → n < count → get_or old n [] ≡ group_of (map seen (take i words)) n) → (n : ℕ) → n < count → get_or old n [] ≡ group_of (map seen (take (i + 1) words)) n
 groups_kept words i w count old within read outside was n less = by_test (w.net == n) refl
@@ -105,7 +105,7 @@ at_place {A} P xs i within given = by_get (slice_get xs i) refl
         outside (y ∷ ys) (suc k) h f = outside ys k (omega (arith, h)) f
     by_get (Some x) e = given x (get_or_from_slice_get xs i x x e)
 
--- if the groups are right for the words before word `i`, they are right for one more word after the loop handles it
+-- if the groups are those of the words before word `i`, they are those of one word more after the loop handles word `i`
 pub groups_more : (words : List MarkedWord) (i count len : ℕ) (old new : List (List NetPin)) → i < length words → len ≡ count → length old ≡ len →
     new ≡ groups_after (slice_get words i) len old → ((n : ℕ) → n < count → get_or old n [] ≡ group_of (map seen (take i words)) n) →
     (n : ℕ) → n < count → get_or new n [] ≡ group_of (map seen (take (i + 1) words)) n

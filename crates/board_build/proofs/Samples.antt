@@ -103,7 +103,7 @@ two_always_on_drivers : board_of (chain []) (net 1 (codes "N") (pin (codes "U1")
 unfolding board_answer board_fault limit_fault data_limit net_limit pin_limit pin_fault no_pin pin_twice line_fault inert_in_chain no_supply_net no_pull_net pull_twice driver_fault guarded_driver two_always_on
 two_always_on_drivers = refl
 
--- an unknown pin of a later line comes before a pin in two nets
+-- the rule on unknown pins comes before the rule on pins in two nets, even if the unknown pin is on a later line
 the_order_of_rules : board_of (chain (said 3 (Inert (codes "U1")) ∷ [])) (net 1 (codes "A") (pin (codes "U1") (codes "1") ∷ []) ∷ net 2 (codes "B") (pin (codes "U1") (codes "1") ∷ pin (codes "U2") (codes "9") ∷ []) ∷ []) (drv ∷ rcv ∷ []) ≡ Err (NoPin (at 2 4))
 unfolding board_answer board_fault limit_fault data_limit net_limit pin_limit pin_fault no_pin pin_twice line_fault inert_in_chain no_supply_net no_pull_net pull_twice driver_fault guarded_driver two_always_on
 the_order_of_rules = refl

@@ -31,7 +31,7 @@ not_both true true h = absurd (h refl refl)
 not_both true false h = refl
 not_both false b h = refl
 
--- every driver that the setting enables by its own cell switches, whether or not it is on a net
+-- every driver that the setting enables by its own cell is a switching driver, whether or not it is on a net
 abbrev pub OwnSwitches : RawBoard → Enabling → Type 0
 OwnSwitches board s = (at : PinAt) (cell : Cell) (control : Control) → is_pinned board at ≡ true → entry_at board at ≡ Some cell → cell.ctl ≡ Some control → control.cell ≡ cell.num → s (record { part = at.part; cell = control.cell }) ≡ true → SwitchesAt board at control.disable
 
@@ -131,7 +131,7 @@ one_sided_by_is board cell at ctl control e c p w =
     (and_from (control.cell == cell) (is_pinned board at) (ap (λ n. control.cell == n) (sym c) ∙ (eq-eqb control.cell control.cell refl)) p)
     (not_from_false (is_switching board at control.disable) w)
 
--- if the control enables no one-sided driver, every driver that it enables by the driver's own cell switches
+-- if the control enables no one-sided driver, every driver that it enables by the driver's own cell is a switching driver
 pub own_from_test : (board : RawBoard) (c : Ctl) → enables_one_sided board c ≡ false → OwnSwitches board (just c)
 own_from_test board c h at cell control pinned e k o on =
     let same : record { part = at.part; cell = control.cell } ≡ c = same_equal (record { part = at.part; cell = control.cell }) c on in

@@ -233,7 +233,7 @@ not_guarding = refl
 supply_guarded : guarded kinds (record (net 0 None (leg 0 3 ∷ [])) { supply = true }) ≡ true
 supply_guarded = refl
 
--- a driver that its own cell disables at 0 switches on an unguarded net that is pulled to 0, and on no other net
+-- a driver that its own cell disables at 0 is a switching driver of an unguarded net that is pulled to 0, and of no other net
 abbrev od0 : RawDevice
 od0 = device (codes "Q" ∷ []) (port_bit 4 None Outward (Some (codes "1")) false ∷ []) (entry 0 Output2 4 (Some (record { cell = 0; disable = false })) ∷ []) 1
 
@@ -255,7 +255,7 @@ own_guarded = refl
 own_supply : drive own (record (held (Some true) []) { supply = true }) (pin 0 0) ≡ Some OneSided
 own_supply = refl
 
--- a driver with another cell as its control does not switch, whatever the pull
+-- a driver with another cell as its control is not a switching driver, whatever the pull
 controlled_pulled : switches kinds (net 0 (Some true) (leg 0 10 ∷ [])) (leg 0 10) ≡ false
 controlled_pulled = refl
 

@@ -146,8 +146,8 @@ bus_rules = board_of bus refl
 bus_passes : passes_of bus ≡ (c 0 1 ∷ []) ∷ (c 1 1 ∷ []) ∷ []
 bus_passes = refl
 
--- a net with drivers of both controls: it is paired with each of the other two nets, and those two are not paired with each
--- other
+-- A board with a net that has drivers of both controls. The net is paired with each of the other two nets, and those two
+-- are not paired with each other.
 abbrev pub crossing : RawBoard
 crossing = board (two ∷ rcv ∷ rcv ∷ []) (net 0 None (pin 0 0 ∷ pin 1 0 ∷ []) ∷ net 1 None (pin 0 1 ∷ pin 0 2 ∷ pin 1 1 ∷ []) ∷ net 2 None (pin 0 3 ∷ pin 2 0 ∷ []) ∷ [])
 

@@ -99,7 +99,7 @@ pairs_within (x ∷ xs) = map (λ y. (x, y)) xs ++ pairs_within xs
 abbrev pub first_pair : RawBoard → List Drive → List Drive → Option (Drive × Drive)
 first_pair board a b = find (λ pair. are_compatible board (Some pair.0) (Some pair.1)) (pairs_of a b)
 
--- the new pass for two paired nets that no earlier pass observes together, from this pair of the nets' drivers
+-- the pass that is made from this pair of drivers for two paired nets that no earlier pass observes together
 abbrev pub pair_pass : RawBoard → List Ctl → Drive × Drive → List Ctl
 pair_pass board useful pair = second_walk board useful (with_driver (with_driver [] pair.0) pair.1)
 

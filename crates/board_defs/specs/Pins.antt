@@ -114,7 +114,7 @@ abbrev pub is_pulled_to : Bool → Option Bool → Bool
 is_pulled_to value None = false
 is_pulled_to value (Some b) = is_same value b
 
--- the net is unguarded and pulled to `value`, so a driver that its own cell disables at this value switches on the net
+-- the net is unguarded and pulled to `value`, so a driver that its own cell disables at this value is a switching driver of the net
 abbrev pub lets_switch : RawBoard → Net → Bool → Bool
 lets_switch board net value = not (guarded board net) && is_pulled_to value net.pull
 
@@ -135,7 +135,7 @@ drive_where board net (Some at) = option_map (λ cell. drive_by board net at.par
 abbrev pub drive : RawBoard → Net → NetPin → Option Drive
 drive board net pin = drive_where board net pin.at
 
--- a driver with this control is switching: the control is its own cell, and the net lets it switch
+-- a driver with this control is a switching driver: the control is its own cell, and the net is unguarded and pulled to the disable value
 abbrev pub switches_by : RawBoard → Net → Cell → Option Control → Bool
 switches_by board net cell None = false
 switches_by board net cell (Some control) = (control.cell == cell.num) && lets_switch board net control.disable

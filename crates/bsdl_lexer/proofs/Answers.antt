@@ -21,13 +21,13 @@ abbrev pub Walk : List ℕ → ℕ → ℕ → List Token → ℕ → ℕ → Ty
 Walk text place line [] to last_line = (place ≡ to) × (line ≡ last_line)
 Walk text place line (token ∷ tokens) to last_line = (step text place line ≡ Ok (Some token)) × Walk text token.«end» token.line tokens to last_line
 
--- the answer is right if the step after the tokens has this result
+-- this is the answer if the step after the tokens has this result
 abbrev pub Ends : Result (Option Token) LexFault → List Token → Result (Unit {0}) LexFault → Type 0
 Ends (Ok None) tokens answer = answer ≡ Ok tt
 Ends (Ok (Some token)) tokens answer = (length tokens ≡ token_limit) × (answer ≡ Err (TooMany token.line))
 Ends (Err fault) tokens answer = answer ≡ Err fault
 
--- the tokens and the answer that steps from the front of the text find
+-- steps from the front of the text find these tokens and end with this answer
 pub record Lexed (text : List ℕ) (tokens : List Token) (answer : Result (Unit {0}) LexFault) : Type 0 where
   pub to : ℕ
   pub line : ℕ

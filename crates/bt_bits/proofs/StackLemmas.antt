@@ -50,8 +50,7 @@ set_row len i words word j bit are within less is =
     let row = row_bits len (map (digit_in j) words) in
     row_bits-is (set row i bit) len _ (length-set row i bit ∙ (are j less).count) (set_digits len i words word j bit are within less is)
 
--- a digit times the word with the lowest bits set gives a word that has this digit for each row, as a test of all cases
--- shows
+-- a digit times the word in which each digit is 1 gives a word that has this digit for each row; the proof tests all cases
 digit_in-each : (digit j : ℕ) → digit < 16 → j < 16 → digit_in j (digit * 1229782938247303441) ≡ digit
 digit_in-each digit j small less =
     same_digit (digit * 1229782938247303441) digit (agree_below_at (λ d. agree_below (λ i. digit_in i (d * 1229782938247303441) == d) (λ _. true) 16) (λ _. true) 16 digit refl small) j less

@@ -8,7 +8,7 @@ abbrev pub behind : {B : Type 0} → List B → Result (List B) InputFault → R
 behind front (Ok values) = Ok (front ++ values)
 behind front (Err fault) = Err fault
 
--- if an answer for the remaining items is put behind the values of `front`, it is an answer for all items
+-- the values of `front` followed by an answer for the remaining items are an answer for all items
 abbrev pub Completes : {A B : Type 0} → (A → Result B InputFault → Type 0) → List A → List A → List B → Type 0
 Completes {A} {B} IsOf all rest front = (answer : Result (List B) InputFault) → EachOf IsOf rest answer → EachOf IsOf all (behind front answer)
 

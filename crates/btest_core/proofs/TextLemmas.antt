@@ -13,7 +13,7 @@ bytes_of texts = map (λ text. text.items) texts
 abbrev pub numbered : ℕ → List (Vec ℕ Global) → List (ℕ × List ℕ)
 numbered n texts = enumerate_from n (bytes_of texts)
 
--- if an answer for the remaining texts is put behind the entities of `front`, it is an answer for all texts
+-- the entities of `front` followed by an answer for the remaining texts are an answer for all texts
 abbrev pub CompletesTexts : List (Vec ℕ Global) → List (ℕ × List ℕ) → List Entity → Type 0
 CompletesTexts texts rest front = Completes IsEntityOfText (numbered 0 texts) rest front
 

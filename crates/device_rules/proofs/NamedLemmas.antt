@@ -15,7 +15,7 @@ use Rattle.device_rules.specs.Raw.{in_compliance}
 use Rattle.device_rules.proofs.NameLemmas.{bytes_turned}
 use Rattle.device_rules.proofs.PinLemmas.{one_more}
 
--- the flag after one more word, which names a bit
+-- if the next word names a bit, the flag after this word says for each bit whether one of the words so far names it
 pub marked_more : (words : List PortWord) (i : ℕ) (word : PortWord) (key : List ℕ × Option ℕ) (name : List ℕ) (index : Option ℕ) (new old : Bool) → i < length words → get_or words i word ≡ word → key_of word ≡ Some key
     → new ≡ cond (bytes_eq key.0 name && option_eq nat_eq key.1 index) true old → old ≡ list_any (names_bit name index) (take i words) → new ≡ list_any (names_bit name index) (take (i + 1) words)
 marked_more words i word key name index new old less is same e f =
@@ -23,7 +23,7 @@ marked_more words i word key name index new old less is same e f =
     ∙ ap (λ k. list_any (names_bit name index) (take i words) || is_key k name index) (sym same)
     ∙ ap (λ x. list_any (names_bit name index) (take i words) || names_bit name index x) (sym is) ∙ sym (list_any_more (names_bit name index) words i word less)
 
--- the flag after one more word, which names no bit
+-- if the next word names no bit, the flag stays as it is
 pub marked_none : (words : List PortWord) (i : ℕ) (word : PortWord) (name : List ℕ) (index : Option ℕ) (old : Bool) → i < length words → get_or words i word ≡ word → key_of word ≡ None
     → old ≡ list_any (names_bit name index) (take i words) → old ≡ list_any (names_bit name index) (take (i + 1) words)
 marked_none words i word name index old less is same f =

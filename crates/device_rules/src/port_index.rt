@@ -167,7 +167,7 @@ impl<'a> PortIndex<'a> {
         }
     }
 
-    /// Returns the number of the port with this name, from the map.
+    /// Looks up the number of the port with this name in the map.
     fn mapped_number(&self, name: &[u8]) -> Option<u32>
         ensures { result ≡ port_number self.now name.now }
     {

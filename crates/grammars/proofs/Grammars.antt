@@ -43,7 +43,7 @@ read_grammar (turns turn before) h = record {
 pub decides_grammar : {T A : Type 0} (g : Grammar T A) → EachTurnTakes g → Decides (production_of g) (reader_of g)
 decides_grammar g h = (read_grammar g h).decides
 
--- reading any number of turns is reading one turn and then the others
+-- reading any number of turns is reading one turn and then any number of further turns
 pub turn_at : {T S A : Type 0} (turn : S → Grammar T (Turn S A)) → ((s : S) → TakesToken (turn s) × EachTurnTakes (turn s)) → (s : S) (tokens : List T)
     → reader_of (turns turn s) tokens ≡ after (reader_of (turn s) tokens) (reader.follow (λ s. reader_of (turns turn s)))
 turn_at turn h s tokens = turns_once (λ s. reader_of (turn s)) (λ s. (read_grammar (turn s) (h s).1).shrinks (h s).0) s tokens

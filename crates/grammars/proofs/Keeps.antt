@@ -1,4 +1,4 @@
--- Facts about every value that a grammar derives, depending on the weight of its tokens.
+-- Facts about the values that a grammar derives and the weight of the tokens from which they are read.
 use Rattle.std.proofs.Common.{◌≡◌, ℕ, zero, suc, ◌+◌, ◌≤◌, List, [], ◌∷◌, ◌++◌, Option, Some, sym, ◌∙◌, ap, subst, arith}
 use Rattle.grammars.specs.Turn.{Turn, again, last}
 use Rattle.grammars.specs.Production.{Production, Follows}

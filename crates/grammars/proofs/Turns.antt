@@ -121,7 +121,7 @@ decides_turns {T} {S} {A} {turn} {read} d shrinks s = record {
   is_cut = λ tokens h. (suc (length tokens), (decides_up_to (suc (length tokens)) d s).is_cut tokens h);
 }
 
--- reading any number of turns is reading one turn and then the others
+-- reading any number of turns is reading one turn and then any number of further turns
 pub turns_once : {T S A : Type 0} (read : S → Reader T (Turn S A)) → EachShrinks read → (s : S) (tokens : List T)
     → reader.turns read s tokens ≡ after (read s tokens) (reader.follow (reader.turns read))
 unfolding reader.turns

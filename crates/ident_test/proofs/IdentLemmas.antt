@@ -233,7 +233,7 @@ codes_keep_instructions device code part has bits =
     ap (λ (extest : Option (List Bool)). cond (all_ones bits) Bypass (cond (is_code extest bits) Extest (cond (is_code part.preload bits) Sample Other))) has.extest
     ∙ ap (λ (preload : Option (List Bool)). cond (all_ones bits) Bypass (cond (is_code given.extest bits) Extest (cond (is_code preload bits) Sample Other))) has.preload
 
--- a test that passes if all codes fit and fails otherwise tells in each run whether all codes fit
+-- if a test passes when all codes fit and fails otherwise, each run shows whether all codes fit
 pub each_run_tells : (patterns : List (Option (List Symbol))) (text : List ℕ) → IsIdentTest patterns text → EachRunTells patterns text
 each_run_tells patterns text test clocks wiring parts chain choices means coded start = by_fit (all_fit patterns parts) refl
   where

@@ -33,8 +33,8 @@ pub data PinRules (board : RawBoard) (n : ℕ) (net : Net) (i : ℕ) (p : NetPin
       part.kind ≡ Described device → IsWired device → is_pinned board at ≡ true →
       place_of at 0 board.nets ≡ Some (record { number = n; net = net; place = i }) → PinRules board n net i p
 
--- what the rules of boards say about net `n`: its place, the facts about its pins, and that if a pin of the net switches,
--- it switches on this net
+-- what the rules of boards say about net `n`: its place, the facts about its pins, and that if a pin of the net is a
+-- switching driver, it is one of this net
 pub record NetRules (board : RawBoard) (n : ℕ) (net : Net) : Type 0 where
   pub stands : slice_get board.nets n ≡ Some net
   pub pins : (i : ℕ) (p : NetPin) → slice_get net.pins i ≡ Some p → PinRules board n net i p

@@ -97,7 +97,7 @@ quiet_row_between quiet =
     let moments = (quiet no_faults chain choices (no_set bus) start).1 in
     uncontested_at bus (after_reset without_quiet_row choices) (later_moments without_quiet_row choices) moments 53 first_on second_on refl refl 0 _ 0 1 _ _ refl refl refl (λ e. omega (arith, e)) refl refl
 
--- a test that selects EXTEST right after the reset, when both control cells may have 0
+-- a test that selects EXTEST immediately after the reset, at a time when both control cells may have 0
 abbrev without_preload : List Clock
 without_preload = test_clocks (take 1 (drop 2 (svf_scans bus)))
 

@@ -58,8 +58,8 @@ pub record IsCodeWidth (n width : ℕ) : Type 0 where
 abbrev pub code_bit : ℕ → ℕ → Bool
 code_bit c j = ((c / 2 ^ j) % 2) == 1
 
--- codes of `width` bits tell `n` nets apart: each code from 1 to `n` has a 0 bit and a 1 bit, and every two of these codes differ in some
--- bit
+-- codes of `width` bits distinguish `n` nets: each code from 1 to `n` has a 0 bit and a 1 bit, and every two of these codes
+-- differ in some bit
 pub record CodesTell (n width : ℕ) : Type 0 where
   pub has : (c : ℕ) (v : Bool) → 1 ≤ c → c ≤ n → (j : ℕ) × (j < width) × (code_bit c j ≡ v)
   pub differ : (c d : ℕ) → 1 ≤ c → c ≤ n → 1 ≤ d → d ≤ n → c ≢ d → (j : ℕ) × (j < width) × (code_bit c j ≡ not (code_bit d j))
