@@ -68,7 +68,7 @@ in_link_ok : (answer : Result Joined LinkFault) (value : Joined) → ◌≡◌ {
 in_link_ok (Ok v) value same = cc
 in_link_ok (Err fault) value same = absurd cc
 
--- the device of a text keeps the rules of a device
+-- if a text describes a device, the device keeps the rules of a device
 pub device_keeps : SoundKeep → (text : List ℕ) (device : RawDevice) → IsDeviceText text (Ok device) → IsDevice device
 device_keeps sound text device is =
     let step = follows_ok (IsEntityOf text 0) (λ entity. IsDeviceIn entity (0, None)) device is in
@@ -139,7 +139,7 @@ idents_ok : (bypass : Option ℕ) (devices : List RawDevice) (idents : List Iden
 idents_ok None devices idents same = record { none = refl; are = same_ok idents (idents_of devices) same }
 idents_ok (Some line) devices idents same = absurd cc
 
--- there are 1 to 255 patterns, each of 32 symbols or None
+-- there are 1 to 255 patterns, and each one that is given has 32 symbols
 abbrev AreWhole : List Ident → Type 0
 AreWhole idents = (0 < length idents) × (length idents ≤ most_parts) × All IsWhole idents
 

@@ -31,7 +31,7 @@ kept_port before port e =
     let b = or_parts (not (in_order port.range)) (nat_lt most_bits (bits_of before + width port.range)) a.1 in
     record { new = a.0; ordered = not-false (in_order port.range) b.0; few = ltb-false most_bits (bits_of before + width port.range) b.1 }
 
--- a list is empty or has a last item
+-- a list with a last item, which follows `front`; a list is empty or has a last item
 record EndsIn {X : Type 0} (xs : List X) : Type 0 where
   front : List X
   last : X

@@ -1,4 +1,4 @@
--- V3, V6 and V7 find the least number that breaks the rule, and V8 finds the first wrong cell.
+-- V3, V6 and V7 find the lowest number that breaks the rule, and V8 finds the first wrong cell.
 use Rattle.std.proofs.Common.{◌≡◌, ℕ, List, [], ◌∷◌, ◌++◌, Bool, true, false, not, if◌then◌else◌, Option, Some, None, inl, inr, refl, ap, subst}
 use Rattle.std.specs.Prelude.{nat_le, find, option_map}
 use Rattle.board_defs.specs.declared.device.Symbol.{Symbol}

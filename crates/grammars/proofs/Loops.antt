@@ -1,4 +1,4 @@
--- Loops that read turns, where a test says whether another turn follows.
+-- Loops that read turns. A test says whether another turn follows.
 use Rattle.std.proofs.Common.{◌≡◌, Bool, true, false, List, ◌∙◌, ap}
 use Rattle.grammars.specs.Turn.{Turn, turn_of}
 use Rattle.grammars.specs.inner.Reader.{Outcome, found}

@@ -31,7 +31,7 @@ missing_on nets n (Inert part) = None
 missing_on nets n (Supply net) = None
 missing_on nets n (Pull net value) = None
 
--- the place of the first pin of all LINK lines that is in no net
+-- the place of the first pin, among those of all LINK lines, that is in no net
 abbrev pub missing_link_pin : List NetLine → List ChainLine → Option Spot
 missing_link_pin nets [] = None
 missing_link_pin nets (line ∷ lines) = missing_on nets line.line line.statement then missing_link_pin nets lines

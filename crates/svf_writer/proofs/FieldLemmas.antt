@@ -16,7 +16,7 @@ broken-short room [] short = refl
 broken-short zero (d ∷ digits) short = absurd (omega arith)
 broken-short (suc room) (d ∷ digits) short = ap (λ t. d ∷ t) (broken-short room digits (omega arith))
 
--- digits that do not fit into their line are broken after the room of the line
+-- if digits do not fit into their line, a line feed follows those for which there is room
 pub broken-long : (room : ℕ) (digits : List ℕ) → room < length digits → broken room digits ≡ take room digits ++ 10 ∷ broken 64 (drop room digits)
 broken-long room [] long = absurd (omega arith)
 broken-long zero (d ∷ digits) long = refl

@@ -20,7 +20,7 @@ front_of (token ∷ after) = Some (record { is_package = is_package token; line 
 abbrev pub fault_at : Bool → ℕ → ParseFault
 fault_at starts_package line = if starts_package then Package line else Expected line
 
--- the answer after a whole file, where every further token is stray
+-- the answer after a whole file; every further token is stray
 abbrev pub behind_file : Entity → Option Front → Result Entity ParseFault
 behind_file entity None = Ok entity
 behind_file entity (Some front) = Err (fault_at front.is_package front.line)

@@ -29,7 +29,7 @@ use Rattle.tap_defs.proofs.board.FeedingLemmas.{PinRules, apart, placed, NetRule
 use Rattle.tap_defs.proofs.board.ReadingLemmas.{IsRead, any_is, AllRead}
 use Rattle.tap_defs.proofs.board.QuietLemmas.{BoardRules, device_of, control_is}
 
--- if two places of a list are equal, they have the same item
+-- at one place, a list has only one item
 same_item : {A : Type 0} (xs : List A) (i j : ℕ) (x y : A) → slice_get xs i ≡ Some x → slice_get xs j ≡ Some y → i ≡ j → y ≡ x
 same_item xs i j x y ex ey e =
     let two : Some y ≡ Some x = sym ey ∙ sym (ap (λ (k : ℕ). slice_get xs k) e) ∙ ex in

@@ -1,4 +1,4 @@
--- A chain that was selected keeps the rules of a chain.
+-- If a chain is selected, it keeps the rules of a chain.
 use Rattle.std.proofs.Common.{arith}
 use Rattle.std.proofs.lemmas.Result.{IfOk-weaker}
 use Rattle.board_lines.proofs.SelectLemmas.{selected_chain}
