@@ -99,7 +99,7 @@ one_word words apart m n i j a b ea eb e f =
     pairs_on : (ws : List NetWord) (k : ℕ) → AllPairs (λ a b. have_same_pin a b ≡ false) ws → AllPairs (λ a b. have_same_pin a b ≡ false) (words_on ws k)
     pairs_on ws k h = AllPairs-filter (λ a b. have_same_pin a b ≡ false) (λ word. net_of word == k) ws h
 
--- 1 if the test holds, and 0 if not; by these counts each word belongs to at most one net
+-- 1 for true, and 0 for false; the sum over some tests says how many of them an item passes
 abbrev count_of : Bool → ℕ
 count_of true = 1
 count_of false = 0

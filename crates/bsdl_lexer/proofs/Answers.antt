@@ -81,7 +81,7 @@ walk_stands text (token ∷ tokens) place line to last_line stop on w s =
       walk_stands text tokens token.«end» token.line to last_line stop n.after w.1 s,
     )
 
--- if the step after a walk finds a token, the walk with this token at its end is a walk
+-- if a walk is followed by a step that finds a token, the walk and this token together are a walk
 pub walk_on : (text : List ℕ) (tokens : List Token) (place line to last_line : ℕ) (token : Token) → Walk text place line tokens to last_line → step text to last_line ≡ Ok (Some token) → Walk text place line (tokens ++ token ∷ []) token.«end» token.line
 walk_on text [] place line to last_line token w e = (ap (λ n. step text n line) w.0 ∙ ap (step text to) w.1 ∙ e, (refl, refl))
 walk_on text (first ∷ tokens) place line to last_line token w e = (w.0, walk_on text tokens first.«end» first.line to last_line token w.1 e)

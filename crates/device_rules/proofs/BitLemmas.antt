@@ -246,7 +246,7 @@ bits_few ports i port e less is =
     few : (n : ℕ) → nat_lt most_bits n ≡ false → n ≤ most_bits
     few n e = grind (arith, nat_tests)
 
--- with port `i`, the ports before it have as many more bits as the range of port `i` is wide
+-- the ports up to port `i` have the bits of the ports before it, and as many more as the range of port `i` is wide
 pub bits_more : (ports : List Port) (i : ℕ) (port : Port) → i < length ports → get_or ports i port ≡ port → bits_of (take (i + 1) ports) ≡ bits_of (take i ports) + width port.range
 bits_more ports i port less is =
     sum_by_more (λ port. width port.range) ports i port less ∙ ap (λ p. bits_of (take i ports) + width p.range) is
