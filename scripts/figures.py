@@ -27,9 +27,21 @@ def files(top, ending, *parts):
                 yield os.path.join(at, name), it.read().splitlines()
 
 
+def whole(lines):
+    """Yields the lines, each with the lines that continue it: those that begin with an arrow."""
+    now = ""
+    for line in lines:
+        if line.lstrip().startswith("→"):
+            now += " " + line.strip()
+        else:
+            yield now
+            now = line
+    yield now
+
+
 def statements(lines):
     """Yields the statements of the lemmas of a proof file, without their names."""
-    for line in lines:
+    for line in whole(lines):
         found = STATEMENT.match(line)
         if found and not CLOSED.match(line) and "≡" in found[2]:
             yield re.sub(r"\s+", " ", found[2])
