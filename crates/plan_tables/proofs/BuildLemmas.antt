@@ -1,4 +1,4 @@
--- Steps of the loops that make the tables of a plan.
+-- Lemmas for the loops that make the tables of a plan.
 use Rattle.std.proofs.Common.{◌≡◌, ℕ, suc, ◌-◌, ◌<◌, ◌≤◌, List, ◌++◌, length, drop, get_or, Option, Some, None, refl, ap, ◌∙◌, arith}
 use Rattle.board_defs.specs.declared.device.RawDevice.{RawDevice}
 use Rattle.board_defs.specs.declared.board.Part.{Part}
@@ -21,7 +21,7 @@ cell_there board part cell less = by_device (device_at board part) refl less
     by_device None e less = absurd (omega (arith, less))
     by_device (Some device) e less = record { device = device; is_device = e; below = less }
 
--- one more part, going from the last part to the first
+-- the bits of the parts from part `i - 1` on are the bits of the parts from part `i` on, followed by the bits of part `i - 1`
 pub part_more : (g : CellBits) (chain : List Part) (i : ℕ) (d : Part) → 0 < i → i ≤ length chain →
     joined (parts_laid g (i - 1) (drop (i - 1) chain)) ≡ joined (parts_laid g i (drop i chain)) ++ part_laid g (i - 1) (get_or chain (i - 1) d).kind
 part_more g chain i d some within =

@@ -1,4 +1,4 @@
--- Steps of the loop that makes the rows of an instruction scan.
+-- Lemmas for the loop that makes the rows of an instruction scan.
 use Rattle.std.proofs.Common.{◌≡◌, ℕ, suc, ◌+◌, ◌-◌, ◌<◌, ◌≤◌, Bool, true, false, List, [], ◌∷◌, ◌++◌, length, map, drop, get_or, replicate, is_some, unwrap_or, refl, ap, ◌∙◌, arith}
 use Rattle.std.proofs.lemmas.List.{map-append, drop_more, length-map, length-replicate}
 use Rattle.board_defs.specs.Limits.{most_bits}
@@ -41,7 +41,7 @@ code_mask (a ∷ b ∷ code) n e long =
 abbrev pub bits_of : Instruction → List Part → List ScanBit
 bits_of instruction parts = (instructs (map (λ part. code_for instruction part.kind) parts)).bits
 
--- the bits of all parts fit into a row; the loop ends at part 0
+-- if the bits of all parts fit into a row, the bits of the parts that are left when the loop ends at part 0 fit, too
 pub few_left : (instruction : Instruction) (chain : List Part) → length (bits_of instruction chain) ≤ most_bits → (i : ℕ) → i ≡ 0 → (row : ScanBit → Bool) →
     length (map row (bits_of instruction (drop i chain))) ≤ most_bits
 few_left instruction chain few i none row =
@@ -81,7 +81,7 @@ module _ (instruction : Instruction) (chain : List Part) (coded : AreCoded instr
       ∙ map-append (λ b. is_some b.expect) (bits_of instruction (drop i chain)) (code_bits (code_for instruction part.kind))
       ∙ ap (λ t. mask_bits (bits_of instruction (drop i chain)) ++ t) (code_mask (code_for instruction part.kind) (instruction_length part.kind) is_coded.length_is is_coded.least)
 
--- the codes of a board's parts have the lengths of their registers
+-- the codes of a valid part have the length of its instruction register, which is at least 2
 kind_coded : (instruction : Instruction) (kind : PartKind) → IsPart kind → IsCoded instruction kind
 kind_coded Preload (Described device) r = record { least = r.ir_least; length_is = length-map device.sample _ ∙ r.codes.sample_length }
 kind_coded Extest (Described device) r = record { least = r.ir_least; length_is = length-map device.extest _ ∙ r.codes.extest_length }

@@ -1,4 +1,4 @@
--- A data row, made from a bit for each boundary cell of each described part at the position of the cell.
+-- Lemmas about data rows, which have a bit for each boundary cell of each described part at the position of the cell.
 use Rattle.std.proofs.Common.{◌≡◌, ℕ, zero, suc, ◌+◌, ◌-◌, ◌<◌, ◌≤◌, Bool, false, List, [], ◌∷◌, ◌++◌, length, map, drop, get_or, replicate, Option, Some, None, is_some, unwrap_or, refl, sym, ap, ◌∙◌, arith, length-append, ◌⊎◌, inl, inr}
 use Rattle.std.specs.Prelude.{slice_get, option_and_then, sum_by}
 use Rattle.std.proofs.lemmas.Bool.{cases_lt}
@@ -22,7 +22,7 @@ use Rattle.plan_tables.specs.inner.Laid.{CellBits, part_laid, parts_laid, laid}
 use Rattle.plan_tables.specs.Assigned.{assigned}
 use Rattle.plan_tables.proofs.AssignLemmas.{assigned_is}
 
--- the row that is made from one bit of each scan bit
+-- mapping the bits of a data scan gives the row that has the mapped bit of each cell at the cell's position
 map_laid : (f : ScanBit → Bool) → f (record { tdi = false; expect = None }) ≡ false → (board : RawBoard) (scan : RowScan) (part : ℕ) (parts : List Part) →
     map f (joined (bits_by_part board scan part parts))
     ≡ joined (parts_laid (λ part device cell. f (record { tdi = row_bit board scan.now part device cell; expect = expect_bit board scan.before part device cell })) part parts)
@@ -140,7 +140,7 @@ site_at (q ∷ parts) k i less = by_side (cases_lt i (bits_of parts)) (site_at p
     by_side (inl within) ih = front within (ih within)
     by_side (inr past) ih = by_kind q.kind refl past
 
--- a described part's cell
+-- `cell` is a boundary cell of part `part`, which `device` describes
 pub record CellOf (board : RawBoard) (part : ℕ) (device : RawDevice) (cell : ℕ) : Type 0 where
   pub is_device : device_at board part ≡ Some device
   pub below : cell < device.boundary
@@ -183,11 +183,11 @@ assigned_laid {X} place bit xs board g h right cover =
         at_cell i n device cell c at (cover n device cell c)
     by_site i (other_site none) = inl (none g ∙ sym (none h))
 
--- rows with equal bits are equal
+-- if two functions give each cell the same bit, the rows that they give are equal
 pub laid_same : (board : RawBoard) (g h : CellBits) → ((part : ℕ) (device : RawDevice) (cell : ℕ) → g part device cell ≡ h part device cell) → laid g board ≡ laid h board
 laid_same board g h same = assigned_laid {X = ℕ} (λ x. x) (λ x. false) [] board g h (λ x none. absurd none) (λ part device cell c. inl (same part device cell))
 
--- a row of zeros
+-- the row in which every cell has the bit 0 is a row of zeros
 pub zeros_laid : (board : RawBoard) → replicate (data_bits board) false ≡ laid (λ part device cell. false) board
 zeros_laid board =
     ext_get_or false (replicate (data_bits board) false) (laid g board) (length-replicate (data_bits board) false ∙ sym (length-laid g board))

@@ -1,4 +1,4 @@
--- The items of a list.
+-- A lemma about a list that has a row for each item.
 use Rattle.std.proofs.Common.{◌≡◌, ℕ, List, [], map, get_or, Some, ap, ◌∙◌}
 use Rattle.std.specs.Prelude.{slice_get}
 use Rattle.std.proofs.lemmas.List.{get_or-map}

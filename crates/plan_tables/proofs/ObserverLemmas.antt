@@ -167,8 +167,7 @@ observing_is board s safe n net is_net d h on beside = by_found (find (λ x. is_
         let same : e ≡ d = one_driver board s safe n net is_net e d k.0 h k.1 on in
         ap (λ (x : NetDriver). cond (is_read_beside readers x) (Some x) None) same ∙ ap (λ (t : Bool). cond t (Some d) None) beside
 
--- conversely, if a setting observes a net by a driver, the setting enables the driver, and another pin has a compared
--- cell
+-- The setting enables driver `d`, and another pin has a compared cell. This follows if the setting observes the net by `d`.
 pub record Enabled (s : Enabling) (drivers : List NetDriver) (readers : List ReaderCell) (d : NetDriver) : Type 0 where
   pub is_in : Has drivers d
   pub on : is_on s d.ctl ≡ true

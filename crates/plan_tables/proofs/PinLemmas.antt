@@ -1,4 +1,4 @@
--- The places of the pins of nets, and of the entries of cells.
+-- Lemmas about the places of pins in nets, and about the driving and reading entries of cells.
 use Rattle.std.proofs.Common.{◌≡◌, ℕ, ◌==◌, Bool, true, ◌&&◌, Option, Some, None, refl, sym, ap, ◌∙◌, subst}
 use Rattle.std.specs.Prelude.{slice_get, option_and_then}
 use Rattle.std.proofs.lemmas.Bool.{and_parts, eq-eqb, eqb-true}
@@ -53,7 +53,7 @@ wired_at board rules part device e = let d = device_of board part device e in (b
 pub read_at : (board : RawBoard) → IsBoard board → (part : ℕ) (device : RawDevice) → device_at board part ≡ Some device → IsRead device
 read_at board rules part device e = let d = device_of board part device e in all_read board rules d.part device part d.at_k d.kind_is
 
--- the driving entry of a port bit
+-- `entry` is a driving entry of port bit `bit`
 pub record Drives (device : RawDevice) (bit : ℕ) (entry : Cell) : Type 0 where
   pub index : ℕ
   pub stands : slice_get device.cells index ≡ Some entry
@@ -108,7 +108,7 @@ reading_entry_is device read index entry stands receiving =
     let same : y.0 ≡ entry = read.one_reader index f.1.0 entry y.0 stands reading f.1.1 p.1 (eqb-true y.0.num entry.num p.0) in
     y.1 ∙ ap (λ (c : Cell). Some c) same
 
--- the reading entry of a cell is one of the device's entries
+-- `entry` is an entry of the device and belongs to cell `cell`
 pub record Reads (device : RawDevice) (cell : ℕ) (entry : Cell) : Type 0 where
   pub index : ℕ
   pub stands : slice_get device.cells index ≡ Some entry

@@ -142,7 +142,7 @@ pins_most board rules k d less =
     let f : Net → ℕ = λ net. length net.pins in
     omega (arith, rules.pins_most, sum_by-take-drop f board.nets k, sum_by-drop_more f board.nets k d less)
 
--- the tables are a plan for the board
+-- if each table has the contents that its definition requires, the tables together are a plan for the board
 pub is_plan : (board : RawBoard) → IsBoard board → (plan : PlanTables) → ArePlannable board plan.passes → plan.quiet.bits ≡ laid (quiet_bits board) board →
     plan.readers ≡ all_readers board → plan.drivers ≡ all_drivers board → AreFirsts board.chain plan.firsts → ArePassTables board plan.passes plan.steady (pass_cells_of board plan.quiet.bits plan.by_control) →
     (seen : List Bool) → seen ≡ seen_in board (length board.nets) plan.steady plan.by_control plan.passes → (codes : NetCodes) → AreCodes seen codes → plan.codes ≡ codes.codes →
@@ -195,7 +195,7 @@ is_plan board rules plan plannable quiet readers_are drivers_are firsts tables s
         ∙ ap (λ (b : Bool). cond b (suc (count_by (λ b. b) (take n seen))) 0) here
         ∙ ap (λ (k : ℕ). cond (p net) (suc k) 0) before
 
--- there are at most as many codes as a board may have nets
+-- the number of codes is at most the limit on the nets of a board
 pub count_most : (board : RawBoard) → IsBoard board → (steady : List DriverCell) (table : DriverTable) (passes : List (List Ctl)) (codes : NetCodes) →
     AreCodes (seen_in board (length board.nets) steady table passes) codes → codes.count ≤ most_nets
 count_most board rules steady table passes codes are =

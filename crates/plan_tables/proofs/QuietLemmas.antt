@@ -70,7 +70,7 @@ walk_is gives entries n g h right cover =
     covered i below (inl same) = inl (filled_bit g i below ∙ same ∙ sym (filled_bit h i below))
     covered i below (inr s) = inr (s.value, has_filter_map gives entries s.entry s.value (has_at entries s.index s.entry s.stands) s.is_value, s.cell_is)
 
--- the cell and the safe value of an entry whose function is one of `roles`
+-- `c` has the cell and the safe value of entry `e`, whose function is one of `roles`
 record Safe (roles : Role → Bool) (e : Cell) (c : CellBit) : Type 0 where
   role : roles e.role ≡ true
   cell_is : c.cell ≡ e.num
@@ -97,7 +97,7 @@ one_writing device one i j e d ei re dj rd num =
     let there : Some d ≡ Some e = sym dj ∙ ap (λ (k : ℕ). slice_get device.cells k) (sym same) ∙ ei in
     cc there
 
--- such an entry is the first of its cell
+-- if no cell has two entries whose functions are among `roles`, `entry_of` finds each such entry by its cell
 entry_is : (roles : Role → Bool) (device : RawDevice) → HasOne roles device → (i : ℕ) (e : Cell) →
     slice_get device.cells i ≡ Some e → roles e.role ≡ true → entry_of roles device e.num ≡ Some e
 entry_is roles device one i e stands role =
@@ -108,7 +108,8 @@ entry_is roles device one i e stands role =
     let p = and_parts (y.0.num == e.num) (roles y.0.role) f.0 in
     y.1 ∙ ap (λ (x : Cell). Some x) (one i f.1.0 e y.0 stands role f.1.1 p.1 (eqb-true y.0.num e.num p.0))
 
--- a walk over the entries whose functions are among `roles`
+-- If `h` has the safe value of each cell with an entry whose function is among `roles`, and agrees with `g` on the other cells, then a walk
+-- over these entries turns the bits of `g` into the bits of `h`.
 safe_walk : (roles : Role → Bool) (device : RawDevice) → IsDevice device → HasOne roles device → (g h : ℕ → Bool) →
     ((cell : ℕ) (e : Cell) → entry_of roles device cell ≡ Some e → h cell ≡ bit_of e.safe) → ((cell : ℕ) → entry_of roles device cell ≡ None → g cell ≡ h cell) →
     set_by (safe_value_in roles) (filled device.boundary g) device.cells ≡ filled device.boundary h
@@ -128,8 +129,8 @@ safe_walk roles device is one g h right rest = walk_is (safe_value_in roles) dev
         let value : CellBit = record { cell = e.num; bit = bit_of e.safe } in
         inr (record { index = f.1.0; entry = e; stands = f.1.1; value = value; is_value = ap (λ (b : Bool). cond b (Some value) None) p.1; cell_is = eqb-true e.num cell p.0 })
 
--- The safe value of the reading entry of a cell, or 0 without one. `safe_value` takes that of the entry for the update
--- latch if there is one.
+-- The safe value of a cell's reading entry, or 0 if the cell has no such entry. Unlike `safe_value`, this definition ignores an entry for
+-- the update latch.
 abbrev read_value : RawDevice → ℕ → Bool
 read_value device cell = unwrap_or (option_map (λ (e : Cell). bit_of e.safe) (reading_entry device cell)) false
 
@@ -162,7 +163,7 @@ writing_walk device is =
     (λ cell e k. ap (λ (o : Option Cell). unwrap_or (option_map (λ (x : Cell). bit_of x.safe) (or_entry o (reading_entry device cell))) false) k)
     (λ cell k. sym (ap (λ (o : Option Cell). unwrap_or (option_map (λ (x : Cell). bit_of x.safe) (or_entry o (reading_entry device cell))) false) k))
 
--- the control cell and the disable value of a driver's entry
+-- `c` has the control cell and the disable value of the entry `e` of a driver
 record Disables (board : RawBoard) (part : ℕ) (e : Cell) (c : CellBit) : Type 0 where
   driver : is_driver board part e ≡ true
   control : Control

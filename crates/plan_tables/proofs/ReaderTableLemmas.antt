@@ -1,4 +1,4 @@
--- The cells that read nets, net by net.
+-- Lemmas about the table of the compared cells of each net.
 use Rattle.std.proofs.Common.{◌≡◌, ℕ, ◌<◌, false, List, [], length, get_or, Some, subst, arith}
 use Rattle.std.specs.Prelude.{slice_get, All}
 use Rattle.std.proofs.lemmas.Option.{slice_get-get_or, get_or_from_slice_get}
@@ -19,7 +19,7 @@ abbrev pub ReadersOf : RawBoard → List (List ReaderCell) → Type 0
 ReadersOf board readers =
     (n : ℕ) (net : Net) → slice_get board.nets n ≡ Some net → ((r : ReaderCell) → Has (get_or readers n []) r → IsReaderCell board net r) × ((r : ReaderCell) → IsReaderCell board net r → Has (get_or readers n []) r)
 
--- the position of a compared cell is in data scans
+-- the position of a compared cell is less than the number of bits in a data scan
 reader_within : (board : RawBoard) → IsBoard board → (net : Net) (r : ReaderCell) → IsReaderCell board net r → r.position < data_bits board
 reader_within board rules net r s =
     let place = has_place s.device.cells s.entry (contains_has s.device.cells s.entry s.is_entry) in

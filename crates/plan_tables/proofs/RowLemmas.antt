@@ -1,4 +1,4 @@
--- Setting cells does not change the length of a row.
+-- Lemmas which say that setting cells does not change the length of a row.
 use Rattle.std.proofs.Common.{◌≡◌, ℕ, ◌==◌, Bool, true, false, cond, List, [], ◌∷◌, length, get_or, set, refl, ◌∙◌, length-set}
 use Rattle.plan_tables.specs.declared.tables.DriverCell.{DriverCell}
 use Rattle.net_pins.specs.declared.nets.ReaderCell.{ReaderCell}

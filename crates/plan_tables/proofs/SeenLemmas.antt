@@ -1,4 +1,4 @@
--- The nets with a driver cell in some pass are the nets that some pass observes.
+-- Lemmas which say that the nets with a driver cell in some pass are the nets that some pass observes.
 use Rattle.std.proofs.Common.{◌≡◌, ℕ, ◌+◌, ◌<◌, Bool, true, false, List, [], ◌∷◌, ◌++◌, fold, set, length, map, get_or, replicate, Option, Some, None, is_some, refl, sym, ap, ◌∙◌, arith, ◌⊎◌, inl, inr}
 use Rattle.std.specs.Prelude.{slice_get, option_map}
 use Rattle.std.specs.Cmp.{both_ways}
@@ -55,7 +55,7 @@ driver_cell board pass n net place is_net observing = by_at o.pin.at refl o.enab
 abbrev all_cells : RawBoard → List Bool → List (List Ctl) → List DriverCell → DriverTable → List DriverCell
 all_cells board quiet passes steady table = steady ++ flat_map (λ pass. (pass_cells_of board quiet table pass).drivers) passes
 
--- the flags of the nets, set pass by pass
+-- setting the flags of the nets pass by pass gives the same flags as going through the driver cells of all passes
 marked_passes : (board : RawBoard) (quiet : List Bool) (table : DriverTable) (passes : List (List Ctl)) (flags : List Bool) →
     fold (marked_on board table) flags passes ≡ marked flags (flat_map (λ pass. (pass_cells_of board quiet table pass).drivers) passes)
 marked_passes board quiet table [] flags = refl

@@ -1,4 +1,4 @@
--- The steady driver cells, and the cells of each pass.
+-- Lemmas about the steady driver cells and about the cells of each pass.
 use Rattle.std.proofs.Common.{◌≡◌, ℕ, suc, ◌<◌, ◌≤◌, ◌==◌, nat_lt, Bool, true, false, not, cond, ◌&&◌, List, [], ◌∷◌, ◌++◌, length, map, get_or, set, replicate, Option, Some, None, refl, sym, ap, ◌∙◌, subst, arith, length-set, ◌⊎◌, inl, inr}
 use Rattle.std.specs.Prelude.{slice_get, filter, Contains}
 use Rattle.std.specs.List.{flat_map}
@@ -27,7 +27,7 @@ use Rattle.plan_tables.proofs.ObserverLemmas.{observer_below, observer_stands, i
 use Rattle.plan_tables.proofs.PlanLemmas.{held_only, is_held_cell}
 use Rattle.plan_tables.proofs.HeldLemmas.{control_cells}
 
--- runs that get longer by one pass
+-- if pass `k` has a control with its cell at a position, `AreRuns` still holds after `run_at` notes that position
 run_goes_on : (passes : List (List HeldCell)) (runs : List ℕ) (k : ℕ) (h : HeldCell) → Has (get_or passes k []) h → AreRuns passes runs → AreRuns passes (run_at k runs h.position)
 run_goes_on passes runs k h has are position x less = by_test (get_or runs h.position 0 == k) refl less
   where

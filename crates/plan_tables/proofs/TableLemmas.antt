@@ -1,4 +1,4 @@
--- The tables that the code makes are those of the definitions.
+-- Lemmas which say that the tables that the code makes are the tables of the definitions.
 use Rattle.std.proofs.Common.{◌≡◌, ℕ, zero, suc, ◌+◌, ◌==◌, Bool, true, false, not, cond, ◌&&◌, ◌||◌, List, [], ◌∷◌, ◌++◌, map, Option, Some, None, refl, sym, ap, ◌∙◌, subst, arith, ◌⊎◌, inl, inr}
 use Rattle.std.specs.Prelude.{slice_get, option_and_then, option_map, filter}
 use Rattle.std.specs.List.{list_any}
@@ -47,7 +47,7 @@ gathered_has {X} {Y} f k (z ∷ xs) (suc n) x y e h =
     let next : k + suc n ≡ suc k + n = omega arith in
     has_right (f k z) (gathered f (suc k) xs) y (gathered_has f (suc k) xs n x y e (subst (λ (m : ℕ). Has (f m x) y) next h))
 
--- the compared cells of a net
+-- each item of `readers_of` is a compared cell of the net
 pub reader_is : (board : RawBoard) (net : Net) (r : ReaderCell) → Has (readers_of board net.pins) r → IsReaderCell board net r
 reader_is board net r h = let g = has_gathered (λ place pin. readers_at board place pin.at) 0 net.pins r h in by_pin (g.0) (g.1) g.2 g.3
   where
@@ -101,7 +101,7 @@ is_reader board net r s =
         ap (λ (m : ℕ). let x : ReaderCell = record { place = m; position = first_position board s.at.part + s.entry.num } in x) z
         ∙ ap (λ (m : ℕ). let x : ReaderCell = record { place = r.place; position = m } in x) (sym s.position_is)
 
--- a driver of these pins, with its place
+-- `d` is the driver on one of these pins, and has the place of that pin, counted from `k`
 pub record DriverAt (board : RawBoard) (k : ℕ) (pins : List NetPin) (d : NetDriver) : Type 0 where
   pub index : ℕ
   pub pin : NetPin
@@ -179,7 +179,7 @@ first_on board s k (pin ∷ pins) = by_at pin.at refl (enabled_in s (pin_drivers
         subst (λ (x : Option NetDriver). FirstOn board s k (pin ∷ pins) x) (sym w) (later o (ap (λ (x : Option PinAt). enables_where board s x) a) r)
     by_at (Some at) a o w r = by_entry at a (entry_at board at) refl o w r
 
--- another pin has a compared cell
+-- if a test gives `t` for every item of a list that is not empty, `list_any` gives `t`
 any_const : {X : Type 0} (t : Bool) (f : X → Bool) (xs : List X) (x : X) → Has xs x → ((y : X) → f y ≡ t) → list_any f xs ≡ t
 any_const t f [] x h same = absurd h
 any_const {X} t f (y ∷ xs) x h same = ap (λ (b : Bool). b || list_any f xs) (same y) ∙ by_test t (rest xs)
@@ -227,7 +227,7 @@ beside_is board driver k (pin ∷ pins) =
     ∙ ap (λ (b : Bool). b || list_any (λ r. not (r.place == driver)) (gathered (λ place pin. readers_at board place pin.at) (suc k) pins)) (reads_pin board driver k pin.at)
     ∙ ap (λ (b : Bool). (not (k == driver) && receives board pin) || b) (beside_is board driver (suc k) pins)
 
--- the driver by which a setting observes a net
+-- the option has the driver by which the setting observes the net, or is None if the setting does not observe the net
 abbrev pub Observed : RawBoard → Enabling → Net → Option NetDriver → Type 0
 Observed board s net None = observing_driver board s net ≡ None
 Observed board s net (Some d) = (observing_driver board s net ≡ Some d.place) × DriverAt board 0 net.pins d

@@ -1,4 +1,4 @@
--- Bits that are set one after another.
+-- Rows in which items set bits in turn.
 use Rattle.std.specs.Prelude.{ℕ, ◌==◌, Bool, cond, List, [], fold, slice_index_or, slice_set}
 use Rattle.tap_defs.specs.board.TestRows.{code_bit}
 use Rattle.plan_tables.specs.declared.tables.DriverCell.{DriverCell}

@@ -13,7 +13,7 @@ use Rattle.plan_tables.specs.declared.tables.PlanTables.{PlanTables}
 use Rattle.plan_tables.specs.Tables.{ArePlanTables}
 use Rattle.plan_tables.specs.Building.{all_drivers, all_readers}
 
--- there is a device, and the cell controls a driver of it
+-- the device exists, and the control's cell controls one of its drivers
 abbrev pub controls_in : RawBoard → Ctl → Option RawDevice → Bool
 controls_in board c None = false
 controls_in board c (Some device) = list_any (controls_driver board c.part c.cell) device.cells

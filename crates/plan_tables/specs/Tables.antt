@@ -84,8 +84,8 @@ cells_on table held = table.always ++ flat_map (λ h. slice_index_or table.rows 
 abbrev pub pass_cells_of : RawBoard → List Bool → DriverTable → List Ctl → PassCells
 pass_cells_of board quiet table pass = let held : List HeldCell = map (held_cell board quiet) pass in record { held = held; drivers = cells_on table held }
 
--- `cells` has the cells of a pass, in any order. `held` has those of its controls. `drivers` and the steady cells together have
--- those of its drivers. No steady cell is the cell of a control.
+-- `cells` has the cells of a pass, in any order. `held` has the cells of the controls. `drivers` and the steady cells together have the
+-- cells of the drivers. No steady cell is the cell of a control.
 pub record ArePassCells (board : RawBoard) (steady : List DriverCell) (pass : List Ctl) (cells : PassCells) : Type 0 where
   pub held : (h : HeldCell) → Contains cells.held h ↔ IsHeldCell board pass h
   pub drivers : (d : DriverCell) → Contains (steady ++ cells.drivers) d ↔ IsDriverCell board pass d
@@ -95,7 +95,7 @@ pub record ArePassCells (board : RawBoard) (steady : List DriverCell) (pass : Li
 abbrev pub AreReaders : RawBoard → Net → List ReaderCell → Type 0
 AreReaders board net readers = (r : ReaderCell) → Contains readers r ↔ IsReaderCell board net r
 
--- these are the tables of a plan for the board
+-- `plan` has the tables of a plan for the board
 pub record ArePlanTables (board : RawBoard) (plan : PlanTables) : Type 0 where
   pub preload : AreRowsOf ((instructs (map (λ part. preload_code part.kind) board.chain)).bits) plan.preload
   pub extest : AreRowsOf ((instructs (map (λ part. extest_code part.kind) board.chain)).bits) plan.extest

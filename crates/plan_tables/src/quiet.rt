@@ -62,8 +62,8 @@ fn is_driver(raw: &RawBoard, part: u32, entry: Cell) -> bool
     entry.role.is_driving() && is_pinned(raw, part, entry.bit)
 }
 
-// Returns the control cell of a driver's entry, with its disable value. Returns None if the entry is no driver's or has
-// no control.
+// Returns the control cell and the disable value of a driver's entry. Returns None if the entry does not belong to a driver or has no
+// control.
 fn disable_value(raw: &RawBoard, part: u32, entry: Cell) -> Option<CellBit>
     ensures { result ≡ disable_value_in raw.now part entry }
 {

@@ -12,8 +12,8 @@ pub struct HeldCell {
     pub bit: bool,
 }
 
-/// The cell of the driver by which a pass observes a net: the number of the net, the place of the driver's pin in it,
-/// and the position of the cell in data scans.
+/// The cell of the driver by which a pass observes a net: the number of the net, the place of the driver's pin in the
+/// net, and the position of the cell in data scans.
 #[derive(Clone, Copy)]
 pub struct DriverCell {
     pub net: u32,

@@ -14,8 +14,8 @@ use bt_bits::Row;
 use lists::{is_set, mark};
 use std::alloc::{AllocError, Global};
 
-/// For each position, `held` says whether some pass has a control with its cell there. `runs` has the number of first
-/// passes that all have such a control.
+/// For each position in data scans, `held` says whether some pass has a control whose cell is there. `runs` has the number of passes, from
+/// the first on, that all have such a control.
 #[derive(Drop)]
 pub struct Uses {
     pub held: Items<bool>,
@@ -30,8 +30,7 @@ fn mark_held(flags: &mut [bool], held: &[HeldCell])
     }
 }
 
-// Notes that pass `k` has a control with its cell at the position. If all earlier passes have one, the run gets longer
-// by one.
+// Notes that pass `k` has a control whose cell is at the position. If all earlier passes have such a control, the run grows by one.
 fn run(runs: &mut [u32], k: u32, position: usize)
     requires { k + 1 < 2 ^ 32 }
     ensures { runs.new ≡ run_at k runs.old position }
@@ -76,7 +75,7 @@ fn note_passes(
     Ok(())
 }
 
-/// Returns the positions of the cells of these passes' controls, with the runs of passes that have them.
+/// Returns the positions of the cells of the passes' controls, and the run of each position.
 pub fn uses_of(
     alloc: Global,
     placed: &PlacedBoard,
@@ -127,8 +126,8 @@ fn is_steady(uses: &Uses, passes: u32, observer: Observer) -> bool
     is_common(uses, passes, observer.control)
 }
 
-/// Returns the cells of the observers that are steady: those that each of the first `passes` passes enables and whose
-/// cell is no control's.
+/// Returns the cells of the steady observers. An observer is steady if each of the first `passes` passes enables it and its cell is not the
+/// cell of a control.
 pub fn steady_cells(
     alloc: Global,
     uses: &Uses,

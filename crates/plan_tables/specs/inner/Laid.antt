@@ -27,7 +27,7 @@ parts_laid g part (p ∷ parts) = part_laid g part p.kind ∷ parts_laid g (suc 
 abbrev pub laid : CellBits → RawBoard → List Bool
 laid g board = joined (parts_laid g 0 board.chain)
 
--- the bits of cells that carry no net's bit, for this setting
+-- the bit of a cell in this setting, if the cell carries no net's bit
 abbrev pub steady : RawBoard → (Ctl → Bool) → ℕ → RawDevice → ℕ → Bool
 steady board setting part device cell = steady_bit board setting part device cell
 

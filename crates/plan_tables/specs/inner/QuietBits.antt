@@ -1,4 +1,4 @@
--- The bits of cells, found from the single entries of a device.
+-- The bits of cells, which are computed from the single entries of a device.
 use Rattle.std.specs.Prelude.{ℕ, Bool, false, ◌&&◌, cond, List, fold, Option, Some, None, option_map, unwrap_or, replicate, slice_set}
 use Rattle.board_defs.specs.declared.device.Role.{Role}
 use Rattle.board_defs.specs.declared.device.Cell.{Cell}
@@ -29,7 +29,7 @@ set_some bits (Some c) = slice_set bits c.cell c.bit
 abbrev pub set_by : (Cell → Option CellBit) → List Bool → List Cell → List Bool
 set_by gives bits entries = fold (λ done entry. set_some done (gives entry)) bits entries
 
--- The safe values of reading entries, overwritten by those of entries for update latches, and then by the disable values of
+-- The safe values of reading entries, overwritten by the safe values of entries for update latches, and then by the disable values of
 -- controls.
 abbrev pub quiet_values : RawBoard → ℕ → RawDevice → List Bool
 quiet_values board part device =

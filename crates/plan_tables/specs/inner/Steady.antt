@@ -14,8 +14,8 @@ use Rattle.plan_tables.specs.Tables.{PassCells, held_cell, ArePassCells}
 abbrev pub marked_held : List Bool → List HeldCell → List Bool
 marked_held flags held = assigned (λ h. h.position) (λ h. true) flags held
 
--- The runs after pass `k`, which has a control with its cell at the position. The run of this position gets longer by one if
--- every earlier pass has such a control.
+-- The runs after pass `k`, which has a control whose cell is at the position. The run of this position grows by one if every earlier pass
+-- has such a control.
 abbrev pub run_at : ℕ → List ℕ → ℕ → List ℕ
 run_at k runs position = cond (slice_index_or runs position 0 == k) (slice_set runs position (suc k)) runs
 
@@ -59,7 +59,7 @@ steady_cells uses passes observers = map (λ x. x.cell) (filter (is_steady uses 
 abbrev pub moving : Uses → ℕ → List Observer → List Observer
 moving uses passes observers = filter (λ x. not (is_steady uses passes x)) observers
 
--- `cells` gives the cells of each pass. The steady cells belong to nets and rows of the board. Without passes no cell is steady.
+-- `cells` gives the cells of each pass. The steady cells belong to nets and rows of the board. If there are no passes, no cell is steady.
 pub record ArePassTables (board : RawBoard) (passes : List (List Ctl)) (steady : List DriverCell) (cells : List Ctl → PassCells) : Type 0 where
   pub each : (x : ℕ) (pass : List Ctl) → slice_get passes x ≡ Some pass → ArePassCells board steady pass (cells pass)
   pub some : (d : DriverCell) → Contains steady d → 0 < length passes
