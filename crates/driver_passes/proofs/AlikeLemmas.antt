@@ -1,4 +1,4 @@
--- The table of the nets with the same tested drivers.
+-- Lemmas about the table of nets with the same tested drivers.
 use Rattle.std.proofs.Common.{◌≡◌, refl, Bool, true, List, ◌∙◌, ap, sym}
 use Rattle.std.specs.Bool.{Decides}
 use Rattle.std.specs.Cmp.Lexicographic.{pointwise}
@@ -9,7 +9,7 @@ use Rattle.board_defs.specs.contracts.board.DrivePartialEq.TheImpl as drives
 use Rattle.board_defs.specs.Settings.{same_ctl}
 use Rattle.board_defs.proofs.ControlOrder.{same_equal, same_refl}
 
--- equal lists of drivers
+-- the comparison of two drivers decides whether they are equal
 
 drives_decided : (d e : Drive) → Decides (drives.eq-value.it d e) (d ≡ e)
 drives_decided AlwaysOn AlwaysOn = (λ h. refl, λ e. refl)

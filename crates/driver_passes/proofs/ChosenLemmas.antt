@@ -1,4 +1,4 @@
--- The controls whose places pass.
+-- Lemmas about the controls that `chosen` selects, which are those whose places pass a test.
 use Rattle.std.proofs.Common.{◌≡◌, ◌⊎◌, inl, inr, ℕ, zero, suc, ◌+◌, ◌-◌, ◌≤◌, ◌<◌, Bool, true, false, ◌||◌, List, [], ◌∷◌, length, get_or, drop, drop-cons, drop-drop, Some, refl, sym, ◌∙◌, ap, arith, cond}
 use Rattle.std.specs.Prelude.{◌==◌, slice_get, IsTrue}
 use Rattle.std.proofs.lemmas.Bool.{or_left, or_right, or_cases, eq-eqb, ne_eqb}
@@ -31,7 +31,7 @@ chosen_order p place (c ∷ controls) order = by_test (p place) (chosen_order p 
     by_test true rest = order_with c (chosen p (suc place) controls) (chosen_after c p (suc place) controls (come_after c controls order)) rest
     by_test false rest = rest
 
--- tests that agree from the first place on choose the same
+-- two tests that agree on every place from the first on choose the same controls
 chosen_same : (p q : ℕ → Bool) (place : ℕ) (controls : List Ctl) → ((n : ℕ) → place ≤ n → q n ≡ p n) → chosen q place controls ≡ chosen p place controls
 chosen_same p q place [] same = refl
 chosen_same p q place (c ∷ controls) same =
@@ -96,7 +96,7 @@ chosen_holds p first (suc i) place (d ∷ controls) c order at e = by_test (p fi
     by_test true = ap (λ t. t || holds (chosen p (suc first) controls) c) (after_is d c before).2
     by_test false = refl
 
--- what is chosen is among the controls
+-- if the chosen controls hold a control, the list from which they are chosen holds it, too
 pub chosen_among : (p : ℕ → Bool) (place : ℕ) (controls : List Ctl) (c : Ctl) → holds (chosen p place controls) c ≡ true → holds controls c ≡ true
 chosen_among p place [] c h = h
 chosen_among p place (d ∷ controls) c h = by_test (p place) (chosen_among p (suc place) controls c) h
@@ -112,7 +112,7 @@ chosen_among p place (d ∷ controls) c h = by_test (p place) (chosen_among p (s
     by_test true more k = by_part more (or_cases (same_ctl c d) (holds rest c) k)
     by_test false more k = or_right (same_ctl c d) (holds controls c) (more k)
 
--- a front whose places do not pass may be left out
+-- If no place from `place` up to `next` passes, the controls at these places can be left out.
 
 skip_some : (p : ℕ → Bool) (place next k : ℕ) (controls : List Ctl) → next ≡ place + k → ((n : ℕ) → place ≤ n → n < next → p n ≡ false) → chosen p place controls ≡ chosen p next (drop k controls)
 skip_some p place next zero controls e none = ap (λ m. chosen p m controls) (omega (arith, e))

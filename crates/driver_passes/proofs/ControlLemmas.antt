@@ -1,4 +1,4 @@
--- Lists of controls in control order, and the controls of a setting.
+-- Lemmas about lists of controls in control order, and about the controls of a setting.
 use Rattle.std.proofs.Common.{◌≡◌, ◌≢◌, ◌⊎◌, inl, inr, ℕ, zero, suc, ◌<◌, Bool, true, false, ◌&&◌, ◌||◌, List, [], ◌∷◌, get_or, Some, refl, sym, ◌∙◌, ap, subst, arith, cond}
 use Rattle.std.specs.Prelude.{slice_get, All, IsTrue}
 use Rattle.std.specs.List.{list_all}
@@ -18,7 +18,7 @@ itself_is c = grind (arith, nat_tests)
 pub order_rest : (c : Ctl) (controls : List Ctl) → IsInControlOrder (c ∷ controls) → IsInControlOrder controls
 order_rest c controls order i j d less within = order (suc i) (suc j) d (omega arith) (omega arith)
 
--- all of the controls come after c
+-- `c` precedes all of the controls
 abbrev pub ComeAfter : Ctl → List Ctl → Type 0
 ComeAfter c controls = All (λ d. IsTrue (precedes c d)) controls
 
@@ -37,7 +37,7 @@ insert_before c (d ∷ setting) after =
     let r : (precedes d c ≡ false) × (same_ctl c d ≡ false) × (same_ctl d c ≡ false) = after_is c d (after 0 d (omega arith)) in
     ap (λ t. cond t (d ∷ inserted c setting) (cond (same_ctl c d) (d ∷ setting) (c ∷ d ∷ setting))) r.0 ∙ ap (λ t. cond t (d ∷ setting) (c ∷ d ∷ setting)) r.1
 
--- a control that is already at the front changes nothing
+-- inserting a control that is already at the front leaves the setting unchanged
 pub insert_front : (c : Ctl) (setting : List Ctl) → inserted c (c ∷ setting) ≡ c ∷ setting
 insert_front c setting =
     ap (λ t. cond t (c ∷ inserted c setting) (cond (same_ctl c c) (c ∷ setting) (c ∷ c ∷ setting))) (itself_is c) ∙ ap (λ t. cond t (c ∷ setting) (c ∷ c ∷ setting)) (same_refl c)
@@ -46,14 +46,14 @@ insert_front c setting =
 pub insert_behind : (c d : Ctl) (setting : List Ctl) → precedes d c ≡ true → inserted c (d ∷ setting) ≡ d ∷ inserted c setting
 insert_behind c d setting h = ap (λ t. cond t (d ∷ inserted c setting) (cond (same_ctl c d) (d ∷ setting) (c ∷ d ∷ setting))) h
 
--- none of the controls after c is c
+-- if all controls come after `c`, the list does not hold `c`
 pub none_holds : (c : Ctl) (setting : List Ctl) → ComeAfter c setting → holds setting c ≡ false
 none_holds c [] after = refl
 none_holds c (d ∷ setting) after =
     let r : (precedes d c ≡ false) × (same_ctl c d ≡ false) × (same_ctl d c ≡ false) = after_is c d (after 0 d (omega arith)) in
     ap (λ t. t || holds setting c) r.1 ∙ none_holds c setting (λ k e less. after (suc k) e (omega arith))
 
--- all controls of a setting with one more control pass a test if and only if that control and the setting's controls do
+-- a test passes all controls of a setting with `c` inserted if and only if it passes `c` and all controls of the setting
 pub all_inserted : (p : Ctl → Bool) (c : Ctl) (setting : List Ctl) → list_all p (inserted c setting) ≡ (p c && list_all p setting)
 all_inserted p c [] = refl
 all_inserted p c (d ∷ setting) = by_order (all_inserted p c setting) (precedes d c) (same_ctl c d) refl
@@ -83,7 +83,7 @@ holds_of P (d ∷ controls) c all h = by_part (holds_of P controls c (λ k e les
     by_part rest (inl same) = subst P (sym (same_equal c d same)) (all 0 d (omega arith))
     by_part rest (inr later) = rest later
 
--- places of controls in control order
+-- controls at different places of a list in control order are different
 
 pub other_place : (controls : List Ctl) (p q : ℕ) (c e : Ctl) → IsInControlOrder controls → slice_get controls p ≡ Some c → slice_get controls q ≡ Some e → p ≢ q → same_ctl e c ≡ false
 other_place controls p q c e order at at' differ = by_order (cases_order p q)

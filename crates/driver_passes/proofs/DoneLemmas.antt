@@ -1,4 +1,4 @@
--- Pairs of nets for which no pass is needed.
+-- Lemmas about pairs of nets for which no pass is needed.
 use Rattle.std.proofs.Common.{◌≡◌, ℕ, zero, suc, ◌+◌, ◌-◌, ◌<◌, ◌≤◌, Bool, true, false, ◌&&◌, ◌||◌, Contains, List, [], ◌∷◌, length, map, fold, Option, Some, None, subst, refl, sym, ◌∙◌, ap, arith, cond, ◌⊎◌, inl, inr}
 use Rattle.std.specs.Prelude.{is_some, slice_get}
 use Rattle.std.specs.List.{list_all, list_any}
@@ -20,7 +20,7 @@ use Rattle.driver_passes.specs.inner.Progress.{EnableTested}
 use Rattle.driver_passes.proofs.ProgressLemmas.{drivers_are}
 use Rattle.driver_passes.proofs.PairLemmas.{one_done}
 
--- if two nets need no pass, no pass is added
+-- if two nets need no pass, adding a pass for them leaves the passes unchanged
 pub done_same : (board : RawBoard) (useful : List Ctl) (passes : List (List Ctl)) (a b : ℕ) → IsDone board passes a b → add_for_nets board useful passes (drivers_at board a, drivers_at board b) ≡ passes
 done_same board useful passes a b (inl e) = ap (λ t. cond t passes (with_pair board useful passes (first_pair board (drivers_at board a) (drivers_at board b)))) e
 done_same board useful passes a b (inr e) = ap (λ w. cond (are_shown passes (drivers_at board a) (drivers_at board b)) passes (with_pair board useful passes w)) e ∙ either (are_shown passes (drivers_at board a) (drivers_at board b))
@@ -29,7 +29,7 @@ done_same board useful passes a b (inr e) = ap (λ w. cond (are_shown passes (dr
     either true = refl
     either false = refl
 
--- two nets that need no pass need none once passes are added for other nets
+-- if two nets need no pass, they still need none after a pass is added for other nets
 pub done_kept : (board : RawBoard) (useful : List Ctl) (passes after : List (List Ctl)) (nets : List Drive × List Drive) → after ≡ add_for_nets board useful passes nets → StaysDone board passes after
 done_kept board useful passes after nets e m n (inr none) = inr none
 done_kept board useful passes after nets e m n (inl shown) = inl (ap (list_any p) e ∙ by_test (are_shown passes nets.0 nets.1) (first_pair board nets.0 nets.1))
@@ -42,7 +42,7 @@ done_kept board useful passes after nets e m n (inl shown) = inl (ap (list_any p
     by_test false None = shown
     by_test false (Some pair) = list_any_before p passes (pair_pass board useful pair) shown
 
--- once a pass is added for two nets, the two nets need no other pass
+-- after a pass is added for two nets, the two nets need no other pass
 pub done_now : (board : RawBoard) (useful : List Ctl) (passes after : List (List Ctl)) (a b : ℕ) → a < length board.nets → b < length board.nets → after ≡ add_for_nets board useful passes (drivers_at board a, drivers_at board b) → IsDone board after a b
 done_now board useful passes after a b first second e = let P : List (List Ctl) → Type 0 = λ v. IsDone board v a b in subst P (sym e) (by_test (are_shown passes (drivers_at board a) (drivers_at board b)) refl (first_pair board (drivers_at board a) (drivers_at board b)) refl)
   where
@@ -62,7 +62,7 @@ done_now board useful passes after a b first second e = let P : List (List Ctl) 
     by_test false shown None h = inr h
     by_test false shown (Some pair) h = inl (list_any_last p passes (pair_pass board useful pair) (made pair h))
 
--- one more net
+-- if neither net `a` nor any net below `a` needs a pass with a later net, no net below `a + 1` does
 pub done_next : (board : RawBoard) (passes : List (List Ctl)) (a : ℕ) → AreDone board passes a → IsDoneTo board passes a (length board.nets) → AreDone board passes (a + 1)
 done_next board passes a are done m less = by_net (cases_eq m a)
   where
@@ -78,7 +78,8 @@ with_last board before after a b c stays earlier last n least below = by_net (ca
     by_net (inl same) = let P : ℕ → Type 0 = λ k. IsDone board after a k in subst P (sym same) last
     by_net (inr other) = stays a n (earlier n least (omega (arith, other, below)))
 
--- if no net in `b..b + k` needs a pass with net `a`, the passes stay the same
+-- if no net in `b..b + k` needs a pass with net `a`, adding passes for the nets from `b + k` on gives the same result as for the nets from
+-- `b` on
 skipped : (board : RawBoard) (useful : List Ctl) (passes : List (List Ctl)) (a b k : ℕ) → b + k ≤ length board.nets → ((n : ℕ) → b ≤ n → n < b + k → IsDone board passes a n) → fold (add_for_nets board useful) passes (pairs_from board a (b + k)) ≡ fold (add_for_nets board useful) passes (pairs_from board a b)
 skipped board useful passes a b zero most done = let same : b + 0 ≡ b = omega arith in ap (λ n. fold (add_for_nets board useful) passes (pairs_from board a n)) same
 skipped board useful passes a b (suc k) most done =
@@ -104,20 +105,20 @@ none_wanted board passes left a from b law are later most none n least below = b
     by_part (inl shown) = inl (not-false (are_shown passes (drivers_at board a) (drivers_at board n)) (sym (are n (omega (arith, least, later)) (omega (arith, below, most))) ∙ shown))
     by_part (inr apart) = inr (by_found (first_pair board (drivers_at board a) (drivers_at board n)) (sym (law board a n) ∙ apart))
 
--- no pass shows a wanted net together with net `a`
+-- if `left` still has net `n`, no pass shows net `n` together with net `a`
 pub unshown : (board : RawBoard) (passes : List (List Ctl)) (left : List ℕ) (a n : ℕ) → AreLeft board passes a left → a ≤ n → n < length board.nets → is_wanted board left a n ≡ true → are_shown passes (drivers_at board a) (drivers_at board n) ≡ false
 unshown board passes left a n are from within e = not-true (are_shown passes (drivers_at board a) (drivers_at board n)) (sym (are n from within) ∙ (and_parts (is_in left n) (pairs_with board a n) e).0)
 
--- past the last net no pass is added
+-- if `b` is past the last net, no pass is added for net `a` and the nets from `b` on
 pub none_left : (board : RawBoard) (useful : List Ctl) (passes : List (List Ctl)) (a b : ℕ) → length board.nets ≤ b → fold (add_for_nets board useful) passes (pairs_from board a b) ≡ passes
 none_left board useful passes a b most = ap (λ v. fold (add_for_nets board useful) passes (map (λ others. (drivers_at board a, others)) v)) (drop_all b (drivers_by_net board) (omega (arith, most, length-map board.nets (tested_drivers board))))
 
--- if no later net needs a pass with net `a`, no pass is added for net `a`
+-- if net `a` needs no pass with any later net, no pass is added for net `a`
 pub none_later : (board : RawBoard) (useful : List Ctl) (passes : List (List Ctl)) (a : ℕ) → a < length board.nets → IsDoneTo board passes a (length board.nets) → passes ≡ fold (add_for_nets board useful) passes (pairs_from board a (a + 1))
 none_later board useful passes a less done =
     sym (none_left board useful passes a (length board.nets) (omega arith)) ∙ skipped_to board useful passes a (a + 1) (length board.nets) (omega (arith, less)) (omega arith) (λ n least below. done n (omega (arith, least)) below)
 
--- a net without tested drivers needs no pass
+-- a net without tested drivers needs no pass with any other net
 pub none_tested : (board : RawBoard) (passes : List (List Ctl)) (a b : ℕ) → drivers_at board a ≡ [] → IsDone board passes a b
 none_tested board passes a b e = inr (ap (λ v. first_pair board v (drivers_at board b)) e)
 
@@ -134,7 +135,7 @@ all_pass {X} p q (x ∷ xs) all h = by_part (and_parts (p x) (list_all p xs) all
     by_part here rest (inl e) = or_left (p x && q x) (list_any (λ (y : X). p y && q y) xs) (and_from (p x) (q x) here e)
     by_part here rest (inr e) = or_right (p x && q x) (list_any (λ (y : X). p y && q y) xs) (rest e)
 
--- a net that every pass shows needs no other pass
+-- a net that every pass shows needs no other pass, since the passes enable every tested driver
 pub all_show : (board : RawBoard) (passes : List (List Ctl)) (a b : ℕ) → EnableTested board passes → list_all (shows (drivers_at board a)) passes ≡ true → b < length board.nets → IsDone board passes a b
 all_show board passes a b are all less = by_drivers (drivers_at board b) (λ d h. are b d less h)
   where

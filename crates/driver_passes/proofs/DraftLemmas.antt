@@ -1,4 +1,4 @@
--- The two sets of a draft.
+-- Lemmas about the two sets of a draft: the controls in the pass, and the controls that can be added.
 use Rattle.std.proofs.Common.{◌≡◌, ◌⊎◌, inl, inr, ℕ, ◌+◌, ◌/◌, ◌<◌, Bool, true, false, not, ◌&&◌, ◌||◌, List, [], length, get_or, Some, sym, ◌∙◌, ap, arith}
 use Rattle.std.specs.Prelude.{◌==◌, slice_get}
 use Rattle.std.specs.List.{list_any}
@@ -32,7 +32,7 @@ blank_draft board held free room none all = record {
   free_are = λ place c stands. all place (slice_get_within (useful_controls board) place c stands) ∙ sym (ap (λ t. not t && fits board (setting_of board held) c) (none place) ∙ ap (λ s. fits board s c) (blank_empty board held none));
 }
 
--- the place is added to the set
+-- `after` is the set `before` with the place added
 abbrev pub IsAdded : ℕ → List ℕ → List ℕ → Type 0
 IsAdded place before after = (n : ℕ) → is_in after n ≡ ((n == place && true) || is_in before n)
 
@@ -40,7 +40,7 @@ pub added_setting : (board : RawBoard) (before after : List ℕ) (place : ℕ) (
 added_setting board before after place c order stands added =
     chosen_set (is_in before) (is_in after) 0 place place (useful_controls board) c order (omega arith) (λ n. added n ∙ ap (λ t. t || is_in before n) (and-true (n == place))) stands
 
--- the set loses the places of the controls that are listed for the nets that the control shares
+-- if the set loses the places that are listed for the nets that `c` shares, it loses exactly the controls that are not together with `c`
 pub loses_listed : (board : RawBoard) (sharers : List (List Block)) (nets : List ℕ) (c : Ctl) (before after : List ℕ) → PassesAre board → DecidesTerms board → NetsAreShared → AreSharers board sharers → nets ≡ shared_nets board c → holds (useful_controls board) c ≡ true →
     ((q : ℕ) → is_in after q ≡ (is_in before q && not (is_listed sharers nets q))) → LosesApart board c before after
 loses_listed board sharers nets c before after are decides shared listed is useful closed q e at other =

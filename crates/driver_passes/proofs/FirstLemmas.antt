@@ -1,4 +1,4 @@
--- The first tested driver, and the first pass.
+-- Lemmas about the first tested driver of a board, and about the first pass.
 use Rattle.std.proofs.Common.{◌≡◌, ℕ, suc, ◌+◌, ◌<◌, Bool, true, false, List, [], ◌∷◌, ◌++◌, length, map, take, fold, Option, Some, None, refl, sym, ◌∙◌, ap, arith, cond}
 use Rattle.std.specs.Prelude.{slice_get, unwrap_or}
 use Rattle.std.specs.List.{flat_map, list_any}
@@ -18,7 +18,7 @@ from_more board n less =
     let next : suc n ≡ n + 1 = omega arith in
     ap (flat_map (λ (drivers : List Drive). drivers)) (drop_drivers board n less) ∙ ap (λ k. drivers_at board n ++ drivers_from board k) next
 
--- if the first nets have no tested driver, the first tested driver of net `n` is the first of all
+-- if no net before net `n` has a tested driver, the first tested driver of net `n` is the first of the board
 pub first_found : (board : RawBoard) (n : ℕ) (drivers : List Drive) (d : Drive) → n < length board.nets → drivers ≡ drivers_at board n → drivers_from board n ≡ drivers_from board 0 → slice_get drivers 0 ≡ Some d → Some d ≡ slice_get (drivers_from board 0) 0
 first_found board n drivers d less e same at =
     sym (by_list (drivers_at board n) (sym (ap (λ (v : List Drive). slice_get v 0) e) ∙ at)) ∙ ap (λ (v : List Drive). slice_get v 0) (sym (from_more board n less) ∙ same)
@@ -27,7 +27,7 @@ first_found board n drivers d less e same at =
     by_list [] h = cc h
     by_list (x ∷ own) h = h
 
--- a net without tested drivers changes nothing
+-- if net `n` has no tested drivers, the tested drivers from net `n` on are those from net `n + 1` on
 pub first_later : (board : RawBoard) (n : ℕ) (drivers : List Drive) → n < length board.nets → drivers ≡ drivers_at board n → drivers_from board n ≡ drivers_from board 0 → slice_get drivers 0 ≡ None → drivers_from board (n + 1) ≡ drivers_from board 0
 first_later board n drivers less e same at = ap (λ (v : List Drive). v ++ drivers_from board (n + 1)) (sym (empty drivers (sym at)) ∙ e) ∙ sym (from_more board n less) ∙ same
   where
@@ -35,7 +35,7 @@ first_later board n drivers less e same at = ap (λ (v : List Drive). v ++ drive
     empty [] h = refl
     empty (x ∷ own) h = absurd (omega (arith, slice_get_within [] 0 x h))
 
--- passes that are appended leave the first pass unchanged
+-- appending passes leaves the first pass unchanged
 behind : (first : List Ctl) (passes more : List (List Ctl)) → take 1 passes ≡ first ∷ [] → take 1 (passes ++ more) ≡ first ∷ []
 behind first [] more e = absurd (omega (arith, ap length e))
 behind first (pass ∷ passes) more e = e
@@ -74,7 +74,7 @@ first_is board d at = sym (first_stays (add_for_nets board useful) pass (by_nets
     of_drivers [] e = absurd (omega (arith, slice_get_within [] 0 d (sym e)))
     of_drivers (head ∷ drivers) e = first_stays (add_for_driver board useful) pass (by_driver board useful pass) drivers (driver_pass board useful [] head ∷ []) (ap (λ o. driver_pass board useful [] (unwrap_or o head) ∷ []) (sym e))
 
--- without tested drivers no net is paired
+-- if no net has a tested driver, no pass is added for any two nets
 alone : (board : RawBoard) (useful : List Ctl) (others : List (List Drive)) → fold (add_for_nets board useful) [] (map (λ drivers. ([], drivers)) others) ≡ []
 alone board useful [] = refl
 alone board useful (drivers ∷ others) = alone board useful others

@@ -1,4 +1,4 @@
--- The controls that can be added to a draft.
+-- Lemmas about the controls that can be added to a draft.
 use Rattle.std.proofs.Common.{◌≡◌, ◌⊎◌, inl, inr, ℕ, zero, suc, ◌<◌, ◌==◌, Bool, true, false, not, ◌&&◌, ◌||◌, List, [], ◌∷◌, length, get_or, Some, refl, sym, ◌∙◌, ap, arith, cond}
 use Rattle.std.specs.Prelude.{slice_get, Contains}
 use Rattle.std.specs.List.{list_any}
@@ -18,7 +18,7 @@ use Rattle.driver_passes.specs.inner.Drafts.{has_number, setting_of, IsDraft}
 use Rattle.driver_passes.specs.inner.NumberSets.{is_in}
 use Rattle.driver_passes.proofs.ChosenLemmas.{chosen_set}
 
--- a number that two lists have in common
+-- if `has_number` finds a number in a list, the list contains this number
 has_contains : (xs : List ℕ) (n : ℕ) → has_number xs n ≡ true → Contains xs n
 has_contains [] n h = cc h
 has_contains (x ∷ xs) n h = by_part (has_contains xs n) (or_cases (x == n) (has_number xs n) h)
@@ -82,7 +82,7 @@ holds_at (d ∷ controls) (suc i) c e = or_right (same_ctl c d) (holds controls 
 pub useful_safe : (board : RawBoard) (c : Ctl) → PassesAre board → DecidesTerms board → holds (useful_controls board) c ≡ true → is_safe_alone board c ≡ true
 useful_safe board c are decides h = let is : IsUseful board c = (are.said.useful c).0 h in (decides.safe c).1 is.0
 
--- to add a control that is in the draft changes nothing
+-- adding a control that is already in the draft leaves the setting unchanged
 pub held_nothing : (board : RawBoard) (held : List ℕ) (place : ℕ) (c : Ctl) (t : Bool) → PassesAre board → slice_get (useful_controls board) place ≡ Some c → is_in held place ≡ true → setting_of board held ≡ cond t (inserted c (setting_of board held)) (setting_of board held)
 held_nothing board held place c true are stands h = chosen_set (is_in held) (is_in held) 0 place place (useful_controls board) c are.said.useful_in_order (omega arith) (λ n. same n (cases_eq n place)) stands
   where
@@ -91,7 +91,7 @@ held_nothing board held place c true are stands h = chosen_set (is_in held) (is_
     same n (inr differ) = sym (ap (λ t. t || is_in held n) (ne_eqb n place differ))
 held_nothing board held place c false are stands h = refl
 
--- a control that cannot be added changes nothing, since the control is in the draft or does not fit
+-- a control that cannot be added leaves the setting unchanged, since it is in the draft already or does not fit
 pub closed_nothing : (board : RawBoard) (held free : List ℕ) (place : ℕ) (c : Ctl) (t : Bool) → PassesAre board → IsDraft board held free → slice_get (useful_controls board) place ≡ Some c → is_in free place ≡ false → (fits board (setting_of board held) c ≡ false → t ≡ false) →
     setting_of board held ≡ cond t (inserted c (setting_of board held)) (setting_of board held)
 closed_nothing board held free place c t are is stands closed only = by_test (is_in held place) refl

@@ -1,4 +1,4 @@
--- Sets of numbers, bit by bit.
+-- Lemmas about sets of numbers, which have a bit for each number.
 use Rattle.std.proofs.Common.{◌≡◌, ◌⊎◌, inl, inr, ℕ, zero, suc, ◌+◌, ◌-◌, ◌*◌, ◌/◌, ◌%◌, ◌^◌, ◌<◌, ◌≤◌, Bool, true, false, not, ◌&&◌, ◌||◌, List, length, get_or, set, replicate, refl, sym, ◌∙◌, ap, arith, cond, max, min, w64}
 use Rattle.std.specs.Prelude.{◌==◌}
 use Rattle.std.proofs.Math.Bool.{and-true, or-false}
@@ -11,7 +11,7 @@ use Rattle.std.proofs.lemmas.List.{get_or_past, get_or-set_same, get_or-set_othe
 use Rattle.net_classes.specs.Pairs.{AreBitsOf}
 use Rattle.driver_passes.specs.inner.NumberSets.{IsFirst, has_bit, is_in, is_of_word}
 
--- a bit is 1 if and only if a test is true
+-- if a bit is 1 exactly when `t` is true, `has_bit` returns `t`
 pub bit_is : (word i : ℕ) (t : Bool) → bit_at word i ≡ cond t 1 0 → has_bit word i ≡ t
 bit_is word i true e = ap (λ b. b == 1) e
 bit_is word i false e = ap (λ b. b == 1) e
@@ -27,7 +27,7 @@ is_bit word i = by_bit (bit_at word i) (bit_at-lt word i)
 pub no_bit : (i : ℕ) → has_bit 0 i ≡ false
 no_bit i = ap (λ b. b == 1) (bit_at-zero i)
 
--- an operation on two bits that agrees with a test of two truth values
+-- if an operation agrees with a test on the four pairs of bits, it agrees with the test on any two bits
 two_bits : (f : ℕ → ℕ → ℕ) (t : Bool → Bool → Bool) → (f 0 0 == 1) ≡ t false false → (f 0 1 == 1) ≡ t false true → (f 1 0 == 1) ≡ t true false → (f 1 1 == 1) ≡ t true true → (x y : ℕ) → x < 2 → y < 2 → (f x y == 1) ≡ t (x == 1) (y == 1)
 two_bits f t none second first both zero zero less few = none
 two_bits f t none second first both zero (suc zero) less few = second
@@ -42,12 +42,12 @@ bit_less a b i fits below =
     ap (λ x. x == 1) (bit_at_and a (bit_not w64 b) i ∙ ap (min (bit_at a i)) (bit_at_not w64 b i fits below)) ∙
     two_bits (λ x y. min x (1 - y)) (λ p q. p && not q) refl refl refl refl (bit_at a i) (bit_at b i) (bit_at-lt a i) (bit_at-lt b i)
 
--- a word past the end has no number
+-- a set has none of the numbers whose words are past the last word
 pub none_past : (words : List ℕ) (n : ℕ) → length words ≤ n / 64 → is_in words n ≡ false
 unfolding is_in
 none_past words n past = ap (λ w. has_bit w (n % 64)) (get_or_past words (n / 64) 0 past) ∙ no_bit (n % 64)
 
--- no bit is set
+-- every word of a list of zeros is 0, and so is every word past its end
 zeros : (count i : ℕ) → get_or (replicate {A = ℕ} count 0) i 0 ≡ 0
 zeros zero i = refl
 zeros (suc count) zero = refl
@@ -57,7 +57,7 @@ pub none_blank : (words : List ℕ) (count n : ℕ) → words ≡ replicate coun
 unfolding is_in
 none_blank words count n e = ap (λ w. has_bit w (n % 64)) (ap (λ v. get_or v (n / 64) 0) e ∙ zeros count (n / 64)) ∙ no_bit (n % 64)
 
--- each bit is set
+-- if all bits of a number's word are 1, the set has the number
 pub all_ones : (words : List ℕ) (n : ℕ) → get_or words (n / 64) 0 ≡ 2 ^ 64 - 1 → is_in words n ≡ true
 unfolding is_in
 all_ones words n e = ap (λ w. has_bit w (n % 64)) e ∙ ap (λ b. b == 1) (bit_at_ones 64 (n % 64) (omega arith))
@@ -75,11 +75,11 @@ word_bits words number word e i below =
 pub bit_more : (a b i : ℕ) → has_bit (bit_or a b) i ≡ (has_bit b i || has_bit a i)
 bit_more a b i = ap (λ x. x == 1) (bit_at_or a b i) ∙ two_bits max (λ p q. q || p) refl refl refl refl (bit_at a i) (bit_at b i) (bit_at-lt a i) (bit_at-lt b i)
 
--- the bits that two words have
+-- the intersection of two words has a bit if and only if both words have the bit
 pub bit_both : (a b i : ℕ) → has_bit (bit_and a b) i ≡ (has_bit a i && has_bit b i)
 bit_both a b i = ap (λ x. x == 1) (bit_at_and a b i) ∙ two_bits min (λ p q. p && q) refl refl refl refl (bit_at a i) (bit_at b i) (bit_at-lt a i) (bit_at-lt b i)
 
--- an operation on two lists of words, word by word and so number by number
+-- if an operation on two lists of words agrees with a test in each word, it agrees with the test for each number
 pub words_by : (t : Bool → Bool → Bool) (before after others : List ℕ) (n : ℕ) → (length before ≤ n / 64 → t false (is_in others n) ≡ false) → length after ≡ length before →
     (n / 64 < length before → has_bit (get_or after (n / 64) 0) (n % 64) ≡ t (has_bit (get_or before (n / 64) 0) (n % 64)) (has_bit (get_or others (n / 64) 0) (n % 64))) →
     is_in after n ≡ t (is_in before n) (is_in others n)
@@ -90,7 +90,7 @@ words_by t before after others n none same each = by_place (cases_lt (n / 64) (l
     by_place (inl within) = each within
     by_place (inr past) = none_past after n (omega (arith, past, same)) ∙ sym (none past) ∙ sym (ap (λ b. t b (is_in others n)) (none_past before n past))
 
--- an operation on one word and other bits
+-- if an operation with `bits` changes word `number` of a set, the same operation with the numbers of `bits` in this word changes the set
 pub word_changed : (t : Bool → Bool → Bool) → ((b : Bool) → t b false ≡ b) → (words : List ℕ) (number word bits n : ℕ) → number < length words →
     has_bit word (n % 64) ≡ t (has_bit (get_or words number 0) (n % 64)) (has_bit bits (n % 64)) → is_in (set words number word) n ≡ t (is_in words n) (is_of_word number bits n)
 unfolding is_in
@@ -106,7 +106,7 @@ word_changed t same words number word bits n within e = by_word (cases_eq (n / 6
     by_word (inr differ) =
         ap (λ w. has_bit w (n % 64)) (get_or-set_other words number (n / 64) word 0 differ) ∙ sym (same (is_in words n)) ∙ sym (ap (λ b. t (is_in words n) (b && bit)) (ne_eqb (n / 64) number differ))
 
--- a word past the end has none of the numbers
+-- removing numbers of a word that is past the last word changes nothing
 pub word_past : (words : List ℕ) (number bits n : ℕ) → length words ≤ number → is_in words n ≡ (is_in words n && not (is_of_word number bits n))
 word_past words number bits n past = by_word (cases_eq (n / 64) number)
   where
@@ -114,7 +114,7 @@ word_past words number bits n past = by_word (cases_eq (n / 64) number)
     by_word (inl here) = let none : is_in words n ≡ false = none_past words n (omega (arith, past, here)) in none ∙ sym (ap (λ t. t && not (is_of_word number bits n)) none)
     by_word (inr differ) = sym (and-true (is_in words n)) ∙ ap (λ t. is_in words n && not (t && has_bit bits (n % 64))) (sym (ne_eqb (n / 64) number differ))
 
--- one bit of a word is one number
+-- the word that has only the bit at `place` has bit `i` if and only if `i` is `place`
 one_bit : (place i : ℕ) → place < 64 → has_bit (1 * 2 ^ place % 2 ^ 64) i ≡ (i == place)
 one_bit place i below = sym (bit_more 0 (1 * 2 ^ place % 2 ^ 64) i ∙ ap (λ t. has_bit (1 * 2 ^ place % 2 ^ 64) i || t) (no_bit i) ∙ or-false (has_bit (1 * 2 ^ place % 2 ^ 64) i)) ∙ by_place (cases_eq i place)
   where
@@ -173,7 +173,7 @@ lowest_is word place below fits some = (
     by_order (inl less) = let zero_one : 0 ≡ 1 = sym (low_bit word place low below less) ∙ bits.1 in absurd (omega (arith, zero_one))
     by_order (inr most) = most
 
--- a bit of a word whose bits are the numbers that pass
+-- if the bits of a word are the numbers that pass, bit `i` of the word says whether number `64 * number + i` passes
 passes_bit : (passes : ℕ → Bool) (number word i : ℕ) → AreBitsOf passes number word → i < 64 → passes (64 * number + i) ≡ has_bit word i
 passes_bit passes number word i are below = sym (bit_is word i (passes (64 * number + i)) (are i below))
 
@@ -197,7 +197,7 @@ first_next passes from word place are first below = record {
       passes_number passes n (from / 64) word are same ∙ first.earlier (n % 64) (omega (arith, least, same)) (omega (arith, less, same, below));
 }
 
--- the numbers that pass both tests
+-- the smaller of two bits is 1 if and only if both truth values are true
 both_bits : (s t : Bool) → min (cond s 1 0) (cond t 1 0) ≡ cond (s && t) 1 0
 both_bits true true = refl
 both_bits true false = refl
@@ -217,7 +217,7 @@ no_bits p q number word none are i below =
     let unset : p (64 * number + i) ≡ false = passes_bit p number word i are below ∙ ap (λ w. has_bit w i) none ∙ no_bit i in
     bit_at-zero i ∙ sym (ap (λ t. cond (t && q (64 * number + i)) 1 0) unset)
 
--- if no number passes up to a place, and none after it up to a later place, none passes up to the later place
+-- if no number from `from` to `number` passes, and none from there to `past`, then no number from `from` to `past` passes
 pub passed_more : (p : ℕ → Bool) (from number past : ℕ) → ((n : ℕ) → from ≤ n → n < number → p n ≡ false) → ((n : ℕ) → number ≤ n → n < past → p n ≡ false) → (n : ℕ) → from ≤ n → n < past → p n ≡ false
 passed_more p from number past earlier later n least below = by_place (cases_lt n number)
   where

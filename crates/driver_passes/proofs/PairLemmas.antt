@@ -1,4 +1,4 @@
--- The pairs of nets, and the passes for them.
+-- Lemmas about the pairs of nets and the passes that are added for them.
 use Rattle.std.proofs.Common.{◌≡◌, ℕ, suc, ◌+◌, ◌<◌, ◌≤◌, Bool, true, false, List, [], ◌∷◌, length, map, get_or, drop, fold, Option, Some, None, refl, sym, ◌∙◌, ap, arith, cond}
 use Rattle.std.specs.Prelude.{find, option_map}
 use Rattle.std.specs.Option.{option_or}
@@ -64,7 +64,7 @@ net_done board useful passes after a less e =
     fold-append (add_for_nets board useful) passes (pairs_from board a (suc a)) (later_pairs board (suc a)) ∙
     ap (λ k. fold (add_for_nets board useful) (fold (add_for_nets board useful) passes (pairs_from board a k)) (later_pairs board k)) next)
 
--- two nets give at most one pass
+-- adding for two nets adds at most one pass
 pub one_more : (board : RawBoard) (useful : List Ctl) (passes : List (List Ctl)) (nets : List Drive × List Drive) → length (add_for_nets board useful passes nets) ≤ length passes + 1
 one_more board useful passes nets = by_test (are_shown passes nets.0 nets.1) (first_pair board nets.0 nets.1)
   where

@@ -1,4 +1,4 @@
--- The passes so far, and the tested drivers of the nets.
+-- Lemmas about the passes so far and about the tested drivers of the nets.
 use Rattle.std.proofs.Common.{◌≡◌, ℕ, zero, suc, ◌+◌, ◌<◌, ◌≤◌, Bool, true, false, not, ◌||◌, List, [], ◌∷◌, ◌++◌, length, map, get_or, drop, take, fold, Option, Some, None, refl, sym, ◌∙◌, ap, arith, cond}
 use Rattle.std.specs.Prelude.{◌==◌, slice_get, filter_map, sum_by}
 use Rattle.std.specs.List.{list_any, flat_map, range_with_len, cons_option}
@@ -24,19 +24,20 @@ use Rattle.driver_passes.specs.inner.Progress.{AreHeld, is_held}
 use Rattle.driver_passes.specs.inner.NumberSets.{is_in}
 use Rattle.driver_passes.proofs.ControlLemmas.{holds_of}
 
--- one more pass
+-- if `joined` has the places in `held` and the places of the controls of `pass`, it has the places of the controls of all passes, `pass`
+-- included
 pub held_more : (board : RawBoard) (passes after : List (List Ctl)) (pass : List Ctl) (held joined : List ℕ) → AreHeld board passes held → length joined ≡ length held → ((i : ℕ) (c : Ctl) → slice_get (useful_controls board) i ≡ Some c → is_in joined i ≡ (holds pass c || is_in held i)) → after ≡ passes ++ pass ∷ [] → AreHeld board after joined
 held_more board passes after pass held joined is len join e = record {
   held_length = len ∙ is.held_length;
   held_are = λ i c h. join i c h ∙ ap (λ v. holds pass c || v) (is.held_are i c h) ∙ or_comm (holds pass c) (is_held passes c) ∙ ap (λ v. is_held passes c || v) (sym (or-false (holds pass c))) ∙ sym (ap (λ v. is_held v c) e ∙ list_any-append (λ pass. holds pass c) passes (pass ∷ []));
 }
 
--- each pass enables a driver that is always on
+-- some pass enables a driver that is always on exactly if there is a pass
 pub any_pass : (passes : List (List Ctl)) → list_any (λ pass. true) passes ≡ not (length passes == 0)
 any_pass [] = refl
 any_pass (pass ∷ passes) = sym (ap not (suc-eqb_zero (length passes)))
 
--- the item of net `n` in the list of the tested drivers of all nets
+-- item `n` in the list of the tested drivers of all nets has the tested drivers of net `n`
 same_drivers : (board : RawBoard) (n : ℕ) → get_or (drivers_by_net board) n [] ≡ drivers_at board n
 same_drivers board n = by_place board.nets n
   where
@@ -48,18 +49,18 @@ same_drivers board n = by_place board.nets n
 lists_within : (board : RawBoard) (n : ℕ) → n < length board.nets → n < length (drivers_by_net board)
 lists_within board n less = omega (arith, length-map board.nets (tested_drivers board))
 
--- the drivers of the nets from `n` on, of which net `n` is the first
+-- the lists of the drivers of the nets from `n` on begin with the list of net `n`
 pub drop_drivers : (board : RawBoard) (n : ℕ) → n < length board.nets → drop n (drivers_by_net board) ≡ drivers_at board n ∷ drop (suc n) (drivers_by_net board)
 drop_drivers board n less = drop-cons (drivers_by_net board) n [] (lists_within board n less) ∙ ap (λ v. v ∷ drop (suc n) (drivers_by_net board)) (same_drivers board n)
 
--- the drivers of the first nets, with those of one more net
+-- the lists of the drivers of the first `n + 1` nets end with the list of net `n`
 pub take_drivers : (board : RawBoard) (n : ℕ) → n < length board.nets → take (n + 1) (drivers_by_net board) ≡ take n (drivers_by_net board) ++ drivers_at board n ∷ []
 take_drivers board n less = take_more (drivers_by_net board) n [] (lists_within board n less) ∙ ap (λ v. take n (drivers_by_net board) ++ v ∷ []) (same_drivers board n)
 
 pub drivers_are : (board : RawBoard) (n : ℕ) (net : Net) → slice_get board.nets n ≡ Some net → drivers_at board n ≡ tested_drivers board net
 drivers_are board n net e = ap (drivers_there board) e
 
--- if a useful driver has a control, the control is a cell
+-- the control cell of a useful control is a cell of the board
 pub useful_cell : (board : RawBoard) (c : Ctl) → holds (useful_controls board) c ≡ true → IsCell board c
 useful_cell board c = holds_of (IsCell board) (useful_controls board) c (useful_cells board (useful_controls board) refl)
 
@@ -71,7 +72,7 @@ passes_whole board useful passes n most e =
     let all : length (drivers_by_net board) ≤ n = omega (arith, length-map board.nets (tested_drivers board)) in
     e ∙ ap (λ v. fold (add_for_driver board useful) [] (flat_map (λ (drivers : List Drive). drivers) v)) (take_all n (drivers_by_net board) all)
 
--- the steps for the drivers of one more net
+-- taking the steps for the drivers of net `n` after the steps for the earlier nets takes the steps for the first `n + 1` nets
 pub drivers_more : (board : RawBoard) (step : List (List Ctl) → Drive → List (List Ctl)) (before after : List (List Ctl)) (drivers : List Drive) (n : ℕ) → n < length board.nets → drivers ≡ drivers_at board n → before ≡ fold step [] (flat_map (λ drivers. drivers) (take n (drivers_by_net board))) → after ≡ fold step before drivers →
     after ≡ fold step [] (flat_map (λ drivers. drivers) (take (n + 1) (drivers_by_net board)))
 drivers_more board step before after drivers n less e so_far more =
@@ -80,7 +81,7 @@ drivers_more board step before after drivers n less e so_far more =
     more ∙ ap (fold step before) e ∙ ap (λ v. fold step v own) so_far ∙ sym (fold-append step [] (flat_map (λ (v : List Drive). v) earlier) own) ∙ ap (λ v. fold step [] (flat_map (λ (v : List Drive). v) earlier ++ v)) (sym (append-nil own)) ∙
     sym (ap (fold step []) (ap (flat_map (λ (v : List Drive). v)) (take_drivers board n less) ∙ flat_map-append (λ (v : List Drive). v) earlier (own ∷ [])))
 
--- each driver gives at most one pass
+-- adding for a driver adds at most one pass
 one_more : (board : RawBoard) (useful : List Ctl) (passes : List (List Ctl)) (d : Drive) → length (add_for_driver board useful passes d) ≤ length passes + 1
 one_more board useful passes d = by_test (list_any (λ pass. is_enabled pass d) passes)
   where

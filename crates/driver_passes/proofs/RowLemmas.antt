@@ -1,4 +1,4 @@
--- The rows of the passes. The row of a pass has the nets that the pass shows.
+-- Lemmas about the rows of the passes. The row of a pass has the nets that the pass shows.
 use Rattle.std.proofs.Common.{◌≡◌, ℕ, ◌+◌, ◌/◌, ◌<◌, ◌≤◌, Bool, true, false, not, ◌&&◌, ◌||◌, List, [], ◌∷◌, ◌++◌, length, refl, sym, ◌∙◌, ap, subst, arith}
 use Rattle.std.specs.List.{list_all, list_any}
 use Rattle.std.proofs.Math.Bool.{and-true, or-false}
@@ -15,7 +15,7 @@ use Rattle.driver_passes.specs.inner.Shown.{AreRows, AreShownBy, AreShownByAll, 
 pub shown_as : (board : RawBoard) (made pass : List Ctl) (row : List ℕ) → pass ≡ made → AreShownBy board made row → AreShownBy board pass row
 shown_as board made pass row e are = let P : List Ctl → Type 0 = λ v. AreShownBy board v row in subst P (sym e) are
 
--- one more row
+-- if each pass has its row, and a pass is appended with its row, each pass still has its row
 
 rows_push : (board : RawBoard) (passes : List (List Ctl)) (rows : List (List ℕ)) (pass : List Ctl) (row : List ℕ) → AreRows board passes rows → AreShownBy board pass row → AreRows board (passes ++ pass ∷ []) (rows ++ row ∷ [])
 rows_push board [] [] pass row are shown = (shown, tt)
@@ -26,9 +26,9 @@ rows_push board (p ∷ passes) (r ∷ rows) pass row are shown = (are.0, rows_pu
 pub rows_more : (board : RawBoard) (passes after : List (List Ctl)) (rows rows_after : List (List ℕ)) (pass : List Ctl) (row : List ℕ) → AreRows board passes rows → AreShownBy board pass row → after ≡ passes ++ pass ∷ [] → rows_after ≡ rows ++ row ∷ [] → AreRows board after rows_after
 rows_more board passes after rows rows_after pass row are shown e f = rw (e, f) (rows_push board passes rows pass row are shown)
 
--- the meaning of the rows for the passes
+-- The lemmas up to the end say what the rows mean for the passes.
 
--- each row has room for each net
+-- a row has both nets if and only if its pass shows both
 both_same : (board : RawBoard) (pass : List Ctl) (row : List ℕ) (a b : ℕ) → AreShownBy board pass row → a < length board.nets → b < length board.nets → shows_both a b row ≡ (shows (drivers_at board a) pass && shows (drivers_at board b) pass)
 both_same board pass row a b are first second = ap (λ t. t && is_in row b) (are.row_are a first) ∙ ap (λ t. shows (drivers_at board a) pass && t) (are.row_are b second)
 
@@ -45,7 +45,7 @@ all_rows board [] (row ∷ rows) a are first = absurd are
 all_rows board (pass ∷ passes) [] a are first = absurd are
 all_rows board (pass ∷ passes) (row ∷ rows) a are first = ap (λ t. t && list_all (λ (v : List ℕ). is_in v a) rows) (are.0.row_are a first) ∙ ap (λ t. shows (drivers_at board a) pass && t) (all_rows board passes rows a are.1 first)
 
--- one more pass
+-- if a pass is added, and the nets that it shows with net `a` are removed from `left`, `AreLeft` still holds
 pub left_more : (board : RawBoard) (passes after : List (List Ctl)) (pass : List Ctl) (row left left_after : List ℕ) (a : ℕ) → AreLeft board passes a left → AreShownBy board pass row → a < length board.nets → after ≡ passes ++ pass ∷ [] →
     ((n : ℕ) → a / 64 ≤ n / 64 → is_in left_after n ≡ (is_in left n && not (shows_both a n row))) → AreLeft board after a left_after
 left_more board passes after pass row left left_after a are shown first e less n from within =
@@ -57,7 +57,7 @@ left_more board passes after pass row left left_after a are shown first e less n
     not_or true t = refl
     not_or false t = refl
 
--- the nets that every row has are the nets that every pass shows
+-- if a set has the nets that every row has, it has the nets that every pass shows
 pub always_whole : (board : RawBoard) (passes : List (List Ctl)) (rows : List (List ℕ)) (always : List ℕ) (size : ℕ) → AreRows board passes rows → size ≡ length board.nets / 64 + 1 → length always ≡ size →
     ((n : ℕ) → n / 64 < size → is_in always n ≡ list_all (λ row. is_in row n) rows) → AreShownByAll board passes always
 always_whole board passes rows always size are room same each = record {
@@ -65,7 +65,7 @@ always_whole board passes rows always size are room same each = record {
   always_are = λ n within. each n (omega (arith, within, room)) ∙ all_rows board passes rows n are within;
 }
 
--- the nets that every pass and one more pass show
+-- if a set has the nets that every pass shows, and keeps only those in the row of one more pass, it has the nets that this pass shows, too
 pub always_more : (board : RawBoard) (passes after : List (List Ctl)) (pass : List Ctl) (row always always_after : List ℕ) → AreShownByAll board passes always → AreShownBy board pass row → after ≡ passes ++ pass ∷ [] → length always_after ≡ length always →
     ((n : ℕ) → is_in always_after n ≡ (is_in always n && is_in row n)) → AreShownByAll board after always_after
 always_more board passes after pass row always always_after are shown e same kept = record {
@@ -75,7 +75,7 @@ always_more board passes after pass row always always_after are shown e same kep
       kept n ∙ ap (λ t. t && is_in row n) (are.always_are n within) ∙ ap (λ t. list_all p passes && t) (shown.row_are n within ∙ sym (and-true (p pass))) ∙ sym (ap (list_all p) e ∙ list_all-append p passes (pass ∷ []));
 }
 
--- the nets from the word of net `a` on that no row has together with net `a`
+-- if `left` has the nets that no row has together with net `a`, it has the nets that no pass shows together with net `a`
 pub left_whole : (board : RawBoard) (passes : List (List Ctl)) (rows : List (List ℕ)) (left : List ℕ) (a size : ℕ) → AreRows board passes rows → a < length board.nets → size ≡ length board.nets / 64 + 1 →
     ((n : ℕ) → a / 64 ≤ n / 64 → n / 64 < size → is_in left n ≡ not (list_any (shows_both a n) rows)) → AreLeft board passes a left
 left_whole board passes rows left a size are first room each n from within = each n (omega (arith, from)) (omega (arith, within, room)) ∙ ap not (any_rows board passes rows a n are first within)

@@ -1,4 +1,4 @@
--- Sets of numbers, the numbers of one word and of blocks, and a word of each row, worked by hand.
+-- Samples of sets of numbers, of the numbers of one word and of blocks, and of a word of each row. The values are worked by hand.
 use Rattle.std.proofs.Common.{◌≡◌, ◌∙◌, ℕ, ◌+◌, ◌-◌, ◌^◌, ◌<◌, ◌≤◌, Bool, true, false, not, List, [], ◌∷◌, filter, refl, sym, ap, arith}
 use Rattle.std.specs.List.{list_all, range_with_len}
 use Rattle.std.proofs.lemmas.Bool.{not-true}
@@ -9,7 +9,7 @@ use Rattle.driver_passes.specs.inner.NumberSets.{has_bit, is_in, is_of_word, IsF
 use Rattle.driver_passes.specs.inner.Blocks.{has_place}
 use Rattle.driver_passes.specs.inner.Shown.{IsColumn, words_at}
 
--- the numbers of a set of three words
+-- the numbers below 192 of a set of three words
 abbrev numbers_of : List ℕ → List ℕ
 numbers_of words = filter (is_in words) (range_with_len 0 192)
 
@@ -37,26 +37,26 @@ taken_out : filter (λ n. not (is_in (all ∷ (all - 4) ∷ all ∷ []) n)) (ran
 unfolding is_in
 taken_out = refl
 
--- bits 0 and 2 of word 1
+-- the numbers of word 1 with the bits 5: bits 0 and 2
 of_one_word : filter (is_of_word 1 5) (range_with_len 0 192) ≡ 64 ∷ 66 ∷ []
 of_one_word = refl
 
--- the first and the last bit of word 0
+-- the numbers of word 0 with its first and its last bit
 ends_of_word : filter (is_of_word 0 (2 ^ 63 + 1)) (range_with_len 0 192) ≡ 0 ∷ 63 ∷ []
 ends_of_word = refl
 
--- no bit of word 2
+-- word 2 without bits has no numbers
 none_of_word : filter (is_of_word 2 0) (range_with_len 0 192) ≡ []
 none_of_word = refl
 
--- bits 0 and 1 of word 0, a block without a bit, and two blocks of word 2 with its bits 2 and 63
+-- blocks with the bits 0 and 1 of word 0, no bit of word 1, and the bits 2 and 63 of word 2
 abbrev some_blocks : List Block
 some_blocks = record { word = 0; bits = 3 } ∷ record { word = 1; bits = 0 } ∷ record { word = 2; bits = 4 } ∷ record { word = 2; bits = 2 ^ 63 } ∷ []
 
 of_blocks : filter (has_place some_blocks) (range_with_len 0 192) ≡ 0 ∷ 1 ∷ 130 ∷ 191 ∷ []
 of_blocks = refl
 
--- the second of three rows has word 0 alone; past it, its words are 0
+-- three rows of different lengths; the second row has only word 0, so its other words are 0
 abbrev some_rows : List (List ℕ)
 some_rows = (5 ∷ 6 ∷ []) ∷ (7 ∷ []) ∷ (8 ∷ 9 ∷ 10 ∷ []) ∷ []
 
@@ -66,18 +66,18 @@ first_words = refl
 second_words : words_at 1 some_rows ≡ 6 ∷ 0 ∷ 9 ∷ []
 second_words = refl
 
--- a column has the words with its own number
+-- a column with number 1 has word 1 of each row
 of_column : (column : Column) → column.number ≡ 1 → column.words.items ≡ 6 ∷ 0 ∷ 9 ∷ [] → IsColumn some_rows column
 of_column column number words = words ∙ sym (ap (λ n. words_at n some_rows) number)
 
--- none of the numbers from this one up to the end passes, by computing
+-- if a computed test shows that no number from `from` up to `end` passes, none of them passes
 none_by : (passes : ℕ → Bool) (from end : ℕ) → list_all (λ n. not (passes n)) (range_with_len from (end - from)) ≡ true → (n : ℕ) → from ≤ n → n < end → passes n ≡ false
 none_by passes from end none n least below = not-true _ (all_has (λ m. not (passes m)) (range_with_len from (end - from)) n none (has_range from (end - from) n least (omega (arith, least, below))))
 
 first_by : (passes : ℕ → Bool) (from first : ℕ) → from ≤ first → passes first ≡ true → list_all (λ n. not (passes n)) (range_with_len from (first - from)) ≡ true → IsFirst passes from first
 first_by passes from first least found none = record { least = least; found = found; earlier = none_by passes from first none }
 
--- bits 0 and 3 of word 0
+-- the word 9 has bits 0 and 3, so its first bit from place 0 on is bit 0
 first_from_0 : IsFirst (has_bit 9) 0 0
 first_from_0 = first_by (has_bit 9) 0 0 (omega arith) refl refl
 
@@ -87,7 +87,7 @@ first_from_1 = first_by (has_bit 9) 1 3 (omega arith) refl refl
 none_from_4 : (n : ℕ) → 4 ≤ n → n < 64 → has_bit 9 n ≡ false
 none_from_4 = none_by (has_bit 9) 4 64 refl
 
--- word 2 has its last bit, too
+-- three words, of which word 2 has bits 0 and 3 and its last bit
 abbrev late : List ℕ
 late = 0 ∷ 0 ∷ (2 ^ 63 + 9) ∷ []
 

@@ -1,4 +1,4 @@
--- The useful controls that share each net with another control.
+-- Lemmas about the useful controls that share each net with another control.
 use Rattle.std.proofs.Common.{◌≡◌, ◌⊎◌, inl, inr, ℕ, zero, suc, ◌+◌, ◌<◌, ◌&&◌, ◌||◌, List, [], ◌∷◌, ◌++◌, length, get_or, Some, refl, sym, ◌∙◌, ap, subst, arith, ltb}
 use Rattle.std.specs.Prelude.{◌==◌, slice_get, All}
 use Rattle.std.specs.List.{range_with_len}
@@ -30,7 +30,7 @@ shared_within board c nets most e f =
     let within : k < count = omega (arith, less, length-range_with_len 0 count) in
     omega (arith, get_or-range_with_len 0 count k d within, within, f)))
 
--- one more control
+-- if the place `k` is added to the lists of the nets that control `k` shares, the lists have the places below `k + 1`
 pub sharers_more : (board : RawBoard) (k : ℕ) (d : Ctl) (nets : List ℕ) (before after : List (List ℕ)) → AreSharersBelow board k before → slice_get (useful_controls board) k ≡ Some d → nets ≡ shared_nets board d → length after ≡ length before → AreMarked k nets before after → AreSharersBelow board (k + 1) after
 sharers_more board k d nets before after are stands is size marked = record {
   sharers_length = size ∙ are.sharers_length;
@@ -44,7 +44,7 @@ sharers_more board k d nets before after are stands is size marked = record {
         ap (λ v. place == k && has_number v n) (is ∙ ap (shared_nets board) control)
     same place c n at (inr other) = ap (λ t. t && has_number nets n) (ne_eqb place k other) ∙ sym (ap (λ t. t && has_number (shared_nets board c) n) (ne_eqb place k other))
 
--- the lists as sets
+-- if each set has the places of its list, this is still true after a set and a list with the same places are appended
 
 pub sets_more : (sets : List (List Block)) (lists : List (List ℕ)) (set : List Block) (list : List ℕ) → length sets ≡ length lists → ((n q : ℕ) → has_place (get_or sets n []) q ≡ has_number (get_or lists n []) q) → ((q : ℕ) → has_place set q ≡ has_number list q) →
     (n q : ℕ) → has_place (get_or (sets ++ set ∷ []) n []) q ≡ has_number (get_or (lists ++ list ∷ []) n []) q

@@ -1,4 +1,4 @@
--- The nets that each useful control tests, and so the nets that a pass shows.
+-- Lemmas about the nets that each useful control tests, and about the nets that a pass shows by these controls.
 use Rattle.std.proofs.Common.{◌≡◌, ◌⊎◌, inl, inr, ℕ, zero, suc, ◌+◌, ◌/◌, ◌≤◌, ◌<◌, Bool, true, false, ◌&&◌, ◌||◌, List, [], ◌∷◌, ◌++◌, length, get_or, set, take, drop, Some, refl, sym, ◌∙◌, ap, arith, ltb}
 use Rattle.std.specs.Prelude.{◌==◌, slice_get, All}
 use Rattle.std.specs.List.{list_any}
@@ -26,7 +26,7 @@ use Rattle.driver_passes.proofs.BlockLemmas.{below_more, same_place}
 use Rattle.driver_passes.proofs.ChosenLemmas.{chosen_next, chosen_skip}
 use Rattle.driver_passes.proofs.ControlLemmas.{other_place}
 
--- the nets that one more control shows
+-- a setting with one more control enables a driver if this control controls it or the setting enables it
 
 enabled_with : (c : Ctl) (setting : List Ctl) (d : Drive) → is_enabled (c ∷ setting) d ≡ (is_by c (Some d) || is_enabled setting d)
 enabled_with c setting AlwaysOn = refl
@@ -51,7 +51,7 @@ pub shows_split : (drivers : List Drive) (setting : List Ctl) → shows drivers 
 shows_split drivers [] = sym (or-false (shows drivers []))
 shows_split drivers (c ∷ setting) = shows_with c setting drivers ∙ ap (λ t. drives c drivers || t) (shows_split drivers setting) ∙ or_swap (drives c drivers) (shows drivers []) (list_any (λ e. drives e drivers) setting)
 
--- lists of numbers
+-- a list with `m` appended has `m` and the numbers of the list
 
 number_end : (numbers : List ℕ) (m n : ℕ) → has_number (numbers ++ m ∷ []) n ≡ (n == m || has_number numbers n)
 number_end numbers m n =
@@ -70,7 +70,7 @@ not_held [] p c e none at = cc at
 not_held (d ∷ controls) zero c e none at = let same : d ≡ c = cc at in sym (ap (same_ctl e) same) ∙ (or_parts (same_ctl e d) (holds controls e) none).0
 not_held (d ∷ controls) (suc p) c e none at = not_held controls p c e (or_parts (same_ctl e d) (holds controls e) none).1 at
 
--- the lists once a driver of one more net is noted
+-- if none of the controls passes, noting the net changes none of the lists
 
 pub not_noted : (board : RawBoard) (lists : List (List ℕ)) (net : ℕ) (by : Ctl → Bool) → ((place : ℕ) (c : Ctl) → slice_get (useful_controls board) place ≡ Some c → by c ≡ false) → AreNoted board net by lists lists
 not_noted board lists net by none place c at n = ap (λ t. t || has_number (get_or lists place []) n) (sym (and-false (n == net)) ∙ ap (λ t. n == net && t) (sym (none place c at)))
@@ -100,14 +100,14 @@ noted_more board start before after net by more one two place c at n = two place
     by_test true false b x = refl
     by_test false a b x = refl
 
--- one more net
+-- if the lists have the nets below `net`, and net `net` is noted for its drivers, they have the nets below `net + 1`
 pub listed_more : (board : RawBoard) (net : ℕ) (before after : List (List ℕ)) (drivers : List Drive) → AreListed board net before → length after ≡ length before → drivers ≡ drivers_at board net → AreNoted board net (λ c. drives c drivers) before after → AreListed board (net + 1) after
 listed_more board net before after drivers are size e noted = record {
   lists_length = size ∙ are.lists_length;
   lists_are = λ place c at n. noted place c at n ∙ ap (λ t. (n == net && drives c drivers) || t) (are.lists_are place c at n) ∙ ap (λ v. (n == net && drives c v) || (ltb n net && drives c (drivers_at board n))) e ∙ below_more (λ m. drives c (drivers_at board m)) net n;
 }
 
--- one more driver
+-- if a net is noted for its first `i` drivers, and then for driver `i`, it is noted for its first `i + 1` drivers
 pub noted_next : (board : RawBoard) (drivers : List Drive) (i net : ℕ) (start before after : List (List ℕ)) → i < length drivers → AreNoted board net (λ c. drives c (take i drivers)) start before → AreNoted board net (λ c. is_by c (Some (get_or drivers i AlwaysOn))) before after →
     AreNoted board net (λ c. drives c (take (i + 1) drivers)) start after
 noted_next board drivers i net start before after less one two place c at n =
@@ -117,13 +117,13 @@ noted_next board drivers i net start before after less one two place c at n =
     both d =
         ap (drives d) (take_more drivers i AlwaysOn less) ∙ list_any-append (λ e. is_by d (Some e)) (take i drivers) (get_or drivers i AlwaysOn ∷ []) ∙ ap (λ t. drives d (take i drivers) || t) (or-false (is_by d (Some (get_or drivers i AlwaysOn))))
 
--- the nets of one more control in a row
+-- The lemmas up to the end say which nets a row has after the nets of one more control are added.
 
 -- the controls of the pass from this place on show the net
 abbrev pub left_from : RawBoard → List ℕ → ℕ → ℕ → Bool
 left_from board held place n = list_any (λ c. drives c (drivers_at board n)) (chosen (is_in held) place (drop place (useful_controls board)))
 
--- places that are not in the set show nothing
+-- if no place from `place` up to `next` is in the set, the controls at these places show no net
 pub left_skip : (board : RawBoard) (held : List ℕ) (place next n : ℕ) → place ≤ next → ((m : ℕ) → place ≤ m → m < next → is_in held m ≡ false) → left_from board held place n ≡ left_from board held next n
 left_skip board held place next n least none = ap (list_any (λ c. drives c (drivers_at board n))) (chosen_skip (is_in held) (useful_controls board) place next least none)
 

@@ -1,4 +1,4 @@
--- Walks that skip controls which they would not add.
+-- Lemmas about walks that skip the controls which they would not add.
 use Rattle.std.proofs.Common.{◌≡◌, ℕ, zero, suc, ◌+◌, ◌-◌, ◌≤◌, ◌<◌, Bool, true, false, not, ◌&&◌, List, [], ◌∷◌, length, get_or, drop, drop-cons, drop-drop, Some, refl, sym, ◌∙◌, ap, arith, cond}
 use Rattle.std.specs.Prelude.{slice_get}
 use Rattle.std.proofs.Math.Bool.{and-false}
@@ -44,19 +44,19 @@ walk_next accepts controls s place d within =
     let next : place + 1 ≡ suc place = omega arith in
     ap (λ v. walk accepts v s) (drop-cons controls place d within) ∙ ap (λ k. walk accepts (drop k controls) (stepped accepts s (get_or controls place d))) (sym next)
 
--- a control that is accepted is added
+-- if the walk accepts the control at `place`, its step adds this control to the setting
 pub walk_adds : (accepts : List Ctl → Ctl → Bool) (controls before after : List Ctl) (place : ℕ) (c : Ctl) → slice_get controls place ≡ Some c → accepts before c ≡ true → after ≡ inserted c before → walk accepts (drop (place + 1) controls) after ≡ walk accepts (drop place controls) before
 walk_adds accepts controls before after place c at fit e =
     sym (walk_next accepts controls before place c (slice_get_within controls place c at) ∙
     ap (walk accepts (drop (place + 1) controls)) (ap (stepped accepts before) (get_or_from_slice_get controls place c c at) ∙ ap (λ t. cond t (inserted c before) before) fit ∙ sym e))
 
--- the second walk skips controls that cannot be added
+-- if no control from place `from` up to `next` can be added, the second walk may begin at `next`
 pub second_passes : (board : RawBoard) (held free : List ℕ) (from next : ℕ) → PassesAre board → IsDraft board held free → from ≤ next → ((n : ℕ) → from ≤ n → n < next → is_in free n ≡ false) →
     second_walk board (drop from (useful_controls board)) (setting_of board held) ≡ second_walk board (drop next (useful_controls board)) (setting_of board held)
 second_passes board held free from next are is least closed =
     walk_passes (fits board) (useful_controls board) (setting_of board held) from next least (λ n c low less at. closed_nothing board held free n c (fits board (setting_of board held) c) are is at (closed n low less) (λ f. f))
 
--- the first walk skips controls that cannot be added or are in earlier passes
+-- if each control from place `from` up to `next` cannot be added or is in an earlier pass, the first walk may begin at `next`
 pub first_passes : (board : RawBoard) (held free : List ℕ) (passes : List (List Ctl)) (earlier : List ℕ) (from next : ℕ) → PassesAre board → IsDraft board held free → AreHeld board passes earlier → from ≤ next →
     ((n : ℕ) → from ≤ n → n < next → (is_in free n && not (is_in earlier n)) ≡ false) → first_walk board (drop from (useful_controls board)) passes (setting_of board held) ≡ first_walk board (drop next (useful_controls board)) passes (setting_of board held)
 first_passes board held free passes earlier from next are is known least closed = walk_passes accepts (useful_controls board) s from next least (λ n c low less at. by_test n c at (closed n low less) (is_in free n) refl)
@@ -79,9 +79,9 @@ new_fits board held free passes earlier place c is known at h =
     let both : (is_in free place ≡ true) × (not (is_in earlier place) ≡ true) = and_parts (is_in free place) (not (is_in earlier place)) h in
     and_from (is_new passes c) (fits board (setting_of board held) c) (ap not (sym (known.held_are place c at)) ∙ both.1) (free_fits board held free place c is at both.0)
 
--- the steps of the walks for drafts, which have board and setting together
+-- The lemmas up to the end are about the walks of a draft, which has the board and the setting together.
 
--- no control between the two places is added, and the control at the second place is added
+-- if no control between the two places can be added, the walk goes on behind the second place after it adds the control there
 pub second_adds : (board : RawBoard) (held free : List ℕ) (after : Drafted) (from place : ℕ) (c : Ctl) → PassesAre board → IsDraft board held free → from ≤ place → ((n : ℕ) → from ≤ n → n < place → is_in free n ≡ false) →
     slice_get (useful_controls board) place ≡ Some c → is_in free place ≡ true → after ≡ with_control (drafted board (setting_of board held)) c → second_walked after (place + 1) ≡ second_walked (drafted board (setting_of board held)) from
 second_adds board held free after from place c are is least closed at can e =

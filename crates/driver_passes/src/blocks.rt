@@ -1,4 +1,4 @@
-// Sets of places, as blocks of places that share a word.
+// Sets of places that are made of blocks. A block has the places of one word.
 ghost use Rattle.std.specs.Prelude.{◌≡◌, ◌/◌, ◌==◌, ◌||◌, ℕ, IfOk, OnOk};
 ghost use Rattle.driver_passes.specs.inner.Blocks.{block_has, has_place};
 ghost use Rattle.driver_passes.specs.inner.Drafts.{has_number};
@@ -6,7 +6,7 @@ ghost use Rattle.driver_passes.specs.inner.Drafts.{has_number};
 use lists::Items;
 use std::alloc::{AllocError, Global};
 
-/// The places of a set that share a word. Place `n` has bit `n % 64` of word `n / 64`.
+/// A block: the places of a set that belong to one word. Place `n` has bit `n % 64` of word `n / 64`.
 #[derive(Clone, Copy, Drop)]
 pub struct Block {
     pub word: usize,
@@ -48,7 +48,7 @@ fn push_some(blocks: &mut Blocks, block: Block) -> Result<(), AllocError>
     Ok(())
 }
 
-/// Adds a place to the set of `blocks` and `last`, where `last` is the last block and not yet in `blocks`. Returns the
+/// Adds a place to the set of `blocks` and `last`. `last` is the last block, which is not in `blocks` yet. Returns the
 /// new last block. If the place belongs to another word, `last` goes into `blocks` first.
 fn next_block(blocks: &mut Blocks, last: Block, place: usize) -> Result<Block, AllocError>
     ensures { IfOk result (λ block. (q : ℕ) → (has_place blocks.new q || block_has block q)

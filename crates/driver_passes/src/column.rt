@@ -1,4 +1,4 @@
-// One word of each row, which says which of 64 nets each pass shows.
+// A column: one word of each row. The word says which of 64 nets the pass of the row shows.
 ghost use Rattle.std.specs.Prelude.{◌≡◌, ◌∷◌, ◌++◌, List, ℕ, [], IfOk, OnOk};
 ghost use Rattle.driver_passes.specs.inner.Shown.{IsColumn, words_at};
 

@@ -1,4 +1,4 @@
-// A pass while it is made.
+// A pass that is being made.
 ghost use Rattle.std.specs.Prelude.{◌≡◌, ◌<◌, ◌+◌, ◌/◌, ◌||◌, ℕ, [], true, length, slice_get, IfOk, Some};
 ghost use Rattle.board_defs.specs.declared.board.Ctl.{Ctl};
 ghost use Rattle.board_defs.specs.Coverage.{IsUseful};
@@ -15,7 +15,7 @@ use board_defs::{Ctl, Drive, Setting};
 use std::alloc::{AllocError, Global};
 use std::marker::Model;
 
-/// A pass while it is made. Contracts see it as its board and the setting so far.
+/// A pass that is being made. Contracts see it as its board and the setting so far.
 #[derive(Drop)]
 pub struct Draft<'a, 'b> {
     pub(crate) board: &'a BoardTables<'b>,
@@ -104,7 +104,7 @@ impl<'a, 'b> Draft<'a, 'b> {
         self.board.shown_by(alloc, &self.held)
     }
 
-    /// Adds the places of the pass's controls to a set with room for them.
+    /// Adds the places of the pass's controls to a set, which must have room for them.
     pub fn add_places(&self, places: &mut NumberSet)
         requires { length places.old ≡ length (useful_controls self.now.board) / 64 + 1 }
         ensures room { length places.new ≡ length places.old }

@@ -1,4 +1,4 @@
-// The passes that together enable every tested driver.
+// Makes the passes that together enable every tested driver.
 ghost use Rattle.std.specs.Prelude.{◌≡◌, ◌<◌, ◌≤◌, ◌++◌, ◌∷◌, [], false, true, fold, length, slice_get, take, All, IfOk, IfSome, OnOk};
 ghost use Rattle.std.specs.List.{flat_map, list_any};
 ghost use Rattle.board_defs.specs.Limits.{most_pins};
@@ -179,8 +179,8 @@ fn first_pass_for(alloc: Global, board: &BoardTables<'_>, d: Drive) -> Result<Se
     draft.setting(alloc)
 }
 
-/// Returns a list of the first pass of the board alone, or an empty list if the board has no pass. The first pass is
-/// the pass for the first tested driver, since a board without tested drivers has no paired nets either.
+/// Returns a list that has only the first pass of the board, or an empty list if the board has no pass. The first pass is the pass for
+/// the first tested driver, since a board without tested drivers has no paired nets either.
 pub fn first_pass_by(alloc: Global, board: &BoardTables<'_>) -> Result<Vec<Setting>, AllocError>
     ensures { IfOk result (λ passes. passes.items ≡ take 1 (passes_of board.now)) }
 {

@@ -1,5 +1,5 @@
-//! The passes of a board. They are safe settings. Some pass enables each tested driver, and for every two paired nets,
-//! some pass observes both.
+//! The passes of a board, which are safe settings. For each tested driver, some pass enables it. For every two paired
+//! nets, some pass observes both.
 #![tactic(auto)]
 
 mod alike;

@@ -1,4 +1,4 @@
-// The passes of a board, made in two steps: for the tested drivers, and then for the paired nets.
+// Makes the passes of a board in two steps: first for the tested drivers, then for the paired nets.
 ghost use Rattle.std.specs.Prelude.{◌≡◌, ◌<◌, ◌^◌, length, take, IfOk};
 ghost use Rattle.board_defs.specs.Passes.{ArePasses, passes_of};
 ghost use Rattle.net_classes.specs.Kept.{AreClasses};
@@ -38,8 +38,8 @@ pub fn passes(alloc: Global, board: &Board, classes: &Classes) -> Result<Vec<Set
     passes_by(alloc, &tables)
 }
 
-/// Returns a list of the first pass of the board alone, or an empty list if the board has no pass. The other passes
-/// are not made. The classes must be those of the board.
+/// Returns a list that has only the first pass of the board, or an empty list if the board has no pass. Does not
+/// make the other passes. The classes must be those of the board.
 pub fn first_pass(
     alloc: Global,
     board: &Board,

@@ -1,4 +1,4 @@
-// Sets of numbers, of nets or of places, with a bit for each number.
+// Sets of numbers. The numbers are those of nets or of places, and each has a bit.
 ghost use Rattle.std.specs.Prelude.{◌≡◌, ◌≤◌, ◌<◌, ◌+◌, ◌*◌, ◌/◌, ◌==◌, ◌&&◌, ◌||◌, ℕ, Bool, not, false, true, length, replicate, slice_index_or, All, MatchOption, IfOk};
 ghost use Rattle.net_classes.specs.Pairs.{AreBitsOf};
 ghost use Rattle.driver_passes.specs.inner.Drafts.{has_number};
@@ -224,7 +224,7 @@ impl NumberSet {
         number
     }
 
-    /// Like `first_from`, for the numbers of the set that are not in `others`.
+    /// Like `first_from`, but skips the numbers that are in `others`.
     pub fn first_outside(&self, others: &NumberSet, from: usize, end: usize) -> usize
         ensures passed { (n : ℕ) → from ≤ n → n < result →
             (is_in self.now n && not (is_in others.now n)) ≡ false }
@@ -242,7 +242,7 @@ impl NumberSet {
         number
     }
 
-    /// Returns the bits of the 64 numbers from `64 * number` on, without those of numbers in `others`.
+    /// Returns the bits of the 64 numbers from `64 * number` on that are in this set and not in `others`.
     fn word_less(&self, others: &NumberSet, number: usize) -> u64
         ensures { AreBitsOf (λ n. is_in self.now n && not (is_in others.now n)) number result }
     {

@@ -20,17 +20,16 @@ use net_classes::BoardClasses;
 use net_classes::law::pairs_have_drivers;
 use std::alloc::{AllocError, Global};
 
-/// The passes so far, the nets that each of them shows, and what they show of the current net.
+/// The passes so far, the nets that each of them shows, and the nets that are left for the current net.
 #[derive(Drop)]
 pub struct Pairing {
     pub passes: Vec<Setting>,
     pub rows: Vec<NumberSet>,
     /// The words of the rows that have the bit of the current net.
     pub column: Column,
-    /// The nets after the current one that no pass so far shows together with it.
+    /// The later nets that no pass so far shows together with the current net.
     pub left: NumberSet,
-    /// The nets that every pass so far shows. To look a net up in each row instead would be slow, since the rows are
-    /// far apart in memory.
+    /// The nets that every pass so far shows. Looking up a net in each row instead would be slow, since the rows are far apart in memory.
     pub always: NumberSet,
 }
 

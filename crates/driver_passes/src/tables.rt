@@ -1,4 +1,4 @@
-// A board with the tables that its passes are made from.
+// A board with the tables from which its passes are made.
 ghost use Rattle.std.specs.Prelude.{◌≡◌, ◌≤◌, true, IfOk};
 ghost use Rattle.board_defs.specs.Passes.{useful_controls};
 ghost use Rattle.board_defs.specs.Settings.{holds};
@@ -19,7 +19,7 @@ use net_classes::law::nets_are_shared;
 use std::alloc::{AllocError, Global};
 use std::marker::Model;
 
-/// A board with its classes and the tables that its passes are made from. Contracts see it as the board.
+/// A board with its classes and the tables from which its passes are made. Contracts see it as the board.
 #[derive(Drop)]
 pub struct BoardTables<'a> {
     classes: BoardClasses<'a>,

@@ -1,4 +1,4 @@
-// The nets that each useful control tests. A pass shows the nets that its controls test, and the nets with a driver
+// The nets that each useful control tests. A pass shows the nets that its controls test and the nets with a driver
 // that is always on.
 ghost use Rattle.std.specs.Prelude.{◌≡◌, ◌<◌, ◌/◌, [], true, length, Some, IfOk, OnOk};
 ghost use Rattle.board_defs.specs.Decided.{is_by};

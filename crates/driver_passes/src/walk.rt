@@ -1,4 +1,4 @@
-// The two walks over the useful controls. A walk skips the controls that cannot be added, 64 at a time.
+// The two walks over the useful controls. A walk skips controls that cannot be added, 64 at a time.
 ghost use Rattle.std.specs.Prelude.{◌≡◌, ◌<◌, length};
 ghost use Rattle.board_defs.specs.Passes.{useful_controls};
 ghost use Rattle.driver_passes.specs.inner.Progress.{IsProgress};
@@ -8,8 +8,8 @@ use crate::draft::Draft;
 use crate::drivers::Progress;
 
 impl<'a, 'b> Draft<'a, 'b> {
-    /// Adds the first useful control from place `from` on that is together with all controls of the draft and in no
-    /// earlier pass, if there is one. Returns the place to continue with.
+    /// Adds the first useful control from place `from` on that is in no earlier pass and together with all controls of
+    /// the draft, if there is such a control. Returns the place to continue with.
     fn add_new(&mut self, earlier: &Progress, from: usize) -> usize
         requires earlier { IsProgress self.old.board earlier.now }
         requires from { from < length (useful_controls self.old.board) }
@@ -27,8 +27,8 @@ impl<'a, 'b> Draft<'a, 'b> {
         place + 1
     }
 
-    /// Goes through the useful controls in order, and adds each that is together with all controls of the draft and
-    /// in no earlier pass, so that no earlier pass enables its tested drivers.
+    /// Goes through the useful controls in order, and adds each that is in no earlier pass and together with all
+    /// controls of the draft. So no earlier pass enables the tested drivers of an added control.
     pub fn first_walk(&mut self, earlier: &Progress)
         requires { IsProgress self.old.board earlier.now }
         ensures { self.new ≡ first_walked self.old 0 earlier.now.passes.items }
@@ -40,7 +40,7 @@ impl<'a, 'b> Draft<'a, 'b> {
     }
 
     /// Adds the first useful control from place `from` on that is together with all controls of the draft, if there is
-    /// one. Returns the place to continue with.
+    /// such a control. Returns the place to continue with.
     fn add_next(&mut self, from: usize) -> usize
         requires { from < length (useful_controls self.old.board) }
         ensures board { self.new.board ≡ self.old.board }

@@ -1,4 +1,4 @@
--- Sets of places, as blocks of places that share a word.
+-- Sets of places that are made of blocks. A block has the places of one word.
 use Rattle.std.specs.Prelude.{ℕ, Bool, List}
 use Rattle.std.specs.List.{list_any}
 use Rattle.driver_passes.specs.declared.blocks.Block.{Block}

@@ -1,5 +1,5 @@
--- A pass while it is made. One set has the places of the useful controls in the pass, and the other set has the places of the useful
--- controls that can be added.
+-- A pass that is being made. One set has the places of the useful controls in the pass. The other set has the places of the useful controls
+-- that can be added.
 use Rattle.std.specs.Prelude.{◌≡◌, ℕ, suc, ◌+◌, ◌/◌, ◌==◌, ◌&&◌, Bool, not, cond, List, [], ◌∷◌, length, Some, slice_get}
 use Rattle.std.specs.List.{list_any}
 use Rattle.board_defs.specs.declared.board.Ctl.{Ctl}
@@ -8,7 +8,7 @@ use Rattle.board_defs.specs.Settings.{inserted}
 use Rattle.board_defs.specs.Passes.{fits, useful_controls}
 use Rattle.driver_passes.specs.inner.NumberSets.{is_in}
 
--- a pass while it is made: its board, and the setting so far
+-- a pass that is being made: its board, and the setting so far
 pub record Drafted : Type 0 where
   pub board : RawBoard
   pub setting : List Ctl
@@ -33,8 +33,8 @@ has_number numbers n = list_any (λ m. m == n) numbers
 abbrev pub setting_of : RawBoard → List ℕ → List Ctl
 setting_of board held = chosen (is_in held) 0 (useful_controls board)
 
--- `held` has room for each useful control. `free` has the places of the useful controls that are not in `held` and are together with all
--- controls whose places are in `held`.
+-- `held` has room for each useful control. `free` has the places of the useful controls that are not in `held` and are together with each
+-- control whose place is in `held`.
 pub record IsDraft (board : RawBoard) (held free : List ℕ) : Type 0 where
   pub held_length : length held ≡ length (useful_controls board) / 64 + 1
   pub free_are : (place : ℕ) (c : Ctl) → slice_get (useful_controls board) place ≡ Some c → is_in free place ≡ (not (is_in held place) && fits board (setting_of board held) c)

@@ -1,13 +1,13 @@
--- The walks over the useful controls, from a place on.
+-- The two walks over the useful controls, each from a given place on.
 use Rattle.std.specs.Prelude.{ℕ, List, drop}
 use Rattle.board_defs.specs.declared.board.Ctl.{Ctl}
 use Rattle.board_defs.specs.Passes.{first_walk, second_walk, useful_controls}
 use Rattle.driver_passes.specs.inner.Drafts.{Drafted, drafted}
 
--- the draft once the first walk has gone over the useful controls from this place on
+-- the draft after the first walk over the useful controls from this place on
 abbrev pub first_walked : Drafted → ℕ → List (List Ctl) → Drafted
 first_walked draft from earlier = drafted draft.board (first_walk draft.board (drop from (useful_controls draft.board)) earlier draft.setting)
 
--- the draft once the second walk has gone over the useful controls from this place on
+-- the draft after the second walk over the useful controls from this place on
 abbrev pub second_walked : Drafted → ℕ → Drafted
 second_walked draft from = drafted draft.board (second_walk draft.board (drop from (useful_controls draft.board)) draft.setting)

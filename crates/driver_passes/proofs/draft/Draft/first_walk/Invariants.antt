@@ -3,7 +3,7 @@ use Rattle.board_defs.specs.Passes.{useful_controls}
 use Rattle.driver_passes.specs.inner.Walks.{first_walked}
 use Rattle.driver_passes.proofs.draft.Draft.first_walk.Given as goal
 
--- the walk over the rest gives what the whole walk gives
+-- going over the controls that are left gives the same draft as going over all controls from the start
 abbrev pub invariant-loop-place : goal.invariant-loop-place
 invariant-loop-place l = (l.self.board ≡ l.initial.self.board) × (first_walked l.self l.place l.earlier.passes.items ≡ first_walked l.initial.self 0 l.earlier.passes.items)
 
