@@ -1,5 +1,5 @@
--- A log of a board's test has one diagnosis. Each single fault explains some log, and a comparison with this log decides if the fault
--- explains the given log.
+-- Lemmas about diagnoses. A log of a board's test has one diagnosis. Each single fault explains some log, and a comparison with that log
+-- decides whether the fault explains the given log.
 use Rattle.std.proofs.Common.{◌≡◌, ℕ, zero, suc, ◌==◌, Bool, true, false, cond, ◌&&◌, inl, inr, List, [], ◌∷◌, length, Option, Some, None, Decides, refl, sym, ap, ◌∙◌, subst, arith}
 use Rattle.std.specs.Prelude.{slice_get, filter, count_by}
 use Rattle.std.specs.Bool.{beq}
@@ -36,7 +36,7 @@ both h k = (h.0 && k.0, Decides-and h.0 k.0 h.1 k.1)
 same : {P Q : Type 0} → (P → Q) → (Q → P) → IsDecided P → IsDecided Q
 same to back h = (h.0, Decides-like h.0 to back h.1)
 
--- the list of the items for which P holds: it exists if P is decided for each item, it is unique, and a filter gives it
+-- A list picks the items for which P holds. There is such a list if P is decided for each item, and it is the only one. A filter gives it.
 module _ {A : Type 0} (P : A → Type 0) where
   some_picked : (xs : List A) → ((x : A) → Has xs x → IsDecided (P x)) → (picked : List A) × Picks P xs picked
   some_picked [] each = ([], refl)
@@ -61,7 +61,7 @@ module _ {A : Type 0} (P : A → Type 0) where
       by_test true d picks = inl (filter test xs, d.0 refl, refl, picks)
       by_test false d picks = inr (not_from_Decides false d refl, picks)
 
--- some test decides if two bits agree; they must be equal only if a bit is expected
+-- some test decides whether two bits agree; if a bit is expected, they agree only if they are equal
 agree_at : (o : Option Bool) (x y : Bool) → IsDecided (AgreeAt o x y)
 agree_at None x y = (true, (λ e. tt, λ h. refl))
 agree_at (Some v) x y = (beq x y, booleans_Decides x y)

@@ -1,4 +1,4 @@
--- The nets that differ in a log, and their places among the covered nets.
+-- Lemmas about the nets that differ in a log, and about their places among the covered nets.
 use Rattle.std.proofs.Common.{◌≡◌, ◌⊎◌, inl, inr, ℕ, zero, suc, ◌+◌, ◌*◌, ◌<◌, ◌==◌, Bool, true, false, cond, not, ◌||◌, List, [], ◌∷◌, ◌++◌, length, map, Option, Some, None, is_some, Decides, refl, sym, ap, ◌∙◌, subst, arith}
 use Rattle.std.specs.Prelude.{slice_get, filter, take, count_by, nat_lt, Contains}
 use Rattle.std.specs.List.{enumerate_from}
@@ -45,7 +45,7 @@ module _ (board : RawBoard) (plan : PlanTables) (log : List (List Bool)) where
   pub differ_none : DifferBelow 0 []
   differ_none = record { rising = tt; each = λ n has. absurd has; others = λ n less. absurd (omega (arith, less)) }
 
-  -- adding net `count` if it differs gives the differing nets below `count + 1`
+  -- if net `count` differs, appending it to the differing nets below `count` gives the differing nets below `count + 1`
   pub differ_more : (count : ℕ) (nets : List ℕ) (shown : Bool) → Decides shown (Expected count) → DifferBelow count nets → DifferBelow (count + 1) (nets ++ cond (not shown) (count ∷ []) [])
   differ_more count nets true decides below = subst (λ (l : List ℕ). DifferBelow (count + 1) l) (sym (append-nil nets)) (record {
     rising = below.rising;
@@ -85,7 +85,7 @@ module _ (board : RawBoard) (plan : PlanTables) (log : List (List Bool)) where
           by_earlier (inl has) = inl (has_left nets (count ∷ []) n has)
           by_earlier (inr shows) = inr shows
 
-  -- the differing nets below the number of nets are all differing nets of the board
+  -- if `count` is the number of nets, the differing nets below `count` are all differing nets of the board
   pub differ_all : (count : ℕ) (nets : List ℕ) → count ≡ length board.nets → DifferBelow count nets → AreDiffering board plan log nets
   differ_all count nets all below = record {
     rising = order_pairs (λ (a b : ℕ). a < b) nets below.rising;
@@ -107,13 +107,13 @@ module _ (board : RawBoard) (plan : PlanTables) (log : List (List Bool)) where
           by_hidden (inl has) = has_contains nets n has
           by_hidden (inr shows) = absurd (hidden shows)
 
--- no net is in an empty list
+-- if a net is in an empty list or P holds, then P holds
 not_among : {P : Type 0} (n : ℕ) (nets : List ℕ) → length nets ≡ 0 → Contains nets n ⊎ P → P
 not_among n [] e (inl has) = absurd (contains_has [] n has)
 not_among n [] e (inr p) = p
 not_among n (m ∷ nets) e s = absurd (omega (arith, e))
 
--- no net differs exactly if all nets show the expected bits
+-- the list of differing nets is empty exactly if all nets show the expected bits
 pub none_decides : (board : RawBoard) (plan : PlanTables) (log : List (List Bool)) (nets : List ℕ) → AreDiffering board plan log nets → (P : Type 0) → (P → ShowsAll board plan None log) → (ShowsAll board plan None log → P) → (r : Bool) → r ≡ (length nets == 0) → Decides r P
 none_decides board plan log [] differ P to back r is = (λ e. back (λ x less n within. not_among n [] refl (differ.others n within) x less), λ p. is)
 none_decides board plan log (n ∷ nets) differ P to back r is =

@@ -1,4 +1,4 @@
--- The effect of a fault on a net gives each compared cell the bit that the single fault gives it.
+-- Lemmas which say that the effect of a single fault gives each compared cell of a net the bit that the cell has under this fault.
 use Rattle.std.proofs.Common.{◌≡◌, ◌≢◌, ℕ, ◌==◌, Bool, true, false, cond, ◌||◌, List, Option, Some, None, unwrap_or, refl, sym, ap, ◌∙◌}
 use Rattle.std.specs.Prelude.{slice_get}
 use Rattle.std.proofs.lemmas.Bool.{ne_eqb, eqb-true}
@@ -24,7 +24,7 @@ use Rattle.fault_sim.specs.Effects.{feed_bit, driver_in, place_of_driver, pull_i
 use Rattle.fault_sim.specs.inner.Effects.{fault_bit}
 use Rattle.fault_sim.proofs.FeedLemmas.{driven_is, first_place}
 
--- the fault is a single fault of the board, or there is no fault
+-- `fault` is a single fault of the board, or there is no fault
 abbrev pub IsFault : RawBoard → Option Single → Type 0
 IsFault board None = Unit {0}
 IsFault board (Some single) = IsSingle board single

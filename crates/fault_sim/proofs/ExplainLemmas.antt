@@ -1,4 +1,4 @@
--- Every place whose fault explains the log is among the suspects.
+-- Lemmas which say that every place whose fault explains a log is among the log's suspects.
 use Rattle.std.proofs.Common.{◌≡◌, ◌≢◌, ◌⊎◌, inl, inr, ℕ, zero, suc, ◌+◌, ◌-◌, ◌*◌, ◌/◌, ◌%◌, ◌<◌, ◌≤◌, ◌==◌, Bool, true, false, cond, ◌||◌, List, [], ◌∷◌, ◌++◌, length, drop, get_or, Option, Some, None, refl, sym, ap, ◌∙◌, subst, arith, length-append}
 use Rattle.std.specs.Prelude.{◌↔◌, slice_get, count_by, All, Contains}
 use Rattle.std.specs.List.{flat_map, list_all, range_with_len}
@@ -49,21 +49,21 @@ use Rattle.fault_sim.proofs.OrderLemmas.{place_single}
 use Rattle.fault_sim.proofs.DifferLemmas.{differing_observed, covered_there}
 use Rattle.fault_sim.proofs.SuspectLemmas.{PairAt, pair_at, net_order, net_below, has_stuck, has_open, has_earlier, has_later, pair_order, pair_below, has_pair}
 
--- one or two differing nets are covered nets, and two are in the order of their places among the covered nets
+-- If one net differs, it is a covered net. If two nets differ, they are covered nets, in the order of their places among the covered nets.
 abbrev pub CanSuspect : PlanTables → FaultLists → List ℕ → Type 0
 CanSuspect plan lists [] = Unit {0}
 CanSuspect plan lists (n ∷ []) = covered_place plan n < length lists.nets
 CanSuspect plan lists (m ∷ n ∷ []) = (covered_place plan m < covered_place plan n) × (covered_place plan n < length lists.nets)
 CanSuspect plan lists (m ∷ n ∷ o ∷ nets) = Unit {0}
 
--- place i has this fault; it is a place of a stuck net, of an open pin or of a short
+-- Place i has this fault. The place belongs to a stuck net, to an open pin or to a short.
 pub data PlaceOf (lists : FaultLists) (i : ℕ) (single : Single) : Type 0 where
   at_stuck : (m r net : ℕ) (value : Bool) → slice_get lists.nets m ≡ Some net → r < 2 → i ≡ 2 * m + r → StuckNet net value ≡ single → PlaceOf lists i single
   at_open : (m r : ℕ) (pin : PinRef) (value : Bool) → slice_get lists.pins m ≡ Some pin → r < 2 → i ≡ first_open lists + (2 * m + r) → OpenPin pin value ≡ single → PlaceOf lists i single
   at_short : (a b r x y : ℕ) (kind : Kind) → a < b → slice_get lists.nets a ≡ Some x → slice_get lists.nets b ≡ Some y → r < 4 → i ≡ first_short lists + (4 * pair_number lists a b + r) → Short x y kind ≡ single →
       PlaceOf lists i single
 
--- the fault at place i of some placed faults is fault i of the list
+-- if faults are placed in order, the fault at place i is fault i of the list
 placed_at : (faults : List Single) (i : ℕ) (single : Single) → slice_get (placed faults) i ≡ Some (Some single) → slice_get faults i ≡ Some single
 placed_at [] i single e = cc e
 placed_at (fault ∷ faults) zero single e = let two : Some fault ≡ Some single = cc e in two
@@ -143,7 +143,7 @@ module _ (plan : PlanTables) (lists : FaultLists) (starts : AreStarts (length li
         by_first (inl less) = by_stuck less
         by_first (inr above) = by_second above (cases_lt i (2 * length lists.nets + 2 * length lists.pins))
 
--- a rising list has each number only once
+-- a number has only one place in a list of ascending numbers
 stands_once : (xs : List ℕ) → InOrder (λ (x y : ℕ). x < y) xs → (a b x y : ℕ) → slice_get xs a ≡ Some x → slice_get xs b ≡ Some y → x ≡ y → a ≡ b
 stands_once [] order a b x y ea eb same = cc ea
 stands_once (z ∷ xs) order zero zero x y ea eb same = refl
@@ -151,7 +151,7 @@ stands_once (z ∷ xs) order zero (suc b) x y ea eb same = let first : z ≡ x =
 stands_once (z ∷ xs) order (suc a) zero x y ea eb same = let first : z ≡ y = cc eb in absurd (omega (arith, first, same, order.0 x (has_at xs a x ea)))
 stands_once (z ∷ xs) order (suc a) (suc b) x y ea eb same = ap suc (stands_once xs order.1 a b x y ea eb same)
 
--- the numbers of a rising list rise with their places
+-- of two numbers in a list of ascending numbers, the number at the lower place is lower
 places_order : (xs : List ℕ) → InOrder (λ (x y : ℕ). x < y) xs → (a b x y : ℕ) → slice_get xs a ≡ Some x → slice_get xs b ≡ Some y → a < b → x < y
 places_order [] order a b x y ea eb less = cc ea
 places_order (z ∷ xs) order zero zero x y ea eb less = absurd (omega (arith, less))
@@ -159,7 +159,7 @@ places_order (z ∷ xs) order zero (suc b) x y ea eb less = let first : z ≡ x 
 places_order (z ∷ xs) order (suc a) zero x y ea eb less = absurd (omega (arith, less))
 places_order (z ∷ xs) order (suc a) (suc b) x y ea eb less = places_order xs order.1 a b x y ea eb (omega (arith, less))
 
--- a fault has no effect on a net that is none of the fault's own nets
+-- a fault has no effect on a net that is not one of the fault's own nets
 plain_effect : (board : RawBoard) (plan : PlanTables) (pass : List Ctl) (single : Single) (n : ℕ) → n ≢ first_net single → n ≢ second_net single → effect_of board plan pass single n ≡ Plain
 plain_effect board plan pass (StuckNet net value) n a b = ap (λ (t : Bool). cond t (Constant value) Plain) (ne_eqb n net a)
 plain_effect board plan pass (OpenPin pin value) n a b = ap (λ (t : Bool). cond t (open_effect (place_of_driver (driver_in plan pass n)) pin.place value (pull_in board n)) Plain) (ne_eqb n pin.net a)
@@ -218,7 +218,7 @@ module _ (board : RawBoard) (plan : PlanTables) (lists : FaultLists) (starts : A
     (listed : listed_places plan lists ≡ places_of board)
     (singles : (i : ℕ) (single : Single) → slice_get (places_of board) i ≡ Some (Some single) → IsSingle board single) where
   module _ (nets : List ℕ) (differ : AreDiffering board plan log nets) where
-    -- each net that differs is at its place among the covered nets
+    -- the list of covered nets has each net that differs at its `covered_place`
     stands : (n : ℕ) → Contains nets n → slice_get lists.nets (covered_place plan n) ≡ Some n
     stands n h = let e = (differ.exactly n).0 h in there n e.0 e.1
 
@@ -393,7 +393,7 @@ module _ (board : RawBoard) (plan : PlanTables) (lists : FaultLists) (starts : A
   suspects_below (m ∷ n ∷ []) can i h = pair_below lists starts (covered_place plan m) (covered_place plan n) can.0 can.1 i h
   suspects_below (m ∷ n ∷ o ∷ nets) can i h = absurd h
 
-  -- the number of suspects
+  -- the tested pins from pin `from` on give two suspects for each pin of net n
   pins_counted : (n from count : ℕ) → from + count ≡ length lists.pins → length (flat_map (pin_suspects lists n) (range_with_len from count)) ≡ 2 * count_by (λ (pin : PinRef). pin.net == n) (drop from lists.pins)
   pins_counted n from zero e =
       let whole : from ≡ length lists.pins = omega (arith, e) in

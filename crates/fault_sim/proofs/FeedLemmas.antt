@@ -1,4 +1,4 @@
--- The bit that a pass drives a net to, found in the tables of a plan.
+-- Lemmas about the bit to which a pass drives a net, which follows from the tables of a plan.
 use Rattle.std.proofs.Common.{◌≡◌, ℕ, ◌+◌, ◌==◌, Bool, true, false, cond, not, ◌&&◌, List, [], map, get_or, Option, Some, None, is_some, unwrap_or, refl, sym, ap, ◌∙◌, subst}
 use Rattle.std.specs.Prelude.{slice_get, option_map, option_and_then}
 use Rattle.std.specs.List.{list_any}
@@ -73,7 +73,7 @@ module _ (board : RawBoard) (rules : IsBoard board) (plan : PlanTables) (p : IsP
         subst (λ (l : List NetDriver). FirstOn board (holds pass) 0 net.pins (enabled_in (holds pass) l)) (sym (drivers_are ∙ pins_are))
         (first_on board (holds pass) 0 net.pins)
 
-    -- facts about the enabled driver
+    -- the driver that the pass enables on the net
     module _ (d : NetDriver) (enabled : driver_in plan pass n ≡ Some d) where
       pub first_place : first_enabled board (holds pass) 0 net.pins ≡ Some d.place
       first_place = (subst (λ (o : Option NetDriver). FirstOn board (holds pass) 0 net.pins o) enabled first_is).0
@@ -128,7 +128,7 @@ module _ (board : RawBoard) (rules : IsBoard board) (plan : PlanTables) (p : IsP
         abbrev safe_value : Bool
         safe_value = unwrap_or (safe_bit t.device entry.num) false
 
-        -- the bit of the driver's cell if this cell carries no net's code
+        -- in the quiet row, the driver's cell has its disable value if it controls a driver, and otherwise its safe value
         quiet_is : get_or plan.quiet.bits d.position false ≡ cond controls off safe_value
         quiet_is =
             ap (λ (l : List Bool). get_or l d.position false)
@@ -157,7 +157,7 @@ module _ (board : RawBoard) (rules : IsBoard board) (plan : PlanTables) (p : IsP
                 ap (λ (b : Bool). cond controls (cond b (not off) off) safe_value) (held_own ∙ e)
                 ∙ sym quiet_is
 
-        -- the bit of the driver's cell
+        -- the driver's cell carries the net's bit exactly if the pass observes the net by this driver
         data_is : data_bit board row at.part t.device entry.num ≡ data_observed (row.carried n) d.place (observing_driver board (holds pass) net)
         data_is =
             ap (λ (o : Option Cell). option_and_then (λ e. data_pin board row at.part e.bit) o) (driving_cell_is t.device t.wired at.bit entry drives)
@@ -233,7 +233,7 @@ module _ (board : RawBoard) (rules : IsBoard board) (plan : PlanTables) (p : IsP
             ∙ feeds_is
             ∙ ap (λ (b : Bool). unless_off (cond (is_own d.own d.ctl) net.pull None) b) bit_is
 
-    -- the bit that the net is driven to is the bit of its feed
+    -- the pass drives the net to the bit of the net's feed
     pub driven_is : (j : ℕ) → driven_to board (code_row board plan.passes pass j) (Some net) ≡ feed_bit (net_feed board plan pass n) j
     driven_is j =
         by_driver (driver_in plan pass n) refl first_is

@@ -1,4 +1,4 @@
--- The kept passes of a test, and the results of look-ups in them.
+-- Lemmas about the kept passes of a test and about the results of look-ups in them.
 use Rattle.std.proofs.Common.{◌≡◌, ℕ, ◌<◌, Bool, true, false, ◌&&◌, cond, List, [], length, get_or, Option, Some, None, refl, subst}
 use Rattle.std.specs.Prelude.{option_map, slice_get}
 use Rattle.std.proofs.lemmas.Bool.{both_ways}
@@ -16,7 +16,7 @@ use Rattle.fault_sim.specs.Kept.{AreDrivers, AreRows, IsRow, KeepDrivers, KeepRo
 use Rattle.fault_sim.specs.inner.Kept.{drivers_of, feed_of, is_code, kept_drivers, kept_rows, observes_coded, rows_of}
 use Rattle.fault_sim.specs.inner.Tested.{observes_by, observes_in, paired_in}
 
--- the kept drivers of a pass, and then its kept rows, are those of the pass
+-- the drivers that a look-up of pass x returns are drivers of this pass
 pub drivers_kept : (plan : PlanTables) (kept : List KeptPass) → KeepDrivers plan kept → (x : ℕ) → AreDrivers plan (get_or plan.passes x []) (kept_drivers kept x)
 drivers_kept plan kept keep x n driver = by_pass (slice_get kept x) refl
   where
@@ -32,7 +32,7 @@ rows_kept board plan kept keep x j row = by_pass (slice_get kept x) refl
     by_pass (Some pass) at e = keep x pass at j row e
 
 module _ (plan : PlanTables) (pass : List Ctl) (n : ℕ) where
-  -- the place of the enabled driver's pin, and the feed that the driver gives its net
+  -- the enabled driver's place is the place of the driver that the pass enables on the net
   pub place_is : option_map (λ d. d.place) (enabled_driver plan pass n) ≡ place_of_driver (driver_in plan pass n)
   place_is = by_driver (driver_in plan pass n)
     where

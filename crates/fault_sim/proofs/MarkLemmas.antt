@@ -1,4 +1,4 @@
--- Marks of digits. A net shows the expected bits if none of the digits of its cells is marked.
+-- Lemmas about marks of digits. A net shows the expected bits if none of the digits of its cells is marked.
 use Rattle.std.proofs.Common.{◌≡◌, ◌⊎◌, inl, inr, ℕ, suc, ◌+◌, ◌*◌, ◌/◌, ◌%◌, ◌<◌, ◌≤◌, ◌==◌, Bool, true, false, not, ◌||◌, List, [], length, get_or, set, min, max, Option, Some, None, is_some, unwrap_or, refl, sym, ap, ◌∙◌, subst, arith}
 use Rattle.std.specs.Prelude.{slice_get}
 use Rattle.std.specs.List.{list_all}
@@ -52,7 +52,7 @@ or_zeros a b none = (same_from_bits a 0 (λ i. omega (arith, union i, bit_at-zer
     union : (i : ℕ) → max (bit_at a i) (bit_at b i) ≡ 0
     union i = sym (bit_at_or a b i) ∙ ap (λ (n : ℕ). bit_at n i) none ∙ bit_at-zero i
 
--- once digit k is checked, each unmarked digit up to k was unmarked at the start and has no wrong bit
+-- If a loop has checked digits 0 to k, each unmarked digit among them was unmarked at the start and has no wrong bit.
 module _ (start marks : List ℕ) (wrong : ℕ → ℕ) (k : ℕ) (left : (i : ℕ) → k ≤ i → get_or marks i 0 ≡ get_or start i 0) where
   pub marked_more : k < length marks → ((i : ℕ) → i < k → get_or marks i 0 ≡ 0 → (get_or start i 0 ≡ 0) × (wrong i ≡ 0)) → (i : ℕ) → i < k + 1 → get_or (set marks k (bit_or (get_or marks k 0) (wrong k))) i 0 ≡ 0 →
       (get_or start i 0 ≡ 0) × (wrong i ≡ 0)
@@ -71,7 +71,7 @@ module _ (start marks : List ℕ) (wrong : ℕ → ℕ) (k : ℕ) (left : (i : �
   pub unmarked_left : (mark i : ℕ) → k + 1 ≤ i → get_or (set marks k mark) i 0 ≡ get_or start i 0
   unmarked_left mark i le = get_or-set_other marks k i mark 0 (λ same. omega (arith, le, same)) ∙ left i (omega (arith, le))
 
--- each row of a pass is a row of the log
+-- if a log has a row for each row of each pass, it has row j of pass x
 pub row_there : (passes width x j rows : ℕ) → rows ≡ passes * width → x < passes → j < width → x * width + j < rows
 row_there passes width x j rows count x_less j_less = omega (arith, mul-add-lt x width j passes x_less j_less, commute width passes, count)
   where
@@ -173,7 +173,7 @@ module _ (board : RawBoard) (rules : IsBoard board) (plan : PlanTables) (p : IsP
           by_driver x None = tt
           by_driver x (Some d) = λ j less. refl
 
--- once pass x is checked too, the marks are right for the first x + 1 passes
+-- if the marks are right for the first x passes, they are right for the first x + 1 passes after pass x is checked
 pub pass_more : (board : RawBoard) (plan : PlanTables) (log : List (List Bool)) (x : ℕ) (old new : List ℕ) → AreMarks board plan log x old → MarkRows board plan log x plan.width old new → AreMarks board plan log (x + 1) new
 pass_more board plan log x old new are more at within unmarked pass less = by_pass (cases_eq pass x)
   where

@@ -1,4 +1,4 @@
--- The checks of a log decide whether a fault explains the log and whether the log is the expected one.
+-- Lemmas which say that the checks of a log decide whether a fault explains the log and whether the log is the expected one.
 use Rattle.std.proofs.Common.{◌≡◌, ℕ, ◌*◌, ◌<◌, Bool, List, length, Option, Some, None, Decides, sym, ap, ◌∙◌, subst, inl, inr}
 use Rattle.std.specs.Prelude.{◌↔◌, All}
 use Rattle.std.proofs.lemmas.Option.{slice_get_within}
@@ -22,11 +22,11 @@ use Rattle.fault_sim.specs.Fits.{ShowsAll}
 use Rattle.fault_sim.proofs.EffectLemmas.{IsFault}
 use Rattle.fault_sim.proofs.ShowLemmas.{bits_shown, all_shown}
 
--- a decision of one statement also decides an equivalent statement
+-- a test that decides a statement also decides an equivalent statement
 pub decides_as : {P Q : Type 0} (r : Bool) → Decides r P → (P → Q) → (Q → P) → Decides r Q
 decides_as r decides to back = (λ e. to (decides.0 e), λ q. decides.1 (back q))
 
--- the nets of a single fault are on the board
+-- the nets of a board's single fault are on the board
 pub nets_there : (board : RawBoard) (single : Single) → IsSingle board single → (first_net single < length board.nets) × (second_net single < length board.nets)
 nets_there board (StuckNet net value) (setting, safe, (v, en, o)) = (slice_get_within board.nets net v en, slice_get_within board.nets net v en)
 nets_there board (OpenPin pin value) (inl (setting, safe, (v, en, o))) = (slice_get_within board.nets pin.net v en, slice_get_within board.nets pin.net v en)

@@ -1,4 +1,4 @@
--- The order of single faults, and the places of suspects.
+-- Lemmas about the order of single faults and about the places of suspects.
 use Rattle.std.proofs.Common.{◌≡◌, inl, inr, ℕ, ◌<◌, Bool, true, false, sym, subst, arith}
 use Rattle.std.specs.Prelude.{All}
 use Rattle.board_defs.specs.declared.board.PinRef.{PinRef}

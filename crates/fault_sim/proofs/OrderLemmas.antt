@@ -1,4 +1,5 @@
--- If places rise and include every fault that passes a test, filtering the faults at these places gives all faults that pass.
+-- Lemmas about places in ascending order. If they include every fault that passes a test, filtering the faults at these places gives all
+-- faults that pass.
 use Rattle.std.proofs.Common.{◌≡◌, ◌⊎◌, inl, inr, ℕ, zero, suc, ◌+◌, ◌-◌, ◌<◌, ◌≤◌, Bool, true, false, cond, List, [], ◌∷◌, ◌++◌, length, Option, Some, None, refl, sym, ap, ◌∙◌, subst, arith, length-append}
 use Rattle.std.specs.Prelude.{slice_get, filter, filter_map, option_and_then}
 use Rattle.std.specs.List.{flat_map, cons_option}
@@ -18,7 +19,7 @@ use Rattle.fault_sim.specs.Starts.{pairs_before}
 use Rattle.fault_sim.specs.Laws.{PlacesCounted, SuspectsSuffice}
 use Rattle.fault_sim.proofs.PlaceLemmas.{length-flat, length-pairs, places_are}
 
--- the number of places is the one that the lists give
+-- a board has as many places as `place_count` computes from its lists
 pub places_counted : PlacesCounted
 places_counted board lists universe =
     let nets : length lists.nets ≡ length (covered_nets board) = ap (λ (l : List ℕ). length l) universe.nets ∙ length-map (covered_nets board) (λ (net : Numbered). net.0) in
@@ -65,7 +66,7 @@ module _ (test : Single → Bool) where
   none_here first [] = refl
   none_here first (i ∷ numbers) = none_here first numbers
 
-  -- a further place in front of the list changes none of the faults, since all numbers are above this place
+  -- if all numbers are above `first`, one more place in front of the list changes none of the faults
   moved : (place : Option Single) (places : List (Option Single)) (first : ℕ) (numbers : List ℕ) → ((i : ℕ) → Has numbers i → first + 1 ≤ i) → faults_from (place ∷ places) first numbers ≡ faults_from places (first + 1) numbers
   moved place places first [] above = refl
   moved place places first (i ∷ numbers) above =
@@ -151,7 +152,7 @@ from_first board (i ∷ numbers) =
     ap (λ (k : ℕ). cons_option (fault_at board k) (faults_from (places_of board) 0 numbers)) same
     ∙ ap (λ (l : List Single). cons_option (fault_at board i) l) (from_first board numbers)
 
--- the faults of suspects that pass the test are all single faults that pass it
+-- if a test passes only faults that explain the log, the suspects' faults that pass it are all single faults that pass it
 pub suffice : SuspectsSuffice
 suffice board plan lists log suspects rules are test only =
     sym (ap (λ (l : List Single). filter test l) (places_are board))

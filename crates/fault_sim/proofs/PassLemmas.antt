@@ -1,4 +1,4 @@
--- Facts about the passes of a test and about their rows in a log.
+-- Lemmas about the passes of a test and about their rows in a log.
 use Rattle.std.proofs.Common.{◌≡◌, ◌⊎◌, inl, inr, ℕ, suc, ◌+◌, ◌*◌, ◌<◌, ◌≤◌, Bool, List, length, sym, subst, arith}
 use Rattle.std.proofs.lemmas.Bool.{cases_eq}
 use Rattle.std.proofs.lemmas.Nat.{mul-le}
@@ -6,7 +6,7 @@ use Rattle.std.proofs.Math.Nat.{suc-mul}
 use Rattle.fault_sim.specs.Kept.{IsLogOf}
 use Rattle.fault_sim.specs.Planned.{PlannedBoard}
 
--- if P holds for all passes before pass x and for pass x, it holds for all passes before x + 1
+-- if P holds for pass x and for all passes before pass x, it holds for all passes before pass x + 1
 pub passes_more : (P : ℕ → Type 0) (x : ℕ) → ((k : ℕ) → k < x → P k) → P x → (k : ℕ) → k < x + 1 → P k
 passes_more P x before here k less = by_pass (cases_eq k x)
   where
@@ -17,6 +17,6 @@ passes_more P x before here k less = by_pass (cases_eq k x)
         lower : (k ≡ x → ⊥) → k < x
         lower ne = grind arith
 
--- all rows of a pass are in the log
+-- if a log has the rows of the test, it has all rows of pass x
 pub rows_within : (test : PlannedBoard) (log : List (List Bool)) (x : ℕ) → IsLogOf test log → x < length test.plan.passes → x * test.plan.width + test.plan.width ≤ length log
 rows_within test log x is less = omega (arith, is.rows, suc-mul x test.plan.width, mul-le (suc x) test.plan.width (length test.plan.passes) test.plan.width less (omega arith))

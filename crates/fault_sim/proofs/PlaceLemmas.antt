@@ -1,4 +1,4 @@
--- The list of a board's places, and the fault at each place.
+-- Lemmas about the list of a board's places and about the fault at each place.
 use Rattle.std.proofs.Common.{◌≡◌, ◌⊎◌, inl, inr, ℕ, zero, suc, ◌+◌, ◌-◌, ◌*◌, ◌<◌, ◌≤◌, ◌==◌, Bool, true, false, cond, ◌&&◌, List, [], ◌∷◌, ◌++◌, length, map, get_or, Option, Some, None, refl, sym, ap, ◌∙◌, arith, length-append}
 use Rattle.std.specs.Prelude.{slice_get, filter, filter_map, option_and_then, option_map}
 use Rattle.std.specs.List.{flat_map}
@@ -29,7 +29,7 @@ use Rattle.fault_sim.specs.Laws.{PlacesAre}
 use Rattle.fault_sim.specs.Places.{placed, pair_places, stuck_places, open_places, short_places, number_places, listed_at, listed_places, place_count, where_observed}
 use Rattle.fault_sim.specs.Starts.{pairs_before, AreStarts}
 
--- the faults at the places that `placed` gives some faults are these faults
+-- if faults are placed in order, the faults at these places are the given faults
 placed_faults : (faults : List Single) → filter_map (λ place. place) (placed faults) ≡ faults
 placed_faults [] = refl
 placed_faults (fault ∷ faults) = ap (λ (l : List Single). fault ∷ l) (placed_faults faults)
@@ -186,7 +186,7 @@ length-pairs {X} (x ∷ xs) =
     length-append (map (λ v. let p : X × X = (x, v) in p) xs) (pairs_within xs)
     ∙ omega (arith, length-map xs (λ v. let p : X × X = (x, v) in p), length-pairs xs)
 
--- the number of pairs before those of net a + 1, and bounds of such numbers
+-- net a has a pair with each of the `nets - (a + 1)` later nets, so this many pairs come between `pairs_before` of a and of a + 1
 pub before_more : (nets a : ℕ) → a < nets → pairs_before nets (suc a) + suc a ≡ pairs_before nets a + nets
 before_more zero a less = absurd (omega (arith, less))
 before_more (suc nets) zero less = by_nets nets
@@ -246,7 +246,7 @@ pair_within nets starts s same are low k start within above below is =
     let moved : pairs_before nets (suc low) ≡ pairs_before nets (low + 1) = ap (λ (i : ℕ). pairs_before nets i) step in
     (omega (arith, above, below, is, first, next, more, moved, within, rows), omega (arith, above, below, is, first, next, more, moved))
 
--- the two faults of a stuck net, the two of an open pin and the four of two nets
+-- fault r of a stuck net is stuck at r
 pub stuck_fault : (net r : ℕ) → r < 2 → slice_get (stuck_faults net) r ≡ Some (StuckNet net (r == 1))
 stuck_fault net zero less = refl
 stuck_fault net (suc zero) less = refl
@@ -281,7 +281,7 @@ length-four plan pair = by_test (paired_in plan pair.0 pair.1)
 abbrev pub at_once : Option (Option Single) → Option Single
 at_once place = option_and_then (λ fault. fault) place
 
--- the fault at place i of some placed faults is fault i of the list
+-- if faults are placed in order, the fault at place i is fault i of the list
 placed_there : (faults : List Single) (i : ℕ) → listed_at (placed faults) i ≡ slice_get faults i
 placed_there faults i = ap at_once (slice_get-map (λ f. Some f) faults i) ∙ by_fault (slice_get faults i)
   where
@@ -302,7 +302,7 @@ open_observed plan (pin ∷ pins) zero = refl
 open_observed plan (pin ∷ pins) (suc zero) = refl
 open_observed plan (pin ∷ pins) (suc (suc i)) = open_observed plan pins i
 
--- the places of two nets have the faults of their shorts if some pass observes both nets
+-- if some pass observes both nets, the places of the two nets have the faults of their shorts
 pub short_there : (plan : PlanTables) (a b r : ℕ) (kind : Kind) → r < 4 → kind_rank kind ≡ r → at_once (slice_get (number_places plan (a, b)) r) ≡ where_observed plan (Some (Short a b kind))
 short_there plan a b r kind less rank = by_test (paired_in plan a b)
   where

@@ -1,4 +1,5 @@
--- The bits that drivers give their nets and the bits of compared cells under faults, row by row, worked by hand.
+-- Samples of the bits that drivers give their nets and of the bits of compared cells under faults, row by row. The values are
+-- worked by hand.
 use Rattle.std.proofs.Common.{◌≡◌, Bool, true, false, [], ◌∷◌, map, Option, Some, None, refl}
 use Rattle.board_defs.specs.declared.fault.Kind.{Kind}
 use Rattle.board_defs.specs.declared.fault.Kind.TheVariants.{And, Or, First, Second}

@@ -1,5 +1,5 @@
--- The suspects of small boards, worked by hand. A board has two places for each covered net, two for each tested pin and four for each
--- pair.
+-- Samples of the suspects of small boards, worked by hand. A board has two places for each covered net, two for each tested pin, and four
+-- for each pair.
 use Rattle.std.proofs.Common.{◌≡◌, ◌≤◌, ℕ, zero, suc, [], ◌∷◌, get_or, refl, arith}
 use Rattle.fault_sim.specs.declared.fault_lists.FaultLists.{FaultLists}
 use Rattle.fault_sim.specs.Places.{place_count}
@@ -54,7 +54,7 @@ three_starts = record { count = refl; each = each }
     each (suc (suc (suc zero))) le = refl
     each (suc (suc (suc (suc a)))) le = absurd (omega (arith, le))
 
--- three covered nets, of which the second and the third have no tested pin; their pairs in order are 0 and 1, 0 and 2, 1 and 2
+-- three covered nets, of which only the first has a tested pin; their pairs in order are 0 and 1, 0 and 2, 1 and 2
 abbrev three_nets : FaultLists
 three_nets = record { nets = 3 ∷ 5 ∷ 8 ∷ []; pins = record { net = 3; place = 1 } ∷ []; starts = 0 ∷ 2 ∷ 3 ∷ 3 ∷ []; few = omega arith; few_pins = omega arith; starts_are = three_starts }
 

@@ -1,4 +1,4 @@
--- A log shows the effects of a fault exactly if each compared cell has the bit that the fault gives it.
+-- Lemmas which say that a log shows the effects of a fault exactly if each compared cell has the bit that the fault gives it.
 use Rattle.std.proofs.Common.{◌≡◌, ◌≢◌, ◌⊎◌, inl, inr, ℕ, zero, suc, ◌+◌, ◌-◌, ◌*◌, ◌<◌, ◌≤◌, ◌==◌, Bool, true, false, cond, not, ◌&&◌, ◌||◌, List, [], length, get_or, Option, Some, None, refl, sym, ap, ◌∙◌, subst, arith}
 use Rattle.std.specs.Prelude.{slice_get, option_and_then, All}
 use Rattle.std.specs.List.{list_all}
@@ -72,8 +72,8 @@ row_of (suc passes) width y less = by_side (cases_lt y (passes * width)) (row_of
       row_is = omega (arith, above);
     }
 
--- a cell that reads a net at a pin other than that of the enabled driver; row j of the pass compares the cell with the bit of the net's
--- code
+-- A cell that reads the net on a pin other than the enabled driver's pin. Row j of the pass compares this cell with the bit of the net's
+-- code.
 pub record ComparedCell (board : RawBoard) (plan : PlanTables) (pass : List Ctl) (j n : ℕ) (net : Net) (reader : ReaderCell) : Type 0 where
   pub part : ℕ
   pub device : RawDevice
@@ -152,7 +152,7 @@ module _ (board : RawBoard) (rules : IsBoard board) (plan : PlanTables) (p : IsP
 module _ (board : RawBoard) (rules : IsBoard board) (plan : PlanTables) (p : IsPlanOf board plan) (fault : Option Single) (is_fault : IsFault board fault) (log : List (List Bool))
     (rows : length log ≡ length plan.passes * plan.width) (bits : All (λ row. length row ≡ data_bits board) log)
     (scans : List RowScan) (compare : CompareRows (code_row board plan.passes) plan.width plan.passes (compared_scans board scans)) where
-  -- facts about row j of pass x
+  -- row j of pass x
   module _ (x : ℕ) (pass : List Ctl) (stands : slice_get plan.passes x ≡ Some pass) (j : ℕ) (less : j < plan.width) where
     abbrev row : TestRow
     row = code_row board plan.passes pass j
@@ -172,7 +172,7 @@ module _ (board : RawBoard) (rules : IsBoard board) (plan : PlanTables) (p : IsP
         grind-times : (a b : ℕ) → a * b ≡ b * a
         grind-times a b = grind arith
 
-    -- a cell, and its position in this row of the log
+    -- a cell of a part, and its position in this row of the log
     module _ (logged : List Bool) (is_logged : slice_get log number ≡ Some logged) (part : ℕ) (device : RawDevice) (cell : ℕ) (is_device : device_at board part ≡ Some device) (below : cell < device.boundary) where
       abbrev position : ℕ
       position = first_position board part + cell
@@ -334,7 +334,7 @@ module _ (board : RawBoard) (rules : IsBoard board) (plan : PlanTables) (p : IsP
       by_driver pass stands v is_v None e = tt
       by_driver pass stands v is_v (Some d) e = λ j less. cells_are_shown x pass stands j less shows n v is_v d e
 
--- each cell that reads a net has a position in a data scan; a number that no net has is read by no cell
+-- Each cell that reads a net has a position in a data scan. No cell reads a net whose number is past the last net.
 pub readers_inside : (board : RawBoard) → IsBoard board → (plan : PlanTables) → IsPlanOf board plan → (n : ℕ) → All (λ r. r.position < data_bits board) (readers_in plan n)
 readers_inside board rules plan p n = by_side (cases_lt n (length plan.readers))
   where

@@ -1,4 +1,4 @@
--- The bits that the compared cells of a net show, as words.
+-- Lemmas about the words of the bits that the compared cells of a net show.
 use Rattle.std.proofs.Common.{◌≡◌, ◌⊎◌, inl, inr, ℕ, zero, suc, ◌+◌, ◌-◌, ◌<◌, ◌≤◌, ◌^◌, ◌==◌, ltb, Bool, true, false, not, ◌&&◌, ◌||◌, List, [], get_or, Option, Some, None, refl, sym, ap, ◌∙◌, arith}
 use Rattle.std.specs.Prelude.{bit_and, bit_or, option_and_then, slice_get}
 use Rattle.std.specs.Int.{bit_at}
@@ -13,7 +13,7 @@ use Rattle.fault_sim.specs.Fits.{bit_in}
 use Rattle.fault_sim.specs.inner.Words.{AgreesWith, word_bit}
 use Rattle.fault_sim.proofs.WordLemmas.{and_word, not_word, or_word}
 
--- the rows in which some cell shows a bit other than the bit of the word
+-- the rows in which some cell shows another bit than the word has
 abbrev pub clashes : ShownWords → ℕ → ℕ
 clashes shown word = bit_or (bit_and shown.ones (4294967295 - word)) (bit_and shown.zeros word)
 
@@ -93,7 +93,7 @@ row_more bits i j bit is = by_place (cases_lt i j) (cases_eq i j)
         ∙ ap (λ (b : Bool). b && bit) (ne_eqb i j other)
         ∙ sym (ap (λ (b : Bool). b && bits i) (le-ltb i (j + 1) (omega (arith, past, other))))
 
--- the bit that a look-up in the log returns
+-- if a look-up in the log finds a bit, `bit_in` returns this bit
 pub bit_is : (log : List (List Bool)) (row at : ℕ) (bit : Bool) → log_bit log row at ≡ Some bit → bit_in log row at ≡ bit
 bit_is log row at bit is = by_row (slice_get log row) refl is
   where

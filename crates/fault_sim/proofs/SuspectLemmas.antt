@@ -1,4 +1,4 @@
--- The suspects rise, and every place whose fault explains the log is among them.
+-- Lemmas which say that the suspects are in ascending order, and that every place whose fault explains the log is among them.
 use Rattle.std.proofs.Common.{◌≡◌, ◌⊎◌, inl, inr, ℕ, zero, suc, ◌+◌, ◌-◌, ◌*◌, ◌<◌, ◌≤◌, Bool, true, false, cond, List, [], ◌∷◌, ◌++◌, length, map, Option, Some, None, refl, sym, ap, ◌∙◌, subst, arith}
 use Rattle.std.specs.Prelude.{slice_get, option_map}
 use Rattle.std.specs.List.{flat_map, range_with_len}
@@ -15,7 +15,7 @@ use Rattle.fault_sim.specs.Starts.{pairs_before, AreStarts}
 use Rattle.fault_sim.specs.inner.Suspects.{two_from, four_from, first_open, first_short, pair_number, pair_suspects, pin_net, is_net, pin_suspects, net_suspects}
 use Rattle.fault_sim.proofs.PlaceLemmas.{before_more}
 
--- the bounds of the places in `two_from` and `four_from`
+-- each place in `two_from` is at least its first place and less than two places after it
 two_has : (first i : ℕ) → Has (two_from first) i → (first ≤ i) × (i < first + 2)
 two_has first i (inl e) = (omega (arith, e), omega (arith, e))
 two_has first i (inr (inl e)) = (omega (arith, e), omega (arith, e))
@@ -68,7 +68,7 @@ four_order first = (λ y h. after_first y h, (λ y h. after_second y h, (λ y h.
     after_first y (inr (inr (inl e))) = omega (arith, e)
     after_first y (inr (inr (inr none))) = absurd none
 
--- the number of pairs before those of net a rises with a
+-- the number of pairs before the pairs of net a does not fall as a rises
 pub before_rises : (nets a b : ℕ) → a ≤ b → b ≤ nets → pairs_before nets a ≤ pairs_before nets b
 before_rises nets a zero le within = let e : a ≡ 0 = omega (arith, le) in omega (arith, ap (λ (i : ℕ). pairs_before nets i) e)
 before_rises nets a (suc b) le within = by_side (cases_eq a (suc b)) (λ below. before_rises nets a b below (omega (arith, within)))
@@ -148,7 +148,7 @@ module _ (lists : FaultLists) (starts : AreStarts (length lists.nets) lists.star
   pub number_below : (a b : ℕ) → a < b → b < nets → pair_number lists a b < pairs_before nets nets
   number_below a b ab b_in = omega (arith, number_high a b ab b_in, before_rises nets (suc a) nets (omega (arith, ab, b_in)) (omega arith))
 
-  -- the suspects if one net differs; they rise and are places of the board
+  -- if only net n differs, its suspects are in ascending order and are places of the board
   module _ (n k : ℕ) (k_in : k < nets) where
     abbrev pins : List ℕ
     pins = flat_map (pin_suspects lists n) (range_with_len 0 (length lists.pins))
@@ -268,7 +268,7 @@ module _ (lists : FaultLists) (starts : AreStarts (length lists.nets) lists.star
         by_stuck (inl h) = omega (arith, (two_has (2 * k) i h).1, k_in)
         by_stuck (inr h) = by_open (has_append pins (earlier ++ later) i h)
 
-    -- the places of the faults of net n are among its suspects
+    -- the places of net n's stuck faults are among its suspects
     pub has_stuck : (r i : ℕ) → r < 2 → i ≡ 2 * k + r → Has (net_suspects lists n k) i
     has_stuck r i less e = has_left (two_from (2 * k)) (pins ++ (earlier ++ later)) i (has_two (2 * k) r i less e)
 
@@ -298,7 +298,7 @@ module _ (lists : FaultLists) (starts : AreStarts (length lists.nets) lists.star
         (has_flat_map (λ c. pair_suspects lists k c) (range_with_len (suc k) (nets - suc k)) b i (has_range (suc k) (nets - suc k) b (omega (arith, above)) (omega (arith, within, above)))
         (has_four (place_of k b) r i less (omega (arith, e))))))
 
-  -- the suspects if two nets differ
+  -- if two nets differ, their suspects are in ascending order
   pub pair_order : (a b : ℕ) → InOrder Rises (pair_suspects lists a b)
   pair_order a b = four_order (first_short lists + 4 * pair_number lists a b)
 

@@ -1,4 +1,4 @@
--- If a fault explains a log, each pass of the log shows the bits that the fault gives its nets.
+-- Lemmas which say that, if a fault explains a log, each pass of the log shows the bits that the fault gives its nets.
 use Rattle.std.proofs.Common.{◌≡◌, ◌⊎◌, inl, inr, ℕ, ◌+◌, ◌<◌, ◌==◌, ltb, Bool, true, false, not, ◌&&◌, ◌||◌, List, [], ◌∷◌, length, Option, Some, None, refl, sym, ◌∙◌, arith}
 use Rattle.std.specs.List.{list_all, list_any}
 use Rattle.std.proofs.lemmas.Bool.{and_parts, both_ways, ltb-true}
@@ -18,14 +18,14 @@ use Rattle.fault_sim.specs.inner.Telling.{IsTellingNet, IsWordOn}
 use Rattle.fault_sim.specs.inner.Words.{AgreesWith, AreRowsOf, AreShown, shows_beside, some_shows, word_bit}
 use Rattle.fault_sim.proofs.MatchLemmas.{nets_there}
 
--- if a word has the rows in which some cell has a bit, each row of the word is a row of the pass in which some cell has this bit
+-- If a word has the rows in which some cell has a bit, then each row of the word is a row of the pass, and some cell has the bit in it.
 row_there : (rows : RowsOfNet) (bit : Bool) (driver : Option ℕ) (word : ℕ) → AreRowsOf rows bit driver word → (j : ℕ) → j < 32 → word_bit word j ≡ true →
     (j < rows.width) × (some_shows rows.log (rows.first + j) bit rows.readers driver ≡ true)
 row_there rows bit driver word are j less on =
     let parts = and_parts (ltb j rows.width) (some_shows rows.log (rows.first + j) bit rows.readers driver) (sym (are j less) ∙ on) in
     (ltb-true j rows.width parts.0, parts.1)
 
--- if some cell has a bit, and all cells have the bit of an effect, the two bits are equal
+-- if some cell has a bit, and all cells have the bits that an effect gives them, the effect gives that bit
 bit_shown : (log : List (List Bool)) (row driver j : ℕ) (effect : Effect) (expected bit value : Bool) → ((place : ℕ) → value ≡ effect_bit effect j place expected) → (readers : List ReaderCell) →
     list_any (shows_beside log row bit driver) readers ≡ true → list_all (cell_shows log row driver effect j expected) readers ≡ true → value ≡ bit
 bit_shown log row driver j effect expected bit value gives [] some all = absurd (both_ways false refl some)
@@ -48,7 +48,7 @@ bit_shown log row driver j effect expected bit value gives (r ∷ readers) some 
     by_first true e some others = gives r.place ∙ by_bits (r.place == driver) (bit_in log row r.position) (effect_bit effect j r.place expected) e all_parts.0
     by_first false e some others = others some
 
--- if the cells have the bits of an effect, they show the bits of the word of this effect
+-- if the cells have the bits of an effect, they agree with each word that has the bits of this effect
 shown_agrees : (rows : RowsOfNet) (code : ℕ) (effect : Effect) (driver : Option ℕ) (shown : ShownWords) (word : ℕ) → AreShown rows driver shown →
     ((j : ℕ) → j < 32 → (place : ℕ) → word_bit word j ≡ effect_bit effect j place (code_bit code j)) → ShowBy rows.log rows.first rows.width code rows.readers effect driver → AgreesWith shown word
 shown_agrees rows code effect None shown word are gives show j less =

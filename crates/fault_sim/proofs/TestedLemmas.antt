@@ -1,4 +1,4 @@
--- The passes of a plan test exactly the nets and pins that some safe setting tests.
+-- Lemmas which say that the passes of a plan test exactly the nets and pins that some safe setting tests.
 use Rattle.std.proofs.Common.{◌≡◌, ◌≢◌, ◌⊎◌, inl, inr, ℕ, zero, suc, ◌+◌, ◌<◌, ◌≤◌, Bool, true, false, cond, ◌&&◌, List, [], ◌∷◌, ◌++◌, length, map, get_or, set, replicate, Option, Some, None, refl, sym, ap, ◌∙◌, subst, arith, length-append}
 use Rattle.std.specs.Prelude.{slice_get, sum_by, filter, fold, nat_lt}
 use Rattle.std.specs.List.{list_all, list_any, flat_map, enumerate_from, range_with_len}
@@ -278,7 +278,7 @@ pin_count_most board rules n = by_net (slice_get board.nets n) refl
         let most = pins_most board rules n net (slice_get_within board.nets n net e) in
         subst (λ (v : Net). length v.pins ≤ most_pins) (get_or_from_slice_get board.nets n net net e) most
 
--- a list of nets has at most as many tested pins as pins
+-- a list of nets does not have more tested pins than pins
 pins_few : (board : RawBoard) (a : ℕ) (nets : List Net) → length (flat_map (tested_pins_in board) (enumerate_from a nets)) ≤ sum_by (λ net. length net.pins) nets
 pins_few board a [] = omega arith
 pins_few board a (net ∷ nets) =
@@ -294,14 +294,14 @@ pins_few board a (net ∷ nets) =
 pub tested_few : (board : RawBoard) → IsBoard board → length (tested_pins board) ≤ most_pins
 tested_few board rules = omega (arith, pins_few board 0 board.nets, rules.pins_most)
 
--- if two tests agree on all numbers of a range, they keep equal parts of the range
+-- if two tests agree on all numbers of a range, a filter by either test keeps the same numbers
 filter_range : (p q : ℕ → Bool) (a n : ℕ) → ((k : ℕ) → a ≤ k → k < a + n → p k ≡ q k) → filter p (range_with_len a n) ≡ filter q (range_with_len a n)
 filter_range p q a zero same = refl
 filter_range p q a (suc n) same =
     ap (λ (b : Bool). cond b (a ∷ filter p (range_with_len (a + 1) n)) (filter p (range_with_len (a + 1) n))) (same a (omega arith) (omega arith))
     ∙ ap (λ (l : List ℕ). cond (q a) (a ∷ l) l) (filter_range p q (a + 1) n (λ k low high. same k (omega (arith, low)) (omega (arith, high))))
 
--- f takes the number of a net, and g takes a net with its number; if both give equal lists for each net, they give equal lists for all nets
+-- If f gives for the number of each net the list that g gives for the numbered net, both give the same joined lists for all nets.
 flat_numbers : {Y : Type 0} (f : ℕ → List Y) (g : Numbered → List Y) (a : ℕ) (nets : List Net) → ((k : ℕ) (net : Net) → slice_get nets k ≡ Some net → f (a + k) ≡ g (a + k, net)) →
     flat_map f (range_with_len a (length nets)) ≡ flat_map g (enumerate_from a nets)
 flat_numbers f g a [] same = refl
@@ -380,7 +380,7 @@ module _ (board : RawBoard) (rules : IsBoard board) (plan : PlanTables) (p : IsP
               (is_observing board rules plan p a one ea x pass stands i (subst (λ (u : Net). ObservesBy board (holds pass) u i) (net_same board a one v ea ev) o))
               (is_observing board rules plan p b two eb x pass stands j (subst (λ (u : Net). ObservesBy board (holds pass) u j) (net_same board b two w eb ew) q)))
 
--- setting one more flag changes nothing if all flags are set
+-- if all flags are set, setting one more flag changes nothing
 set_kept : (flags : List Bool) (i : ℕ) → list_all (λ flag. flag) flags ≡ true → set flags i true ≡ flags
 set_kept [] i all = refl
 set_kept (true ∷ flags) zero all = refl

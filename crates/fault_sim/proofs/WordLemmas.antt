@@ -1,4 +1,4 @@
--- The bits of combined words, and the common bits of two shorted nets.
+-- Lemmas about the bits of combined words and about the common bits of two shorted nets.
 use Rattle.std.proofs.Common.{◌≡◌, ℕ, zero, suc, ◌-◌, ◌<◌, ◌^◌, ◌==◌, Bool, true, false, cond, not, ◌&&◌, ◌||◌, Some, None, refl, ap, ◌∙◌, arith, min, max, w32}
 use Rattle.std.specs.Prelude.{bit_and, bit_or}
 use Rattle.std.specs.Int.{bit_at}
@@ -50,8 +50,8 @@ chosen_bit false true false = refl
 chosen_bit false false true = refl
 chosen_bit false false false = refl
 
--- the common bit of two shorted nets in a row; `first` and `second` say if each net is driven in this row, and a and b are the bits that
--- the nets are driven to
+-- The formula for the common bit of two nets with an And short is right. `first` and `second` say whether each net is driven in the row,
+-- and a and b are the bits to which the nets are driven.
 pub and_bits : (first second a b : Bool) → cond (first || second) (Some (cond first a true && cond second b true)) None ≡ shorted And (cond first (Some a) None) (cond second (Some b) None)
 and_bits true true a b = refl
 and_bits true false true b = refl

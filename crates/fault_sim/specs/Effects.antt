@@ -38,8 +38,8 @@ abbrev pub source_bit : Source → ℕ → Bool
 source_bit (Code code) j = code_bit code j
 source_bit (Fixed bit) j = bit
 
--- the bit that a driver gives its net, or `None` if the driver is off; `off` is the bit of the driver's own cell that switches the driver
--- off, if there is one
+-- The bit that a driver gives its net, or `None` if the driver is off. If one bit of the driver's own cell switches the driver off, `off`
+-- has this bit.
 abbrev pub unless_off : Option Bool → Bool → Option Bool
 unless_off None bit = Some bit
 unless_off (Some off) bit = cond (is_same bit off) None (Some bit)
@@ -54,19 +54,19 @@ abbrev pub is_own : Ctl → Option Ctl → Bool
 is_own own None = false
 is_own own (Some c) = same_ctl c own
 
--- the drivers of a net
+-- the drivers of net n
 abbrev pub drivers_in : PlanTables → ℕ → List NetDriver
 drivers_in plan n = slice_index_or plan.drivers n []
 
--- the compared cells of a net
+-- the compared cells of net n
 abbrev pub readers_in : PlanTables → ℕ → List ReaderCell
 readers_in plan n = slice_index_or plan.readers n []
 
--- the code of a net
+-- the code of net n
 abbrev pub code_in : PlanTables → ℕ → ℕ
 code_in plan n = slice_index_or plan.codes n 0
 
--- the driver that a pass enables on a net
+-- the driver that a pass enables on net n
 abbrev pub driver_in : PlanTables → List Ctl → ℕ → Option NetDriver
 driver_in plan pass n = enabled_in (holds pass) (drivers_in plan n)
 
@@ -74,21 +74,21 @@ driver_in plan pass n = enabled_in (holds pass) (drivers_in plan n)
 abbrev pub place_of_driver : Option NetDriver → Option ℕ
 place_of_driver driver = option_map (λ d. d.place) driver
 
--- the bit of a driver's cell that carries no net's code: the bit of the quiet row, inverted if the pass holds the cell as a control
+-- The bit of a driver's cell that carries no net's code. It is the bit of the quiet row, inverted if the pass holds the cell as a control.
 abbrev pub steady_in : PlanTables → List Ctl → NetDriver → Bool
 steady_in plan pass d = cond (holds pass d.own) (not (slice_index_or plan.quiet.bits d.position false)) (slice_index_or plan.quiet.bits d.position false)
 
--- the bits of an enabled driver's cell; if some cell reads another pin of the net, the pass observes the net, and the bits are those of the
--- net's code
+-- The bits of an enabled driver's cell. If some cell reads another pin of the net, the pass observes the net, and the bits are the bits of
+-- the net's code.
 abbrev pub source_in : PlanTables → List Ctl → ℕ → NetDriver → Source
 source_in plan pass n d = cond (is_read_beside (readers_in plan n) d) (Code (code_in plan n)) (Fixed (steady_in plan pass d))
 
--- the feed that an enabled driver gives its net; if the driver's own cell controls the driver, the driver is off at the bit that the net is
--- pulled to
+-- The feed that an enabled driver gives its net. If the driver's own cell controls the driver, the driver is off at the bit to which the
+-- net is pulled.
 abbrev pub feed_by : PlanTables → List Ctl → ℕ → Option Bool → NetDriver → Feed
 feed_by plan pass n pull d = record { source = source_in plan pass n d; off = cond (is_own d.own d.ctl) pull None }
 
--- the feed that a pass gives a net with this pull, if the pass enables a driver on the net
+-- the feed that a pass gives net n, which has this pull, if the pass enables a driver on the net
 abbrev pub feed_in : PlanTables → List Ctl → ℕ → Option Bool → Option Feed
 feed_in plan pass n pull = option_map (feed_by plan pass n pull) (driver_in plan pass n)
 
@@ -104,8 +104,8 @@ net_feed board plan pass n = feed_in plan pass n (pull_in board n)
 abbrev pub fed_net : RawBoard → PlanTables → List Ctl → ℕ → FedNet
 fed_net board plan pass n = record { feed = net_feed board plan pass n; pull = pull_in board n }
 
--- the effect of an open pin on its net; if the enabled driver is at this pin, all cells of the net have one bit; otherwise only the cells
--- of this pin are affected
+-- The effect of an open pin on its net. If the enabled driver is on this pin, all cells of the net have one bit. Otherwise the effect
+-- changes only the cells of this pin.
 abbrev pub open_effect : Option ℕ → ℕ → Bool → Option Bool → Effect
 open_effect None place value pull = AtPin place value
 open_effect (Some driver) place value pull = cond (driver == place) (Constant (unwrap_or pull value)) (AtPin place value)

@@ -15,26 +15,26 @@ use Rattle.fault_sim.specs.Effects.{driver_in, place_of_driver, readers_in, code
 abbrev pub bit_in : List (List Bool) → ℕ → ℕ → Bool
 bit_in log row at = slice_index_or (slice_index_or log row []) at false
 
--- a cell of a net has the bit that the effect gives it in row j of a pass; `row` is the number of this row in the log; a cell that reads
--- the driver's own pin is not checked
+-- In row j of a pass, a cell of a net has the bit that the effect gives it. `row` is the number of this row in the log. A cell that reads
+-- the driver's own pin is not checked.
 abbrev pub cell_shows : List (List Bool) → ℕ → ℕ → Effect → ℕ → Bool → ReaderCell → Bool
 cell_shows log row driver effect j expected r = (r.place == driver) || is_same (bit_in log row r.position) (effect_bit effect j r.place expected)
 
--- in every row of a pass, these cells have the bits that the effect gives them; the rows of the pass begin at row `first` of the log
+-- In every row of a pass, these cells have the bits that the effect gives them. The rows of the pass begin at row `first` of the log.
 abbrev pub ShowRows : List (List Bool) → ℕ → ℕ → ℕ → List ReaderCell → Effect → ℕ → Type 0
 ShowRows log first width code readers effect driver = (j : ℕ) → j < width → list_all (cell_shows log (first + j) driver effect j (code_bit code j)) readers ≡ true
 
--- like `ShowRows`, but takes the place of the enabled driver's pin, if there is one; without an enabled driver nothing is required
+-- Like `ShowRows`, but takes the place of the enabled driver's pin, if there is one. If no driver is enabled, nothing is required.
 abbrev pub ShowBy : List (List Bool) → ℕ → ℕ → ℕ → List ReaderCell → Effect → Option ℕ → Type 0
 ShowBy log first width code readers effect None = Unit {0}
 ShowBy log first width code readers effect (Some driver) = ShowRows log first width code readers effect driver
 
--- pass x of the log shows an effect on net n; `driver` is the place of the enabled driver's pin, if the pass enables a driver on the net
+-- Pass x of the log shows an effect on net n. `driver` is the place of the enabled driver's pin, if the pass enables a driver on the net.
 abbrev pub ShowsEffect : PlanTables → List (List Bool) → ℕ → ℕ → Effect → Option ℕ → Type 0
 ShowsEffect plan log x n effect driver = ShowBy log (x * plan.width) plan.width (code_in plan n) (readers_in plan n) effect driver
 
--- this pass of the log shows the effect of the fault on net n; the rows of the pass begin at row `first` of the log; without a fault, the
--- cells must show the expected bits
+-- This pass of the log shows the effect of the fault on net n. The rows of the pass begin at row `first` of the log. Without a fault, the
+-- cells must show the expected bits.
 abbrev pub NetShows : RawBoard → PlanTables → Option Single → List (List Bool) → ℕ → List Ctl → ℕ → Type 0
 NetShows board plan fault log first pass n =
     ShowBy log first plan.width (code_in plan n) (readers_in plan n) (effect_in board plan pass fault n) (place_of_driver (driver_in plan pass n))

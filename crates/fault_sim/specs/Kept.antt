@@ -28,8 +28,8 @@ pub record IsRow (board : RawBoard) (plan : PlanTables) (x j : ℕ) (row : Compa
   pub tdo : row.tdo.bits ≡ expected_in board plan x j
   pub mask : row.mask.bits ≡ compared_in board plan x j
 
--- an enabled driver of net n: the place of the driver's pin, the bits of the driver's cell, and a flag that is true if this cell controls
--- the driver
+-- An enabled driver of net n: the place of the driver's pin, the bits of the driver's cell, and a flag that is true if this cell controls
+-- the driver.
 abbrev pub enabled_by : PlanTables → List Ctl → ℕ → NetDriver → EnabledDriver
 enabled_by plan pass n d = record { place = d.place; source = source_in plan pass n d; own = is_own d.own d.ctl }
 

@@ -14,7 +14,7 @@ use Rattle.fault_sim.specs.Suspects.{AreSuspects}
 abbrev pub PlacesAre : Type 0
 PlacesAre = (board : RawBoard) → filter_map (λ place. place) (places_of board) ≡ singles board
 
--- `place_count` is the number of a board's places
+-- `place_count` returns the number of a board's places
 abbrev pub PlacesCounted : Type 0
 PlacesCounted = (board : RawBoard) (lists : FaultLists) → IsUniverse board lists → length (places_of board) ≡ place_count lists
 
@@ -32,6 +32,6 @@ SuspectsArePlaces =
     (board : RawBoard) (plan : PlanTables) (lists : FaultLists) (log : List (List Bool)) (suspects : List ℕ) → IsUniverse board lists → AreSuspects board plan lists log suspects →
     All (λ i. i < length (places_of board)) suspects
 
--- if single fault A comes before single fault B, then B does not come before A; therefore only one list of given faults is in order
+-- If single fault A comes before single fault B, then B does not come before A. So given faults have only one order.
 abbrev pub OneOrder : Type 0
 OneOrder = (one other : Single) → SinglePrecedes one other → SinglePrecedes other one → ⊥

@@ -50,7 +50,7 @@ pub record IsUniverse (board : RawBoard) (lists : FaultLists) : Type 0 where
   pub nets : lists.nets ≡ map (λ net. net.0) (covered_nets board)
   pub pins : lists.pins ≡ tested_pins board
 
--- the four places of two nets; they have faults exactly if some pass of the plan observes both nets
+-- The four places of two nets. They have faults exactly if some pass of the plan observes both nets.
 abbrev pub number_places : PlanTables → ℕ × ℕ → List (Option Single)
 number_places plan pair = cond (paired_in plan pair.0 pair.1) (placed (short_faults pair.0 pair.1)) (None ∷ None ∷ None ∷ None ∷ [])
 
@@ -59,8 +59,8 @@ abbrev pub listed_places : PlanTables → FaultLists → List (Option Single)
 listed_places plan lists =
     placed (flat_map stuck_faults lists.nets) ++ (placed (flat_map open_faults lists.pins) ++ flat_map (number_places plan) (pairs_within lists.nets))
 
--- true if some pass observes all nets of a fault at a place; for a short, one pass must observe both nets; the one net of any other fault
--- at a place is always observed
+-- True if some pass observes all nets of a fault at a place. For a short, one pass must observe both nets. Any other fault at a place has
+-- one net, which is always observed.
 abbrev pub observes_fault : PlanTables → Single → Bool
 observes_fault plan (StuckNet net value) = true
 observes_fault plan (OpenPin pin value) = true

@@ -1,4 +1,4 @@
--- Models that pair a board with its plan, a log with its board, and a pass with either.
+-- Models that pair a board with its plan, a log with its test, and a pass with its plan or its log.
 use Rattle.std.specs.Prelude.{◌≡◌, ℕ, Bool, List, [], slice_index_or}
 use Rattle.board_defs.specs.declared.board.Ctl.{Ctl}
 use Rattle.board_defs.specs.Passes.{passes_of}

@@ -8,7 +8,8 @@ use Rattle.fault_sim.specs.declared.fault_lists.FaultLists.{FaultLists}
 use Rattle.fault_sim.specs.Fits.{ShowsOn}
 use Rattle.fault_sim.specs.Places.{place_count, places_of}
 
--- `nets` are the nets that differ in the log, in net order; a net differs if some compared cell of it has a bit other than the expected bit
+-- `nets` are the nets that differ in the log, in net order. A net differs if some compared cell of the net has a bit other than the
+-- expected bit.
 pub record AreDiffering (board : RawBoard) (plan : PlanTables) (log : List (List Bool)) (nets : List ℕ) : Type 0 where
   pub rising : AllPairs (λ a b. a < b) nets
   pub others : (n : ℕ) → n < length board.nets → Contains nets n ⊎ ShowsOn board plan None log n
@@ -21,7 +22,7 @@ suspect_count lists (n ∷ []) = 2 + (2 * count_by (λ pin. pin.net == n) lists.
 suspect_count lists (m ∷ n ∷ []) = 4
 suspect_count lists (m ∷ n ∷ o ∷ nets) = 0
 
--- the suspects of a log, as places that rise; each place whose single fault explains the log is among them
+-- The suspects of a log: places in ascending order. Each place whose single fault explains the log is among them.
 pub record AreSuspects (board : RawBoard) (plan : PlanTables) (lists : FaultLists) (log : List (List Bool)) (suspects : List ℕ) : Type 0 where
   pub rising : AllPairs (λ i j. i < j) suspects
   pub below : All (λ i. i < place_count lists) suspects

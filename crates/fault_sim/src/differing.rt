@@ -60,8 +60,8 @@ impl<'a> LoggedTest<'a> {
 }
 
 /// Returns the nets that differ in a log, in net order. A net differs if one of its compared cells has a bit other than the expected bit.
-/// The plan must be built from the board's passes. The log must have the plan's rows, each as long as a data scan. Reads each row once, and
-/// then only the cells of nets that may differ. These are the nets that differ and few others.
+/// The plan must be built from the board's passes. The log must have the plan's rows, each as long as a data scan. The function reads each
+/// row once. Then it checks the cells of those nets that may differ: the nets that differ, and few others.
 pub fn differing_nets(
     alloc: Global,
     board: &Board,

@@ -14,15 +14,15 @@ use board_defs::{Kind, Single};
 pub enum Effect {
     /// The expected bits.
     Plain,
-    /// This bit at all cells in all rows.
+    /// The same bit at all cells in all rows.
     Constant(bool),
-    /// In all rows `bit` at the cells of the pin at `place`, and the expected bits at the other cells.
+    /// In all rows, `bit` at the cells of the pin at `place`, and the expected bits at the other cells.
     AtPin {
         place: u32,
         bit: bool,
     },
-    /// The common bit of two shorted nets in each row. It is the bit that the nets are driven to. If neither net is driven, it is the bit
-    /// that they are pulled to. If neither is pulled, it is the expected bit.
+    /// The common bit of two shorted nets in each row. If a net is driven, it is the bit to which the nets are driven. If neither net is
+    /// driven, it is the bit to which they are pulled. If neither net has a pull, it is the expected bit.
     Shorted {
         kind: Kind,
         first: Option<Feed>,
@@ -152,7 +152,7 @@ impl<'a> TestPass<'a> {
     }
 }
 
-// Returns the common bit of two shorted nets in a row. `first` and `second` are the bits that the nets are driven to in this row. If
+// Returns the common bit of two shorted nets in a row. `first` and `second` are the bits to which the nets are driven in this row. If
 // neither net is driven, returns `pull`. If there is no pull, returns `expected`.
 fn short_bit(
     kind: Kind,

@@ -1,4 +1,4 @@
-// The lists in which a universe looks up the fault at a place.
+// The lists in which btest looks up the fault at a place of a universe.
 ghost use Rattle.std.specs.Prelude.{◌≤◌, length};
 ghost use Rattle.board_defs.specs.Limits.{most_nets, most_pins};
 ghost use Rattle.fault_sim.specs.Starts.{AreStarts};

@@ -40,7 +40,7 @@ pub struct Feed {
     pub off: Option<bool>,
 }
 
-/// A net in a pass: the feed of its enabled driver, if there is one, and the value that the net is pulled to, if any.
+/// A net in a pass: the feed of its enabled driver, if there is one, and the value to which the net is pulled, if any.
 #[derive(Clone, Copy)]
 pub struct FedNet {
     pub feed: Option<Feed>,
@@ -81,7 +81,7 @@ fn unless_off(off: Option<bool>, bit: bool) -> Option<bool>
     }
 }
 
-/// Returns the bit that a net is driven to in row `j`, or `None` if the net is not driven in this row.
+/// Returns the bit to which a net is driven in row `j`, or `None` if the net is not driven in this row.
 pub fn feed_bit(feed: Option<Feed>, j: u32) -> Option<bool>
     ensures { result ≡ feed_bit feed j }
 {
@@ -171,7 +171,7 @@ pub fn enabled_driver(plan: &Plan, pass: &Setting, net: u32) -> Option<EnabledDr
     }
 }
 
-// Returns the feed that an enabled driver gives its net. `pull` is the value that the net is pulled to, if any.
+// Returns the feed that an enabled driver gives its net. `pull` is the value to which the net is pulled, if any.
 fn feed_of(driver: EnabledDriver, pull: Option<bool>) -> Feed
     ensures { result ≡ feed_of pull driver }
 {
@@ -208,7 +208,7 @@ pub fn observes(driver: Option<EnabledDriver>) -> bool
     }
 }
 
-/// Returns the value that a net is pulled to, or `None` if the net has no pull.
+/// Returns the value to which a net is pulled, or `None` if the net has no pull.
 pub fn pull_in(board: &Board, net: u32) -> Option<bool>
     ensures { result ≡ pull_in board.now net }
 {

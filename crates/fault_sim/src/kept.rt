@@ -1,4 +1,4 @@
-// Rows and drivers of a test's passes, kept so that many logs of the test can share them.
+// Keeps rows and drivers of a test's passes, so that many logs of the test can share them.
 ghost use Rattle.std.specs.Prelude.{◌≡◌, ◌<◌, ◌≤◌, length, slice_get, IfOk};
 ghost use Rattle.fault_sim.specs.Kept.{IsRow, AreRows, AreDrivers, KeepRows, KeepDrivers};
 ghost use Rattle.fault_sim.specs.Planned.{controls_of};
@@ -109,8 +109,8 @@ fn kept_count(board: &Board, plan: &Plan, logs: usize) -> u32
 }
 
 impl<'a> BoardTest<'a> {
-    /// Returns the first passes of the test as kept passes, for use with `logs` logs. They take at most about 64 MiB. For fewer than two
-    /// logs, returns no passes.
+    /// Returns the first passes of the test as kept passes, for use with `logs` logs. The kept passes take at most about 64 MiB. For
+    /// fewer than two logs, returns no passes.
     pub fn kept_passes(&self, alloc: Global, logs: usize) -> Result<Vec<KeptPass>, AllocError>
         ensures rows { IfOk result (λ kept. KeepRows self.now.board self.now.plan kept.items) }
         ensures drivers { IfOk result (λ kept. KeepDrivers self.now.plan kept.items) }
@@ -144,8 +144,8 @@ pub fn kept_drivers(kept: &[KeptPass], x: u32) -> &[Option<EnabledDriver>]
     }
 }
 
-/// Returns the kept driver of a net. The outer `None` says that the pass keeps no entry for the net. The inner `None` says that the pass
-/// enables no driver on the net.
+/// Returns the kept driver of a net. The outer option is `None` if the pass keeps no entry for the net. The inner option is `None` if
+/// the pass enables no driver on the net.
 pub fn kept_driver(kept: &[Option<EnabledDriver>], net: u32) -> Option<Option<EnabledDriver>>
     ensures { result ≡ slice_get kept.now net }
 {

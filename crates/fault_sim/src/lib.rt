@@ -1,7 +1,7 @@
 //! Decides which single faults of a board explain a log of its test.
 //!
-//! The crate simulates no run. The bit that a compared cell has under a single fault follows from the row that is in the latches. Only
-//! cells of the faulty nets can differ from the expected bits.
+//! The crate simulates no run. The bit that a compared cell has under a single fault follows from the row that is in the update
+//! latches. Only cells of the faulty nets can differ from the expected bits.
 #![tactic(auto)]
 
 mod board_test;

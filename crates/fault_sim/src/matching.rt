@@ -1,4 +1,4 @@
-// Decides if a single fault explains a log, and if a log has the expected bits.
+// Decides whether a single fault explains a log, and whether a log has the expected bits.
 ghost use Rattle.std.specs.Prelude.{◌≡◌, ◌↔◌, ◌*◌, ◌==◌, ◌||◌, length, All, IsTrue};
 ghost use Rattle.std.specs.List.{list_all};
 ghost use Rattle.board_defs.specs.Faults.{IsSingle};
@@ -54,7 +54,7 @@ pub fn matches(board: &Board, plan: &Plan, fault: Single, log: &Log) -> bool
     logged.shows_all(Some(fault))
 }
 
-// Returns whether each of these nets is net `a` or net `b`.
+// Returns whether each of `nets` is net `a` or net `b`.
 fn are_of(nets: &[u32], a: u32, b: u32) -> bool
     ensures { result ≡ list_all (λ n. (n == a) || (n == b)) nets.now }
 {

@@ -139,7 +139,7 @@ impl<'a> TestPass<'a> {
         }
     }
 
-    /// Returns the value that a net is pulled to, or `None` if the net has no pull.
+    /// Returns the value to which a net is pulled, or `None` if the net has no pull.
     pub fn pull(&self, net: u32) -> Option<bool>
         ensures { result ≡ pull_in self.now.test.board net }
     {
@@ -191,7 +191,7 @@ impl<'a> Model for LoggedPass<'a> {
 }
 
 impl<'a> LoggedPass<'a> {
-    /// Does nothing. Its contract states facts about the pass: the pass is one of the plan's passes, the plan is built from the board's
+    /// Does nothing. Its contract states three facts about the pass: it is one of the plan's passes, the plan is built from the board's
     /// passes, and the log has the rows of the test.
     pub fn laws(&self)
         ensures pass { self.now.number < length self.now.logged.test.plan.passes }

@@ -1,5 +1,5 @@
 // The bits that the compared cells of a net show in the rows of a pass of a log, as words of 32 bits. A cell shows the bit that the log has
-// at its position. Bit `j` of a word is for row `j` of the pass.
+// at its position. Bit `j` of a word belongs to row `j` of the pass.
 ghost use Rattle.std.specs.Prelude.{◌≡◌, ◌↔◌, ℕ, ◌+◌, ◌<◌, ◌==◌, ◌&&◌, ◌||◌, nat_lt, Some, [], ◌∷◌, length, All, IsTrue};
 ghost use Rattle.fault_sim.specs.Fits.{bit_in};
 ghost use Rattle.fault_sim.specs.Planned.{net_in_pass};
@@ -70,7 +70,7 @@ impl<'a> NetRows<'a> {
         word
     }
 
-    // Returns the rows in which one cell shows 1 and those in which it shows 0. Both words are 0 if the cell reads the driver's pin.
+    // Returns the rows in which one cell shows 1, and the rows in which it shows 0. Both words are 0 if the cell reads the driver's pin.
     fn cell_words(&self, reader: ReaderCell, driver: u32) -> ShownWords
         requires { All (λ row. reader.position < length row) self.now.log }
         ensures { AreShown (rows_of_net self.now.log self.now.first self.now.width (reader ∷ [])) (Some driver) result }
@@ -85,7 +85,8 @@ impl<'a> NetRows<'a> {
         }
     }
 
-    // Returns the rows in which some cell shows 1 and those in which some cell shows 0. Cells that read the driver's pin are not counted.
+    // Returns the rows in which some cell shows 1, and the rows in which some cell shows 0. Cells that read the driver's pin are not
+    // counted.
     fn shown_beside(&self, driver: u32) -> ShownWords
         ensures { AreShown self.now (Some driver) result }
     {
@@ -96,7 +97,7 @@ impl<'a> NetRows<'a> {
         shown
     }
 
-    // Like `shown_beside`, but takes the place of the enabled driver's pin, if there is one. Without a driver both words are 0.
+    // Like `shown_beside`, but takes the place of the enabled driver's pin, if there is one. If there is no driver, both words are 0.
     fn shown(&self, driver: Option<u32>) -> ShownWords
         ensures { AreShown self.now driver result }
     {
@@ -108,8 +109,8 @@ impl<'a> NetRows<'a> {
 }
 
 impl<'a> LoggedPass<'a> {
-    /// Returns the rows of the pass in which some compared cell of a net shows 1 and those in which some shows 0. Both words are 0 if the
-    /// pass enables no driver on the net.
+    /// Returns the rows of the pass in which some compared cell of a net shows 1, and the rows in which some compared cell shows 0. Both
+    /// words are 0 if the pass enables no driver on the net.
     pub fn shown(&self, net: u32) -> ShownWords
         ensures { IsShownIn (net_in_pass self.now net) result }
     {

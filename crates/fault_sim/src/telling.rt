@@ -1,4 +1,4 @@
-// A net that differs in a log, in the first pass in which the net shows an unexpected bit.
+// A net that differs in a log, and the first pass in which the net shows an unexpected bit.
 ghost use Rattle.std.specs.Prelude.{◌≡◌, IfSome, true};
 ghost use Rattle.board_defs.specs.Faults.{IsSingle};
 ghost use Rattle.tap_defs.specs.board.Explaining.{Explains};
@@ -13,8 +13,8 @@ use board_defs::{Single, law};
 use std::marker::Model;
 use tap_defs::board_law;
 
-/// A net in a pass of a log, with the bits that the net gets in the pass and the bits that its cells show. These bits are computed once,
-/// and serve all faults that are tried. The model is the pass and the net.
+/// A net in a pass of a log, with the bits that the pass gives the net and the bits that the net's cells show. These bits are computed once
+/// and used for every fault that is tried. The model is the pass and the net.
 #[derive(Drop)]
 pub struct TellingNet<'a> {
     pass: LoggedPass<'a>,

@@ -85,8 +85,8 @@ fn halved_row(starts: &[u64], k: u64) -> usize
     low
 }
 
-// Like `halved_row`, but first tries the places `near` and `near + 1`. `near` is the place that the last look-up found. Callers mostly ask
-// for rising pairs, so one of these two places is mostly the right one.
+// Like `halved_row`, but first tries the places `near` and `near + 1`. `near` is the place that the last look-up found. Most callers ask
+// for pairs in ascending order, so one of these two places is usually the right one.
 fn row_of(starts: &[u64], k: u64, near: usize) -> usize
     requires some { 0 < length starts.now }
     requires first { slice_index_or starts.now 0 0 ≤ k }
@@ -154,7 +154,7 @@ fn stuck_at(nets: &[u32], i: u64) -> Option<Single>
     }
 }
 
-// Returns fault `i` in the list of these pins' open faults. Each pin has two such faults, the one with value 0 first.
+// Returns fault `i` in the list of these pins' open faults. Each pin has two such faults, with value 0 first.
 fn open_at(pins: &[PinRef], i: u64) -> Option<Single>
     ensures { result ≡ slice_get (flat_map open_faults pins.now) i }
 {
@@ -167,8 +167,8 @@ fn open_at(pins: &[PinRef], i: u64) -> Option<Single>
     }
 }
 
-// Returns pair `k` of the covered nets, with the lower net first. `near` is the place of the first net that the last look-up found. This
-// look-up sets `near` to the place of its own first net.
+// Returns pair `k` of the covered nets, with the lower net first. On entry `near` is the place of the first net of the pair that the last
+// look-up found. This look-up sets `near` to the place of its own pair's first net.
 fn pair_at(lists: &FaultLists, k: u64, near: &mut usize) -> Option<(u32, u32)>
     ensures { result ≡ slice_get (pairs_within lists.now.nets) k }
 {

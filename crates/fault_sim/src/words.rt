@@ -1,4 +1,4 @@
-// The bits of a net and of two shorted nets in the rows of a pass, as words of 32 bits. Bit `j` of a word is for row `j` of the pass.
+// The bits of a net and of two shorted nets in the rows of a pass, as words of 32 bits. Bit `j` of a word belongs to row `j` of the pass.
 ghost use Rattle.std.specs.Prelude.{◌≡◌, ◌<◌, ℕ, if◌then◌else◌, ◌||◌, None, Some, unwrap_or};
 ghost use Rattle.tap_defs.specs.board.SingleBits.{shorted};
 ghost use Rattle.fault_sim.specs.Effects.{feed_bit, source_bit, unless_off};
@@ -8,14 +8,14 @@ use crate::effect::shorted;
 use crate::feed::{FedNet, Feed, Source};
 use board_defs::Kind;
 
-/// The rows in which a net is driven, and the bits that the net is driven to. Bits of `value` in other rows have no meaning.
+/// The rows in which a net is driven, and the bits to which it is driven. The bits of `value` in other rows have no meaning.
 #[derive(Clone, Copy)]
 pub struct FeedWords {
     pub driven: u32,
     pub value: u32,
 }
 
-/// A net in a pass: the bits that the net is driven to, and the value that it is pulled to, if any.
+/// A net in a pass: the bits to which the net is driven, and the value to which it is pulled, if any.
 #[derive(Clone, Copy)]
 pub struct FedWords {
     pub feed: FeedWords,
@@ -61,7 +61,7 @@ fn rows_on(off: Option<bool>, value: u32) -> u32
     }
 }
 
-// Returns the rows in which a feed drives its net, and the bits that the net is driven to.
+// Returns the rows in which a feed drives its net, and the bits to which the net is driven.
 #[inline]
 fn feed_words(feed: Option<Feed>) -> FeedWords
     ensures { (j : ℕ) → j < 32 → driven_bit result j ≡ feed_bit feed j }
@@ -106,7 +106,7 @@ fn shorted_value(kind: Kind, first: FeedWords, second: FeedWords) -> u32
     }
 }
 
-// Returns the rows in which at least one of two shorted nets is driven, and the bits that both nets are then driven to.
+// Returns the rows in which at least one of two shorted nets is driven, and the bits to which both nets are driven in these rows.
 #[inline]
 fn shorted_words(kind: Kind, first: FeedWords, second: FeedWords) -> FeedWords
     ensures { (j : ℕ) → j < 32 → driven_bit result j ≡ shorted kind (driven_bit first j) (driven_bit second j) }
@@ -117,7 +117,7 @@ fn shorted_words(kind: Kind, first: FeedWords, second: FeedWords) -> FeedWords
     }
 }
 
-// Returns the bits of a net in rows in which nothing drives the net: the value that the net is pulled to, or the bits of `code` if the net
+// Returns the bits of a net in rows in which nothing drives the net: the value to which the net is pulled, or the bits of `code` if the net
 // has no pull.
 #[inline]
 fn undriven_word(pull: Option<bool>, code: u32) -> u32
@@ -129,8 +129,8 @@ fn undriven_word(pull: Option<bool>, code: u32) -> u32
     }
 }
 
-/// Returns the common bits of two shorted nets in the rows of a pass. A row in which neither net is driven has the bit that the nets are
-/// pulled to. If neither net has a pull, the row has the expected bit, that is, the bit of `code`.
+/// Returns the common bits of two shorted nets in the rows of a pass. In a row in which neither net is driven, it is the bit to which the
+/// nets are pulled. If neither net has a pull, it is the expected bit, that is, the bit of `code`.
 #[inline]
 pub fn short_word(kind: Kind, first: FedWords, second: FedWords, code: u32) -> u32
     ensures { (j : ℕ) → j < 32 → word_bit result j ≡ short_word_bit kind first second code j }

@@ -1,4 +1,4 @@
--- Terms for the proofs alone. The bit that a compared cell has under a fault.
+-- The bit that a compared cell has under a fault.
 use Rattle.std.specs.Prelude.{Bool, Option, Some, None}
 use Rattle.board_defs.specs.declared.board.RawBoard.{RawBoard}
 use Rattle.board_defs.specs.declared.fault.Single.{Single}

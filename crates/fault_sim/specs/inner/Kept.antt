@@ -1,4 +1,4 @@
--- Terms for the proofs alone. Look-ups in the kept passes of a test.
+-- Look-ups in the kept passes of a test.
 use Rattle.std.specs.Prelude.{ℕ, Bool, true, false, cond, List, [], Option, Some, None, option_map, slice_get}
 use Rattle.fault_sim.specs.declared.feed.EnabledDriver.{EnabledDriver}
 use Rattle.fault_sim.specs.declared.feed.FedNet.{FedNet}

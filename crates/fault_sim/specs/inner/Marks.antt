@@ -1,5 +1,4 @@
--- Terms for the proofs alone. Marks of the digits of a log's rows. A digit is marked if, in some row, a compared bit of this digit is not
--- the expected bit.
+-- Marks of the digits of a log's rows. A digit is marked if, in some row, a compared bit of this digit is not the expected bit.
 use Rattle.std.specs.Prelude.{◌≡◌, ℕ, ◌+◌, ◌*◌, ◌/◌, ◌<◌, ◌≤◌, ◌==◌, Bool, true, false, not, List, slice_index_or}
 use Rattle.std.specs.List.{list_any}
 use Rattle.board_defs.specs.declared.board.RawBoard.{RawBoard}
@@ -23,8 +22,8 @@ HasExpected board plan log x j at = slice_index_or (compared_in board plan x j) 
 abbrev pub IsUnmarked : List ℕ → ℕ → Type 0
 IsUnmarked marks at = slice_index_or marks (at / 4) 0 ≡ 0
 
--- the marks change from `old` to `new` while row j of pass x is checked: if the digit of a position is unmarked in `new`, it is unmarked in
--- `old`, and the log has the expected bit at this position of the row
+-- While row j of pass x is checked, the marks change from `old` to `new`. If the digit of a position is unmarked in `new`, it is unmarked
+-- in `old`, and the log has the expected bit at this position of the row.
 abbrev pub MarkRow : RawBoard → PlanTables → List (List Bool) → ℕ → ℕ → List ℕ → List ℕ → Type 0
 MarkRow board plan log x j old new = (at : ℕ) → at < data_bits board → IsUnmarked new at → IsUnmarked old at × HasExpected board plan log x j at
 

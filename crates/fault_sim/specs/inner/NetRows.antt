@@ -1,4 +1,4 @@
--- Terms for the proofs alone. The rows of a pass of a log, with the compared cells of a net.
+-- The rows of a pass of a log, with the compared cells of a net.
 use Rattle.std.specs.Prelude.{ℕ, ◌+◌, ◌*◌, ◌<◌, ◌≤◌, ◌^◌, Bool, List, length, All}
 use Rattle.net_pins.specs.declared.nets.ReaderCell.{ReaderCell}
 use Rattle.fault_sim.specs.Effects.{readers_in}
@@ -18,7 +18,7 @@ rows_of_net log first width readers = record { log = log; first = first; width =
 abbrev pub net_rows_in : PassOfLog → ℕ → RowsOfNet
 net_rows_in pass net = rows_of_net pass.logged.log (pass.number * pass.logged.test.plan.width) pass.logged.test.plan.width (readers_in pass.logged.test.plan net)
 
--- the log has these rows, they are fewer than the bits of a word, and every row of the log has a bit for each of the cells
+-- The log has these rows. The rows are fewer than the bits of a word, and every row of the log has a bit for each of the cells.
 pub record AreNetRows (rows : RowsOfNet) : Type 0 where
   pub within : rows.first + rows.width ≤ length rows.log
   pub fits : rows.first + rows.width < 2 ^ 64

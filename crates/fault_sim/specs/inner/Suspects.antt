@@ -1,4 +1,4 @@
--- Terms for the proofs alone. The places whose faults may explain a log.
+-- The places whose faults may explain a log.
 use Rattle.std.specs.Prelude.{ℕ, suc, ◌+◌, ◌-◌, ◌*◌, ◌==◌, Bool, false, cond, List, [], ◌∷◌, ◌++◌, length, slice_index_or, slice_get, Option, Some, None}
 use Rattle.std.specs.List.{flat_map, range_with_len}
 use Rattle.board_defs.specs.declared.board.PinRef.{PinRef}
@@ -6,23 +6,23 @@ use Rattle.plan_tables.specs.declared.tables.PlanTables.{PlanTables}
 use Rattle.fault_sim.specs.declared.fault_lists.FaultLists.{FaultLists}
 use Rattle.fault_sim.specs.Effects.{code_in}
 
--- the places of a stuck net or an open pin, of which `place` is the first
+-- the two places of a stuck net or of an open pin, if `place` is the first of them
 abbrev pub two_from : ℕ → List ℕ
 two_from place = place ∷ (place + 1) ∷ []
 
--- the places of the shorts of two nets, of which `place` is the first
+-- the four places of the shorts of two nets, if `place` is the first of them
 abbrev pub four_from : ℕ → List ℕ
 four_from place = place ∷ (place + 1) ∷ (place + 2) ∷ (place + 3) ∷ []
 
--- the first place of an open pin
+-- the place of the first open fault
 abbrev pub first_open : FaultLists → ℕ
 first_open lists = 2 * length lists.nets
 
--- the first place of a short
+-- the place of the first short
 abbrev pub first_short : FaultLists → ℕ
 first_short lists = 2 * length lists.nets + 2 * length lists.pins
 
--- the number of the pair of the covered nets at places a and b, for a below b
+-- the number of the pair of the covered nets at places a and b, if a is below b
 abbrev pub pair_number : FaultLists → ℕ → ℕ → ℕ
 pair_number lists a b = slice_index_or lists.starts a 0 + (b - suc a)
 
@@ -55,7 +55,7 @@ net_suspects lists n k =
 abbrev pub covered_place : PlanTables → ℕ → ℕ
 covered_place plan n = code_in plan n - 1
 
--- the suspects of a log; the list has the nets that differ in the log
+-- the suspects of a log in which these nets differ
 abbrev pub suspects_of : PlanTables → FaultLists → List ℕ → List ℕ
 suspects_of plan lists [] = []
 suspects_of plan lists (n ∷ []) = net_suspects lists n (covered_place plan n)

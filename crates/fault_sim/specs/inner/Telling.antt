@@ -1,4 +1,4 @@
--- Terms for the proofs alone. The bits of a net in a pass of a log, and the bits that a fault gives the net.
+-- The bits of a net in a pass of a log, and the bits that a fault gives the net.
 use Rattle.std.specs.Prelude.{◌≡◌, ◌⊎◌, ℕ, ◌<◌, Some}
 use Rattle.board_defs.specs.declared.fault.Single.{Single}
 use Rattle.tap_defs.specs.board.TestRows.{code_bit}
@@ -17,7 +17,7 @@ IsShownIn n shown = AreShown (net_rows_in n.pass n.net) (place_of_driver (driver
 abbrev pub AreWordsIn : PassOfLog → ℕ → FedWords → Type 0
 AreWordsIn pass net words = AreWordsOf (fed_net pass.logged.test.board pass.logged.test.plan (controls_in pass) net) words
 
--- the code of the net, its words in the pass, and the rows in which its cells show 1 and 0
+-- `code` is the code of the net, `fed` has its words in the pass, and `shown` has the rows in which its cells show 1 or 0
 pub record IsTellingNet (n : NetInPass) (code : ℕ) (fed : FedWords) (shown : ShownWords) : Type 0 where
   pub code_is : code ≡ code_in n.pass.logged.test.plan n.net
   pub fed_is : AreWordsIn n.pass n.net fed

@@ -16,7 +16,7 @@ use Rattle.fault_sim.specs.Effects.{driver_in, readers_in, code_in}
 abbrev pub coded_nets : PlanTables → ℕ → List ℕ
 coded_nets plan count = filter (λ n. nat_lt 0 (code_in plan n)) (range_with_len 0 count)
 
--- true if a pass that enables this driver on a net observes the net
+-- true if a pass observes the net on which it enables this driver
 abbrev pub observes_by : Option NetDriver → List ReaderCell → Bool
 observes_by None readers = false
 observes_by (Some d) readers = is_read_beside readers d
@@ -33,8 +33,8 @@ paired_in plan a b = list_any (λ pass. observes_in plan pass a && observes_in p
 abbrev pub marked_readers : List Bool → List ReaderCell → List Bool
 marked_readers flags readers = assigned (λ r. r.place) (λ r. true) flags readers
 
--- `flags`, with the flag of each pin that a pass tests set to true; if the pass observes the net, these are the pin of the enabled driver
--- and all pins that the cells read
+-- `flags`, with the flag of each pin that a pass tests set to true. If the pass observes the net, it tests the pin of the enabled driver
+-- and all pins that the cells read.
 abbrev pub marked_by : Option NetDriver → List ReaderCell → List Bool → List Bool
 marked_by None readers flags = flags
 marked_by (Some d) readers flags = cond (is_read_beside readers d) (marked_readers (slice_set flags d.place true) readers) flags
@@ -43,19 +43,19 @@ marked_by (Some d) readers flags = cond (is_read_beside readers d) (marked_reade
 abbrev pub marked_in : PlanTables → ℕ → List Bool → List Ctl → List Bool
 marked_in plan n flags pass = marked_by (driver_in plan pass n) (readers_in plan n) flags
 
--- a flag for each of the first `count` pins of a net, true if some pass tests the pin
+-- for each of the first `count` pins of a net, a flag that is true if some pass tests the pin
 abbrev pub tested_flags : PlanTables → ℕ → ℕ → List Bool
 tested_flags plan count n = fold (marked_in plan n) (replicate count false) plan.passes
 
--- the pin if it is tested, and otherwise none
+-- the pin at this place if it is tested, and otherwise no pin
 abbrev pub pin_where : Bool → ℕ → ℕ → List PinRef
 pin_where is_tested n place = cond is_tested (record { net = n; place = place } ∷ []) []
 
--- the first `count` pins of a net, without those whose flags are false
+-- the pins among the first `count` pins of a net whose flags are true
 abbrev pub flagged_before : ℕ → List Bool → ℕ → List PinRef
 flagged_before n flags count = map (λ place. record { net = n; place = place }) (filter (λ place. slice_index_or flags place false) (range_with_len 0 count))
 
--- the pins of a net, without those whose flags are false
+-- the pins of a net whose flags are true
 abbrev pub flagged_pins : ℕ → List Bool → List PinRef
 flagged_pins n flags = flagged_before n flags (length flags)
 
@@ -71,6 +71,6 @@ pin_count board n = pins_of_net (slice_get board.nets n)
 abbrev pub net_pins : RawBoard → PlanTables → ℕ → List PinRef
 net_pins board plan n = flagged_pins n (tested_flags plan (pin_count board n) n)
 
--- the pins that some pass tests, of the first `count` nets
+-- the pins of the first `count` nets that some pass tests
 abbrev pub all_pins : RawBoard → PlanTables → ℕ → List PinRef
 all_pins board plan count = flat_map (net_pins board plan) (range_with_len 0 count)

@@ -1,4 +1,4 @@
--- Terms for the proofs alone. Words of 32 bits. Bit j of a word is for row j of a pass.
+-- Words of 32 bits. Bit j of a word belongs to row j of a pass.
 use Rattle.std.specs.Prelude.{◌≡◌, ℕ, ◌+◌, ◌<◌, ◌==◌, nat_lt, Bool, true, false, if◌then◌else◌, not, ◌&&◌, List, Option, Some, None, unwrap_or}
 use Rattle.std.specs.Int.{bit_at}
 use Rattle.std.specs.List.{list_any}
@@ -23,7 +23,7 @@ word_bit word j = bit_at word j == 1
 abbrev pub driven_bit : FeedWords → ℕ → Option Bool
 driven_bit words j = if word_bit words.driven j then Some (word_bit words.value j) else None
 
--- the common bit of two shorted nets in row j; `code` has the expected bit
+-- the common bit of two shorted nets in row j, if `code` has the expected bits
 abbrev pub short_word_bit : Kind → FedWords → FedWords → ℕ → ℕ → Bool
 short_word_bit kind first second code j =
     unwrap_or (or_else (shorted kind (driven_bit first.feed j) (driven_bit second.feed j)) (shorted kind first.pull second.pull)) (word_bit code j)
@@ -42,17 +42,17 @@ abbrev pub some_shows : List (List Bool) → ℕ → Bool → List ReaderCell �
 some_shows log row bit readers None = false
 some_shows log row bit readers (Some driver) = list_any (shows_beside log row bit driver) readers
 
--- bit j of the word is 1 exactly if, in row j of the pass, some cell has this bit and does not read the driver's pin; without a driver the
--- word has no such rows
+-- Bit j of the word is 1 exactly if, in row j of the pass, some cell has this bit and does not read the driver's pin. If there is no
+-- driver, every bit of the word is 0.
 abbrev pub AreRowsOf : RowsOfNet → Bool → Option ℕ → ℕ → Type 0
 AreRowsOf rows bit driver word = (j : ℕ) → j < 32 → word_bit word j ≡ (nat_lt j rows.width && some_shows rows.log (rows.first + j) bit rows.readers driver)
 
--- `shown` has the rows in which some cell shows 1, and the rows in which some cell shows 0; cells that read the driver's pin are not
--- counted
+-- `shown` has the rows in which some cell shows 1, and the rows in which some cell shows 0. Cells that read the driver's pin are not
+-- counted.
 pub record AreShown (rows : RowsOfNet) (driver : Option ℕ) (shown : ShownWords) : Type 0 where
   pub ones : AreRowsOf rows true driver shown.ones
   pub zeros : AreRowsOf rows false driver shown.zeros
 
--- every bit that the cells show is the bit of the word
+-- every bit that the cells show is the bit that the word has for the row
 abbrev pub AgreesWith : ShownWords → ℕ → Type 0
 AgreesWith shown word = (j : ℕ) → j < 32 → (word_bit shown.ones j ≡ true → word_bit word j ≡ true) × (word_bit shown.zeros j ≡ true → word_bit word j ≡ false)
