@@ -1,4 +1,4 @@
--- The compared cells of a walk net, and the bit that each cell captures under the Or shorts of groups.
+-- Lemmas about the compared cells of a walk net, and about the bit that each of these cells captures under the Or shorts of groups.
 use Rattle.std.proofs.Common.{◌≡◌, ◌≢◌, ◌⊎◌, inl, inr, ℕ, zero, suc, ◌+◌, ◌==◌, Bool, true, false, cond, not, ◌&&◌, ◌||◌, List, [], ◌∷◌, take, Option, Some, None, refl, sym, ◌∙◌, ap, subst, arith}
 use Rattle.std.specs.Prelude.{slice_get, unwrap_or, count_by, Contains}
 use Rattle.std.specs.List.{list_any, list_all}
@@ -55,7 +55,7 @@ use Rattle.walk_test.specs.WalkTest.{is_switched_by, switches_some}
 use Rattle.walk_test.specs.Groups.{group_of, or_shorts}
 use Rattle.walk_test.specs.inner.Reading.{is_one_group, are_joined}
 
--- if a cell reads an observed net at another pin than the observing driver's, the cell is a compared cell
+-- if a cell reads an observed net on a pin other than the observing driver's pin, the cell is a compared cell
 module _ (board : RawBoard) (rules : IsBoard board) (walk : List Ctl) (n : ℕ) (net : Net) (is_net : slice_get board.nets n ≡ Some net) (d : ℕ) (observing : observing_driver board (holds walk) net ≡ Some d) (r : ReaderCell) (q : IsReaderCell board net r) (other : (r.place == d) ≡ false) where
   abbrev t : Standing board n net r.place q.at
   t = standing board rules n net r.place q.pin q.at is_net q.is_pin q.is_at
@@ -107,7 +107,7 @@ module _ (board : RawBoard) (rules : IsBoard board) (walk : List Ctl) (n : ℕ) 
   unfolding compared_of
   compared_position = q.position_is
 
--- the two ways to lay out the bits of all parts give the same row
+-- `laid_parts` and `parts_laid` give the bits of all parts in the same order
 parts_same : (f : CellBits) (k : ℕ) (ps : List Part) → laid_parts f false k ps ≡ parts_laid f k ps
 parts_same f k [] = refl
 parts_same f k (p ∷ ps) = cons_path (one p.kind) (parts_same f (suc k) ps)
@@ -121,7 +121,7 @@ pub captured_is : (board : RawBoard) (faults : FaultSet) (row : TestRow) (choice
 captured_is board faults row choice =
     captured_laid board faults row choice ∙ ap (λ (rs : List (List Bool)). joined rs) (parts_same (captured_cell board faults (row_states board row) choice) 0 board.chain)
 
--- the net `x` is one of the nets that short `k` joins
+-- `x` is one of the nets that short `k` joins, and has its number
 record InShort (faults : FaultSet) (k n : ℕ) (nets : List Net) (x : OfNet Net) : Type 0 where
   place : ℕ
   number_is : x.0 ≡ n + place
@@ -171,7 +171,7 @@ is_shorted faults k n (x ∷ nets) (suc place) net m e z s = by_test (is_shorted
     by_test rest true = inr rest
     by_test rest false = rest
 
--- if some bit is fed, the combined bit is the Or of the fed bits
+-- if at least one bit is fed, the bit of an Or short is the Or of the fed bits
 or_of : (fs hs : List (OfNet Bool)) (x : OfNet Bool) (free : Bool) → Has fs x → first_combined Or fs hs free ≡ list_any (λ b. b.1) fs
 or_of [] hs x free h = absurd h
 or_of (f ∷ fs) hs x free h = refl
@@ -241,7 +241,7 @@ module _ (board : RawBoard) (rules : IsBoard board) (walk : List Ctl) (setting :
           both_ways (switches_some board c) (setting.none c held)
           (switched own (setting.safe.own at entry control (subst (λ (y : PinAt). is_pinned board y ≡ true) there pinned) e k (eqb-true control.cell entry.num own) held))
 
-  -- each walk net is driven with the bit that it carries
+  -- each walk net is driven to the bit that it carries
   module _ (n : ℕ) (w : WalkedBy board walk n) where
     o : Observing board (holds walk) w.net w.driver
     o = observing_at board (holds walk) w.net w.driver w.observing
@@ -295,7 +295,7 @@ module _ (board : RawBoard) (rules : IsBoard board) (walk : List Ctl) (setting :
         by_carries (driven e) = e
         by_carries (pulled e p) = absurd (not_undriven e)
 
-  -- under the Or shorts of groups of walk nets
+  -- the walk nets under the Or shorts of groups of walk nets
   module _ (groups : List (List ℕ)) (is_set : IsFaultSet board (or_shorts groups)) (walked : (n k : ℕ) → group_of groups n ≡ Some k → WalkedBy board walk n) where
     abbrev faults : FaultSet
     faults = or_shorts groups
@@ -303,7 +303,7 @@ module _ (board : RawBoard) (rules : IsBoard board) (walk : List Ctl) (setting :
     no_open : NoOpenShorted faults
     no_open n k i e = refl
 
-    -- the nets of the short, and the bits that their drivers feed them
+    -- the nets of short `k`, and the bits that their drivers feed
     module _ (k : ℕ) where
       abbrev nets : List (OfNet Net)
       nets = shorted_nets faults k 0 board.nets
@@ -349,7 +349,7 @@ module _ (board : RawBoard) (rules : IsBoard board) (walk : List Ctl) (setting :
           (all_decided board row setting.safe places quiet_row chain held_row faults is_set no_open k)
           ∙ or_of fs (bits_held board faults states nets) (n, is_marked n) free (has_fed n e)
 
-    -- a compared cell of net n captures whether net n is joined with the net that carries 1
+    -- a compared cell of net `n` captures 1 if net `n` is joined with the net that carries 1, and otherwise 0
     module _ (n : ℕ) (w : WalkedBy board walk n) (one : ℕ) (marked : (m : ℕ) → WalkedBy board walk m → is_marked m ≡ (m == one)) where
       net_bit_is : (shorts : ℕ → Bool) → net_bit board faults states shorts n w.net ≡ Some (are_joined groups n one)
       net_bit_is shorts = by_group (group_of groups n) refl

@@ -1,4 +1,4 @@
--- Rows by the values of their digits: the compared bits of a row, and the marks at positions.
+-- Lemmas about rows as values of their digits: about the compared bits of a row, and about the marks at positions.
 use Rattle.std.proofs.Common.{◌≡◌, ◌⊎◌, inl, inr, ℕ, ◌+◌, ◌<◌, ◌≤◌, ◌==◌, Bool, true, false, ◌&&◌, List, length, get_or, min, refl, sym, ap, ◌∙◌, subst, arith}
 use Rattle.std.specs.Int.{bit_at}
 use Rattle.std.specs.Int.Bits.{bit_and, bit_or}
@@ -8,7 +8,7 @@ use Rattle.std.proofs.lemmas.Nat.Bits.{bit_at-zero, bit_at_and}
 use Rattle.bt_bits.specs.Digits.{digit_bit}
 use Rattle.walk_test.specs.inner.Digits.{is_one, IsFresh, IsMarked}
 
--- if a digit has no compared 1, none of its bits is compared and 1
+-- if a digit has no compared 1, none of its bits is both compared and 1
 pub clear_bit : (x m k : ℕ) → bit_and x m ≡ 0 → (digit_bit m k && digit_bit x k) ≡ false
 clear_bit x m k none = by_test (bit_at m k == 1) (bit_at x k == 1) refl refl
   where
@@ -20,7 +20,7 @@ clear_bit x m k none = by_test (bit_at m k == 1) (bit_at x k == 1) refl refl
     by_test true false e f = refl
     by_test false c e f = refl
 
--- if the union of some numbers and one more number is 0, all of these numbers are 0
+-- if the union of all numbers so far and of one more number is 0, all of these numbers are 0
 pub zeros_more : (f : ℕ → ℕ) (from union k : ℕ) → (union ≡ 0 → (i : ℕ) → from ≤ i → i < k → f i ≡ 0) → bit_or union (f k) ≡ 0 → (i : ℕ) → from ≤ i → i < k + 1 → f i ≡ 0
 zeros_more f from union k zeros none i low less = by_side (cases_lt i k)
   where
@@ -37,9 +37,9 @@ union_more f union k zeros all =
     let last : f k ≡ 0 = all k (omega arith) in
     ap (λ (n : ℕ). bit_or n (f k)) before ∙ ap (λ (n : ℕ). bit_or 0 n) last
 
--- a loop step handles position `at` and skips to `next`; no position between the two is compared and reads 1
+-- A loop step handles position `at` and skips to `next`. No position between the two is compared and reads 1.
 module _ (row mask : List ℕ) (j none : ℕ) (old : List ℕ) (at next : ℕ) (past : at < next) (gap : (p : ℕ) → at < p → p < next → is_one row mask p ≡ false) where
-  -- a position is before `at`, at `at`, or behind `at`
+  -- P holds for each position if it holds for the positions before `at`, for `at`, and for the positions behind `at`
   by_place : (P : ℕ → Type 0) (p : ℕ) → (p < at → P p) → P at → (at < p → P p) → P p
   by_place P p before here behind = by_side (cases_lt p at) (cases_lt at p)
     where

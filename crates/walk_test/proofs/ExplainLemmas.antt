@@ -1,5 +1,5 @@
--- A set of groups explains a log if and only if each compared cell of a walk net reads in each row whether its net is joined with the net
--- that carries 1.
+-- Lemmas which say when a set of groups explains a log: if and only if, in each row, each compared cell of a walk net reads whether its net
+-- is joined with the net that carries 1.
 use Rattle.std.proofs.Common.{◌≡◌, ◌≢◌, ◌⊎◌, inl, inr, ℕ, zero, suc, ◌+◌, ◌*◌, ◌<◌, ◌≤◌, ◌==◌, Bool, true, false, List, [], ◌∷◌, length, take, get_or, Option, Some, None, is_some, refl, sym, ◌∙◌, ap, subst, arith}
 use Rattle.std.specs.Prelude.{◌↔◌, slice_get, count_by, All, Contains}
 use Rattle.std.proofs.lemmas.Bool.{cases_eq}
@@ -69,7 +69,7 @@ faults_of board groups ordered covered = record {
   dominant = λ n k d e f. cc f;
 }
 
--- the shorts of groups are faults of the board
+-- if the walk setting is safe, the shorts of groups are faults of the board
 pub shorts_are_faults : (board : RawBoard) (groups : List (List ℕ)) → ((walk : List Ctl) → walk_setting board ≡ Some walk → IsSafe board (holds walk)) → AreGroups board groups → IsFaultSet board (or_shorts groups)
 shorts_are_faults board groups safe are = by_setting (walk_setting board) refl
   where
@@ -81,7 +81,7 @@ shorts_are_faults board groups safe are = by_setting (walk_setting board) refl
         faults_of board groups (groups_ordered board groups are)
         (λ n k g. walked_covered board walk n (safe walk e) (walk_has board walk e n (group_nets board groups are n k g)))
 
--- a bit of a scan that the mask marks has an expected value
+-- each bit that a scan's mask marks has an expected value
 mask_bit : (bits : List ScanBit) (i : ℕ) → get_or (mask_bits bits) i false ≡ true → (b : ScanBit) × (v : Bool) × (slice_get bits i ≡ Some b) × (b.expect ≡ Some v)
 mask_bit [] i e = cc e
 mask_bit (b ∷ bits) zero e = by_expect b.expect refl e
@@ -100,7 +100,7 @@ bit_mask (a ∷ bits) (suc i) b v e q = bit_mask bits i b v e q
 mask_any : (board : RawBoard) (scan : RowScan) → mask_bits (joined (row_bits board scan)) ≡ mask_of board scan.before
 mask_any board scan = mask_laid board scan ∙ sym (mask_laid board (record { now = quiet_row; before = scan.before }))
 
--- in each row, each compared cell of a walk net reads whether its net is joined with the net that carries 1
+-- in each row, each compared cell of a walk net reads 1 if its net is joined with the net that carries 1, and otherwise 0
 abbrev pub ShowJoined : RawBoard → List Ctl → List (List Bool) → List (List ℕ) → Type 0
 ShowJoined board walk log groups =
     (j one : ℕ) (logged : List Bool) (d : DriverCell) (s : IsDriverCell board walk d) (r : ReaderCell) → IsReaderCell board s.net r → (r.place == d.place) ≡ false →

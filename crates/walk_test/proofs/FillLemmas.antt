@@ -1,4 +1,4 @@
--- The rows that a walk keeps, and the rows that it fills in.
+-- Lemmas about the rows that a walk keeps and about the rows that a walk fills.
 use Rattle.std.proofs.Common.{◌≡◌, ◌⊎◌, inl, inr, ℕ, zero, suc, ◌+◌, ◌<◌, ◌≤◌, ◌==◌, ◌^◌, Bool, true, false, cond, List, [], ◌∷◌, length, take, map, get_or, set, replicate, Option, Some, None, is_some, unwrap_or, refl, sym, ◌∙◌, ap, subst, arith}
 use Rattle.std.specs.Prelude.{slice_get, filter, count_by, nat_lt, option_map, option_and_then}
 use Rattle.std.specs.Option.{option_to_list}
@@ -58,7 +58,7 @@ some_width board plan p = by_width plan.width p.width_is
         absurd (omega (arith, enough, none))
     by_width (suc w) e = omega arith
 
--- the first of a walk's settings is the walk setting
+-- if the settings are the walk setting, or none if there is no walk setting, the first of them is the walk setting
 pub first_setting : {X : Type 0} (settings : List X) (o : Option X) → settings ≡ option_to_list o → slice_get settings 0 ≡ o
 first_setting settings o are = ap (λ l. slice_get l 0) are ∙ by_setting o
   where
@@ -66,7 +66,7 @@ first_setting settings o are = ap (λ l. slice_get l 0) are ∙ by_setting o
     by_setting None = refl
     by_setting (Some x) = refl
 
--- the rows of a plan from which a walk's rows are made
+-- the rows of a plan from which a walk makes its rows
 module _ (board : RawBoard) (plan : PlanTables) (p : IsPlanOf board plan) where
   pub first_shifted : tdi_bits (joined (row_bits board (scan_of_pass board plan 0 0))) ≡ tdi_of board (first_row board plan)
   first_shifted =
@@ -75,7 +75,7 @@ module _ (board : RawBoard) (plan : PlanTables) (p : IsPlanOf board plan) where
   pub first_marked : mask_bits (joined (row_bits board (scan_of_pass board plan 0 1))) ≡ mask_of board (first_row board plan)
   first_marked = mask_laid board (scan_of_pass board plan 0 1) ∙ sym (mask_laid board (record { now = quiet_row; before = first_row board plan }))
 
--- the nets and the cells of a walk, from the pins of the board's nets
+-- the nets and the cells of a walk, which follow from the pins of the board's nets
 module _ (board : RawBoard) (rules : IsBoard board) (pins : NetPins) (p : AreNetPins board pins) (walk : List Ctl) where
   drivers_at : (n : ℕ) (net : Net) → slice_get board.nets n ≡ Some net → get_or pins.drivers n [] ≡ drivers_of board net
   drivers_at n net e =
@@ -119,7 +119,7 @@ module _ (board : RawBoard) (rules : IsBoard board) (pins : NetPins) (p : AreNet
           ∙ ap (λ (l : List ℕ). cond (is_walk_net board (walk_setting board) (slice_get board.nets k)) (k ∷ l) l)
           (same (k + 1) xs (λ i x f. let y : k + 1 + i ≡ k + suc i = omega arith in ap (λ (j : ℕ). slice_get board.nets j) y ∙ at (suc i) x f))
 
-  -- the cells of a walk net
+  -- `cells_in` finds the cells of a walk net
   pub cells_are : (n : ℕ) → WalkedBy board walk n → AreNetCells board walk n (cells_in pins walk n)
   cells_are n w = by_observer (observer_in pins walk n) (observer_is n w.net w.is_net)
     where
@@ -149,7 +149,7 @@ module _ (board : RawBoard) (rules : IsBoard board) (pins : NetPins) (p : AreNet
           subst (λ (l : List ReaderCell). let c : NetCells = record { driver = d.position; compared = positions_beside d.place l } in AreNetCells board walk n c) (sym (readers_at n w.net w.is_net))
           (subst (λ (i : ℕ). let c : NetCells = record { driver = d.position; compared = positions_beside i (readers_of board w.net.pins) } in AreNetCells board walk n c) (sym place) made)
 
--- tables whose parts are built as `walk_parts` builds them are the tables of a walk
+-- if tables are built from the parts that `walk_parts` returns, they are the tables of a walk
 module _ (board : RawBoard) (rules : IsBoard board) (plan : PlanTables) (p : IsPlanOf board plan) (passes : plan.passes ≡ option_to_list (walk_setting board)) (t : WalkTables) (is_plan : t.plan ≡ plan) (pins : NetPins) (q : AreNetPins board pins)
     (nets : t.nets ≡ nets_by pins (walk_setting board) (length board.nets)) (cells : t.cells ≡ cells_of pins (walk_setting board) t.nets) (rows_made : AreMade board plan t.cells t.rows) where
   plan_is : IsPlanOf board t.plan
@@ -177,7 +177,7 @@ module _ (board : RawBoard) (rules : IsBoard board) (plan : PlanTables) (p : IsP
     walk_cells : CellsOf board walk
     walk_cells = cells_of_plan board plan walk p one_pass
 
-    -- the net at a place is a walk net, and its cells are at the same place
+    -- the net at place `i` is a walk net, and the cells at place `i` are its cells
     at_place : (i n : ℕ) → slice_get t.nets i ≡ Some n → WalkedBy board walk n
     at_place i n e = (walk_at board walk is i n (sym (ap (λ (l : List ℕ). slice_get l i) walk_nets_are) ∙ e)).by
 
@@ -246,7 +246,7 @@ module _ (board : RawBoard) (rules : IsBoard board) (plan : PlanTables) (p : IsP
             subst (λ (w : List Ctl). AreWalkTables board w t) same (tables_are walk e);
       }
 
--- the first three scans do not depend on the rows
+-- the first three scans do not depend on the rows of the test
 early_same : (board : RawBoard) (ts us : List RowScan) (k : ℕ) → k < 3 → slice_get (board_scans board ts) k ≡ slice_get (board_scans board us) k
 early_same board ts us zero less = refl
 early_same board ts us (suc zero) less = refl
@@ -295,7 +295,7 @@ module _ (board : RawBoard) (rules : IsBoard board) (t : WalkTables) (w : IsWalk
           ∙ ap (λ (i : ℕ). set (tdi_of board (still_row walk)) i true) a.driver_is
           ∙ marked_row board rules walk cells (marks j) a.driver a.is_driver driver_marked (λ m x on. only_marked m x on ∙ sym a.of_net)
 
-      -- each compared cell of the net that carries 1 should read 1, and is within a data scan
+      -- each compared cell of the net that carries 1 should read 1, and its position is within a data scan
       reader_in : (position : ℕ) → Has c.compared position → (get_or (tdo_of board (walk_row board walk j)) position false ≡ true) × (position < data_bits board)
       reader_in position has =
           let r = (a.compared position).0 (has_contains c.compared position has) in
@@ -348,7 +348,7 @@ module _ (board : RawBoard) (rules : IsBoard board) (t : WalkTables) (w : IsWalk
     pub length-still : length t.rows.still.bits ≡ data_bits board
     length-still = ap (λ (l : List Bool). length l) tables.still ∙ length-tdi board rules walk cells (still_row walk)
 
-  -- a board with a pass has a walk setting
+  -- a board whose plan has a pass has a walk setting
   pub setting_there : 0 < length t.plan.passes → (walk : List Ctl) × (walk_setting board ≡ Some walk)
   setting_there some = by_setting (walk_setting board) refl
     where
@@ -405,7 +405,7 @@ module _ (board : RawBoard) (rules : IsBoard board) (t : WalkTables) (w : IsWalk
         masked = rows_masked are;
       }
 
--- the row in which the net at place j carries 1
+-- row `j`, in which the net at place `j` carries 1
 module _ (board : RawBoard) (rules : IsBoard board) (t : WalkTables) (w : IsWalkOf board t) (some : 0 < length t.plan.passes) (j : ℕ) (less : j < length t.nets) (c : NetCells) (at : slice_get t.cells j ≡ Some c) where
   abbrev walk : List Ctl
   walk = (setting_there board rules t w some).0
@@ -442,7 +442,7 @@ module _ (board : RawBoard) (rules : IsBoard board) (t : WalkTables) (w : IsWalk
   pub row_has_one : list_any (λ bit. bit) (mask_of board (before_of board (suc j))) ≡ true
   row_has_one = ap (λ (r : TestRow). list_any (λ bit. bit) (mask_of board r)) row_of_walk ∙ some_masked board rules t w walk is j (get_or t.nets j 0) net_is c at
 
--- there are as many cells as walk nets
+-- a walk with a pass has the cells of each walk net
 pub cells_count : (board : RawBoard) (rules : IsBoard board) (t : WalkTables) (w : IsWalkOf board t) → 0 < length t.plan.passes → length t.cells ≡ length t.nets
 cells_count board rules t w some = let s = setting_there board rules t w some in (w.tables s.0 s.1).count
 
@@ -480,7 +480,7 @@ past_codes t k past less = by_passes t.plan.passes less
     by_passes [] h = absurd (omega (arith, past, h))
     by_passes (pass ∷ passes) h = (omega arith, omega (arith, h))
 
--- the board has no more walk nets than nets
+-- a board does not have more walk nets than nets
 pub nets_few : (board : RawBoard) → length (walk_nets board) ≤ length board.nets
 nets_few board = at_most (λ n. is_walk_net board (walk_setting board) (slice_get board.nets n)) 0 (length board.nets)
   where
@@ -492,7 +492,7 @@ nets_few board = at_most (λ n. is_walk_net board (walk_setting board) (slice_ge
         by_test true h = omega (arith, h)
         by_test false h = omega (arith, h)
 
--- the rows of a walk with a pass, from the cells at each place
+-- the rows of a walk with a pass, which follow from the cells at each place
 module _ (board : RawBoard) (rules : IsBoard board) (t : WalkTables) (w : IsWalkOf board t) (some : 0 < length t.plan.passes) where
   net_there : (j : ℕ) (c : NetCells) → slice_get t.cells j ≡ Some c → j < length t.nets
   net_there j c at = omega (arith, slice_get_within t.cells j c at, cells_count board rules t w some)

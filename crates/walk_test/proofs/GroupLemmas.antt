@@ -1,4 +1,4 @@
--- Groups as lists: two lists of groups are equal if the same nets are together in a group.
+-- Lemmas about lists of groups. Two lists are equal if they put the same nets together.
 use Rattle.std.proofs.Common.{◌≡◌, ◌⊎◌, inl, inr, ℕ, zero, suc, ◌+◌, ◌<◌, ◌≤◌, ◌==◌, Bool, true, false, cond, List, [], ◌∷◌, length, Option, Some, None, refl, sym, ◌∙◌, ap, subst, arith}
 use Rattle.std.specs.Prelude.{slice_get, Contains}
 use Rattle.std.specs.List.{list_any}
@@ -14,7 +14,7 @@ use Rattle.walk_test.specs.inner.Reading.{is_one_group, are_joined}
 abbrev pub Rises : List ℕ → Type 0
 Rises xs = InOrder (λ a b. a < b) xs
 
--- the first number of an ascending list is the least
+-- the first number of an ascending list is the lowest
 le_first : (x : ℕ) (xs : List ℕ) (y : ℕ) → Rises (x ∷ xs) → Has (x ∷ xs) y → x ≤ y
 le_first x xs y rise (inl e) = omega (arith, e)
 le_first x xs y rise (inr has) = omega (arith, rise.0 y has)
@@ -58,8 +58,8 @@ Apart one other = (n : ℕ) → Has one n → Has other n → ⊥
 abbrev pub Before : List ℕ → List ℕ → Type 0
 Before one other = least_of one < least_of other
 
--- The groups are in order: each has two or more nets, in ascending order; no two groups share a net; and the least nets
--- of the groups are in ascending order.
+-- The groups are in order. Each group has two or more nets, in ascending order. No net is in two groups. The lowest nets of the groups are
+-- in ascending order.
 pub record AreOrdered (groups : List (List ℕ)) : Type 0 where
   pub several : (group : List ℕ) → Has groups group → 2 ≤ length group
   pub rise : (group : List ℕ) → Has groups group → Rises group
@@ -81,7 +81,7 @@ groups_ordered board groups are = record {
   order = pairs_order Before groups are.order;
 }
 
--- some group has both nets
+-- some group has both nets `a` and `b`
 abbrev pub Together : List (List ℕ) → ℕ → ℕ → Type 0
 Together groups a b = (group : List ℕ) × Has groups group × Has group a × Has group b
 
@@ -117,7 +117,7 @@ module _ (g : List ℕ) (gs : List (List ℕ)) (h : List ℕ) (hs : List (List �
       by_place (l, inl first, la, lb) = absurd (p.apart.0 k has a (subst (λ (s : List ℕ). Has s a) (sym (same ∙ first)) la) in_a)
       by_place (l, inr later, la, lb) = (l, later, la, lb)
 
--- if the same nets are together in two lists of groups, the lists are equal
+-- if two lists of groups put the same nets together, the lists are equal
 pub one_list : (groups others : List (List ℕ)) → AreOrdered groups → AreOrdered others → ((a b : ℕ) → Together groups a b → Together others a b) → ((a b : ℕ) → Together others a b → Together groups a b) → groups ≡ others
 one_list [] [] p q to from = refl
 one_list [] (h ∷ hs) p q to from =
@@ -131,7 +131,7 @@ one_list (g ∷ gs) (h ∷ hs) p q to from =
     let same : g ≡ h = rising_same g h (p.rise g (inl refl)) (q.rise h (inl refl)) (first_within g gs h hs p q to least) (first_within h hs g gs q p from (sym least)) in
     cons_path same (one_list gs hs (tail_ordered g gs p) (tail_ordered h hs q) (rest_within g gs h hs p q to same) (rest_within h hs g gs q p from (sym same)))
 
--- a test over a group's nets finds net n if and only if the group has net n
+-- a group has net `n` if and only if a test over the group's nets finds it
 any_in : (group : List ℕ) (n : ℕ) → Has group n → list_any (λ m. m == n) group ≡ true
 any_in group n has = has_any (λ m. m == n) group n has (eq-eqb n n refl)
 
@@ -196,7 +196,7 @@ one_group groups a b apart (group, has, in_a, in_b) =
     ∙ ap (λ (o : Option ℕ). is_one_group (Some (0 + at.0)) o) (group_is 0 groups at.0 group b apart at.1 in_b)
     ∙ eq-eqb (0 + at.0) (0 + at.0) refl
 
--- joined nets are equal or in one group
+-- if two nets are joined, they are equal or in one group
 pub joined_cases : (groups : List (List ℕ)) (a b : ℕ) → are_joined groups a b ≡ true → (a ≡ b) ⊎ Together groups a b
 joined_cases groups a b e = by_case (or_cases (a == b) (is_one_group (group_of groups a) (group_of groups b)) e)
   where
@@ -218,7 +218,7 @@ module _ (groups : List (List ℕ)) (ordered : AreOrdered groups) where
       by_case (inl same) = joined_self groups b a (sym same)
       by_case (inr (group, has, in_a, in_b)) = joined_in b a (group, has, in_b, in_a)
 
-  -- a net is in one group at most
+  -- if two groups have the same net, they are the same group
   pub one_of : (group other : List ℕ) (n : ℕ) → Has groups group → Has groups other → Has group n → Has other n → group ≡ other
   one_of group other n has also in_one in_other =
       let p = has_place groups group has in
@@ -239,7 +239,7 @@ module _ (groups : List (List ℕ)) (ordered : AreOrdered groups) where
           let one : g ≡ h = one_of g h b has also in_b of_b in
           joined_in a c (g, has, in_a, subst (λ (l : List ℕ). Has l c) (sym one) of_c)
 
-  -- if two nets are joined, they are joined with the same nets
+  -- if two nets are joined, each is joined with the same nets as the other
   pub joined_same : (a b c : ℕ) → are_joined groups a b ≡ true → are_joined groups a c ≡ are_joined groups b c
   joined_same a b c e = same_answer (are_joined groups a c) (are_joined groups b c) (λ f. joined_across b a c (joined_swap a b e) f) (λ f. joined_across a b c e f)
 

@@ -1,4 +1,4 @@
--- Labels of nets as lists: the labels that a log implies, and the groups of the labels.
+-- Lemmas about the labels that a log gives the walk nets, and about the groups of these labels.
 use Rattle.std.proofs.Common.{◌≡◌, ◌≢◌, ◌⊎◌, inl, inr, ℕ, zero, suc, ◌+◌, ◌<◌, ◌≤◌, ◌==◌, Bool, true, false, cond, ◌&&◌, List, [], ◌∷◌, ◌++◌, length, take, map, get_or, Option, Some, None, Decides, refl, sym, ◌∙◌, ap, subst, arith, nat_le}
 use Rattle.std.specs.Prelude.{slice_get, All, Contains, option_map}
 use Rattle.std.specs.List.{flat_map, range_with_len}
@@ -21,7 +21,7 @@ use Rattle.walk_test.specs.Groups.{Rise, least_of, AreGroups}
 use Rattle.walk_test.specs.inner.Reading.{are_joined, bit_in, first_one, label_of, net_shows, ShowsIn, ShowsAll, members, group_at, groups_by}
 use Rattle.walk_test.proofs.GroupLemmas.{Rises, least_has, least_le, Before, AreOrdered, Together, joined_cases, joined_self, joined_in}
 
--- the first row with a 1 at a position is at or before every row with a 1 there
+-- the first row that reads 1 at a position is not after any row that reads 1 there
 pub first_low : (log : List (List Bool)) (at j : ℕ) → bit_in log j at ≡ true → first_one log at ≤ j
 first_low [] at j e = cc e
 first_low (row ∷ log) at zero e =
@@ -42,14 +42,14 @@ first_holds (row ∷ log) at less = by_test (get_or row at false) refl (first_ho
     by_test true e rest h = e
     by_test false e rest h = rest (omega (arith, h))
 
--- positions with the same bits in all rows have the same first row
+-- if two positions read the same bits in all rows, they have the same first row
 pub first_same : (log : List (List Bool)) (p q : ℕ) → ((j : ℕ) → j < length log → bit_in log j p ≡ bit_in log j q) → first_one log p ≡ first_one log q
 first_same [] p q same = refl
 first_same (row ∷ log) p q same =
     let rest : first_one log p ≡ first_one log q = first_same log p q (λ j less. same (suc j) (omega (arith, less))) in
     ap (λ (b : Bool). cond b 0 (suc (first_one log p))) (same 0 (omega arith)) ∙ ap (λ (k : ℕ). cond (get_or row q false) 0 (suc k)) rest
 
--- if row i reads 1 at a position and no earlier row does, row i is the first
+-- if row `i` reads 1 at a position, and no earlier row does, row `i` is the first row of the position
 pub first_here : (log : List (List Bool)) (at i : ℕ) → i < length log → bit_in log i at ≡ true → ((j : ℕ) → j < i → bit_in log j at ≡ false) → first_one log at ≡ i
 first_here log at i less on off = by_side (cases_lt (first_one log at) i)
   where
@@ -66,19 +66,19 @@ first_none (row ∷ log) at off =
     let rest : first_one log at ≡ length log = first_none log at (λ j less. off (suc j) (omega (arith, less))) in
     ap (λ (b : Bool). cond b 0 (suc (first_one log at))) (off 0 (omega arith)) ∙ ap (λ (k : ℕ). suc k) rest
 
--- the label at place i is the label of the net at this place
+-- the label at place `i` is the label of the net whose cells are at place `i`
 pub label_is : (log : List (List Bool)) (cells : List NetCells) (i : ℕ) (c : NetCells) → slice_get cells i ≡ Some c → slice_get (map (label_of log) cells) i ≡ Some (label_of log c)
 label_is log cells i c e = slice_get-map (label_of log) cells i ∙ ap (λ (o : Option NetCells). option_map (label_of log) o) e
 
 pub first_compared : (c : NetCells) → 0 < length c.compared → Has c.compared (get_or c.compared 0 0)
 first_compared c some = has_at c.compared 0 (get_or c.compared 0 0) (slice_get-get_or c.compared 0 0 some)
 
--- logs in which each compared cell reads what the labels say
+-- a log with at least one row for each net, if each net has a compared cell
 module _ (log : List (List Bool)) (cells : List NetCells) (long : length cells ≤ length log) (some : (i : ℕ) (c : NetCells) → slice_get cells i ≡ Some c → 0 < length c.compared) where
   abbrev log_labels : List ℕ
   log_labels = map (label_of log) cells
 
-  -- `ShowsAll`, written out for each compared cell
+  -- each compared cell reads what the labels say, in each row; this is `ShowsAll` without its other definitions
   abbrev EachShows : Type 0
   EachShows = (j i p : ℕ) (c : NetCells) → j < length cells → slice_get cells i ≡ Some c → Has c.compared p → bit_in log j p ≡ (get_or log_labels i 0 == get_or log_labels j 0)
 
@@ -92,7 +92,7 @@ module _ (log : List (List Bool)) (cells : List NetCells) (long : length cells �
       all_from (λ at. is_same (bit_in log j at) (get_or log_labels i 0 == get_or log_labels j 0)) c.compared
       (λ k p f. is_same_of_same (bit_in log j p) (get_or log_labels i 0 == get_or log_labels j 0) (each j i p c less e (has_at c.compared k p f)))
 
-  -- a label k is the place of a net with label k, at or before each net with this label
+  -- if the log shows the labels, label `k` is the place of a net with label `k`, and no net with this label comes before this place
   pub own_label : ShowsAll log log_labels cells → (i k : ℕ) → slice_get log_labels i ≡ Some k → (k ≤ i) × (slice_get log_labels k ≡ Some k)
   own_label shows i k e =
       let below : i < length cells = omega (arith, slice_get_within log_labels i k e, length-map cells (label_of log)) in
@@ -113,7 +113,7 @@ module _ (log : List (List Bool)) (cells : List NetCells) (long : length cells �
       let in_labels : k < length log_labels = omega (arith, within, length-map cells (label_of log)) in
       (low, slice_get-get_or log_labels k 0 in_labels ∙ ap (λ (l : ℕ). Some l) (sym same ∙ mine))
 
--- a test decides the statement
+-- some test decides the statement
 abbrev pub IsDecided : Type 0 → Type 0
 IsDecided P = (t : Bool) × Decides t P
 
@@ -147,7 +147,7 @@ shows_decided log labels cells = decided_below (ShowsIn log labels cells) in_row
         let all = decided_below (Shows j) (λ i. by_net j i (slice_get cells i) refl) (length cells) in
         (all.0, Decides-like all.0 (λ h i c e. h i (slice_get_within cells i c e) c e) (λ h i less c e. h i c e) all.1)
 
--- in an ascending list, the number at the lower place is less
+-- of two numbers in an ascending list, the number at the lower place is lower
 pub place_order : (xs : List ℕ) → Rises xs → (i j a b : ℕ) → slice_get xs i ≡ Some a → slice_get xs j ≡ Some b → i < j → a < b
 place_order [] rise i j a b e f less = cc e
 place_order (x ∷ xs) rise zero zero a b e f less = absurd (omega (arith, less))
@@ -200,7 +200,7 @@ members_rise (x ∷ nets) (l ∷ labels) k rise = by_test (l == k) (members_rise
     by_test true r = (λ y h. let m = members_has nets labels k y h in rise.0 y (has_at nets m.0 y m.1), r)
     by_test false r = r
 
--- the nets with label k among the first i + 1 nets are the nets with label k among the first i nets, and net i if its label is k
+-- the nets with label `k` among the first `i + 1` nets are those among the first `i` nets, and net `i` if it has label `k`
 pub members_more : (nets labels : List ℕ) (k i n l : ℕ) → slice_get nets i ≡ Some n → slice_get labels i ≡ Some l →
     members (take (i + 1) nets) (take (i + 1) labels) k ≡ members (take i nets) (take i labels) k ++ cond (l == k) (n ∷ []) []
 members_more [] labels k i n l e f = cc e
@@ -219,12 +219,12 @@ members_more (x ∷ nets) (y ∷ labels) k (suc i) n l e f =
     by_test true rest = ap (λ (ms : List ℕ). x ∷ ms) rest
     by_test false rest = rest
 
--- if the nets are in ascending order, so are the nets with a label
+-- if the nets are in ascending order, so are the nets with label `k`
 pub rise_members : (nets labels : List ℕ) (k : ℕ) (group : List ℕ) → Rise nets → group ≡ members nets labels k → Rise group
 rise_members nets labels k group rise is =
     subst (λ (g : List ℕ). Rise g) (sym is) (order_pairs (λ a b. a < b) (members nets labels k) (members_rise nets labels k (pairs_order (λ a b. a < b) nets rise)))
 
--- the groups of the labels up to k are the groups of the labels below k, and the group of label k
+-- the groups of the labels up to `k` are the groups of the labels below `k`, followed by the group of label `k` if there is one
 pub groups_more : (nets labels : List ℕ) (k : ℕ) → flat_map (group_at nets labels) (range_with_len 0 (k + 1)) ≡ flat_map (group_at nets labels) (range_with_len 0 k) ++ group_at nets labels k
 groups_more nets labels k =
     let on : k + 1 ≡ suc k = omega arith in
@@ -241,7 +241,7 @@ two_items (x ∷ []) a b (inl p) (inr k) ne = absurd k
 two_items (x ∷ []) a b (inr h) k ne = absurd h
 two_items (x ∷ y ∷ xs) a b h k ne = omega arith
 
--- the groups of nets in ascending order; each label is the place of a net with this label
+-- The groups of nets in ascending order, if each label is the place of a net with this label.
 module _ (nets labels : List ℕ) (rise : Rises nets) (count : length labels ≡ length nets) (own : (i k : ℕ) → slice_get labels i ≡ Some k → (k ≤ i) × (slice_get labels k ≡ Some k)) where
   abbrev groups : List (List ℕ)
   groups = groups_by nets labels
@@ -249,7 +249,7 @@ module _ (nets labels : List ℕ) (rise : Rises nets) (count : length labels ≡
   abbrev group : ℕ → List ℕ
   group k = members nets labels k
 
-  -- the group of label k has all nets with this label, and these are two or more
+  -- the group of label `k` has all nets with this label, and there are two or more of these nets
   record IsGroupAt (k : ℕ) (g : List ℕ) : Type 0 where
     nets_are : group k ≡ g
     several : 2 ≤ length g

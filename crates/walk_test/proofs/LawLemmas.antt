@@ -1,4 +1,4 @@
--- The laws of the walking test.
+-- Lemmas from which the laws of the walking test follow.
 use Rattle.std.proofs.Common.{◌≡◌, ◌⊎◌, inl, inr, ℕ, suc, ◌+◌, ◌<◌, Bool, List, [], ◌∷◌, length, get_or, Option, Some, None, refl, sym, ◌∙◌, ap, subst, arith, length-append}
 use Rattle.std.specs.Prelude.{◌↔◌, slice_get, count_by, Contains}
 use Rattle.std.specs.Option.{option_to_list}
@@ -29,7 +29,7 @@ use Rattle.walk_test.proofs.NetLemmas.{walk_has, count_is, no_nets}
 use Rattle.walk_test.proofs.RowLemmas.{cells_there}
 use Rattle.walk_test.proofs.ExplainLemmas.{ShowJoined, explained_shows, explained_rows, shorts_are_faults}
 
--- the text of the walking test is harmless, with a walk setting and without one
+-- the text of the walking test is harmless, whether or not the board has a walk setting
 pub walk_harmless : WalkSafe → ((board : RawBoard) (walk : List Ctl) → IsBoard board → IsSafe board (holds walk) → IsHarmless board (walk_text board walk)) →
     ((board : RawBoard) (passes : List (List Ctl)) (width : ℕ) → IsBoard board → ((x : ℕ) (pass : List Ctl) → slice_get passes x ≡ Some pass → IsSafe board (holds pass)) → IsHarmless board (pass_text board passes width)) → WalkHarmless
 walk_harmless safe walks passes board rules = by_setting (walk_setting board) refl
@@ -38,7 +38,7 @@ walk_harmless safe walks passes board rules = by_setting (walk_setting board) re
     by_setting None e = subst (λ (o : Option (List Ctl)). IsHarmless board (svf_text (board_scans board (scans_by board o)))) (sym e) (passes board [] 0 rules (λ x pass at. cc at))
     by_setting (Some walk) e = subst (λ (o : Option (List Ctl)). IsHarmless board (svf_text (board_scans board (scans_by board o)))) (sym e) (walks board walk rules (safe board walk rules e))
 
--- a walk has as many scans as the walking test
+-- a walk counts as many scans as the walking test has
 pub scans_counted : ScansCounted
 scans_counted board t is = by_setting (walk_setting board) refl
   where
@@ -58,7 +58,7 @@ scans_counted board t is = by_setting (walk_setting board) refl
         ∙ omega (arith, nets, long, all)
         ∙ sym (ap (λ (o : Option (List Ctl)). length (board_scans board (scans_by board o))) e)
 
--- the rows of the walking test follow each other as the scans of a test must
+-- the rows of the walking test follow each other as the scans of a board's test must
 pub in_turn : WalkSafe → ((board : RawBoard) (walk : List Ctl) → IsSafe board (holds walk) → AreInTurn board (walk_row_scans board walk)) → (board : RawBoard) → IsBoard board → AreInTurn board (walk_row_list board)
 in_turn safe walks board rules = by_setting (walk_setting board) refl
   where
@@ -72,7 +72,7 @@ setting_is safe board rules walk is = record { safe = safe board walk rules is; 
 pub faults_are : WalkSafe → ShortsAreFaults
 faults_are safe board groups rules are = shorts_are_faults board groups (λ walk is. safe board walk rules is) are
 
--- without a walk setting there is no group
+-- if a board has no walk setting, it has no groups
 no_groups : (board : RawBoard) (groups : List (List ℕ)) → walk_setting board ≡ None → AreGroups board groups → groups ≡ []
 no_groups board [] none are = refl
 no_groups board (group ∷ groups) none are =
@@ -84,7 +84,7 @@ no_groups board (group ∷ groups) none are =
 module _ (safe : WalkSafe) (by_rows : (board : RawBoard) (faults : FaultSet) (scans : List RowScan) (log : List (List Bool)) → IsBoard board → AreInTurn board scans → ExplainedBy board faults scans log ↔ (HasShape board scans log × IsCapturedBy board faults scans log))
     (compare : (board : RawBoard) (walk : List Ctl) → IsBoard board → CompareRows (walk_row board) (count_by (is_walked board walk) board.nets) (walk ∷ []) (compared_scans board (walk_row_scans board walk)))
     (turns : (board : RawBoard) (walk : List Ctl) → IsSafe board (holds walk) → AreInTurn board (walk_row_scans board walk)) where
-  -- in a log that a set of groups explains, the compared cells read what the set says
+  -- if a set of groups explains a log, the compared cells read what the set says
   pub shown_by : (board : RawBoard) (walk : List Ctl) (log : List (List Bool)) (groups : List (List ℕ)) → IsBoard board → walk_setting board ≡ Some walk → Explain board log groups →
       ShowJoined board walk log groups × (length log ≡ length (walk_nets board))
   shown_by board walk log groups rules is explain =
@@ -96,7 +96,7 @@ module _ (safe : WalkSafe) (by_rows : (board : RawBoard) (faults : FaultSet) (sc
         explained_rows board rules walk is set (compare board walk rules) groups explain.are rows log e,
       )
 
-  -- two sets that explain one log join the same nets
+  -- if two sets of groups explain one log, they join the same nets
   module _ (board : RawBoard) (walk : List Ctl) (log : List (List Bool)) (groups others : List (List ℕ)) (rules : IsBoard board) (is : walk_setting board ≡ Some walk) (first : Explain board log groups) (second : Explain board log others) where
     joined_alike : (a b : ℕ) → Contains (walk_nets board) a → Contains (walk_nets board) b → are_joined groups a b ≡ are_joined others a b
     joined_alike a b has_a has_b =

@@ -1,4 +1,4 @@
--- Rows of a log by their digits, at the compared positions.
+-- Lemmas which read the rows of a log from their digits, at the compared positions.
 use Rattle.std.proofs.Common.{◌≡◌, ◌⊎◌, inl, inr, ℕ, zero, suc, ◌+◌, ◌*◌, ◌/◌, ◌%◌, ◌<◌, ◌≤◌, ◌==◌, ◌^◌, Bool, true, false, ◌&&◌, List, [], ◌∷◌, length, get_or, min, Decides, refl, sym, ap, ◌∙◌, arith}
 use Rattle.std.specs.Int.{bit_at}
 use Rattle.std.specs.Int.Bits.{bit_and, bit_xor}
@@ -12,7 +12,7 @@ use Rattle.response_log.specs.Kept.{AreRowDigits}
 use Rattle.walk_test.specs.inner.Digits.{bit_of, is_one, differing, IsFresh, IsMarked}
 use Rattle.walk_test.specs.inner.Reading.{bit_in, AreSameRows, StartsGroup, AreStarted}
 
--- the bits of a digit behind the last bit of a row are 0
+-- each bit of a digit that is past the last bit of the row is 0
 bit_off : (n k : ℕ) → n / 2 ^ k % 2 ≡ 0 → digit_bit n k ≡ false
 bit_off n k is = ap (λ (m : ℕ). m == 1) is
 
@@ -56,7 +56,7 @@ mask_within mask at on = by_side (cases_lt at (length mask))
     by_side (inl less) = less
     by_side (inr past) = let bad : false ≡ true = sym (get_or_past mask at false past) ∙ on in cc bad
 
--- the compared positions, by the digits of the mask
+-- the compared positions, which the digits of the mask give
 module _ (mask : List Bool) (marks : List ℕ) (are : marks ≡ digits_of mask) where
   mark_bit : (at : ℕ) → bit_of marks at ≡ get_or mask at false
   mark_bit at = ap (λ (l : List ℕ). bit_of l at) are ∙ by_side (cases_lt at (length mask))
@@ -98,11 +98,11 @@ module _ (log : List (List Bool)) (mask : List Bool) (marks : List ℕ) (are : m
       by_test true on = one_is at (bit_in log j at) on refl
       by_test false off = ap (λ (m : Bool). m && bit_of row at) (mark_bit mask marks are at ∙ off)
 
-  -- if the position of a net does not read 1, no group starts with the net
+  -- if the position of a net does not read 1 in a row, no group starts with the net
   pub not_started : (own none : ℕ) (old : List ℕ) (t : Bool) → t ≡ is_one row marks own → t ≡ false → Decides t (StartsGroup log mask j own none old)
   not_started own none old t is off = (λ e. let bad : true ≡ false = sym e ∙ off in cc bad, λ s. is ∙ one_read own ∙ s.is_read)
 
-  -- position `own` reads 1: a group starts if and only if no position that reads 1 has an earlier row
+  -- If position `own` reads 1, a group starts if and only if no position that reads 1 has an earlier row.
   module _ (none : ℕ) (old : List ℕ) (count : length old ≡ length mask) where
     pub starts : (own : ℕ) → is_one row marks own ≡ true → (t : Bool) → Decides t (IsFresh row marks none old (length old)) → Decides t (StartsGroup log mask j own none old)
     starts own one t d = (
@@ -116,7 +116,7 @@ module _ (log : List (List Bool)) (mask : List Bool) (marks : List ℕ) (are : m
       kept = λ at on off. m.kept at (omega (arith, mask_within mask at on, count)) (one_is at false on off);
     }
 
--- two rows agree at the compared bits of a digit if and only if their difference, under the mask, is 0
+-- two rows agree at the compared bits of a digit if and only if their difference, masked, is 0
 module _ (a b m k : ℕ) where
   masked_same : bit_and (bit_xor a b) m ≡ 0 → digit_bit m k ≡ true → digit_bit a k ≡ digit_bit b k
   masked_same none on =

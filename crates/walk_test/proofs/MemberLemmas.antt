@@ -1,4 +1,4 @@
--- The nets with each label, gathered net by net, and the groups that these nets form.
+-- Lemmas about the lists of the nets with each label, which a loop fills net by net, and about the groups that these lists give.
 use Rattle.std.proofs.Common.{◌≡◌, ℕ, zero, suc, ◌+◌, ◌<◌, ◌==◌, Bool, cond, List, [], ◌∷◌, ◌++◌, length, map, take, replicate, Some, refl, sym, ap, ◌∙◌, subst, arith, append-nil}
 use Rattle.std.specs.Prelude.{slice_get, All}
 use Rattle.std.specs.List.{flat_map, range_with_len}
@@ -10,11 +10,11 @@ use Rattle.walk_test.specs.Groups.{Rise}
 use Rattle.walk_test.specs.inner.Reading.{members, where_several, group_at, groups_by}
 use Rattle.walk_test.proofs.LabelLemmas.{members_more, rise_members}
 
--- list k, with item x appended if k is l
+-- list `k`, with item `x` appended if `k` is `l`
 abbrev with_item : (ℕ → List ℕ) → ℕ → ℕ → ℕ → List ℕ
 with_item f l x k = f k ++ cond (l == k) (x ∷ []) []
 
--- the lists with numbers above l stay the same
+-- the lists with numbers above `l` do not change
 others_kept : (f : ℕ → List ℕ) (a n l x : ℕ) → l < a → map f (range_with_len a n) ≡ map (with_item f l x) (range_with_len a n)
 others_kept f a zero l x less = refl
 others_kept f a (suc n) l x less =
@@ -34,7 +34,7 @@ same_over : (f g : ℕ → List ℕ) → ((k : ℕ) → f k ≡ g k) → (ks : L
 same_over f g same [] = refl
 same_over f g same (k ∷ ks) = cons_path (same k) (same_over f g same ks)
 
--- the lists stay right when the loop adds one more net to the list of its label
+-- if the lists are right for the first `i` nets, they are right for the first `i + 1` nets after net `i` is added to the list of its label
 pub all_members_more : (nets labels : List ℕ) (count i n l : ℕ) (now new : List (List ℕ)) → slice_get nets i ≡ Some n → slice_get labels i ≡ Some l →
     now ≡ map (members (take i nets) (take i labels)) (range_with_len 0 count) → new ≡ noted now (Some l) n →
     new ≡ map (members (take (i + 1) nets) (take (i + 1) labels)) (range_with_len 0 count)
@@ -45,7 +45,7 @@ all_members_more nets labels count i n l now new e f now_is new_is =
     ∙ ap (λ (m : ℕ). map (with_item before m n) (range_with_len 0 count)) z
     ∙ same_over (with_item before l n) (members (take (i + 1) nets) (take (i + 1) labels)) (λ k. sym (members_more nets labels k i n l e f)) (range_with_len 0 count)
 
--- before the first net all lists are empty
+-- if there are no nets yet, all lists are empty
 pub no_members : (a n : ℕ) → replicate n [] ≡ map (members [] []) (range_with_len a n)
 no_members a zero = refl
 no_members a (suc n) = ap (λ (l : List (List ℕ)). [] ∷ l) (no_members (a + 1) n)

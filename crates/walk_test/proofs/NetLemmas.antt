@@ -1,4 +1,4 @@
--- The walk nets, their places, and their number.
+-- Lemmas about the walk nets, their places and their number.
 use Rattle.std.proofs.Common.{◌≡◌, ℕ, zero, suc, ◌+◌, ◌<◌, ◌==◌, Bool, true, false, cond, List, [], ◌∷◌, length, take, Option, Some, None, refl, sym, ◌∙◌, ap, subst, arith}
 use Rattle.std.specs.Prelude.{slice_get, filter, count_by, is_some, Contains}
 use Rattle.std.specs.List.{range_with_len}
@@ -20,7 +20,7 @@ use Rattle.walk_test.proofs.CellLemmas.{WalkedBy}
 count_cons : {X : Type 0} (p : X → Bool) (x : X) (xs : List X) → count_by p (x ∷ xs) ≡ cond (p x) 1 0 + count_by p xs
 count_cons p x xs = sum_by-cons (λ y. cond (p y) 1 0) x xs
 
--- the numbers from k on whose items pass a test
+-- numbers from `k` on, kept if their items pass a test
 module _ {X : Type 0} (p : X → Bool) (q : ℕ → Bool) where
   abbrev Tests : ℕ → List X → Type 0
   Tests k xs = (i : ℕ) (x : X) → slice_get xs i ≡ Some x → q (k + i) ≡ p x
@@ -42,7 +42,7 @@ module _ {X : Type 0} (p : X → Bool) (q : ℕ → Bool) where
       by_test true e rest = ap (λ (b : Bool). length (cond b (k ∷ kept (k + 1) xs) (kept (k + 1) xs))) e ∙ omega (arith, rest)
       by_test false e rest = ap (λ (b : Bool). length (cond b (k ∷ kept (k + 1) xs) (kept (k + 1) xs))) e ∙ omega (arith, rest)
 
-  -- number n, at place i of the kept numbers, is the number of an item that passes
+  -- the number at place `i` of the kept numbers is `n`, and item `n` passes
   pub record KeptAt (k : ℕ) (xs : List X) (i n : ℕ) : Type 0 where
     pub place : ℕ
     pub item : X
@@ -103,7 +103,7 @@ module _ {X : Type 0} (p : X → Bool) (q : ℕ → Bool) where
 pub nets_rise : (board : RawBoard) → Rises (walk_nets board)
 nets_rise board = order_filter (λ a b. a < b) (λ n. is_walk_net board (walk_setting board) (slice_get board.nets n)) (range_with_len 0 (length board.nets)) (order_range 0 (length board.nets))
 
--- without a walk setting there are no walk nets
+-- if a board has no walk setting, it has no walk nets
 pub no_nets : (board : RawBoard) → walk_setting board ≡ None → walk_nets board ≡ []
 no_nets board none = drop_all' (range_with_len 0 (length board.nets))
   where
@@ -156,7 +156,7 @@ module _ (board : RawBoard) (walk : List Ctl) (is : walk_setting board ≡ Some 
       let z : 0 + n ≡ n = omega arith in
       at_kept (is_walked board walk) test 0 board.nets tests n w.net w.is_net (ap (λ (o : Option ℕ). is_some o) w.observing) ∙ ap (λ (m : ℕ). Some m) z
 
-  -- in row j, the walk net at place j carries 1 and no other walk net does
+  -- in row `j`, the walk net at place `j` carries 1, and no other walk net does
   pub marked_is : (j one : ℕ) → slice_get (walk_nets board) j ≡ Some one → (n : ℕ) → WalkedBy board walk n → (count_by (is_walked board walk) (take n board.nets) == j) ≡ (n == one)
   marked_is j one at n w =
       same_answer (count_by (is_walked board walk) (take n board.nets) == j) (n == one)

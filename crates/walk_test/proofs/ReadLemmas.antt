@@ -1,4 +1,4 @@
--- The rows of a log, read in turn: the next row from the earlier rows, and the labels from all rows.
+-- Lemmas about the rows of a log that are read in turn. Each row follows from the earlier rows, and the labels follow from all rows.
 use Rattle.std.proofs.Common.{◌≡◌, ◌⊎◌, inl, inr, ℕ, suc, ◌+◌, ◌<◌, ◌≤◌, ◌==◌, ◌^◌, Bool, true, false, cond, List, [], ◌∷◌, length, map, take, get_or, Decides, Some, nat_lt, replicate, refl, sym, ap, ◌∙◌, subst, arith}
 use Rattle.std.specs.Prelude.{slice_get, All, Contains}
 use Rattle.std.specs.Bool.{OnFalse, OnTrue}
@@ -17,7 +17,7 @@ use Rattle.walk_test.specs.declared.tables.NetCells.{NetCells}
 use Rattle.walk_test.specs.inner.Reading.{bit_in, compared_bits, with_compared, first_one, label_of, logged_nets, first_at, first_in, is_even, below, AreCompared, AreLoggedNets, HasPlaces, AreSameRows, StartsGroup, AreStarted, IsRowRight, AreRead, ShowsAll}
 use Rattle.walk_test.proofs.LabelLemmas.{first_low, first_holds, first_same, label_is, first_compared, each_shows, shows_each}
 
--- a row before row j stays the same under `below`
+-- if a row comes before row `j`, `below` does not change it
 below_less : (j none f : ℕ) → f < j → below j none f ≡ f
 below_less j none f less = ap (λ (b : Bool). cond b f none) (lt-ltb f j less)
 
@@ -44,11 +44,11 @@ first_most (row ∷ log) at = by_test (get_or row at false) (first_most log at)
     by_test true most = omega arith
     by_test false most = omega (arith, most)
 
--- a position reads 1 in its first row
+-- if the first row of a position is row `j` of the log, the position reads 1 in row `j`
 first_reads : (log : List (List Bool)) (at j : ℕ) → j < length log → first_one log at ≡ j → bit_in log j at ≡ true
 first_reads log at j less is = ap (λ (k : ℕ). bit_in log k at) (sym is) ∙ first_holds log at (omega (arith, less, is))
 
--- to add the compared bits of net i to those of the first i nets gives the compared bits of the first i + 1 nets
+-- adding the compared bits of net `i` to those of the first `i` nets gives the compared bits of the first `i + 1` nets
 pub compared_more : (len : ℕ) (nets : List NetCells) (i : ℕ) (net : NetCells) → i < length nets → net ≡ get_or nets i net → with_compared (compared_bits len (take i nets)) net ≡ compared_bits len (take (i + 1) nets)
 compared_more len nets i net less is =
     ap (λ (n : NetCells). with_compared (compared_bits len (take i nets)) n) is
@@ -89,7 +89,7 @@ module _ (len : ℕ) (nets : List NetCells) where
           let place = has_place nets r.0 r.1 in
           (place.0, r.0, place.1, subst (λ (k : ℕ). Contains r.0.compared k) same (has_contains r.0.compared x r.2))
 
--- a log with a row for each net, and the compared bits of the nets, form `LoggedNets`
+-- a log with a row for each net, and the compared bits of these nets, are `LoggedNets`
 pub all_logged : (log : List (List Bool)) (nets : List NetCells) (len : ℕ) (mask : List Bool) → length nets < 2 ^ 32 → HasSize (length nets) len log → All (HasPlaces len) nets → mask ≡ compared_bits len nets → AreLoggedNets (logged_nets log nets mask)
 all_logged log nets len mask few size places is = record {
   few = omega (arith, few, size.rows);
@@ -122,7 +122,7 @@ module _ (log : List (List Bool)) (mask : List Bool) (nets : List NetCells) (non
     found = λ at on. blank at ∙ sym (below_past 0 none (first_one log at) (omega arith));
   }
 
-  -- row j, once the rows before row j are read
+  -- row `j`, after the rows before row `j` are read
   module _ (j : ℕ) (firsts : List ℕ) (read : AreRead log mask nets none j firsts) (net : NetCells) (is_net : slice_get nets j ≡ Some net) where
     abbrev own : ℕ
     own = first_at net
@@ -150,7 +150,7 @@ module _ (log : List (List Bool)) (mask : List Bool) (nets : List NetCells) (non
             let nets_same : net ≡ other = cc two in
             subst (λ (i : ℕ). IsRowRight log mask i (first_at other)) same (subst (λ (x : NetCells). IsRowRight log mask j (first_at x)) nets_same right)
 
-    -- the case that the net's position reads 1 in an earlier row
+    -- the case in which the net's position reads 1 in an earlier row
     module _ (again : nat_lt first j ≡ true) where
       earlier : first < j
       earlier = ltb-true first j again
@@ -198,7 +198,7 @@ module _ (log : List (List Bool)) (mask : List Bool) (nets : List NetCells) (non
           ∙ ap (λ (l : ℕ). first_one log (first_at r.1) == l) (label ∙ sym own_first)
           ∙ sym (shown shows first r.0 at at_first r.1 is_first r.2 has)
 
-    -- the case that the net's position reads 1 in no earlier row
+    -- the case in which the net's position reads 1 in no earlier row
     module _ (fresh : nat_lt first j ≡ false) where
       late : j ≤ first_one log own
       late = by_side (cases_lt (first_one log own) j)
@@ -258,7 +258,8 @@ module _ (log : List (List Bool)) (mask : List Bool) (nets : List NetCells) (non
               absurd (omega (arith, its, others, low, late, before))
           by_side at on reads (inr past) = read.found at on ∙ below_past j none (first_one log at) past
 
-    -- so row j is right if it reads what the earlier rows imply, and otherwise the log does not show the labels
+    -- If the net's position reads 1 in an earlier row, `t` says whether row `j` reads the same as that row, and the first rows stay
+    -- unchanged.
     abbrev Again : ℕ → List ℕ → Bool → Type 0
     Again at new t = OnTrue (nat_lt (get_or firsts at none) j) (Decides t (AreSameRows log mask j (get_or firsts at none)) × (new ≡ firsts))
 
@@ -287,7 +288,7 @@ module _ (log : List (List Bool)) (mask : List Bool) (nets : List NetCells) (non
             let r = OnFalse_at e (subst (λ (k : ℕ). Starts k new t) is starts) in
             let bad : true ≡ false = sym (r.0.1 (start_shown e shows)) ∙ off in cc bad
 
-  -- the labels, once all rows are read
+  -- the labels after all rows are read
   module _ (firsts : List ℕ) (read : AreRead log mask nets none (length nets) firsts) where
     found_at : (at : ℕ) → get_or mask at false ≡ true → get_or firsts at none ≡ first_one log at
     found_at at on = read.found at on ∙ by_side (cases_lt (first_one log at) (length nets))

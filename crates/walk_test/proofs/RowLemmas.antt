@@ -1,4 +1,4 @@
--- The rows of the walking test, position by position.
+-- Lemmas about the rows of the walking test, position by position.
 use Rattle.std.proofs.Common.{◌≡◌, ◌⊎◌, inl, inr, ℕ, ◌+◌, ◌<◌, ◌≤◌, ◌==◌, Bool, true, false, not, List, [], ◌∷◌, ◌++◌, length, get_or, set, replicate, Option, Some, is_some, unwrap_or, refl, sym, ◌∙◌, ap, subst, arith, length-set}
 use Rattle.std.specs.Prelude.{slice_get, filter, Contains, All, count_by}
 use Rattle.std.specs.List.{list_any, flat_map}
@@ -40,7 +40,8 @@ use Rattle.walk_test.specs.Tables.{tdi_of, mask_of, still_row, AreNetCells}
 use Rattle.walk_test.specs.inner.Tables.{tdo_of, positions_beside}
 use Rattle.walk_test.proofs.CellLemmas.{WalkedBy, compared_of, compared_device, compared_position}
 
--- each item sets one bit in two rows, by two tests: the rows differ at place i only if an item whose two bits differ has this place
+-- Two tests give each item one bit in each of two rows. If the rows differ at place `i`, they differed there before, or an item with this
+-- place has two different bits.
 apart_at : {X : Type 0} (place : X → ℕ) (f g : X → Bool) (xs : List X) (s t : List Bool) (i : ℕ) → length s ≡ length t →
     (get_or s i false ≡ get_or t i false) ⊎ ((x : X) × Has xs x × (place x ≡ i) × (f x ≡ g x → ⊥)) →
     (get_or (assigned place f s xs) i false ≡ get_or (assigned place g t xs) i false) ⊎ ((x : X) × Has xs x × (place x ≡ i) × (f x ≡ g x → ⊥))
@@ -80,7 +81,7 @@ apart_at {X} place f g (x ∷ xs) s t i long h = by_rest (apart_at place f g xs 
     lift : Differ xs → Differ (x ∷ xs)
     lift (y, has, at, ne) = (y, inr has, at, ne)
 
-    -- a later item whose bits differ has this place, or the bits agree so far
+    -- the rows agree at the place after the remaining items, or one of these items has this place and two different bits
     by_rest : (after ⊎ Differ xs → (get_or (assigned place f (set s (place x) (f x)) xs) i false ≡ get_or (assigned place g (set t (place x) (g x)) xs) i false) ⊎ Differ xs) →
         after ⊎ Differ (x ∷ xs) → (get_or (assigned place f (set s (place x) (f x)) xs) i false ≡ get_or (assigned place g (set t (place x) (g x)) xs) i false) ⊎ Differ (x ∷ xs)
     by_rest ih (inr d) = inr d
@@ -91,7 +92,7 @@ apart_at {X} place f g (x ∷ xs) s t i long h = by_rest (apart_at place f g xs 
         by_end (inl k) = inl k
         by_end (inr d) = inr (lift d)
 
--- a bit that is 1 was 1 before, or an item set it
+-- if a bit is 1 after the items are set, it was 1 before, or an item set it to 1
 one_from : {X : Type 0} (place : X → ℕ) (f : X → Bool) (xs : List X) (s : List Bool) (i : ℕ) → get_or (assigned place f s xs) i false ≡ true →
     (get_or s i false ≡ true) ⊎ ((x : X) × Has xs x × (place x ≡ i) × (f x ≡ true))
 one_from place f [] s i e = inl e
@@ -116,7 +117,7 @@ pub record CellsOf (board : RawBoard) (walk : List Ctl) : Type 0 where
   pub readers : List (List ReaderCell)
   pub are : ReadersOf board readers
 
--- the cells of a plan with one pass
+-- a plan with one pass has these cells for its pass
 pub cells_of_plan : (board : RawBoard) (plan : PlanTables) (walk : List Ctl) → IsPlanOf board plan → plan.passes ≡ walk ∷ [] → CellsOf board walk
 cells_of_plan board plan walk p is =
     let t = p.tables.cells 0 walk (ap (λ (l : List (List Ctl)). slice_get l 0) is) in
@@ -134,7 +135,7 @@ cells_of_plan board plan walk p is =
           );
     }
 
--- a net has one driver cell at most
+-- a net has at most one driver cell in a setting
 pub one_driver : (board : RawBoard) (walk : List Ctl) (d e : DriverCell) → IsDriverCell board walk d → IsDriverCell board walk e → d.net ≡ e.net → (d.place ≡ e.place) × (d.position ≡ e.position)
 one_driver board walk d e p q same =
     let nets : Some p.net ≡ Some q.net = sym p.is_net ∙ ap (λ (n : ℕ). slice_get board.nets n) same ∙ q.is_net in
@@ -211,7 +212,7 @@ module _ (board : RawBoard) (rules : IsBoard board) (walk : List Ctl) (cells : C
           off : Bool
           off = Rattle.tap_defs.specs.board.TestRows.steady_bit board (holds walk) s.at.part (standing board rules d.net s.net d.place s.pin s.at s.is_net s.is_pin s.is_at).device s.entry.num
 
-  -- a row with one 1 is the row without a 1, with the driver cell of one net set
+  -- If only one net carries 1, the row is the row without a 1 in which the net's driver cell is set to 1.
   pub marked_row : (f : ℕ → Bool) (d : DriverCell) → IsDriverCell board walk d → f d.net ≡ true → ((n : ℕ) → WalkedBy board walk n → f n ≡ true → n ≡ d.net) → set (tdi_of board (still_row walk)) d.position true ≡ tdi_of board (mark_row f)
   marked_row f d s on alone =
       assigned_is (λ (x : DriverCell). x.position) (λ x. true) (d ∷ []) (tdi_of board (still_row walk)) (tdi_of board (mark_row f)) (length-tdi (still_row walk) ∙ sym (length-tdi (mark_row f)))
@@ -236,7 +237,7 @@ module _ (board : RawBoard) (rules : IsBoard board) (walk : List Ctl) (cells : C
           let same : x.net ≡ d.net = alone x.net (record { net = q.net; is_net = q.is_net; driver = x.place; observing = q.observing }) (true_of (f x.net) ne) in
           inr (d, inl refl, sym (one_driver board walk x d q s same).1 ∙ at)
 
-  -- the row without a 1 is any row with all driver cells cleared
+  -- clearing all driver cells of a row gives the row without a 1
   pub cleared_row : {X : Type 0} (place : X → ℕ) (xs : List X) (f : ℕ → Bool) → ((x : X) → Has xs x → (d : DriverCell) × IsDriverCell board walk d × (place x ≡ d.position)) → ((d : DriverCell) → IsDriverCell board walk d → (x : X) × Has xs x × (place x ≡ d.position)) →
       assigned place (λ x. false) (tdi_of board (mark_row f)) xs ≡ tdi_of board (still_row walk)
   cleared_row {X} place xs f right cover =
@@ -279,7 +280,7 @@ module _ (board : RawBoard) (rules : IsBoard board) (walk : List Ctl) (cells : C
       tdo_laid board (record { now = quiet_row; before = mark_row f })
       ∙ sym (tdo_compared board rules walk (λ n. Some (f n)) (bit f) cells.drivers cells.only cells.every (λ d has. refl) cells.readers cells.are)
 
-  -- a compared cell: the observing driver of its net, and a cell that reads the net at another pin than this driver's
+  -- the position of a compared cell: a cell that reads a net on a pin other than the observing driver's pin
   pub record ComparedAt (position : ℕ) : Type 0 where
     pub driver : DriverCell
     pub is_driver : IsDriverCell board walk driver
@@ -318,12 +319,12 @@ module _ (board : RawBoard) (rules : IsBoard board) (walk : List Ctl) (cells : C
       by_case (inl z) = absurd (zeros_at i z)
       by_case (inr (x, has, at, on)) = let c = of_pair x i has at in (c.0, ap (λ (d : DriverCell). f d.net) c.1 ∙ on)
 
--- a compared cell of a walk net, in any row
+-- a compared cell of a walk net, in any row of the walking test
 module _ (board : RawBoard) (rules : IsBoard board) (walk : List Ctl) (n : ℕ) (net : Net) (is_net : slice_get board.nets n ≡ Some net) (d : ℕ) (observing : observing_driver board (holds walk) net ≡ Some d) (r : ReaderCell) (q : IsReaderCell board net r) (other : (r.place == d) ≡ false) where
   abbrev c : Compared board (holds walk) n net
   c = compared_of board rules walk n net is_net d observing r q other
 
-  -- a row of cells' bits has the bit of this cell at the cell's position
+  -- if a row has a bit for each cell, it has the bit of this cell at the cell's position
   pub laid_here : (g : ℕ → RawDevice → ℕ → Bool) → (r.position < data_bits board) × (get_or (laid g board) r.position false ≡ g c.k c.device c.cell)
   laid_here g =
       let l = laid_at g board c.k c.device c.cell (compared_device board rules walk n net is_net d observing r q other) c.below in
@@ -342,7 +343,7 @@ module _ (board : RawBoard) (rules : IsBoard board) (walk : List Ctl) (n : ℕ) 
       ∙ (laid_here (λ part device cell. unwrap_or (expect_bit board (pass_row walk (λ m. Some (f m))) part device cell) false)).1
       ∙ ap (λ (o : Option Bool). unwrap_or o false) (expects board (pass_row walk (λ m. Some (f m))) n net c)
 
--- the cells of a walk net, from the definitions alone
+-- the cells of a walk net, as the definitions give them
 beside_positions : (place : ℕ) (readers : List ReaderCell) (position : ℕ) → Has (positions_beside place readers) position → (r : ReaderCell) × Has readers r × ((r.place == place) ≡ false) × (r.position ≡ position)
 beside_positions place readers position h =
     let m = map_has (λ (r : ReaderCell). r.position) (filter (λ r. not (r.place == place)) readers) position h in
@@ -381,7 +382,7 @@ net_cells board walk n w position readers only every at =
       some = some_items (positions_beside w.driver readers) first.0.position (positions_has w.driver readers first.0 (every first.0 first.1) first.2);
     }
   where
-    -- some cell reads the net at a pin other than the driver's
+    -- some cell reads the net on a pin other than the driver's pin
     first : (r : ReaderCell) × IsReaderCell board w.net r × ((r.place == w.driver) ≡ false)
     first =
         let beside : reads_beside board w.driver 0 w.net.pins ≡ true = beside_observing board (holds walk) w.net w.driver w.observing in
@@ -392,7 +393,7 @@ net_cells board walk n w position readers only every at =
         not_false true e = cc e
         not_false false e = refl
 
--- each walk net has cells
+-- each walk net has a driver cell and compared cells
 pub cells_there : (board : RawBoard) (walk : List Ctl) (n : ℕ) → WalkedBy board walk n → (cells : NetCells) × AreNetCells board walk n cells
 cells_there board walk n w =
     let d = driver_cell board walk n w.net w.driver w.is_net w.observing in

@@ -1,4 +1,5 @@
--- Sets of groups of small boards: the lists that are sets of groups, the rows that the boards capture with their shorts, the logs that
+-- Samples of sets of groups of small boards: lists that are sets of groups and lists that are not, the rows that a board captures under the
+-- shorts of a set, the logs that a set explains, and the texts of sets.
 -- they explain, and their texts.
 use Rattle.std.proofs.Common.{◌≡◌, inl, inr, ℕ, zero, suc, ◌+◌, ◌<◌, ◌≤◌, Bool, List, [], ◌∷◌, length, map, Some, refl, subst, arith}
 use Rattle.std.specs.Prelude.{codes, Contains, All}
@@ -37,7 +38,7 @@ all_off = record { parts = λ k. record { ir = λ i. off; cells = λ i. off; lat
 abbrev shown : List (List ℕ) → List (List Bool)
 shown groups = map (λ j. row_captured three_wires (or_shorts groups) (walk_row_of three_wires j) all_off) (0 ∷ 1 ∷ 2 ∷ [])
 
--- a row in which the receivers of the three nets read these bits
+-- a row in which the receivers of the first three nets read these bits
 abbrev read_row : Bool → Bool → Bool → List Bool
 read_row first second third = third ∷ off ∷ first ∷ second ∷ off ∷ off ∷ off ∷ off ∷ []
 
@@ -56,7 +57,7 @@ second_and_third_shown = refl
 all_shown : shown ((0 ∷ 1 ∷ 2 ∷ []) ∷ []) ≡ read_row on on on ∷ read_row on on on ∷ read_row on on on ∷ []
 all_shown = refl
 
--- four nets from two drivers to two receivers; parts, pins and nets have their own names
+-- a board with four nets from two drivers to two receivers, in which parts, pins and nets have names
 abbrev part_of : List ℕ → RawDevice → Part
 part_of name device = record { name = name; kind = Described device }
 
@@ -93,8 +94,8 @@ one_short_is = record {
     above n (inl e) = omega (arith, e)
     above n (inr has) = absurd has
 
--- Lists that are no set of groups: a group of one net, nets out of ascending order, a net in two groups, and groups
--- whose least nets are out of ascending order.
+-- Lists that are not sets of groups: a group of one net, nets that are not in ascending order, a net in two groups, and groups whose lowest
+-- nets are not in ascending order.
 abbrev NoGroups : List (List ℕ) → Type 0
 NoGroups groups = AreGroups four_wires groups → ⊥
 
@@ -110,7 +111,7 @@ in_two h = h.disjoint 0 1 [] (omega arith) (omega arith) 1 (1, omega arith, refl
 later_first : NoGroups ((2 ∷ 3 ∷ []) ∷ (0 ∷ 1 ∷ []) ∷ [])
 later_first h = let less : 2 < 0 = h.order 0 1 [] (omega arith) (omega arith) in absurd (omega (arith, less))
 
--- a net of the board that is no walk net
+-- a list with a net of the board that is not a walk net is not a set of groups
 unwalked : AreGroups two_passes ((0 ∷ 2 ∷ []) ∷ []) → ⊥
 unwalked h = not_there (subst (λ (nets : List ℕ). Contains nets 2) two_passes_nets (h.walked 0 [] (omega arith) 1 0 (omega arith)))
   where
@@ -123,7 +124,7 @@ unwalked h = not_there (subst (λ (nets : List ℕ). Contains nets 2) two_passes
 abbrev log_of : List Bool → List Bool → List Bool → List (List Bool)
 log_of first second third = first ∷ second ∷ third ∷ (off ∷ on ∷ off ∷ off ∷ off ∷ off ∷ off ∷ off ∷ []) ∷ []
 
--- in every run, the first and the third net read the Or of the bits that they are driven with
+-- the log in which the first and the third net read the Or of the bits to which they are driven
 abbrev or_log : List (List Bool)
 or_log = log_of (read_row on off on) (read_row off on off) (read_row on off on)
 
@@ -137,12 +138,13 @@ or_explained = record {
   };
 }
 
--- each row of an explained log is what the cells capture
+-- if the group explains a log, each row of the log is what the cells capture
 rows_pass : (log : List (List Bool)) → Explain four_wires log one_short →
     CapturesPass four_wires (or_shorts one_short) quiet_row (walk_row_list four_wires) (scans_by_log (map (scan_of_row four_wires) (walk_row_list four_wires)) log)
 rows_pass log h = (log_captured four_wires four_wires_rules (or_shorts one_short) (walk_row_list four_wires) log).0 h.explained.passes
 
--- the group explains neither a log of the And of the two nets nor a log in which only the first net reads the third
+-- The group does not explain the log. The samples are a log of the And of the two nets, and a log in which only the first net reads the
+-- third.
 abbrev IsUnexplained : List (List Bool) → Type 0
 IsUnexplained log = Explain four_wires log one_short → ⊥
 
@@ -152,7 +154,7 @@ and_log h = both_ways _ refl ((rows_pass _ h).1.0 all_off)
 one_way_log : IsUnexplained (log_of (read_row on off off) (read_row off on off) (read_row on off on))
 one_way_log h = both_ways _ refl ((rows_pass _ h).1.0 all_off)
 
--- the nets of each group are in order
+-- the text names the nets of each group in net order
 two_groups_text : groups_text four_wires (Some ((0 ∷ 2 ∷ []) ∷ (1 ∷ 3 ∷ []) ∷ [])) ≡ codes "GROUPS 2\nGROUP 2\nNET A\nNET C\nGROUP 2\nNET B\nNET D\n"
 unfolding groups_text digits
 two_groups_text = refl

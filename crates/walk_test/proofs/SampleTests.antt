@@ -1,4 +1,4 @@
--- The walking test of small boards, and the rows that sets of groups cause.
+-- Samples of the walking test of small boards and of the labels that logs give the nets. The values are worked by hand.
 use Rattle.std.proofs.Common.{◌≡◌, Bool, true, false, List, [], ◌∷◌, map, Some, None, refl}
 use Rattle.std.specs.Prelude.{codes, slice_get}
 use Rattle.std.specs.Fmt.{digits}
@@ -18,14 +18,14 @@ use Rattle.walk_test.specs.Groups.{group_of}
 use Rattle.walk_test.specs.GroupText.{groups_text}
 use Rattle.walk_test.specs.inner.Reading.{are_joined, label_of, net_shows, groups_by}
 
--- drivers that are always on need no control
+-- the setting is empty, since drivers that are always on need no control
 three_setting : walk_setting three_wires ≡ Some []
 three_setting = refl
 
 three_nets : walk_nets three_wires ≡ 0 ∷ 1 ∷ 2 ∷ []
 three_nets = refl
 
--- the nets carry 1 in turn
+-- in the text, the three nets carry 1 in turn
 three_text : board_walk_text three_wires ≡ whole (
     codes "SIR 8 TDI (AA) TDO (55) MASK (FF);" ∷ codes "SDR 8 TDI (00);" ∷ codes "SIR 8 TDI (00) TDO (55) MASK (FF);"
     ∷ codes "SDR 8 TDI (40);" ∷ codes "SDR 8 TDI (80) TDO (04) MASK (0D);" ∷ codes "SDR 8 TDI (10) TDO (08) MASK (0D);"
@@ -46,7 +46,8 @@ bus_text : board_walk_text bus ≡ whole (
 unfolding svf_text digits
 bus_text = refl
 
--- the setting leaves out the control of a switching driver, so its net is no walk net: one data scan follows, which compares nothing
+-- The setting leaves out the control of a switching driver. So the driver's net is not a walk net, and the test has only one data scan
+-- after the EXTEST codes. This scan compares nothing.
 pulled_switches : switches_some pulled_up (record { part = 0; cell = 0 }) ≡ true
 pulled_switches = refl
 
@@ -61,7 +62,8 @@ pulled_text : board_walk_text pulled_up ≡ whole (
 unfolding svf_text digits
 pulled_text = refl
 
--- Two walk nets and a net with a switching driver. The walk nets' drivers are at positions 2 and 3, and their receivers at 0 and 1.
+-- A board with two walk nets and a net with a switching driver. The walk nets' drivers are at positions 2 and 3, and their receivers at 0
+-- and 1.
 abbrev mixed : RawBoard
 mixed = board (Described od ∷ Described rcv1 ∷ Described drv ∷ Described rcv ∷ []) (
     pulled (Some true) (pin 0 0 ∷ pin 1 0 ∷ []) ∷ net (pin 2 0 ∷ pin 3 0 ∷ []) ∷ net (pin 2 1 ∷ pin 3 1 ∷ []) ∷ [])
@@ -81,8 +83,8 @@ mixed_text : board_walk_text mixed ≡ whole (
 unfolding svf_text digits
 mixed_text = refl
 
--- a switching driver takes no other control out of the setting: a three-state driver of another part keeps its control. The control is cell 0,
--- like that of the switching driver, or cell 1
+-- A switching driver takes no other control out of the setting: a three-state driver of another part keeps its control. This control is
+-- cell 0, like the control of the switching driver, or cell 1.
 abbrev ts0 : RawDevice
 ts0 = device (one_bit Outward) (entry 1 Output3 4 (by 0) ∷ control 0 ∷ []) 2
 
@@ -95,7 +97,7 @@ cell_0_stays = refl
 cell_1_stays : walk_setting (beside_three_state ts) ≡ Some (record { part = 2; cell = 1 } ∷ [])
 cell_1_stays = refl
 
--- the first net is no walk net, so the second net carries 1 in the first row
+-- the first net is not a walk net, so the second net carries 1 in the first row
 beside_nets : walk_nets (beside_three_state ts0) ≡ 1 ∷ []
 beside_nets = refl
 
@@ -105,7 +107,7 @@ beside_text : board_walk_text (beside_three_state ts0) ≡ whole (
 unfolding svf_text digits
 beside_text = refl
 
--- the setting also leaves out a switching driver that its cell switches off by 0, on a net that is pulled to 0
+-- The setting also leaves out the control of a switching driver whose own cell switches it off by 0, on a net that is pulled to 0.
 abbrev os : RawDevice
 os = device (one_bit Outward) (record { num = 0; role = Output2; bit = Some 4; safe = Zero; ctl = Some (record { cell = 0; disable = false }) } ∷ []) 1
 
@@ -128,8 +130,8 @@ down_text : board_walk_text pulled_down ≡ whole (
 unfolding svf_text digits
 down_text = refl
 
--- a net has a three-state driver, an open drain and a receiver, and each of the two drivers has a pass of its own. If the pass of the
--- three-state driver is first, the net is a walk net
+-- A net has a three-state driver, an open drain and a receiver, and each of the two drivers has its own pass. If the pass of the
+-- three-state driver is the first pass, the net is a walk net.
 abbrev three_state_first : RawBoard
 three_state_first = board (Described ts ∷ Described od ∷ Described rcv1 ∷ []) (pulled (Some true) (pin 0 0 ∷ pin 1 0 ∷ pin 2 0 ∷ []) ∷ [])
 
@@ -148,7 +150,7 @@ three_state_text : board_walk_text three_state_first ≡ whole (
 unfolding svf_text digits
 three_state_text = refl
 
--- if the pass of the open drain is first, the net is no walk net, since the later pass is ignored
+-- If the pass of the open drain is the first pass, the net is not a walk net, since the walking test ignores later passes.
 abbrev open_drain_first : RawBoard
 open_drain_first = board (Described od ∷ Described ts ∷ Described rcv1 ∷ []) (pulled (Some true) (pin 0 0 ∷ pin 1 0 ∷ pin 2 0 ∷ []) ∷ [])
 
@@ -166,7 +168,8 @@ open_drain_text : board_walk_text open_drain_first ≡ whole (
 unfolding svf_text digits
 open_drain_text = refl
 
--- two buffers drive one net, so the third net needs a second pass and is no walk net
+-- A board in which two buffers drive the second net. Only the second buffer drives the third net, which therefore needs a second pass and
+-- is not a walk net.
 abbrev pub two_passes : RawBoard
 two_passes = board (Described buf2 ∷ Described buf2 ∷ Described rcv ∷ Described rcv ∷ []) (
     net (pin 0 3 ∷ pin 2 0 ∷ []) ∷ net (pin 0 4 ∷ pin 1 4 ∷ pin 2 1 ∷ []) ∷ net (pin 1 3 ∷ pin 3 0 ∷ []) ∷ [])
@@ -194,14 +197,14 @@ no_pass_text : board_walk_text no_nets ≡ whole (codes "SIR 4 TDI (A) TDO (5) M
 unfolding svf_text digits
 no_pass_text = refl
 
--- the nets of one group have the same short
+-- nets of one group have the same short, and a net of no group has none
 in_groups : map (group_of ((0 ∷ 2 ∷ []) ∷ (3 ∷ 4 ∷ 5 ∷ []) ∷ [])) (0 ∷ 1 ∷ 2 ∷ 5 ∷ []) ≡ Some 0 ∷ None ∷ Some 0 ∷ Some 1 ∷ []
 in_groups = refl
 
 joined_in_groups : map (are_joined ((0 ∷ 2 ∷ []) ∷ (3 ∷ 4 ∷ 5 ∷ []) ∷ []) 2) (0 ∷ 1 ∷ 2 ∷ 3 ∷ []) ≡ true ∷ false ∷ true ∷ false ∷ []
 joined_in_groups = refl
 
--- the cells of the three nets, which are at positions 2, 3 and 0, and rows for logs of these nets
+-- the cells of three nets, at positions 2, 3 and 0, and rows for logs of these nets
 abbrev cells : List NetCells
 cells = record { driver = 6; compared = 2 ∷ [] } ∷ record { driver = 7; compared = 3 ∷ [] } ∷ record { driver = 4; compared = 0 ∷ [] } ∷ []
 
@@ -217,28 +220,29 @@ row_05 = true ∷ false ∷ true ∷ false ∷ false ∷ false ∷ false ∷ fal
 abbrev row_08 : List Bool
 row_08 = false ∷ false ∷ false ∷ true ∷ false ∷ false ∷ false ∷ false ∷ []
 
--- the first and the third net read the 1 of each other
+-- if the first and the third net read the 1 of each other, they have the same label
 shorted_labels : map (label_of (row_05 ∷ row_08 ∷ row_05 ∷ [])) cells ≡ 0 ∷ 1 ∷ 0 ∷ []
 shorted_labels = refl
 
 shorted_groups : groups_by (0 ∷ 1 ∷ 2 ∷ []) (0 ∷ 1 ∷ 0 ∷ []) ≡ (0 ∷ 2 ∷ []) ∷ []
 shorted_groups = refl
 
--- each net reads only its own 1
+-- if each net reads only its own 1, each net has its own label
 good_labels : map (label_of (row_04 ∷ row_08 ∷ row_01 ∷ [])) cells ≡ 0 ∷ 1 ∷ 2 ∷ []
 good_labels = refl
 
 good_groups : groups_by (0 ∷ 1 ∷ 2 ∷ []) (0 ∷ 1 ∷ 2 ∷ []) ≡ []
 good_groups = refl
 
--- the first net reads the 1 of the third net, but not the other way round: in row 2 the cell of the first net contradicts the labels
+-- The first net reads the 1 of the third net, but the third net does not read the 1 of the first net. So in row 2 the cell of the first net
+-- contradicts the labels.
 one_way_labels : map (label_of (row_04 ∷ row_08 ∷ row_05 ∷ [])) cells ≡ 0 ∷ 1 ∷ 2 ∷ []
 one_way_labels = refl
 
 one_way_shows : net_shows (row_04 ∷ row_08 ∷ row_05 ∷ []) (0 ∷ 1 ∷ 2 ∷ []) 2 0 (record { driver = 6; compared = 2 ∷ [] }) ≡ false
 one_way_shows = refl
 
--- the texts of groups; every net of this board has the name N
+-- the texts of groups of a board on which every net has the name N
 no_text : groups_text three_wires None ≡ codes "GROUPS none\n"
 unfolding groups_text digits
 no_text = refl

@@ -1,4 +1,4 @@
--- The labels of the walk nets give the one set of groups that explains a log.
+-- Lemmas which say that the labels of the walk nets give the only set of groups that explains a log.
 use Rattle.std.proofs.Common.{◌≡◌, inl, inr, ℕ, zero, suc, ◌<◌, ◌≤◌, ◌==◌, Bool, true, false, cond, ◌&&◌, List, [], ◌∷◌, length, take, map, get_or, Option, Some, None, Decides, refl, sym, ◌∙◌, ap, subst, arith}
 use Rattle.std.specs.Prelude.{◌↔◌, slice_get, count_by, All, Contains, Result, Ok, Err, IfOk, option_map}
 use Rattle.std.specs.List.{list_all}
@@ -42,7 +42,7 @@ use Rattle.walk_test.proofs.ExplainLemmas.{ShowJoined, shaped, shows_explained}
 use Rattle.walk_test.proofs.LawLemmas.{setting_is, shown_by}
 use Rattle.walk_test.proofs.LabelLemmas.{first_low, first_holds, first_same, label_is, first_compared, each_shows, shows_each, own_label, IsDecided, shows_decided, are_groups, joined_labels}
 
--- the driver cells of these nets, by which the setting observes them
+-- the cells of the drivers by which the setting observes these nets
 record DriversOf (board : RawBoard) (walk : List Ctl) (nets : List ℕ) : Type 0 where
   drivers : List DriverCell
   only : (d : DriverCell) → Has drivers d → IsDriverCell board walk d
@@ -100,7 +100,7 @@ cells_of board walk is =
     readers : Net → List ReaderCell
     readers net = readers_in_order board net.pins
 
--- the cells of each of these nets
+-- `cells` has the cells of each of these nets, in the same order
 pub record CellsAre (board : RawBoard) (walk : List Ctl) (nets : List ℕ) (cells : List NetCells) : Type 0 where
   pub count : length cells ≡ length nets
   pub are : (i n : ℕ) (c : NetCells) → slice_get nets i ≡ Some n → slice_get cells i ≡ Some c → AreNetCells board walk n c
@@ -119,7 +119,7 @@ some_cells board walk (n ∷ nets) walked = by_rest (cells_there board walk n (w
             subst (λ (k : ℕ). AreNetCells board walk k x) net (subst (λ (y : NetCells). AreNetCells board walk n y) same is_c)
         are (suc i) m x e f = rest.are i m x e f
 
--- this position is that of a compared cell of net n
+-- this is the position of a compared cell of net `n`
 record ComparedCell (board : RawBoard) (walk : List Ctl) (n position : ℕ) : Type 0 where
   driver : DriverCell
   is_driver : IsDriverCell board walk driver
@@ -145,14 +145,14 @@ compared_cell board walk n c a p h =
       position_is = r.3;
     }
 
--- the position of a compared cell is within a data scan
+-- if a position is one of a net's compared positions, it is within a data scan
 pub position_within : (board : RawBoard) → IsBoard board → (walk : List Ctl) (n : ℕ) (c : NetCells) → AreNetCells board walk n c → (p : ℕ) → Has c.compared p → p < data_bits board
 position_within board rules walk n c a p h =
     let x : ComparedCell board walk n p = compared_cell board walk n c a p h in
     let here = laid_here board rules walk x.driver.net x.is_driver.net x.is_driver.is_net x.driver.place x.is_driver.observing x.reader x.is_reader x.other (λ k device cell. false) in
     omega (arith, here.0, x.position_is)
 
--- the cells of a walk's nets, if the board has a pass
+-- `cells` has the cells of the walk nets, and the board has a walk setting
 pub record Walked (board : RawBoard) (cells : List NetCells) : Type 0 where
   pub walk : List Ctl
   pub is : walk_setting board ≡ Some walk
@@ -199,11 +199,11 @@ module _ (board : RawBoard) (rules : IsBoard board) (cells : List NetCells) (w :
         within = all_from_has (λ (p : ℕ). p < len) c.compared (λ p k. omega (arith, is, position_within board rules w.walk a.0 c a.1 p k));
       })
 
--- a property of the log and the nets in `it` holds of an equal log and equal nets
+-- If a property holds for the log and the nets in `it`, it also holds for an equal log and equal nets.
 pub by_parts : (it : LoggedNets) (log : List (List Bool)) (cells : List NetCells) → it.log ≡ log → it.nets ≡ cells → (P : List (List Bool) → List NetCells → Type 0) → P it.log it.nets → P log cells
 by_parts it log cells log_is nets_are P p = subst (λ (n : List NetCells). P log n) nets_are (subst (λ (l : List (List Bool)). P l it.nets) log_is p)
 
--- if a result that is `Ok` has P, and Q follows from P, such a result has Q
+-- if P holds for the value of an `Ok`, and Q follows from P, then Q holds for it
 pub ok_then : {T E : Type 0} (r : Result T E) {P Q : T → Type 0} → IfOk r P → ((x : T) → P x → Q x) → IfOk r Q
 ok_then (Ok x) h f = f x h
 ok_then (Err e) h f = tt
@@ -235,7 +235,7 @@ shape_decided board scans log = (
     rows : Bool
     rows = length log == count_by is_compared (board_scans board scans)
 
--- the nets of groups are nets of the board
+-- if groups are the answer for a log, their nets are nets of the board
 pub found_named : (board : RawBoard) (log : List (List Bool)) (found : Option (List (List ℕ))) → AreFound board log found → AreNamed board found
 found_named board log None h = tt
 found_named board log (Some groups) h =
@@ -254,7 +254,7 @@ found_named board log (Some groups) h =
 module _ (safe : WalkSafe) (by_rows : (board : RawBoard) (faults : FaultSet) (scans : List RowScan) (log : List (List Bool)) → IsBoard board → AreInTurn board scans → ExplainedBy board faults scans log ↔ (HasShape board scans log × IsCapturedBy board faults scans log))
     (compare : (board : RawBoard) (walk : List Ctl) → IsBoard board → CompareRows (walk_row board) (count_by (is_walked board walk) board.nets) (walk ∷ []) (compared_scans board (walk_row_scans board walk)))
     (turns : (board : RawBoard) (walk : List Ctl) → IsSafe board (holds walk) → AreInTurn board (walk_row_scans board walk)) where
-  -- a walk with cells for its nets
+  -- the walk of a board, with the cells of its nets and a log that has a row for each of these nets
   module _ (board : RawBoard) (rules : IsBoard board) (walk : List Ctl) (is : walk_setting board ≡ Some walk) (log : List (List Bool)) (cells : List NetCells) (are : CellsAre board walk (walk_nets board) cells)
       (rows : length log ≡ length (walk_nets board)) where
     abbrev nets : List ℕ
@@ -275,7 +275,7 @@ module _ (safe : WalkSafe) (by_rows : (board : RawBoard) (faults : FaultSet) (sc
     some : (i : ℕ) (c : NetCells) → slice_get cells i ≡ Some c → 0 < length c.compared
     some i c e = let a : AreNetCells board walk (get_or nets i 0) c = are.are i (get_or nets i 0) c (net_at i c e) e in a.some
 
-    -- each compared cell of a net reads in each row whether its net is joined with the net that carries 1
+    -- in each row, each compared cell of a net reads 1 if its net is joined with the net that carries 1, and otherwise 0
     abbrev CellsJoined : List (List ℕ) → Type 0
     CellsJoined groups = (i j a b p : ℕ) (c : NetCells) → slice_get nets i ≡ Some a → slice_get cells i ≡ Some c → slice_get nets j ≡ Some b → Has c.compared p → bit_in log j p ≡ are_joined groups a b
 
@@ -304,7 +304,7 @@ module _ (safe : WalkSafe) (by_rows : (board : RawBoard) (faults : FaultSet) (sc
         ap (λ (row : List Bool). get_or row r.position false) (sym (get_or_from_slice_get log j logged [] e))
         ∙ joined place.0 j d.net one r.position c place.1 stands at has
 
-    -- the groups of the labels explain the log if each compared cell reads what the labels say
+    -- if each compared cell reads what the labels say, the groups of the labels explain the log
     module _ (shape : All (λ row. length row ≡ data_bits board) log) (shows : ShowsAll log labels cells) where
       abbrev own : (i k : ℕ) → slice_get labels i ≡ Some k → (k ≤ i) × (slice_get labels k ≡ Some k)
       own = own_label log cells long some shows
@@ -347,7 +347,7 @@ module _ (safe : WalkSafe) (by_rows : (board : RawBoard) (faults : FaultSet) (sc
       joined_cells : CellsJoined groups
       joined_cells = cells_joined groups (shown_by safe by_rows compare turns board walk log groups rules is explains).0
 
-      -- the first compared cell of a net reads 1 exactly in the rows of the nets that are joined with its net
+      -- the first compared cell of net `a` reads 1 exactly in the rows of the nets that are joined with net `a`
       first_reads : (i j a b : ℕ) (c : NetCells) → slice_get nets i ≡ Some a → slice_get cells i ≡ Some c → slice_get nets j ≡ Some b → bit_in log j (first_cell c) ≡ are_joined groups a b
       first_reads i j a b c ni ci nj = joined_cells i j a b (first_cell c) c ni ci nj (first_compared c (some i c ci))
 
@@ -397,19 +397,20 @@ module _ (safe : WalkSafe) (by_rows : (board : RawBoard) (faults : FaultSet) (sc
           ∙ sym (ap (λ (k : ℕ). k == label_of log d) (label_read i c ci))
           ∙ sym (ap (λ (k : ℕ). get_or labels i 0 == k) (label_read j d dj)))
 
-    -- the answer is the groups of the labels if the log shows the labels, and otherwise no set of groups
+    -- The answer for a log is the groups of the labels if the log shows the labels. Otherwise the answer is that no set of groups explains
+    -- the log.
     pub found_by : All (λ row. length row ≡ data_bits board) log → (shown : Bool) → Decides shown (ShowsAll log labels cells) → AreFound board log (cond shown (Some (groups_by nets labels)) None)
     found_by shape true d = explain shape (d.0 refl)
     found_by shape false d = λ groups explains. let bad : false ≡ true = d.1 (all_show groups explains) in cc bad
 
-  -- without a walk setting, the empty set of groups explains each log of the right shape
+  -- if a board has no walk setting, the empty set of groups explains each log of the right shape
   none_explain : (board : RawBoard) → IsBoard board → walk_setting board ≡ None → (log : List (List Bool)) → HasShape board [] log → Explain board log []
   none_explain board rules none log shape = record {
     are = none_are board;
     explained = subst (λ (o : Option (List Ctl)). ExplainedBy board (or_shorts []) (scans_by board o) log) (sym none) ((by_rows board (or_shorts []) [] log rules (no_scans board)).1 (shape, λ x scan logged choice at. cc at));
   }
 
-  -- the answer for a board without a pass is the empty set of groups
+  -- if a board has no pass, the answer for a log is the empty set of groups
   pub found_nothing : (board : RawBoard) → IsBoard board → (log : List (List Bool)) → length (option_to_list (walk_setting board)) ≡ 0 → length log ≡ length (walk_nets board) → AreFound board log (Some [])
   found_nothing board rules log passes rows = by_setting (walk_setting board) refl passes
     where
@@ -452,7 +453,7 @@ module _ (safe : WalkSafe) (by_rows : (board : RawBoard) (faults : FaultSet) (sc
   groups_found board rules cells w log rows bits nets labels used nets_are are used_are shows groups groups_are =
       found_at board rules cells w log rows bits nets labels used nets_are are (used_are ∙ are) true (λ e. shows, λ s. refl) (Some groups) (ap (λ (l : List (List ℕ)). Some l) groups_are)
 
-  -- each log has an answer
+  -- each log of a board has an answer
   pub some_found : (board : RawBoard) (log : List (List Bool)) → IsBoard board → (found : Option (List (List ℕ))) × AreFound board log found
   some_found board log rules = by_setting (walk_setting board) refl
     where

@@ -10,12 +10,12 @@ use Rattle.walk_test.specs.WalkTest.{walk_nets, walk_row_list}
 abbrev pub Rise : List ℕ → Type 0
 Rise numbers = AllPairs (λ a b. a < b) numbers
 
--- the least net of a group, which is its first
+-- the lowest net of a group, which is the group's first net
 abbrev pub least_of : List ℕ → ℕ
 least_of group = slice_index_or group 0 0
 
--- a set of groups as a list: each group has two or more walk nets, in net order. No net is in two groups, and the groups are in the
--- order of their least nets
+-- A set of groups as a list. Each group has two or more walk nets, in net order. No net is in two groups. The groups are in the order of
+-- their lowest nets.
 pub record AreGroups (board : RawBoard) (groups : List (List ℕ)) : Type 0 where
   pub several : All (λ group. 2 ≤ length group) groups
   pub walked : All (λ group. All (λ n. Contains (walk_nets board) n) group) groups
@@ -23,7 +23,7 @@ pub record AreGroups (board : RawBoard) (groups : List (List ℕ)) : Type 0 wher
   pub disjoint : AllPairs (λ one other. (n : ℕ) → Contains one n → Contains other n → ⊥) groups
   pub order : AllPairs (λ one other. least_of one < least_of other) groups
 
--- the number of the group that has the net, if there is such a group; the first of these groups has the number k
+-- The number of the group that has the net, if there is such a group. The first group of the list has number k.
 abbrev pub group_from : ℕ → List (List ℕ) → ℕ → Option ℕ
 group_from k [] n = None
 group_from k (group ∷ groups) n = if list_any (λ m. m == n) group then Some k else group_from (suc k) groups n
@@ -35,8 +35,8 @@ group_of groups n = group_from 0 groups n
 abbrev pub or_shorts : List (List ℕ) → FaultSet
 or_shorts groups = record no_faults { short = group_of groups; kind = λ k. Or }
 
--- the set of groups explains the log: in every run of the walk text with these shorts, each compared bit that an SDR statement captures
--- is the log's bit
+-- The set of groups explains the log: in every run of the walk text with these shorts, each compared bit that an SDR statement captures is
+-- the log's bit.
 pub record Explain (board : RawBoard) (log : List (List Bool)) (groups : List (List ℕ)) : Type 0 where
   pub are : AreGroups board groups
   pub explained : ExplainedBy board (or_shorts groups) (walk_row_list board) log

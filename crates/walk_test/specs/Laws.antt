@@ -41,6 +41,6 @@ OneResponse = (board : RawBoard) (groups : List (List ℕ)) (log other : List (L
 abbrev pub OneSet : Type 0
 OneSet = (board : RawBoard) (log : List (List Bool)) (groups others : List (List ℕ)) → IsBoard board → Explain board log groups → Explain board log others → groups ≡ others
 
--- the scan count that the tables of a walk give is the number of scans in the board's walking test
+-- the tables of a walk count as many scans as the board's walking test has
 abbrev pub ScansCounted : Type 0
 ScansCounted = (board : RawBoard) (walk : WalkTables) → IsWalkOf board walk → scan_count walk ≡ length (walk_scans board)

@@ -20,7 +20,7 @@ use Rattle.walk_test.specs.WalkTest.{walk_setting, walk_nets}
 abbrev pub tdi_of : RawBoard → TestRow → List Bool
 tdi_of board row = tdi_bits (joined (row_bits board (record { now = row; before = quiet_row })))
 
--- a 1 for each position that the next scan compares, the scan after the one that shifts in the row
+-- a 1 for each position that the next scan compares; the next scan is the scan after the one that shifts in the row
 abbrev pub mask_of : RawBoard → TestRow → List Bool
 mask_of board row = mask_bits (joined (row_bits board (record { now = quiet_row; before = row })))
 
@@ -39,21 +39,21 @@ pub record AreNetCells (board : RawBoard) (walk : List Ctl) (n : ℕ) (cells : N
   pub compared : (position : ℕ) → Contains cells.compared position ↔ ((r : ReaderCell) × IsReaderCell board net r × ((r.place == driver.place) ≡ false) × (r.position ≡ position))
   pub some : 0 < length cells.compared
 
--- the tables of a walk with this setting
+-- `t` has the tables of a walk with this setting
 pub record AreWalkTables (board : RawBoard) (walk : List Ctl) (t : WalkTables) : Type 0 where
   pub count : length t.cells ≡ length t.nets
   pub cells : (i n : ℕ) (cells : NetCells) → slice_get t.nets i ≡ Some n → slice_get t.cells i ≡ Some cells → AreNetCells board walk n cells
   pub still : t.rows.still.bits ≡ tdi_of board (still_row walk)
   pub mask : t.rows.mask.bits ≡ mask_of board (still_row walk)
 
--- the tables of the board's walk
+-- `t` has the tables of the board's walk
 pub record IsWalkOf (board : RawBoard) (t : WalkTables) : Type 0 where
   pub plan : IsPlanOf board t.plan
   pub passes : t.plan.passes ≡ option_to_list (walk_setting board)
   pub nets : t.nets ≡ walk_nets board
   pub tables : (walk : List Ctl) → walk_setting board ≡ Some walk → AreWalkTables board walk t
 
--- the number of data scans after the EXTEST codes: if there is a pass, one for each walk net and one for the quiet row
+-- The number of data scans after the EXTEST codes. If there is a pass, there is one scan for each walk net and one for the quiet row.
 abbrev pub rows_count : List (List Ctl) → List ℕ → ℕ
 rows_count [] nets = 0
 rows_count (pass ∷ passes) nets = suc (length nets)

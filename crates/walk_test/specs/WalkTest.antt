@@ -28,17 +28,17 @@ without_switching board pass = filter (λ c. not (switches_some board c)) pass
 abbrev pub walk_setting : RawBoard → Option (List Ctl)
 walk_setting board = option_map (without_switching board) (slice_get (passes_of board) 0)
 
--- there is a walk setting and this net, and the setting observes the net
+-- there are a walk setting and such a net, and the setting observes the net
 abbrev pub is_walk_net : RawBoard → Option (List Ctl) → Option Net → Bool
 is_walk_net board None net = false
 is_walk_net board (Some walk) None = false
 is_walk_net board (Some walk) (Some net) = is_walked board walk net
 
--- the numbers of the walk nets, in net order: the nets that the walk setting observes
+-- The numbers of the walk nets, in net order. The walk nets are the nets that the walk setting observes.
 abbrev pub walk_nets : RawBoard → List ℕ
 walk_nets board = filter (λ n. is_walk_net board (walk_setting board) (slice_get board.nets n)) (range_with_len 0 (length board.nets))
 
--- the data scans after the EXTEST codes; without a pass there are no such scans
+-- the data scans after the EXTEST codes, or no scans if there is no walk setting
 abbrev pub scans_by : RawBoard → Option (List Ctl) → List RowScan
 scans_by board None = []
 scans_by board (Some walk) = walk_row_scans board walk

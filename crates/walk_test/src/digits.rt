@@ -1,4 +1,4 @@
-// Rows by the values of their digits. A comparison takes many digits at a time.
+// Rows as the values of their digits. A comparison of rows takes many digits at a time.
 ghost use Rattle.std.specs.Prelude.{◌≡◌, ℕ, ◌+◌, ◌*◌, ◌/◌, ◌≤◌, ◌<◌, ◌^◌, false, length, slice_index_or, ◌↔◌, IsTrue};
 ghost use Rattle.std.specs.Bool.{OnTrue};
 ghost use Rattle.walk_test.specs.inner.Digits.{is_one, differing, AreClear};

@@ -14,7 +14,7 @@ use bt_bits::Row;
 use std::marker::Model;
 use tap_defs::{ScanRows, Shape};
 
-// A board with a pass, and its walk. Fills the scans after the EXTEST codes.
+// A board that has a pass, with its walk. Fills the scans after the EXTEST codes.
 #[derive(Drop)]
 struct RowFiller<'a> {
     board: &'a Board,
@@ -68,7 +68,7 @@ impl<'a> RowFiller<'a> {
         RowFiller { board, tables }
     }
 
-    // Fills `tdi` with row `j`. Walk net `j` carries 1 in this row. After the last walk net the row is the quiet row.
+    // Fills `tdi` with row `j`, in which walk net `j` carries 1. After the last walk net, the row is the quiet row.
     fn shift(&self, j: usize, tdi: &mut Row)
         requires { data_bits self.now.board ≤ tdi.old.room }
         ensures bits { tdi.new.bits ≡ shifted_in self.now j }

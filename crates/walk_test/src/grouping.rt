@@ -17,7 +17,7 @@ use response_log::Log;
 use std::alloc::{AllocError, Global};
 use tap_defs::board_law::{logs_by_rows, rows_compared, scans_in_turn};
 
-// Returns a list of nets for each place of a net: the nets that have this place as their label, in order.
+// Returns, for each place of a net, the list of the nets that have this place as their label, in net order.
 fn all_members(alloc: Global, nets: &[u32], labels: &[u32]) -> Result<Vec<Items<u32>>, AllocError>
     requires { length labels.now ≡ length nets.now }
     ensures { IfOk result (λ lists. lists.items ≡ map (members nets.now labels.now) (range_with_len 0 (length labels.now))) }
@@ -40,7 +40,7 @@ fn push_group(groups: &mut Vec<Group>, nets: Vec<u32>) -> Result<(), AllocError>
     Ok(())
 }
 
-// Returns the groups among lists of nets: the lists with two nets or more.
+// Returns the groups among lists of nets, which are the lists with two or more nets.
 fn groups_among(alloc: Global, lists: Vec<Items<u32>>) -> Result<Vec<Group>, AllocError>
     requires { All Rise lists.items }
     ensures { IfOk result (λ groups. groups.items ≡ flat_map where_several lists.items) }
@@ -62,7 +62,7 @@ fn groups_by(alloc: Global, nets: &[u32], labels: &[u32]) -> Result<Vec<Group>, 
 }
 
 /// Returns the set of groups of walk nets that explains a log of the walking test, or `None` if and only if no set does. There is at most
-/// one such set. Its groups are in the order of their least nets. The walk must be that of the board. The log must have a row for each
+/// one such set. Its groups are in the order of their lowest nets. The walk must be that of the board. The log must have a row for each
 /// walk net, and each row must be as long as a data scan. The nets of the groups are nets of the board.
 ///
 /// A set of groups explains the log if every run of the test, with the Or shorts of these groups and no other fault, gives each

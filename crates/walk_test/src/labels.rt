@@ -64,7 +64,7 @@ fn labels_in(
 }
 
 /// Returns the labels of the walk nets of a log. Returns `None` if, in some row, some compared cell reads a bit that contradicts the
-/// labels. The log is read once, row by row.
+/// labels. Reads the log once, row by row.
 pub fn shown_labels(alloc: Global, log: &WalkLog<'_>) -> Result<Option<Vec<u32>>, AllocError>
     ensures { IfOk result (λ found. MatchOption found (ShowsAll log.now.log (map (label_of log.now.log) log.now.nets) log.now.nets → ⊥) (λ labels. (labels.items ≡ map (label_of log.now.log) log.now.nets) × ShowsAll log.now.log labels.items log.now.nets)) }
 {

@@ -1,4 +1,4 @@
-//! Laws of the walking test. Each is the contract of a function that does nothing.
+//! Laws of the walking test. Each law is the contract of a function that does nothing.
 ghost use Rattle.std.specs.Prelude.{ℕ, Bool, List, Option};
 ghost use Rattle.board_defs.specs.declared.board.RawBoard.{RawBoard};
 ghost use Rattle.board_defs.specs.BoardRules.{IsBoard};

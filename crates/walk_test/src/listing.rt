@@ -84,7 +84,7 @@ fn put_groups<K: Sink>(
     Ok(())
 }
 
-// Writes the number of groups, and each group.
+// Writes the number of groups, and then each group.
 fn put_all<K: Sink>(
     board: &Board,
     groups: &[Group],
@@ -97,10 +97,10 @@ fn put_all<K: Sink>(
     put_groups(board, groups, line, out)
 }
 
-/// Writes the groups that explain a log: their number, and for each group its size and its nets in net order. If `groups` is `None`,
-/// writes that no set of groups explains the log. A net number that the board doesn't have gives an empty name. Each line is one put to the
-/// sink, but a line of more than `MAX_LINE` bytes is put in pieces of `MAX_LINE` bytes and the rest. Allocates nothing. `line` is used as a
-/// buffer, and its content afterwards is unspecified. Fails only if the sink fails. In this case a prefix of the text was put.
+/// Writes the groups that explain a log: their number, and for each group its size and its nets in net order. If `groups` is `None`, writes
+/// that no set of groups explains the log. If the board has no net of a number, writes an empty name. Each line goes to the sink as one
+/// piece, but a line of more than `MAX_LINE` bytes goes out in pieces of `MAX_LINE` bytes and the rest. Allocates nothing. `line` is used
+/// as a buffer, and its content afterwards is unspecified. Fails only if the sink fails. In this case the sink took a prefix of the text.
 pub fn write_groups<K: Sink>(
     board: &Board,
     groups: Option<&[Group]>,

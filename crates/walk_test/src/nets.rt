@@ -1,4 +1,4 @@
-// The parts of a walk.
+// Makes the parts of a walk: its setting, its nets, their cells, and the rows that all scans share.
 ghost use Rattle.std.specs.Prelude.{◌≡◌, ◌<◌, ◌^◌, ◌++◌, ◌∷◌, ◌==◌, [], if◌then◌else◌, not, is_some, map, length, Some, None, slice_get, slice_index_or, IfOk, OnOk};
 ghost use Rattle.std.specs.Option.{option_to_list};
 ghost use Rattle.std.specs.List.{list_any};
@@ -45,7 +45,7 @@ fn is_read_beside(readers: &[ReaderCell], place: u32) -> bool
     readers.iter().any(|r| r.place != place)
 }
 
-// Returns the driver if one of these cells reads a pin other than the driver's.
+// Returns the driver if one of these cells reads a pin other than the driver's pin.
 fn where_read(driver: NetDriver, readers: &[ReaderCell]) -> Option<NetDriver>
     ensures { result ≡ (if is_read_beside readers.now driver then Some driver else None) }
 {
@@ -103,7 +103,7 @@ fn push_beside(positions: &mut Vec<u32>, reader: ReaderCell, place: u32) -> Resu
     Ok(())
 }
 
-// Returns the positions of the cells that read another pin than the pin at this place.
+// Returns the positions of the cells that read a pin other than the pin at this place.
 fn positions_beside(
     alloc: Global,
     place: u32,
@@ -183,7 +183,7 @@ fn all_cells(
     Ok(all)
 }
 
-// Sets the cells of the drivers of nets to 0.
+// Sets the driver cell of each of these nets to 0.
 fn clear_drivers(cells: &[NetCells], row: &mut Row)
     ensures { row.new.bits ≡ cleared row.old.bits cells.now }
 {
@@ -259,8 +259,8 @@ fn blank_rows(alloc: Global, board: &Board) -> Result<WalkRows, AllocError>
     Ok(WalkRows { still, mask })
 }
 
-/// Returns the parts of a walk, made from the pins of its board's nets and the first pass of its test. The rows are still empty: `fill_rows`
-/// fills them from the plan. Nothing fails once the plan is made, so no exit drops a plan.
+/// Returns the parts of a walk, made from the pins of its board's nets and the first pass of its test. The rows have room, but are still
+/// empty: `fill_rows` fills them from the plan. Nothing fails after the plan is made, so no exit drops a plan.
 pub fn walk_parts(
     alloc: Global,
     board: &Board,
@@ -288,8 +288,8 @@ pub fn walk_parts(
     })
 }
 
-/// Fills the rows of a walk from its plan and the cells of its nets: the first row of the pass with no walk net at 1, and the compared
-/// positions. The rows must have room for a data scan. Without a pass the rows stay unchanged.
+/// Fills the rows of a walk from its plan and the cells of its nets. The rows are the first row of the pass with no walk net at 1, and the
+/// compared positions. They must have room for a data scan. If there is no pass, they stay unchanged.
 pub fn fill_rows(board: &Board, plan: &Plan, cells: &[NetCells], rows: &mut WalkRows)
     requires plan { IsPlanOf board.now plan.now }
     requires room { HasRoom (data_bits board.now) rows.old }
@@ -298,7 +298,7 @@ pub fn fill_rows(board: &Board, plan: &Plan, cells: &[NetCells], rows: &mut Walk
     if plan.pass_count() == 0 {
         return;
     }
-    // `still` takes the expected bits, which nobody needs, until the next call fills it with the row.
+    // `still` takes the expected bits, which nothing needs, until the next call fills it with the row.
     plan.fill_compared(board, 0, 0, &mut rows.still, &mut rows.mask);
     plan.fill_shifted(board, 0, 0, &mut rows.still);
     clear_drivers(cells, &mut rows.still);

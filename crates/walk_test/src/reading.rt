@@ -9,8 +9,8 @@ use crate::digits::MaskedRow;
 use crate::labels::{first_of, row_at};
 use crate::walk_log::WalkLog;
 
-// Notes row `j` for each compared position that reads 1 in this row. Returns whether none of these positions had a row before. The place
-// of a position without a row has `none`. If the result is false, `firsts` may be changed in part.
+// Notes row `j` for each compared position that reads 1 in this row. Returns whether none of these positions had a row before. `firsts` has
+// `none` for a position without a row. If the result is false, some of `firsts` may have changed.
 fn mark_row(firsts: &mut [u32], row: &MaskedRow<'_>, j: u32, none: u32) -> bool
     requires { length row.now.digits.now ≡ digit_count (length firsts.old) }
     ensures fresh { IsTrue result ↔ IsFresh row.now.digits.now row.now.mask.now none firsts.old (length firsts.old) }
@@ -66,8 +66,8 @@ fn read_row(log: &WalkLog<'_>, firsts: &mut [u32], at: u32, j: u32, none: u32) -
     }
 }
 
-/// Reads the rows of all nets, in order. Returns whether each row reads what the earlier rows imply. If so, `firsts` then has for each
-/// compared position the first row in which it reads 1. Before the call, each place of `firsts` must have the number of rows.
+/// Reads the rows of all nets, in order. Returns whether each row reads what the earlier rows imply. If so, `firsts` then has, for each
+/// compared position, the first row in which it reads 1. Before the call, each item of `firsts` must be the number of rows.
 pub fn read_rows(log: &WalkLog<'_>, firsts: &mut [u32]) -> bool
     requires firsts { length firsts.old ≡ length log.now.mask }
     requires blank { (at : ℕ) → slice_index_or firsts.old at (length log.now.log) ≡ length log.now.log }

@@ -10,16 +10,16 @@ pub struct NetCells {
     pub compared: Items<u32>,
 }
 
-/// The rows that all scans of a walk share: the bits to shift in while no walk net carries 1, and the positions to compare. A walk
-/// without a pass needs neither row.
+/// The rows that all scans of a walk share: the bits to shift in while no walk net carries 1, and the positions to compare. If a walk has
+/// no pass, it needs neither row.
 #[derive(Drop)]
 pub struct WalkRows {
     pub still: Row,
     pub mask: Row,
 }
 
-/// The parts of a walk besides the pins of the board's nets: the passes of its plan, the walk nets and the cells of each, and the rows
-/// that all scans are made from.
+/// The parts of a walk, without the pins of the board's nets: the passes of its plan, the walk nets, the cells of each walk net, and the
+/// rows from which all scans are made.
 #[derive(Drop)]
 pub struct WalkParts {
     pub settings: Vec<Setting>,
@@ -28,8 +28,8 @@ pub struct WalkParts {
     pub rows: WalkRows,
 }
 
-/// The tables of a walk. The plan has the walk setting as its only pass, or no pass. The other tables are the walk nets, the cells of each,
-/// and the rows from which all scans are made.
+/// The tables of a walk. The plan has the walk setting as its only pass, or no pass. The other tables are the walk nets, the cells of each
+/// walk net, and the rows from which all scans are made.
 #[derive(Drop)]
 pub struct WalkTables {
     pub plan: Plan,

@@ -19,8 +19,8 @@ use tap_defs::{ScanRows, Shape};
 
 /// The walking test of a board: its walk nets with their cells, and the rows that its scans share.
 ///
-/// The walk setting is the first pass of the board's test without the controls of switching drivers. The walk nets are the nets
-/// that it observes. A board without a pass has no walk net.
+/// The walk setting is the first pass of the board's test without the controls of switching drivers. The walk nets are the nets that the
+/// walk setting observes. A board without a pass has no walk nets.
 #[derive(Drop)]
 pub struct Walk {
     pub(crate) tables: WalkTables,
@@ -38,8 +38,8 @@ impl Model for Walk {
 }
 
 impl Walk {
-    /// Returns the walk of a board, made from the first pass of its test, if there is a pass. Later passes are ignored. A caller that has the
-    /// pins of the board's nets calls `of`.
+    /// Returns the walk of a board, made from the first pass of its test, if there is a pass. Later passes are ignored. If a caller has the
+    /// pins of the board's nets already, it calls `of` instead.
     pub fn new(alloc: Global, board: &Board, passes: &[Setting]) -> Result<Walk, AllocError>
         requires { slice_get passes.now 0 ≡ slice_get (passes_of board.now) 0 }
         ensures { IfOk result (λ walk. IsWalkOf board.now walk) }
@@ -86,7 +86,7 @@ impl Walk {
         self.tables.nets.as_slice()
     }
 
-    /// Returns the number of scans: three, and if the board has a pass, one more for each walk net and one for the quiet row.
+    /// Returns the number of scans. There are three, and if the board has a pass, one more for each walk net and one for the quiet row.
     pub fn scans(&self) -> u64
         ensures { result ≡ scan_count self.now }
     {

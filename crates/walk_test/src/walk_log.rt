@@ -13,7 +13,8 @@ use response_log::Log;
 use std::alloc::{AllocError, Global};
 use std::marker::Model;
 
-/// A log, the cells of the nets whose rows the log has, and the compared bits of each row, which are at the positions of these cells.
+/// A log, the cells of the nets whose rows the log has, and the compared bits of each row, which are the bits at the positions of
+/// these cells.
 #[derive(Drop)]
 pub struct WalkLog<'a> {
     log: &'a Log,
@@ -61,7 +62,7 @@ impl<'a> WalkLog<'a> {
         Ok(WalkLog { log, nets, mask })
     }
 
-    /// Does nothing. Its clause gives the facts about the log.
+    /// Does nothing. Its contract states the facts about the log.
     pub fn laws(&self)
         ensures { AreLoggedNets self.now }
     {

@@ -1,9 +1,9 @@
--- Rows as the values of their digits, and the marks that a loop over a row makes.
+-- Rows as the values of their digits, and the marks that a loop makes as it goes over a row.
 use Rattle.std.specs.Prelude.{◌≡◌, ℕ, ◌/◌, ◌%◌, ◌<◌, ◌≤◌, Bool, true, false, ◌&&◌, List, length, slice_index_or}
 use Rattle.std.specs.Int.Bits.{bit_and, bit_xor}
 use Rattle.bt_bits.specs.Digits.{digit_bit}
 
--- the bit at a position
+-- the bit of a row at a position
 abbrev pub bit_of : List ℕ → ℕ → Bool
 bit_of digits at = digit_bit (slice_index_or digits (at / 4) 0) (at % 4)
 

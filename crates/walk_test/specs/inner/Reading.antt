@@ -1,4 +1,4 @@
--- The walk nets that are joined by groups, and how a log shows them.
+-- The labels of walk nets, the groups of these labels, and what a log must read to show them.
 use Rattle.std.specs.Prelude.{◌≡◌, ℕ, suc, ◌<◌, ◌≤◌, ◌==◌, nat_le, nat_lt, ◌^◌, Bool, true, false, if◌then◌else◌, ◌&&◌, ◌||◌, List, [], ◌∷◌, length, fold, replicate, Option, Some, None, slice_get, slice_index_or, All, Contains}
 use Rattle.std.specs.List.{list_all, flat_map, range_with_len}
 use Rattle.board_defs.specs.Pins.{is_same}
@@ -16,7 +16,7 @@ is_one_group (Some k) other = is_in_short other k
 abbrev pub are_joined : List (List ℕ) → ℕ → ℕ → Bool
 are_joined groups a b = (a == b) || is_one_group (group_of groups a) (group_of groups b)
 
--- the bit of a log in this row at this position
+-- the bit that row `row` of a log has at this position
 abbrev pub bit_in : List (List Bool) → ℕ → ℕ → Bool
 bit_in log row at = slice_index_or (slice_index_or log row []) at false
 
@@ -25,7 +25,8 @@ abbrev pub first_one : List (List Bool) → ℕ → ℕ
 first_one [] at = 0
 first_one (row ∷ log) at = if slice_index_or row at false then 0 else suc (first_one log at)
 
--- the label of a walk net: the first row in which the net's first compared cell reads 1. Its number is the place of the net that carries this 1
+-- The label of a walk net: the first row in which the net's first compared cell reads 1. The number of this row is the place of the walk
+-- net that carries 1 in it.
 abbrev pub label_of : List (List Bool) → NetCells → ℕ
 label_of log cells = first_one log (slice_index_or cells.compared 0 0)
 
@@ -79,7 +80,8 @@ pub record AreLoggedNets (it : LoggedNets) : Type 0 where
 abbrev pub AreSameRows : List (List Bool) → List Bool → ℕ → ℕ → Type 0
 AreSameRows log mask j other = (at : ℕ) → slice_index_or mask at false ≡ true → bit_in log j at ≡ bit_in log other at
 
--- a group starts in row j with the net of position `own`: the position is compared and reads 1, and no compared position that reads 1 has an earlier row
+-- A group starts in row j with the net of position `own`. The position is compared and reads 1. No compared position that reads 1 has an
+-- earlier row.
 pub record StartsGroup (log : List (List Bool)) (mask : List Bool) (j own none : ℕ) (firsts : List ℕ) : Type 0 where
   pub is_read : (slice_index_or mask own false && bit_in log j own) ≡ true
   pub fresh : (at : ℕ) → slice_index_or mask at false ≡ true → bit_in log j at ≡ true → slice_index_or firsts at none ≡ none
@@ -89,12 +91,12 @@ pub record AreStarted (log : List (List Bool)) (mask : List Bool) (j none : ℕ)
   pub marked : (at : ℕ) → slice_index_or mask at false ≡ true → bit_in log j at ≡ true → slice_index_or new at none ≡ j
   pub kept : (at : ℕ) → slice_index_or mask at false ≡ true → bit_in log j at ≡ false → slice_index_or new at none ≡ slice_index_or old at none
 
--- the row if it is before row j, and otherwise `none`
+-- the row if it comes before row j, and otherwise `none`
 abbrev pub below : ℕ → ℕ → ℕ → ℕ
 below j none row = if nat_lt row j then row else none
 
--- Row k reads 1 at a compared position if and only if that position has the same first row as position `own` of net k.
--- This first row is row k or an earlier row.
+-- A compared position reads 1 in row k if and only if it has the same first row as position `own` of net k. This first row is row k or an
+-- earlier row.
 pub record IsRowRight (log : List (List Bool)) (mask : List Bool) (k own : ℕ) : Type 0 where
   pub low : first_one log own ≤ k
   pub reads : (at : ℕ) → slice_index_or mask at false ≡ true → bit_in log k at ≡ (first_one log at == first_one log own)
@@ -104,7 +106,7 @@ pub record AreRead (log : List (List Bool)) (mask : List Bool) (nets : List NetC
   pub right : (k : ℕ) (net : NetCells) → k < j → slice_get nets k ≡ Some net → IsRowRight log mask k (first_at net)
   pub found : (at : ℕ) → slice_index_or mask at false ≡ true → slice_index_or firsts at none ≡ below j none (first_one log at)
 
--- in row j, all compared cells of the net at place i read 1 if the nets at places i and j have the same label, and otherwise 0
+-- In row j, all compared cells of the net at place i read 1 if the nets at places i and j have the same label, and otherwise 0.
 abbrev pub net_shows : List (List Bool) → List ℕ → ℕ → ℕ → NetCells → Bool
 net_shows log labels j i cells = list_all (λ at. is_same (bit_in log j at) (slice_index_or labels i 0 == slice_index_or labels j 0)) cells.compared
 

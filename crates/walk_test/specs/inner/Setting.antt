@@ -1,4 +1,4 @@
--- The controls of switching drivers, found pin by pin.
+-- The controls of switching drivers, as the code finds them pin by pin.
 use Rattle.std.specs.Prelude.{ℕ, ◌==◌, Bool, ◌&&◌, if◌then◌else◌, List, [], fold, Option, Some, None}
 use Rattle.board_defs.specs.declared.device.Control.{Control}
 use Rattle.board_defs.specs.declared.device.Cell.{Cell}
@@ -15,7 +15,7 @@ abbrev pub own_switch : ℕ → ℕ → Option Bool → Option Control → Optio
 own_switch part num pull None = None
 own_switch part num pull (Some control) = if (control.cell == num) && is_pulled_to control.disable pull then Some (record { part = part; cell = control.cell }) else None
 
--- like `own_switch`, from the driving entry; `pin_switch` below starts from the place of the pin
+-- like `own_switch`, but takes the driving entry of the pin
 abbrev pub entry_switch : ℕ → Option Bool → Option Cell → Option Ctl
 entry_switch part pull None = None
 entry_switch part pull (Some cell) = own_switch part cell.num pull cell.ctl

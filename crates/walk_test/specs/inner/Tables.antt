@@ -1,4 +1,4 @@
--- Terms for the proofs alone: the plan, the nets with their cells, and the shared rows that a walk keeps of a board.
+-- The plan, the nets with their cells, and the shared rows that a walk keeps of a board.
 use Rattle.std.specs.Prelude.{◌≡◌, ℕ, zero, suc, ◌<◌, ◌≤◌, ◌==◌, Bool, false, not, if◌then◌else◌, List, [], length, map, filter, Option, Some, None, is_some, option_and_then, slice_get, slice_index_or}
 use Rattle.std.specs.List.{range_with_len}
 use Rattle.board_defs.specs.declared.board.RawBoard.{RawBoard}
@@ -19,7 +19,7 @@ use Rattle.walk_test.specs.declared.tables.WalkTables.{WalkTables}
 use Rattle.walk_test.specs.WalkTest.{walk_setting}
 use Rattle.walk_test.specs.Tables.{tdi_of, mask_of}
 
--- the bits that the scan after a row should capture, with 0 at the positions that are not compared
+-- the bits that the scan after a row should capture, with 0 at each position that is not compared
 abbrev pub tdo_of : RawBoard → TestRow → List Bool
 tdo_of board row = tdo_bits (joined (row_bits board (record { now = quiet_row; before = row })))
 
@@ -27,29 +27,29 @@ tdo_of board row = tdo_bits (joined (row_bits board (record { now = quiet_row; b
 abbrev pub first_row : RawBoard → PlanTables → TestRow
 first_row board plan = code_row board plan.passes (slice_index_or plan.passes 0 []) 0
 
--- a row with the cells of the drivers of these nets at 0
+-- `bits`, with a 0 at the cell of the driver of each of these nets
 abbrev pub cleared : List Bool → List NetCells → List Bool
 cleared bits cells = assigned (λ c. c.driver) (λ c. false) bits cells
 
--- the driver by which a setting observes a net, from the pins of a board
+-- the driver by which a setting observes a net, found in the pins of a board
 abbrev pub observer_in : NetPins → List Ctl → ℕ → Option NetDriver
 observer_in pins walk n =
     option_and_then (λ d. if is_read_beside (slice_index_or pins.readers n []) d then Some d else None) (enabled_in (holds walk) (slice_index_or pins.drivers n []))
 
--- the positions of the cells that read another pin than the pin at this place
+-- the positions of the cells that read a pin other than the pin at this place
 abbrev pub positions_beside : ℕ → List ReaderCell → List ℕ
 positions_beside place readers = map (λ r. r.position) (filter (λ r. not (r.place == place)) readers)
 
--- the cells of a net that this driver observes
+-- the cells of a net that the setting observes by this driver
 abbrev pub cells_by : NetPins → ℕ → Option NetDriver → NetCells
 cells_by pins n None = record { driver = 0; compared = [] }
 cells_by pins n (Some d) = record { driver = d.position; compared = positions_beside d.place (slice_index_or pins.readers n []) }
 
--- the cells of a net, from the pins of a board
+-- the cells of a net, found in the pins of a board
 abbrev pub cells_in : NetPins → List Ctl → ℕ → NetCells
 cells_in pins walk n = cells_by pins n (observer_in pins walk n)
 
--- the nets below `count` that a setting observes, from the pins of a board
+-- the nets below `count` that a setting observes, found in the pins of a board
 abbrev pub nets_in : NetPins → List Ctl → ℕ → List ℕ
 nets_in pins walk count = filter (λ n. is_some (observer_in pins walk n)) (range_with_len 0 count)
 
@@ -62,7 +62,7 @@ abbrev pub cells_of : NetPins → Option (List Ctl) → List ℕ → List NetCel
 cells_of pins None nets = []
 cells_of pins (Some walk) nets = map (cells_in pins walk) nets
 
--- the rows of a walk are made from the first row of the plan and the cells of the walk nets
+-- the rows of a walk are those that follow from the first row of the plan and the cells of the walk nets
 pub record AreMade (board : RawBoard) (plan : PlanTables) (cells : List NetCells) (rows : WalkRows) : Type 0 where
   pub still : 0 < length plan.passes → rows.still.bits ≡ cleared (tdi_of board (first_row board plan)) cells
   pub mask : 0 < length plan.passes → rows.mask.bits ≡ mask_of board (first_row board plan)
@@ -81,7 +81,7 @@ walk_controls (Some walk) = walk
 abbrev pub walk_row_of : RawBoard → ℕ → TestRow
 walk_row_of board j = walk_row board (walk_controls (walk_setting board)) j
 
--- the row that scan j after the EXTEST codes shifts in; `before_of` is the row that this scan compares
+-- The row that scan j after the EXTEST codes shifts in. The next definition, `before_of`, is the row that this scan compares.
 abbrev pub now_of : RawBoard → ℕ → ℕ → TestRow
 now_of board count j = row_now (walk_row_of board) count j
 
@@ -96,7 +96,8 @@ pub record BoardWalk : Type 0 where
 abbrev pub board_walk : RawBoard → WalkTables → BoardWalk
 board_walk board tables = record { board = board; tables = tables }
 
--- the bits that scan j after the EXTEST codes shifts in; the next two definitions are the bits that it expects, and the positions that it compares
+-- The bits that scan j after the EXTEST codes shifts in. The next two definitions are the bits that the scan expects and the positions that
+-- it compares.
 abbrev pub shifted_in : BoardWalk → ℕ → List Bool
 shifted_in it j = tdi_of it.board (now_of it.board (length it.tables.nets) j)
 
@@ -106,7 +107,7 @@ expected_in it j = tdo_of it.board (before_of it.board j)
 abbrev pub compared_in : BoardWalk → ℕ → List Bool
 compared_in it j = mask_of it.board (before_of it.board j)
 
--- the cells at the place before place j, or nothing for the first place
+-- the cells at the place before place j, or `None` for the first place
 abbrev pub cells_before : List NetCells → ℕ → Option NetCells
 cells_before cells zero = None
 cells_before cells (suc j) = slice_get cells j
