@@ -1,4 +1,4 @@
--- A control of a driver of a net controls a driver of the board, and a useful control does as well.
+-- Lemmas which say that the controls of nets' drivers, and also the useful controls, control a driver of the board.
 use Rattle.std.proofs.Common.{◌≡◌, ℕ, ◌==◌, Bool, true, false, ◌&&◌, Option, Some, None, refl, sym, ap, ◌∙◌}
 use Rattle.std.specs.Prelude.{length, slice_get, unwrap_or, option_map, option_and_then, if◌then◌else◌}
 use Rattle.std.specs.List.{list_any}
@@ -47,7 +47,7 @@ names_of board net part cell (Some control) c e = by_own (control.cell == cell.n
     by_own true false k = cc k
     by_own false switched k = named k
 
--- the control of a driving entry controls a driver of the board if the entry has a pin
+-- if a driving entry of a port bit with a pin has a control, this control controls a driver of the board
 controls_entry : (board : RawBoard) (at : PinAt) (device : RawDevice) (cell : Cell) (c : Ctl) → device_at board at.part ≡ Some device → is_pinned board at ≡ true →
     Drives device at.bit cell → Names at.part cell.ctl c → controls_some board c ≡ true
 controls_entry board at device cell c dev pinned d n =
@@ -64,7 +64,7 @@ controls_entry board at device cell c dev pinned d n =
     has_pin : ℕ → Option ℕ → Bool
     has_pin part o = unwrap_or (option_map (λ bit. is_pinned board (record { part = part; bit = bit })) o) false
 
--- a control of a driver of a net controls a driver of the board
+-- if a pin of a net is a driver with a control, this control controls a driver of the board
 controls_pin : (board : RawBoard) → IsBoard board → (n : ℕ) (net : Net) (place : ℕ) (pin : NetPin) (c : Ctl) → slice_get board.nets n ≡ Some net →
     slice_get net.pins place ≡ Some pin → drive board net pin ≡ Some (By c) → controls_some board c ≡ true
 controls_pin board rules n net place pin c en ep d = by_rules (((board_rules board rules).nets n net en).pins place pin ep)

@@ -1,4 +1,4 @@
--- A row with the bits of the observed nets in the cells of their drivers is the row of the pass.
+-- Lemmas which say that setting the bits of the observed nets in the cells of their drivers gives the row of the pass.
 use Rattle.std.proofs.Common.{◌≡◌, ℕ, ◌+◌, ◌==◌, Bool, true, false, List, Option, Some, None, unwrap_or, refl, sym, ap, ◌∙◌, subst, arith, ◌⊎◌, inl, inr}
 use Rattle.std.specs.Prelude.{slice_get, option_and_then}
 use Rattle.std.proofs.lemmas.Bool.{eq-eqb, eqb-true}
@@ -24,7 +24,7 @@ use Rattle.plan_tables.proofs.PinLemmas.{Standing, standing, wired_at, Drives, d
 abbrev pub pass_row : List Ctl → (ℕ → Option Bool) → TestRow
 pass_row pass carried = record { setting = holds pass; carried = carried }
 
--- the bit that a row puts into a cell of a part
+-- the bit that a row has for a cell of a part
 abbrev pub row_cells : RawBoard → TestRow → ℕ → RawDevice → ℕ → Bool
 row_cells board row part device cell = row_bit board row part device cell
 

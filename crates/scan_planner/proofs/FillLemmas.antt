@@ -1,4 +1,4 @@
--- Rows that are filled from a plan's tables hold the scan.
+-- Lemmas which say that rows filled from a plan's tables hold the plan's scan.
 use Rattle.std.proofs.Common.{◌≡◌, ℕ, suc, ◌+◌, ◌*◌, ◌<◌, ◌≤◌, Bool, true, false, cond, List, [], ◌++◌, length, get_or, set, replicate, Option, Some, is_some, unwrap_or, sym, ap, ◌∙◌, subst, arith}
 use Rattle.std.specs.Prelude.{slice_get, All}
 use Rattle.std.specs.List.{list_any}
@@ -61,19 +61,19 @@ fills board passes width k scan shape tdi tdo mask placed some most are is_ir co
       masked = rows_masked are;
     }
 
--- rows with room for a scan of instructions have room for the stored rows of one
+-- if rows have room for an instruction scan, they have room for the stored rows of an instruction scan
 pub codes_room : (board : RawBoard) (bits : List ScanBit) (stored : StoredRows) (rows : ScanRows) → IsSized bits (instruction_bits board) → AreRowsOf bits stored →
     EachHasRoom (IsRoom board) rows → HaveRoomFor stored rows
 codes_room board bits stored rows s are each = room_for bits stored rows are (each_room (λ room is. omega (arith, s.size_is, is.instructions)) each)
 
--- a scan of data has `data_bits board` bits, from 1 to the most bits of a board
+-- a data scan has `data_bits board` bits, from 1 to the limit on the bits of a scan
 pub row_sized : (board : RawBoard) → IsBoard board → (scan : RowScan) → IsSized (joined (row_bits board scan)) (data_bits board)
 row_sized board rules scan =
     let size : length (joined (row_bits board scan)) ≡ data_bits board =
     sym (length-map (joined (row_bits board scan)) (λ b. b.tdi)) ∙ ap (λ (l : List Bool). length l) (tdi_laid board scan) ∙ length-laid (λ part device cell. row_bit board scan.now part device cell) board in
     record { some = row_scan_some board rules scan; most = omega (arith, size, rules.data_most); size_is = size }
 
--- each row of a scan of data has `data_bits board` bits
+-- the bits that a data scan shifts in are `data_bits board` bits
 pub shifted_size : (board : RawBoard) (scan : RowScan) → length (tdi_bits (joined (row_bits board scan))) ≡ data_bits board
 shifted_size board scan = ap length (tdi_laid board scan) ∙ length-laid (λ part device cell. row_bit board scan.now part device cell) board
 
@@ -83,7 +83,7 @@ expected_size board scan = ap length (tdo_laid board scan) ∙ length-laid (λ p
 pub marked_size : (board : RawBoard) (scan : RowScan) → length (mask_bits (joined (row_bits board scan))) ≡ data_bits board
 marked_size board scan = ap length (mask_laid board scan) ∙ length-laid (λ part device cell. is_some (expect_bit board scan.before part device cell)) board
 
--- a scan after the quiet row compares nothing: its expected bits and its mask are zeros
+-- if the row before a scan is the quiet row, the scan compares nothing: its expected bits and its mask are zeros
 pub quiet_tdo : (board : RawBoard) (scan : RowScan) → scan.before ≡ quiet_row → replicate (data_bits board) false ≡ tdo_bits (joined (row_bits board scan))
 quiet_tdo board scan e =
     zeros_laid board
@@ -105,7 +105,7 @@ module _ (board : RawBoard) (rules : IsBoard board) (plan : PlanTables) (p : IsP
   pub quiet_length : length plan.quiet.bits ≡ data_bits board
   quiet_length = ap (λ (l : List Bool). length l) quiet_laid ∙ length-laid (steady board (λ c. false)) board
 
-  -- every scan that shifts in the quiet row shifts in the plan's quiet row, whatever it compares
+  -- if a scan shifts in the quiet row, the shifted bits are the plan's quiet row, whatever the scan compares
   pub quiet_is : (scan : RowScan) → scan.now ≡ quiet_row → plan.quiet.bits ≡ tdi_bits (joined (row_bits board scan))
   quiet_is scan e =
       p.tables.quiet ∙ tdi_laid board first_row_scan
@@ -143,7 +143,7 @@ module _ (board : RawBoard) (rules : IsBoard board) (plan : PlanTables) (p : IsP
     are : ArePassCells board plan.steady pass cells
     are = let t = p.tables.cells x pass stands in subst (λ (v : PassCells). ArePassCells board plan.steady pass v) t.1 t.2
 
-    -- the driver cells of the pass: the steady ones and its own
+    -- the driver cells of the pass: the steady cells and the pass's own cells
     abbrev all : List DriverCell
     all = plan.steady ++ cells.drivers
 
@@ -171,7 +171,7 @@ module _ (board : RawBoard) (rules : IsBoard board) (plan : PlanTables) (p : IsP
         p.codes_are d.net s.net s.is_net ∙ ap (λ (b : Bool). cond b (code_of_net board plan.passes d.net) 0) observed in
         sym (ap (λ (n : ℕ). Some (code_bit n j)) code)
 
-    -- the bits that row `j` of the pass shifts in, made from the row that all passes share
+    -- setting the pass's own bits in the shared row gives the bits that row `j` of the pass shifts in
     pub shifted_is : (j : ℕ) → j < plan.width →
         driven board plan (driver_bit plan.codes j) (assigned (λ h. h.position) (λ h. h.bit) (steady_shifted plan j) cells.held) pass ≡ tdi_bits (joined (row_bits board (scan_of_pass board plan x j)))
     shifted_is j within =
@@ -188,8 +188,8 @@ module _ (board : RawBoard) (rules : IsBoard board) (plan : PlanTables) (p : IsP
         ∙ drivers_laid board rules pass (carried j) bit all driver_only every (carries j)
         ∙ sym (tdi_laid board (scan_of_pass board plan x j) ∙ ap (λ (row : TestRow). laid (λ part device cell. row_bit board row part device cell) board) row)
 
-    -- the row of compared bits of the pass, made from the row that all passes share, has the bit of each pair at the pair's cell, and
-    -- zeros elsewhere
+    -- Setting the pass's own bits in the shared row gives the compared bits of the pass. This row has the bit of each pair at the pair's
+    -- cell, and zeros elsewhere.
     compared_is : (bit : DriverCell → Bool) →
         compared board plan bit (steady_compared plan bit) pass ≡ assigned (λ (x : Pair). x.1.position) (λ x. bit x.0) (laid (λ part device cell. false) board) (pairs plan.readers all)
     compared_is bit =

@@ -1,4 +1,5 @@
--- All rows of a pass have the same mask, so two successive scans that each compare a row of the pass have the same mask.
+-- Lemmas about the mask of a pass. All rows of a pass have the same mask, so two successive scans that each compare a row of the pass have
+-- the same mask.
 use Rattle.std.proofs.Common.{◌≡◌, ℕ, suc, ◌+◌, ◌*◌, ◌-◌, ◌<◌, ◌≤◌, Bool, List, [], length, get_or, Option, Some, None, sym, ap, ◌∙◌, arith}
 use Rattle.std.specs.Prelude.{slice_get}
 use Rattle.std.proofs.lemmas.Option.{slice_get-get_or}
@@ -14,7 +15,7 @@ use Rattle.plan_tables.specs.Plans.{IsPlanOf}
 use Rattle.scan_planner.specs.Plans.{FillsScan, scan_of_pass}
 use Rattle.scan_planner.proofs.FillLemmas.{mask_is}
 
--- the mask of rows with scan `j - 1` of a pass is the mask of scan `j`, if both compare a row
+-- if rows hold scan `j - 1` of a pass, and scans `j - 1` and `j` both compare a row, the mask in the rows is the mask of scan `j`
 pub mask_stands : (board : RawBoard) → IsBoard board → (plan : PlanTables) → IsPlanOf board plan → (x j : ℕ) → x < length plan.passes → 1 < j → j ≤ plan.width →
     (shape : Shape) (tdi tdo mask : List Bool) → FillsScan board plan.passes plan.width (2 + (x * suc plan.width + j)) shape tdi tdo mask →
     mask ≡ mask_bits (joined (row_bits board (scan_of_pass board plan x j)))

@@ -1,8 +1,8 @@
--- Lists in which each item has a property that depends on its place.
+-- Lemmas about lists in which each item has a property that depends on the item's place.
 use Rattle.std.proofs.Common.{◌≡◌, ℕ, zero, suc, List, [], ◌∷◌, ◌++◌, length, Some, subst}
 use Rattle.std.specs.Prelude.{slice_get}
 
--- the property also holds in the list with one more item at the end, if that item has it
+-- if each item has the property, and an item with it is appended, each item of the longer list has the property
 pub each_more : {A : Type 0} (P : ℕ → A → Type 0) (xs : List A) (y : A) → ((i : ℕ) (x : A) → slice_get xs i ≡ Some x → P i x) → P (length xs) y → (i : ℕ) (x : A) → slice_get (xs ++ y ∷ []) i ≡ Some x → P i x
 each_more P [] y all last zero x at = subst (P 0) (cc at) last
 each_more P [] y all last (suc i) x at = cc at

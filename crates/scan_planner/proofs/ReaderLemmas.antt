@@ -1,4 +1,4 @@
--- The compared cells of a row: the cells of receivers on the nets that the pass observes.
+-- Lemmas about the compared cells of a row. These are the cells of receivers on the nets that the pass observes.
 use Rattle.std.proofs.Common.{◌≡◌, ℕ, ◌+◌, ◌==◌, Bool, true, false, not, cond, ◌&&◌, List, [], ◌∷◌, Option, Some, None, is_some, unwrap_or, get_or, set, refl, sym, ap, ◌∙◌, subst, arith, ◌⊎◌, inl, inr}
 use Rattle.std.specs.Prelude.{slice_get}
 use Rattle.std.specs.List.{flat_map}
@@ -30,11 +30,11 @@ use Rattle.plan_tables.proofs.PinLemmas.{Standing, standing, on_self, reading_en
 use Rattle.plan_tables.proofs.ReaderTableLemmas.{ReadersOf}
 use Rattle.plan_tables.proofs.SeenLemmas.{driver_cell}
 
--- a compared cell, with the driver of its net
+-- the driver cell of a net, and a compared cell of the net
 abbrev pub Pair : Type 0
 Pair = DriverCell × ReaderCell
 
--- the cells that are compared for a net: those on pins other than the driver's
+-- the pairs of a driver and a cell that reads the driver's net on another pin
 abbrev pub pairs_of : DriverCell → List ReaderCell → List Pair
 pairs_of d [] = []
 pairs_of d (r ∷ readers) = cond (r.place == d.place) (pairs_of d readers) ((d, r) ∷ pairs_of d readers)
@@ -69,7 +69,7 @@ pair_has d (s ∷ readers) x h = by_test (pair_has d readers x) (s.place == d.pl
     by_test ih false e (inl same) = subst (λ (y : Pair). PairOf d (s ∷ readers) y) same (record { driver_is = refl; reader_in = inl refl; other = e })
     by_test ih false e (inr k) = later (ih k)
 
--- all compared cells of a pass with these drivers
+-- all pairs of a pass with these drivers
 abbrev pub pairs : List (List ReaderCell) → List DriverCell → List Pair
 pairs readers drivers = flat_map (λ d. pairs_of d (get_or readers d.net [])) drivers
 
@@ -97,7 +97,7 @@ module _ (board : RawBoard) (rules : IsBoard board) (pass : List Ctl) (carried :
   abbrev row : TestRow
   row = pass_row pass carried
 
-  -- the cell of the pair is compared with the bit of the pair's driver
+  -- the row compares the cell of the pair with the bit of the pair's driver
   record Expects (x : Pair) : Type 0 where
     at : PinAt
     device : RawDevice
@@ -153,7 +153,7 @@ module _ (board : RawBoard) (rules : IsBoard board) (pass : List Ctl) (carried :
       let r = flat_map_has (λ d. pairs_of d (get_or readers d.net [])) drivers x h in
       expects_by r.0 r.1 x (pair_has r.0 (get_or readers r.0.net []) x r.2)
 
-  -- the cell is not compared, or it is in a pair
+  -- the row does not compare the cell, or the cell is in a pair
   abbrev Covered : ℕ → ℕ → Option Bool → Type 0
   Covered part cell o = (o ≡ None) ⊎ ((x : Pair) × Has (pairs readers drivers) x × (x.1.position ≡ first_position board part + cell))
 
@@ -230,7 +230,7 @@ module _ (board : RawBoard) (rules : IsBoard board) (pass : List Ctl) (carried :
       by_entry None ee = inl refl
       by_entry (Some e) ee = by_role e ee (is_receiving e.role) refl
 
-  -- zeros, with the bit of each pair at the pair's cell, are the expected bits; zeros, with a 1 at each of these cells, are the mask
+  -- The expected bits are zeros with the bit of each pair at the pair's cell. The mask is zeros with a 1 at each of these cells.
   pub tdo_compared : assigned (λ (x : Pair). x.1.position) (λ x. bit x.0) (laid (λ part device cell. false) board) (pairs readers drivers)
       ≡ laid (λ part device cell. unwrap_or (expect_bit board row part device cell) false) board
   tdo_compared =

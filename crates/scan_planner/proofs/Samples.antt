@@ -1,4 +1,5 @@
--- The rows that all passes share, worked by hand for a bus with two drivers and a receiver. The bus has one steady driver or none.
+-- Samples of the rows that all passes share, for a bus with two drivers and a receiver. The bus has one steady driver or none. The values
+-- are worked by hand.
 use Rattle.std.proofs.Common.{◌≡◌, Bool, true, false, List, [], ◌∷◌, map, replicate, refl}
 use Rattle.bt_bits.specs.Rows.{BitRow}
 use Rattle.tap_defs.specs.declared.scan.StoredRows.{StoredRows}
@@ -17,8 +18,8 @@ no_rows = record { tdi = row []; tdo = row []; mask = row [] }
 abbrev quiet : List Bool
 quiet = false ∷ false ∷ true ∷ false ∷ true ∷ []
 
--- a plan with one net, whose code is 2, and with these steady drivers; the net is read at position 3 on its first pin, and at position 0 on
--- its third pin
+-- A plan with one net and these steady drivers. The net's code is 2. Cells read the net at position 3 on its first pin, and at position 0
+-- on its third pin.
 abbrev plan : List DriverCell → PlanTables
 plan steady = record {
   passes = [] ∷ [];
@@ -41,14 +42,14 @@ enabled = record { net = 0; place = 0; position = 3 } ∷ []
 shifted : map (steady_shifted (plan enabled)) (0 ∷ 1 ∷ []) ≡ (false ∷ false ∷ true ∷ false ∷ true ∷ []) ∷ (false ∷ false ∷ true ∷ true ∷ true ∷ []) ∷ []
 shifted = refl
 
--- the bits of the code are expected at the other pin, and not at the driver's own
+-- the bits of the code are expected at the cell on the other pin, but not at the cell on the driver's own pin
 expected : map (λ j. steady_compared (plan enabled) (driver_bit (2 ∷ []) j)) (0 ∷ 1 ∷ []) ≡ replicate 5 false ∷ (true ∷ false ∷ false ∷ false ∷ false ∷ []) ∷ []
 expected = refl
 
 mask : steady_compared (plan enabled) (λ d. true) ≡ true ∷ false ∷ false ∷ false ∷ false ∷ []
 mask = refl
 
--- without a steady driver, the row that all passes share is the quiet row, and nothing is compared
+-- if there is no steady driver, the row that all passes share is the quiet row, and nothing is compared
 none_shifted : steady_shifted (plan []) 0 ≡ quiet
 none_shifted = refl
 

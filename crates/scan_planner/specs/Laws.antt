@@ -1,4 +1,4 @@
--- Passes from which a plan can be made.
+-- The law that a plan can be made from safe passes of useful controls.
 use Rattle.std.specs.Prelude.{◌≡◌, ℕ, true, List, Some, slice_get}
 use Rattle.std.specs.List.{list_any}
 use Rattle.board_defs.specs.declared.board.RawBoard.{RawBoard}
@@ -16,8 +16,8 @@ AreSafe board passes = (x : ℕ) (pass : List Ctl) → slice_get passes x ≡ So
 abbrev pub AreUseful : RawBoard → List (List Ctl) → Type 0
 AreUseful board passes = (x : ℕ) (pass : List Ctl) (c : Ctl) → slice_get passes x ≡ Some pass → holds pass c ≡ true → is_useful board c ≡ true
 
--- Every control of a driver of a net controls a driver of the board. Every useful control does as well. So a plan can be made from safe
--- passes of useful controls.
+-- Every control of a net's driver, and every useful control, controls a driver of the board. So a plan can be made from safe passes of
+-- useful controls.
 pub record PlansUseful (board : RawBoard) : Type 0 where
   pub of_nets : (c : Ctl) → list_any (drives_net board c) board.nets ≡ true → controls_some board c ≡ true
   pub useful : (c : Ctl) → is_useful board c ≡ true → controls_some board c ≡ true

@@ -1,4 +1,4 @@
--- The rows of a pass that are kept side by side, and the rows that all passes share.
+-- The rows of a pass, kept side by side, and the rows that all passes share.
 use Rattle.std.specs.Prelude.{◌≡◌, ℕ, suc, ◌<◌, ◌≤◌, Bool, true, false, List, Some, length, replicate, slice_get, IfSome}
 use Rattle.bt_bits.specs.Rows.{BitRow}
 use Rattle.bt_bits.specs.Stacks.{Stack, stacked}
@@ -37,12 +37,13 @@ pub record KeepRoom (old new : StackedRows) : Type 0 where
 abbrev pub steady_shifted : PlanTables → ℕ → List Bool
 steady_shifted plan j = assigned (λ d. d.position) (driver_bit plan.codes j) plan.quiet.bits plan.steady
 
--- the row of compared bits that all passes share: zeros, with the bit of each steady driver at the cells on other pins that read the
--- driver's net
+-- The row of compared bits that all passes share. It is zeros, with the bit of each steady driver at the cells on other pins that read the
+-- driver's net.
 abbrev pub steady_compared : PlanTables → (DriverCell → Bool) → List Bool
 steady_compared plan bit = set_compared bit plan.readers (replicate (length plan.quiet.bits) false) plan.steady
 
--- the rows, kept side by side, are those that all passes of the plan share: the bits that are shifted in, the expected bits, and the mask
+-- The rows, kept side by side, are the rows that all passes of the plan share: the bits that are shifted in, the expected bits, and the
+-- mask.
 pub record AreCommonStacks (plan : PlanTables) (rows : StackedRows) : Type 0 where
   pub shifted : (j : ℕ) → j < 16 → stacked rows.shifted j ≡ steady_shifted plan j
   pub expected : (j : ℕ) → j < 16 → stacked rows.expected j ≡ steady_compared plan (driver_bit plan.codes j)
@@ -52,21 +53,21 @@ pub record AreCommonStacks (plan : PlanTables) (rows : StackedRows) : Type 0 whe
 abbrev pub AreFirstRows : Stack → List BitRow → Type 0
 AreFirstRows stack rows = (j : ℕ) (row : BitRow) → slice_get rows j ≡ Some row → row.bits ≡ stacked stack j
 
--- the rows are those that all passes of the plan share; `expected` has one row for each bit of the codes, and its row `j` has the
--- expected bits of row `j`
+-- The rows are the rows that all passes of the plan share. `expected` has one row for each bit of the codes, and its row `j` has the
+-- expected bits of row `j`.
 pub record AreCommonRows (plan : PlanTables) (rows : CommonRows) : Type 0 where
   pub stacked : AreCommonStacks plan rows.stacked
   pub count : length rows.expected ≡ plan.width
   pub expected : (j : ℕ) (row : BitRow) → slice_get rows.expected j ≡ Some row → row.bits ≡ steady_compared plan (driver_bit plan.codes j)
 
--- the rows are those of pass `x`: row `j` has the bits that scan `j` shifts in, and the expected bits and the mask of scan `j + 1`
+-- The rows are the rows of pass `x`. Row `j` has the bits that scan `j` shifts in, and the expected bits and the mask of scan `j + 1`.
 pub record ArePassRows (board : RawBoard) (plan : PlanTables) (x : ℕ) (rows : StackedRows) : Type 0 where
   pub within : x < length plan.passes
   pub shifted : (j : ℕ) → j < plan.width → stacked rows.shifted j ≡ tdi_bits (joined (row_bits board (scan_of_pass board plan x j)))
   pub expected : (j : ℕ) → j < plan.width → stacked rows.expected j ≡ tdo_bits (joined (row_bits board (scan_of_pass board plan x (suc j))))
   pub mask : (j : ℕ) → j < plan.width → rows.mask.bits ≡ mask_bits (joined (row_bits board (scan_of_pass board plan x (suc j))))
 
--- the kept rows have room for a scan of data; if they belong to a pass, they are the rows of that pass of this plan
+-- The kept rows have room for a data scan. If they belong to a pass, they are the rows of that pass of this plan.
 pub record AreKept (board : RawBoard) (plan : PlanTables) (kept : PassRows) : Type 0 where
   pub room : HaveRoom (data_bits board) kept.rows
   pub rows : IfSome kept.pass (λ x. ArePassRows board plan x kept.rows)

@@ -13,17 +13,17 @@ use Rattle.plan_tables.specs.declared.tables.PlanTables.{PlanTables}
 -- `ArePlannable`: a plan can be made from the passes. `IsPlanOf`: the tables are a plan of the board.
 pub use Rattle.plan_tables.specs.Plans.{ArePlannable, IsPlanOf}
 
--- the number of scans: three at the beginning, and `width + 1` for each pass, one for each row and one for the quiet row
+-- The number of scans: three at the beginning, and `width + 1` for each pass. A pass has one scan for each row and one for the quiet row.
 abbrev pub scan_count : PlanTables → ℕ
 scan_count plan = 3 + length plan.passes * suc plan.width
 
--- there is room for a scan of instructions and for a scan of data
+-- there is room for an instruction scan and for a data scan
 pub record IsRoom (board : RawBoard) (room : ℕ) : Type 0 where
   pub instructions : instruction_bits board ≤ room
   pub data_row : data_bits board ≤ room
 
--- The rows hold scan `k` of the test, and `shape` is its shape. All three have the same length, from 1 to the most bits of a board. The
--- scan compares something if and only if some bit of the mask is 1. Bit `i` of TDO is 1 only if bit `i` of the mask is 1.
+-- The rows hold scan `k` of the test, and `shape` is its shape. All three rows have the same length, from 1 to the limit on the bits of a
+-- scan. The scan compares something if and only if some bit of the mask is 1. Bit `i` of TDO is 1 only if bit `i` of the mask is 1.
 pub record FillsScan (board : RawBoard) (passes : List (List Ctl)) (width k : ℕ) (shape : Shape) (tdi tdo mask : List Bool) : Type 0 where
   pub scan : slice_get (test_scans board passes width) k ≡ Some (record { ir = shape.ir; bits = scan_bits tdi tdo mask })
   pub some : 0 < length tdi
@@ -33,7 +33,7 @@ pub record FillsScan (board : RawBoard) (passes : List (List Ctl)) (width k : �
   pub compare : shape.compare ≡ list_any (λ bit. bit) mask
   pub masked : (i : ℕ) → slice_index_or tdo i false ≡ true → slice_index_or mask i false ≡ true
 
--- scan `j` of a pass: the row that the scan shifts in, and the row before, which the scan compares
+-- scan `j` of pass `x`: the row that the scan shifts in, and the row before it, which the scan compares
 abbrev pub scan_of_pass : RawBoard → PlanTables → ℕ → ℕ → RowScan
 scan_of_pass board plan x j =
     let rows : ℕ → TestRow = code_row board plan.passes (slice_index_or plan.passes x []) in

@@ -1,4 +1,4 @@
-// Rows into which the codes of nets are written: all rows of a pass side by side, a single row, or no rows.
+// Rows into which a plan writes the codes of nets: all rows of a pass side by side, a single row, or no rows.
 ghost use Rattle.std.specs.Prelude.{◌≡◌, ◌<◌, ℕ, Bool, false, List, [], length, slice_set};
 ghost use Rattle.std.specs.Borrow.{GName};
 ghost use Rattle.bt_bits.specs.Stacks.{column_bit, stacked};
@@ -7,8 +7,8 @@ ghost use Rattle.tap_defs.specs.board.TestRows.{code_bit};
 use bt_bits::{Column, Row, RowStack};
 use counting_codes::bit;
 
-/// Rows of equal length into which the codes of nets are written: row `j` gets bit `j` of each code. One call writes
-/// one position of all rows.
+/// Rows of equal length into which the codes of nets are written. Row `j` gets bit `j` of each code. One call writes one position of
+/// all rows.
 pub trait CodeRows {
     /// The bits of the rows at one position.
     type Column: Copy;

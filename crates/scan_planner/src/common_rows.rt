@@ -1,4 +1,4 @@
-// The rows that all passes of a plan share, made once.
+// The rows that all passes of a plan share. They are made once.
 ghost use Rattle.std.specs.Prelude.{◌≡◌, ◌<◌, ◌≤◌, Some, length, slice_get, IfOk};
 ghost use Rattle.scan_planner.specs.PassRows.{AreCommonRows, AreFirstRows};
 
@@ -13,7 +13,8 @@ use std::alloc::{AllocError, Global};
 pub struct CommonRows {
     /// The rows side by side, from which all rows of a pass are made at once.
     pub stacked: StackedRows,
-    /// The expected bits as separate rows. Reading one row of a stack costs as much as reading all its rows.
+    /// The expected bits as separate rows, since reading one row of a stack costs as much as reading all its
+    /// rows.
     pub expected: Items<Row>,
 }
 

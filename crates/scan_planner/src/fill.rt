@@ -1,4 +1,4 @@
-// Filling rows with a scan of a plan's test.
+// Fills rows with a scan of a plan's test.
 ghost use Rattle.std.specs.Prelude.{◌≡◌, ◌+◌, ◌*◌, ◌<◌, ◌≤◌, suc, true, false, List};
 ghost use Rattle.std.specs.List.{list_any};
 ghost use Rattle.board_defs.specs.Pins.{data_bits};
@@ -16,7 +16,7 @@ use crate::compared_rows::ComparedRows;
 use bt_bits::Row;
 use tap_defs::{ScanRows, Shape, StoredRows};
 
-// Fills the rows with a stored scan of instructions.
+// Fills the rows with a stored instruction scan.
 fn fill_codes(codes: &StoredRows, rows: &mut ScanRows) -> Shape
     requires { HaveRoomFor codes.now rows.old }
     ensures bits { (bits : List ScanBit) → AreRowsOf bits codes.now → HoldBits bits rows.new }
@@ -72,8 +72,8 @@ impl<'a> BoardPlan<'a> {
         }
     }
 
-    // Fills the rows with scan `k`, one of the first three scans, and returns its shape. In turn, these scans shift
-    // in the preload codes, the quiet row, and the EXTEST codes.
+    // Fills the rows with scan `k`, which is one of the first three scans, and returns its shape. In turn, these scans shift in
+    // the preload codes, the quiet row, and the EXTEST codes.
     fn fill_early(&self, k: u64, rows: &mut ScanRows) -> Shape
         requires early { k < 3 }
         requires room { EachHasRoom (IsRoom self.now.board) rows.old }

@@ -1,5 +1,4 @@
-// Filling rows that hold one scan with the next scan. The rows of a pass are made once, and the scans of the pass are
-// copied from them.
+// Fills rows that hold one scan with the next scan. The rows of a pass are made once, and each scan of the pass is copied from them.
 ghost use Rattle.std.specs.Prelude.{◌≡◌, ◌+◌, ◌*◌, ◌<◌, ◌≤◌, suc};
 ghost use Rattle.std.specs.List.{list_any};
 ghost use Rattle.board_defs.specs.Pins.{data_bits};
@@ -71,9 +70,9 @@ impl<'a, 'k> PassWithRows<'a, 'k> {
         mask.copy_row(&self.rows.mask);
     }
 
-    // Fills the rows with the expected bits and the mask of row `j - 1`, or with zeros if `j` is 0. Returns whether
-    // any bit is compared. All rows of a pass have the same mask. So if `j` is above 1, the call leaves the mask
-    // unchanged and returns `told`, which must say whether the mask has a bit that is 1.
+    // Fills the rows with the expected bits and the mask of row `j - 1`, or with zeros if `j` is 0. Returns whether any bit is compared.
+    // All rows of a pass have the same mask. So if `j` is above 1, the call leaves the mask unchanged and returns `told`, which must say
+    // whether some bit of the mask is 1.
     fn compare_before(&self, j: u32, told: bool, rows: &mut ComparedRows) -> bool
         requires row { j ≤ self.now.test.plan.width }
         requires stands { 1 < j → (rows.old.mask.now.bits ≡ mask_bits (bits_of self.now j)) × (told ≡ list_any (λ bit. bit) rows.old.mask.now.bits) }
@@ -94,8 +93,8 @@ impl<'a, 'k> PassWithRows<'a, 'k> {
         rows.mask.has_one()
     }
 
-    // Fills the rows with scan `j` of the pass, and returns its shape. The rows must hold the scan before that
-    // scan, with the shape `before`.
+    // Fills the rows with scan `j` of the pass, and returns its shape. The rows must hold the previous scan of the test, whose shape is
+    // `before`.
     fn fill(&self, j: u32, before: Shape, rows: &mut ScanRows) -> Shape
         requires row { j ≤ self.now.test.plan.width }
         requires before { FillsRows self.now.test (2 + (self.now.number * suc self.now.test.plan.width + j)) before rows.old }
@@ -120,8 +119,8 @@ impl<'a, 'k> PassWithRows<'a, 'k> {
 }
 
 impl<'a> BoardPlan<'a> {
-    /// Fills the rows with scan `k + 1`, and returns its shape. The rows must hold scan `k`, whose shape is
-    /// `before`. If scan `k + 1` belongs to a pass, `kept` has the rows of that pass afterwards.
+    /// Fills the rows with scan `k + 1`, and returns its shape. The rows must hold scan `k`, whose shape is `before`. If scan `k + 1`
+    /// belongs to a pass, `kept` afterwards has the rows of that pass.
     pub fn fill_next(
         &self,
         k: u64,

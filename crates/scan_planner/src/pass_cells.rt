@@ -1,4 +1,4 @@
-// The walk over the cells of a pass, which turns the rows that all passes share into the rows of the pass.
+// The walk over the cells of a pass. It turns the rows that all passes share into the rows of the pass.
 ghost use Rattle.std.specs.Prelude.{◌≡◌, ◌<◌, ℕ, [], suc, true, length, map, slice_index_or};
 ghost use Rattle.board_defs.specs.declared.board.Ctl.{Ctl as ControlRecord};
 ghost use Rattle.board_defs.specs.Pins.{device_at, cell_count, data_bits};
@@ -36,8 +36,8 @@ struct PassControls<'a> {
     ghost cells: { (c : ControlRecord) → holds setting.now c ≡ true → c.cell < cell_count (device_at board.now c.part) },
 }
 
-// Writes a net's code at the cells that read the net, and marks these cells. Skips the cells at `place`, which is the
-// driver's.
+// Writes a net's code at the cells that read the net, and marks these cells. Skips the cells on the pin at `place`, which is the driver's
+// pin.
 fn expect_net<E: CodeRows, M: CodeRows>(
     readers: &[ReaderCell],
     place: u32,
@@ -59,8 +59,8 @@ fn expect_net<E: CodeRows, M: CodeRows>(
     }
 }
 
-/// Writes the code of each driver's net at the driver's cell, and as expected bits at the cells on other pins that read
-/// the net. Marks the cells that read the net in the mask.
+/// For each driver, writes the code of the driver's net at the driver's cell, and as expected bits at the cells on other pins that read the
+/// net. Marks these reading cells in the mask.
 pub fn drive_nets<S: CodeRows, E: CodeRows, M: CodeRows>(
     drivers: &[DriverCell],
     readers: &[Items<ReaderCell>],
@@ -105,8 +105,8 @@ impl PassControls<'_> {
         }
     }
 
-    // Writes the codes of the nets that the pass's own drivers drive. These are the drivers that are always on but
-    // not steady, and the drivers of the pass's controls.
+    // Writes the codes of the nets that the pass's own drivers drive. These drivers are the drivers that are always on but not steady, and
+    // the drivers of the pass's controls.
     fn drive<S: CodeRows, E: CodeRows, M: CodeRows>(
         &self,
         shifted: &mut S,

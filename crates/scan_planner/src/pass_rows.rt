@@ -1,4 +1,4 @@
-// The rows of one pass, made once and kept side by side. The scans of the pass are copied from these rows.
+// The rows of one pass, which are made once and kept side by side. Each scan of the pass is copied from these rows.
 ghost use Rattle.std.specs.Prelude.{◌≡◌, ◌<◌, ◌≤◌, ℕ, length, IfOk};
 ghost use Rattle.board_defs.specs.declared.board.RawBoard.{RawBoard};
 ghost use Rattle.board_defs.specs.Pins.{data_bits};
@@ -45,7 +45,7 @@ impl StackedRows {
         Ok(rows)
     }
 
-    // Fills the rows with those that all passes of a plan share, for which they must have room.
+    // Fills the rows with the rows that all passes of a plan share. There must be room for these.
     fn fill_common(&mut self, tables: &PlanTables)
         requires { HaveRoom (length tables.now.quiet.bits) self.old }
         ensures { AreCommonStacks tables.now self.new }
@@ -81,10 +81,10 @@ impl StackedRows {
     }
 }
 
-/// The rows of one pass at a time, kept from call to call.
+/// The rows of one pass at a time, which are kept from call to call.
 #[derive(Drop)]
 pub struct PassRows {
-    // The number of the pass, from 0, or `None` before the first pass.
+    // The number of the pass, counted from 0, or `None` before the first pass.
     pass: Option<usize>,
     pub(crate) rows: StackedRows,
 }
@@ -102,7 +102,7 @@ impl PassRows {
 }
 
 impl<'a> PassOfPlan<'a> {
-    // Fills the rows with those of the pass, starting from a copy of the rows that all passes share.
+    // Fills the rows with the rows of the pass, starting from a copy of the rows that all passes share.
     fn fill_rows(&self, rows: &mut StackedRows)
         requires { HaveRoom (data_bits self.now.test.board) rows.old }
         ensures rows { ArePassRows self.now.test.board self.now.test.plan self.now.number rows.new }
@@ -117,7 +117,7 @@ impl<'a> PassOfPlan<'a> {
         self.walk(&mut rows.shifted, &mut rows.expected, &mut marks);
     }
 
-    /// Fills the kept rows with those of the pass, unless they belong to this pass already.
+    /// Fills the kept rows with the rows of the pass, unless they already belong to this pass.
     pub fn keep_rows(&self, kept: &mut PassRows)
         requires { AreKept self.now.test.board self.now.test.plan kept.old }
         ensures kept { AreKept self.now.test.board self.now.test.plan kept.new }

@@ -1,4 +1,4 @@
-// A plan: how it is made, the numbers of its scans and rows, and the calls that fill rows with its scans.
+// A plan: how it is made, the number of its scans and rows, and the calls that fill rows with its scans.
 ghost use Rattle.std.specs.Prelude.{◌≡◌, ◌+◌, ◌*◌, ◌<◌, ◌≤◌, ◌^◌, suc, length, IfOk};
 ghost use Rattle.board_defs.specs.Pins.{data_bits};
 ghost use Rattle.tap_defs.specs.board.BoardScans.{row_bits};
@@ -43,9 +43,9 @@ impl Model for Plan {
 }
 
 impl Plan {
-    /// Makes the plan of these passes. Each pass must be safe and have only controls of drivers of the board. The
-    /// nets that some pass observes are numbered from 1 in net order, and these numbers are their codes. Like
-    /// `of`, but collects the pins of the board's nets itself.
+    /// Makes the plan of these passes. Each pass must be safe, and each of its controls must control a driver of the board. The
+    /// nets that some pass observes are numbered from 1 in net order, and these numbers are their codes. Like `of`, but collects
+    /// the pins of the board's nets itself.
     pub fn new(alloc: Global, board: &Board, passes: Vec<Setting>) -> Result<Plan, AllocError>
         requires few { length passes.items < 2 ^ 32 }
         requires plannable { ArePlannable board.now passes.items }
@@ -56,7 +56,7 @@ impl Plan {
         Plan::of(alloc, board, pins, passes)
     }
 
-    /// Like `new`, but takes over the pins of the board's nets.
+    /// Like `new`, but takes ownership of `pins`, the pins of the board's nets.
     pub fn of(
         alloc: Global,
         board: &Board,
@@ -89,18 +89,17 @@ impl Plan {
         3 + self.tables.passes.len() as u64 * (u64::from(self.tables.width) + 1)
     }
 
-    /// Returns the number of rows of the test: one for each pass and each bit of the codes. A row of a pass that
-    /// observes a net is compared once. Each pass of a board's own test observes a net, so this is the number of
-    /// rows of the test's log.
+    /// Returns the number of rows of the test: one for each pass and each bit of the codes. If a pass observes a net, each of its
+    /// rows is compared once. Each pass of a board's own test observes a net, so this is the number of rows of the test's log.
     pub fn rows(&self) -> u64
         ensures { result ≡ length self.now.passes * self.now.width }
     {
         self.tables.passes.len() as u64 * u64::from(self.tables.width)
     }
 
-    /// Fills the rows with scan `k` of the test, counted from 0, and returns its shape. The board must be that of
-    /// the plan, `k` must be below the number of scans, and each row must have room for a scan of instructions
-    /// and for a scan of data. Allocates nothing.
+    /// Fills the rows with scan `k` of the test, counted from 0, and returns its shape. The board must be the board of the plan,
+    /// `k` must be below the number of scans, and each row must have room for an instruction scan and for a data scan. Allocates
+    /// nothing.
     pub fn fill(&self, board: &Board, k: u64, tdi: &mut Row, tdo: &mut Row, mask: &mut Row) -> Shape
         requires plan { IsPlanOf board.now self.now }
         requires scan { k < scan_count self.now }
@@ -115,12 +114,11 @@ impl Plan {
         self.on(board).fill(k, &mut ScanRows { tdi, tdo, mask })
     }
 
-    /// Fills the rows with scan `k + 1` of the test, and returns its shape. The rows must hold scan `k`, whose
-    /// shape is `before`. For the scans of a test in turn, this is faster than `fill`: the rows of a pass are made
-    /// once and kept in `rows`, and a mask that two successive scans share is not written again. The board must be
-    /// that of the plan, `k + 1` must be below the number of scans, and each row must have room for a scan of
-    /// instructions and for a scan of data. `rows` must have room for a scan of data. Its contents must belong to no
-    /// pass yet or come from this call for this plan. Allocates nothing.
+    /// Fills the rows with scan `k + 1` of the test, and returns its shape. The rows must hold scan `k`, whose shape is `before`.
+    /// For the scans of a test in turn, this is faster than `fill`: the rows of a pass are made once and kept in `rows`, and a mask
+    /// that two successive scans share is not written again. The board must be the board of the plan, `k + 1` must be below the
+    /// number of scans, and each row must have room for an instruction scan and for a data scan. `rows` must have room for a data
+    /// scan. Its contents must belong to no pass yet or come from this call for this plan. Allocates nothing.
     pub fn fill_next(
         &self,
         board: &Board,
@@ -148,8 +146,8 @@ impl Plan {
             .fill_next(k, before, rows, &mut ScanRows { tdi, tdo, mask })
     }
 
-    /// Fills a row with the bits that row `row` of a pass shifts in. The board must be that of the plan, and the row
-    /// must have room for a scan of data. Allocates nothing.
+    /// Fills a row with the bits that row `row` of a pass shifts in. The board must be the board of the plan, and `tdi` must have
+    /// room for a data scan. Allocates nothing.
     pub fn fill_shifted(&self, board: &Board, pass: u32, row: u32, tdi: &mut Row)
         requires plan { IsPlanOf board.now self.now }
         requires pass { pass < length self.now.passes }
@@ -161,8 +159,8 @@ impl Plan {
         self.on(board).pass(pass as usize).shift_row(row, tdi);
     }
 
-    /// Fills two rows with the expected bits and the mask of row `row` of a pass, which the next scan compares. The
-    /// board must be that of the plan, and each row must have room for a scan of data. Allocates nothing.
+    /// Fills two rows with the expected bits and the mask of row `row` of a pass, which the next scan compares. The board must be
+    /// the board of the plan, and `tdo` and `mask` must have room for a data scan. Allocates nothing.
     pub fn fill_compared(&self, board: &Board, pass: u32, row: u32, tdo: &mut Row, mask: &mut Row)
         requires plan { IsPlanOf board.now self.now }
         requires pass { pass < length self.now.passes }

@@ -1,4 +1,4 @@
-// Queries about each net and each position of a plan.
+// Answers questions about each net and each position of a plan.
 ghost use Rattle.std.specs.Prelude.{◌≡◌, ◌<◌, ◌≤◌, [], false, length, slice_index_or};
 ghost use Rattle.board_defs.specs.declared.board.RawBoard.{RawBoard};
 ghost use Rattle.tap_defs.specs.board.BoardScans.{first_row_scan, row_bits};
@@ -88,8 +88,8 @@ impl Plan {
         drivers_at(self.tables.drivers.as_slice(), net)
     }
 
-    /// Returns the cells that read a net, in pin order. There are none if no net has this number. While a pass
-    /// observes the net, the cells on pins other than the driver's are compared.
+    /// Returns the cells that read a net, in pin order. There are none if no net has this number. While a pass observes the net, the cells
+    /// on pins other than the driver's pin are compared.
     pub fn readers(&self, net: u32) -> &[ReaderCell]
         ensures { result.now ≡ slice_index_or self.now.readers net [] }
     {

@@ -1,4 +1,4 @@
--- A row once the bits of a pass's own drivers are set in it.
+-- A row after the bits of a pass's own drivers are set in it.
 use Rattle.std.specs.Prelude.{Bool, List, fold}
 use Rattle.board_defs.specs.declared.board.RawBoard.{RawBoard}
 use Rattle.board_defs.specs.declared.board.Ctl.{Ctl}
@@ -7,13 +7,13 @@ use Rattle.plan_tables.specs.declared.tables.PlanTables.{PlanTables}
 use Rattle.plan_tables.specs.Assigned.{assigned, set_compared}
 use Rattle.plan_tables.specs.Tables.{controlled}
 
--- the row once the bit of each of the pass's own drivers is set in the driver's cell; these are the drivers that are always on but not
--- steady, and the drivers of the pass's controls
+-- The row after the bit of each of the pass's own drivers is set in the driver's cell. These drivers are the drivers that are always on but
+-- not steady, and the drivers of the pass's controls.
 abbrev pub driven : RawBoard → PlanTables → (DriverCell → Bool) → List Bool → List Ctl → List Bool
 driven board plan bit bits pass =
     fold (λ done c. assigned (λ d. d.position) bit done (controlled board plan.by_control.rows c)) (assigned (λ d. d.position) bit bits plan.by_control.always) pass
 
--- the row once the bit of each of the pass's own drivers is set at the cells on other pins that read the driver's net
+-- the row after the bit of each of the pass's own drivers is set at the cells on other pins that read the driver's net
 abbrev pub compared : RawBoard → PlanTables → (DriverCell → Bool) → List Bool → List Ctl → List Bool
 compared board plan bit bits pass =
     fold (λ done c. set_compared bit plan.readers done (controlled board plan.by_control.rows c)) (set_compared bit plan.readers bits plan.by_control.always) pass

@@ -1,4 +1,4 @@
--- The facts about a board with a plan, and about a pass of the plan.
+-- The facts about a board with a plan and about a pass of the plan.
 use Rattle.std.specs.Prelude.{ℕ, ◌<◌, ◌≤◌, List, length}
 use Rattle.board_defs.specs.declared.board.RawBoard.{RawBoard}
 use Rattle.tap_defs.specs.declared.scan.ScanRows.{ScanRows}
@@ -12,7 +12,7 @@ use Rattle.scan_planner.specs.PassRows.{AreCommonRows}
 use Rattle.scan_planner.specs.Planned.{PlannedBoard, PlannedPass}
 use Rattle.scan_planner.specs.Plans.{FillsScan, scan_of_pass}
 
--- the plan is a plan of the board, its codes have at most 14 bits, and the rows are those that all passes share
+-- The plan is a plan of the board, its codes have at most 14 bits, and `common` has the rows that all passes share.
 pub record IsPlanned (board : RawBoard) (plan : PlanTables) (common : CommonRows) : Type 0 where
   pub of_board : IsPlanOf board plan
   pub few : plan.width ≤ 14
