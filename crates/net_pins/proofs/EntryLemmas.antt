@@ -1,5 +1,5 @@
--- The entries of a port bit that read it belong to the compared cells. All entries of the port bit belong to cells of
--- its part.
+-- Lemmas which say that the entries that read a port bit belong to the compared cells, and that all entries of a port bit belong to cells
+-- of its part.
 use Rattle.std.proofs.Common.{◌≡◌, ℕ, ◌<◌, Bool, true, false, cond, ◌&&◌, ◌||◌, List, [], ◌∷◌, map, Option, Some, None, refl, ap, ◌∙◌, arith}
 use Rattle.std.specs.Prelude.{slice_get, option_and_then, filter, All}
 use Rattle.std.specs.List.{list_any}
@@ -17,7 +17,7 @@ use Rattle.port_entries.specs.Entries.{entries_on, entries_of}
 use Rattle.net_pins.specs.NetCells.{reader_of, readers_in, readers_at}
 use Rattle.net_pins.specs.inner.Receiving.{receives_by}
 
--- the entries of a port bit that a test of functions chooses
+-- filtering the entries of a port bit by their functions is filtering all entries by port bit and function
 filter_on : (roles : Cell → Bool) (k : ℕ) (cells : List Cell) → filter roles (entries_on cells k) ≡ filter (λ cell. is_on k cell.bit && roles cell) cells
 filter_on roles k [] = refl
 filter_on roles k (cell ∷ cells) = by_test (is_on k cell.bit) (filter_on roles k cells)
@@ -29,7 +29,7 @@ filter_on roles k (cell ∷ cells) = by_test (is_on k cell.bit) (filter_on roles
     by_test false rest = rest
 
 module _ (board : RawBoard) (at : PinAt) where
-  -- the compared cells of a port bit
+  -- the receiving entries of a port bit give the compared cells of its pin
   pub readers_is : (place : ℕ) →
       cond (receives_by (bit_at board at)) (map (reader_of board at.part place) (filter (λ cell. is_receiving cell.role) (entries_of (device_at board at.part) at.bit))) [] ≡ readers_at board place (Some at)
   readers_is place = by_device (device_at board at.part)

@@ -1,4 +1,4 @@
--- The positions of cells in a data scan, and the steps of the loops that collect the cells of pins.
+-- Lemmas about the positions of cells in a data scan, and for the loops that collect the cells of pins.
 use Rattle.std.proofs.Common.{◌≡◌, ℕ, zero, suc, ◌+◌, ◌<◌, ◌≤◌, List, [], ◌∷◌, ◌++◌, length, take, drop, get_or, Option, Some, None, refl, sym, ap, ◌∙◌, arith, append_assoc}
 use Rattle.std.specs.Prelude.{option_and_then, slice_get, sum_by}
 use Rattle.std.proofs.lemmas.List.{append-nil, take_more, length-take-le}
@@ -56,7 +56,7 @@ entry_below board rules at cell e = by_device (device_at board at.part) refl e
     by_device (Some device) d f =
         has_from_all (λ (c : Cell). c.num < device.boundary) device.cells cell (device_rules board at.part device rules d).cells_below (find_has (drives_bit at.bit) device.cells cell f).0
 
--- one more item of `gathered`
+-- if `x` is appended to the list, what `f` gives for `x` and its place is appended to the gathered list
 gathered-append : {X Y : Type 0} (f : ℕ → X → List Y) (k : ℕ) (xs : List X) (x : X) (n : ℕ) → n ≡ k + length xs → gathered f k (xs ++ x ∷ []) ≡ gathered f k xs ++ f n x
 gathered-append f k [] x n e = let z : k ≡ n = omega (arith, e) in append-nil (f k x) ∙ ap (λ (m : ℕ). f m x) z
 gathered-append f k (y ∷ xs) x n e =

@@ -12,12 +12,12 @@ use Rattle.net_pins.specs.declared.nets.NetDriver.{NetDriver}
 use Rattle.net_pins.specs.declared.nets.ReaderCell.{ReaderCell}
 use Rattle.net_pins.specs.Positions.{first_position}
 
--- the results of `f` for each item of a list and its place, joined in order; the first item has place `place`
+-- The results of `f` for each item of a list and the item's place, joined in order. The first item has place `place`.
 abbrev pub gathered : {X Y : Type 0} → (ℕ → X → List Y) → ℕ → List X → List Y
 gathered f place [] = []
 gathered f place (x ∷ xs) = f place x ++ gathered f (suc place) xs
 
--- the list that has the item, or the empty list
+-- a list of the item, or the empty list if there is no item
 abbrev pub optional : {X : Type 0} → Option X → List X
 optional None = []
 optional (Some x) = x ∷ []
@@ -43,7 +43,7 @@ drivers_of board net = cond (guarded board net) [] (drivers_of_pins board net.pi
 abbrev pub reader_of : RawBoard → ℕ → ℕ → Cell → ReaderCell
 reader_of board part place cell = record { place = place; position = first_position board part + cell.num }
 
--- the compared cells at a port bit
+-- the compared cells of the port bit at `at`, for the pin at `place`
 abbrev pub readers_in : RawBoard → ℕ → PinAt → Option RawDevice → List ReaderCell
 readers_in board place at None = []
 readers_in board place at (Some device) = map (reader_of board at.part place) (filter (reads_bit at.bit) device.cells)

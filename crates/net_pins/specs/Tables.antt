@@ -1,4 +1,4 @@
--- The tables that are kept for the pins of a board.
+-- The tables that btest keeps for the pins of a board.
 use Rattle.std.specs.Prelude.{◌≡◌, map}
 use Rattle.board_defs.specs.declared.board.RawBoard.{RawBoard}
 use Rattle.board_defs.specs.Pins.{guarded}
@@ -8,13 +8,15 @@ use Rattle.net_pins.specs.declared.pins.NetPins.{NetPins}
 use Rattle.net_pins.specs.Positions.{AreFirsts}
 use Rattle.net_pins.specs.NetCells.{all_drivers, all_readers}
 
--- the tables have the first position and the entries of each part, and say for each net whether it is guarded
+-- The tables have the first position and the entries of each part, and a flag for each net that says whether the
+-- net is guarded.
 pub record ArePinTables (board : RawBoard) (tables : PinTables) : Type 0 where
   pub firsts : AreFirsts board.chain tables.firsts
   pub entries : AreEntries board tables.entries
   pub guards : tables.guarded ≡ map (guarded board) board.nets
 
--- the tables of the board, the drivers of each net that a setting may enable, and the compared cells of each net
+-- `pins` has the tables of the board, the drivers of each net that a setting may enable, and the compared cells
+-- of each net
 pub record AreNetPins (board : RawBoard) (pins : NetPins) : Type 0 where
   pub finding : ArePinTables board pins.tables
   pub drivers_are : pins.drivers ≡ all_drivers board

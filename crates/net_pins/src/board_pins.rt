@@ -14,8 +14,8 @@ use lists::is_set;
 use port_entries::{driving_entry, entries_at, has_dark_pin, receives};
 use std::marker::Model;
 
-/// A board with its pin tables. The value in contracts is the board. No question about a pin needs a walk over all
-/// cells of its part.
+/// A board with its pin tables. Contracts see it as the board. No question about a pin needs a walk over all cells
+/// of its part.
 #[derive(Drop)]
 pub struct BoardPins<'a> {
     board: &'a Board,
@@ -71,14 +71,15 @@ impl<'a> BoardPins<'a> {
         driving_entry(self.tables.entries.as_slice(), self.board.raw(), at)
     }
 
-    /// Returns whether the pin at this place of the chain is a receiver. Returns false without a place.
+    /// Returns whether the pin at this place of the chain is a receiver. Returns false if the pin has no place.
     pub fn receives(&self, at: Option<PinAt>) -> bool
         ensures { result ≡ receives_where self.now at }
     {
         receives(self.tables.entries.as_slice(), self.board.raw(), at)
     }
 
-    /// Returns whether one of the pins is dark. Something that no setting controls may drive the net of a dark pin.
+    /// Returns whether one of the pins is dark. If a pin of a net is dark, something that no setting controls may
+    /// drive the net.
     pub fn has_dark_pin(&self, pins: &[NetPin]) -> bool
         ensures { result ≡ list_any (is_dark self.now) pins.now }
     {

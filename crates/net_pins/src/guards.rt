@@ -1,4 +1,4 @@
-// The guarded nets, found from the entries of their pins.
+// Finds the guarded nets from the entries of their pins.
 ghost use Rattle.std.specs.Prelude.{◌≡◌, map, IfOk};
 ghost use Rattle.board_defs.specs.Pins.{guarded};
 ghost use Rattle.port_entries.specs.Entries.{AreEntries};

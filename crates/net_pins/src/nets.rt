@@ -85,7 +85,7 @@ fn drivers_of_pins(
     Ok(Items::of(drivers))
 }
 
-/// Returns the drivers of a net that a setting may enable, in pin order. A guarded net has none.
+/// Returns the drivers of a net that a setting may enable, in pin order. A guarded net has no such driver.
 pub fn drivers_of(
     alloc: Global,
     board: &BoardPins<'_>,

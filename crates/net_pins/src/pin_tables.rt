@@ -1,4 +1,4 @@
-// Tables that answer questions about a pin without a walk over all cells of its part, and the guarded nets.
+// Tables that answer questions about a pin without a walk over all cells of the pin's part, and the guarded nets.
 ghost use Rattle.std.specs.Prelude.{IfOk};
 ghost use Rattle.net_pins.specs.Tables.{ArePinTables};
 

@@ -15,7 +15,8 @@ use std::alloc::{AllocError, Global};
 pub struct NetPins {
     /// The positions of the parts, the entries of the port bits, and the guarded nets.
     pub tables: PinTables,
-    /// For each net, the drivers that a setting may enable, in pin order. A guarded net has none.
+    /// For each net, the drivers that a setting may enable, in pin order. A guarded net has no such
+    /// driver.
     pub drivers: Items<Items<NetDriver>>,
     /// For each net, the compared cells, in pin order.
     pub readers: Items<Items<ReaderCell>>,
