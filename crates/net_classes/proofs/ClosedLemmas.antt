@@ -1,4 +1,4 @@
--- Nets whose tested drivers all have a control with a driver on one of some nets.
+-- Lemmas about nets that a list of nets closes: each of their tested drivers has a control with a driver on a net of the list.
 use Rattle.std.proofs.Common.{◌≡◌, inl, inr, ℕ, ◌+◌, ◌<◌, Bool, true, false, ◌&&◌, ◌||◌, List, [], ◌∷◌, ◌++◌, Contains, length, get_or, take, Option, Some, None, refl, sym, ◌∙◌, ap, subst}
 use Rattle.std.specs.Prelude.{slice_get, filter}
 use Rattle.std.specs.List.{list_any, list_all}
@@ -38,7 +38,7 @@ use Rattle.net_classes.proofs.ControlSetLemmas.{same_set}
 use Rattle.net_classes.proofs.Paired.{has_cells}
 use Rattle.net_classes.proofs.SharedLemmas.{driven_has}
 
--- one more net
+-- the facts about the pins of a net say whether a control drives the net
 pub pins_drive : (board : RawBoard) (c : Ctl) (net : Option Net) → list_any (λ (pin : PinFacts). is_by c pin.drive) (pins_there board net) ≡ drives_there board c net
 pins_drive board c None = refl
 pins_drive board c (Some net) = list_any-map (pin_facts_of board net) (λ (pin : PinFacts). is_by c pin.drive) net.pins
@@ -52,7 +52,7 @@ set_more board nets i n pins set less at e is = same_set board _ (drives_some bo
         ap (λ v. drives_some board (take i nets) c || v) (ap (list_any (λ (pin : PinFacts). is_by c pin.drive)) e ∙ pins_drive board c (slice_get board.nets n) ∙ sym (or-false (drives n))) ∙
         sym (list_any-append drives (take i nets) (n ∷ [])) ∙ ap (list_any drives) (ap (λ k. take i nets ++ k ∷ []) at ∙ sym (take_more nets i n less))
 
--- the control of a net's tested driver drives the net
+-- if a control enables a tested driver of a net, it drives the net
 pub tested_in : (board : RawBoard) (net : Net) (c : Ctl) → Has (tested_drivers board net) (By c) → drives_net board c net ≡ true
 tested_in board net c has = let t : Tested board net (By c) = tested_has board net (By c) has in by_pin t.place (slice_get net.pins t.place) refl t.drives
   where
@@ -68,7 +68,7 @@ pub cells_there : (board : RawBoard) (net : Option Net) (d : Drive) → IsBoard 
 cells_there board None d rules h = absurd h
 cells_there board (Some net) d rules h = has_cells board net d rules h
 
--- the nets that are found by a set are those that it closes
+-- if a set has the controls with a driver on these nets, the nets that are found from the set are the nets that these nets close
 pub closed_are : (known : KnownBoard) (set : ControlSet) (nets closed : List ℕ) → IsKnown known → IsSet known.board (drives_some known.board nets) set → closed ≡ closed_in known set set.members.items → AreClosed known.board nets closed
 closed_are known set nets closed is in_set e n = (there, back)
   where
@@ -137,7 +137,7 @@ closed_are known set nets closed is in_set e n = (there, back)
     there : is_closed_by board nets n ≡ true → Contains closed n
     there h = has_contains closed n (by_net (slice_get board.nets n) refl h)
 
--- the empty list of nets closes no net
+-- drivers cannot all have a control that passes if no control passes
 nobody : (ds : List Drive) → are_by_some (λ c. false) ds ≡ true → ⊥
 nobody [] h = cc h
 nobody (AlwaysOn ∷ ds) h = cc h

@@ -1,4 +1,4 @@
--- The row of a control is the row of the covered nets without the closed nets on which the control has no tested driver.
+-- Lemmas about the row of a control. It is the row of the covered nets, without the closed nets on which the control has no tested driver.
 use Rattle.std.proofs.Common.{◌≡◌, inl, inr, ℕ, ◌+◌, ◌/◌, ◌<◌, ◌==◌, Bool, true, false, not, ◌&&◌, ◌||◌, List, [], ◌∷◌, Contains, Decides, length, slice_index_or, nat_lt, Option, Some, None, refl, sym, ◌∙◌, ap, subst, arith, All}
 use Rattle.std.specs.Prelude.{slice_get, filter}
 use Rattle.std.specs.List.{list_any, list_all}
@@ -47,7 +47,7 @@ shares board c d differ = same_truth (drives_some board (shared_nets board c) d)
         let s : (net : Net) × (slice_get board.nets r.0 ≡ Some net) × (is_contended board d net ≡ true) = has_shares board d r.0 r.2 in
         has_any drives (shared_nets board c) r.0 r.1 (ap (drives_there board d) s.1 ∙ and_left (drives_net board d s.0) _ s.2)
 
--- one driver of a net
+-- control `c` enables the driver, or does not share a net with the driver's control
 abbrev may_fit : RawBoard → Ctl → Drive → Bool
 may_fit board c d = is_by c (Some d) || not (is_by_one (drives_some board (shared_nets board c)) d)
 
@@ -70,7 +70,7 @@ any_on : {X : Type 0} (p q : X → Bool) (xs : List X) → ((x : X) → Has xs x
 any_on p q [] h = refl
 any_on p q (x ∷ xs) h = ap (λ t. t || list_any p xs) (h x (inl refl)) ∙ ap (λ t. q x || t) (any_on p q xs (λ y k. h y (inr k)))
 
--- all drivers of a net together
+-- some driver is the control's own or does not pass `one`, unless all pass `one` and none is the control's own
 each_kept : (own one : Drive → Bool) (ds : List Drive) → list_any (λ d. own d || not (one d)) ds ≡ not (list_all one ds && not (list_any own ds))
 each_kept own one [] = refl
 each_kept own one (d ∷ ds) = by_driver (own d) (one d) (each_kept own one ds)
@@ -94,7 +94,7 @@ all_kept own p (d ∷ ds) =
     let some : nat_lt 0 (length (d ∷ ds)) ≡ true = grind arith in
     each_kept own (is_by_one p) (d ∷ ds) ∙ sym (ap (λ t. t && not (are_by_some p (d ∷ ds) && not (list_any own (d ∷ ds)))) some)
 
--- a number among those that pass
+-- a filtered list has a number if and only if the list has the number and the test passes it
 stands_filter : (q : ℕ → Bool) (xs : List ℕ) (n : ℕ) → stands_in (filter q xs) n ≡ (stands_in xs n && q n)
 stands_filter q xs n = same_truth (stands_in (filter q xs) n) (stands_in xs n && q n) there back
   where
@@ -125,7 +125,8 @@ can_there : (board : RawBoard) (net : Option Net) (d : Drive) → Has (drivers_t
 can_there board None d has = absurd has
 can_there board (Some net) d has = tested_can_drive board net d (tested_has board net d has)
 
--- the covered nets without the closed nets that fail
+-- If control `c` is safe alone, the nets that a safe setting with `c` observes are the covered nets without the closed nets on which `c`
+-- has no tested driver.
 row_fits : (board : RawBoard) (c : Ctl) (closed : List ℕ) (n : ℕ) → is_safe_alone board c ≡ true → AreClosed board (shared_nets board c) closed →
     (fits_at board AlwaysOn n && not (stands_in (filter (λ n. not (owns_at board c n)) closed) n)) ≡ fits_at board (By c) n
 row_fits board c closed n safe are =
@@ -142,7 +143,7 @@ row_made board c closed failing row safe are e bits = same_row (λ n. fits_at bo
 pub none_fail : (board : RawBoard) (failing row : List ℕ) → failing ≡ [] → AreRowBits (fits_at board AlwaysOn) row → AreRowBits (λ n. fits_at board AlwaysOn n && not (stands_in failing n)) row
 none_fail board failing row e bits = same_row (fits_at board AlwaysOn) (λ n. fits_at board AlwaysOn n && not (stands_in failing n)) (λ n. sym (and-true (fits_at board AlwaysOn n)) ∙ sym (ap (λ v. fits_at board AlwaysOn n && not (stands_in v n)) e)) row bits
 
--- a closed net has a bit in a row
+-- a closed net is a net of the board, so a row has a bit for it
 closed_within : (board : RawBoard) (nets : List ℕ) (n : ℕ) → is_closed_by board nets n ≡ true → n < length board.nets
 closed_within board nets n h = by_net (slice_get board.nets n) refl h
   where
@@ -161,7 +162,7 @@ room_for board nets closed failing q size are e room k d less =
 pub useful_safe : (board : RawBoard) (c : Ctl) → is_useful board c ≡ true → is_safe_alone board c ≡ true
 useful_safe board c h = and_left (is_safe_alone board c) (list_any (tests_by board c) board.nets) h
 
--- a control that shares no net can be enabled with each covered net
+-- if a useful control shares no net, its row is the row of the covered nets
 pub row_free : (board : RawBoard) (c : Ctl) (row : List ℕ) → is_useful board c ≡ true → shared_nets board c ≡ [] → AreRowBits (fits_at board AlwaysOn) row → AreRowBits (fits_at board (By c)) row
 row_free board c row useful e bits =
     let P : List ℕ → Type 0 = λ v. AreClosed board v [] in

@@ -1,4 +1,4 @@
--- Two controls that share a net, by the lists of the nets that each control shares with other controls.
+-- Lemmas which say when two controls share a net, from the list of the nets that each control shares with other controls.
 use Rattle.std.proofs.Common.{◌≡◌, ℕ, ◌<◌, slice_index, Bool, true, false, ◌&&◌, List, length, Option, Some, None, refl, sym, ◌∙◌, ap, subst, arith}
 use Rattle.std.specs.Prelude.{slice_get}
 use Rattle.std.specs.List.{list_any, range_with_len}
@@ -22,7 +22,7 @@ use Rattle.net_facts.specs.Kept.{is_by_other, is_contended, contends_there, shar
 use Rattle.net_classes.proofs.SharedLemmas.{kept_ascend, item_has}
 use Rattle.net_facts.proofs.Contended.{differ_back}
 
--- two different controls share a net if and only if the lists have a number in common
+-- if the net at place `n` has drivers of control `c` and of another control, the list of the nets that `c` shares has `n`
 shares_has : (board : RawBoard) (c : Ctl) (n : ℕ) (net : Net) → slice_get board.nets n ≡ Some net → is_contended board c net ≡ true → Has (shared_nets board c) n
 shares_has board c n net e d =
     let less : n < length board.nets = slice_get_within board.nets n net e in

@@ -1,10 +1,10 @@
--- Lists and their places.
+-- Lemmas about lists and the places of their items.
 use Rattle.std.proofs.Common.{◌≡◌, ℕ, ◌<◌, List, map, length, ap, ◌∙◌, arith, get_or}
 use Rattle.std.specs.List.{range_with_len}
 use Rattle.std.proofs.lemmas.List.{length-map}
 use Rattle.std.proofs.lemmas.List.FromFn.{length-range_with_len, get_or-map-range_with_len}
 
--- a list with an item for each number below n
+-- if a list has an item for each number below `n`, a place below `n` is within the list
 pub numbered_length : {X : Type 0} (f : ℕ → X) (xs : List X) (n i : ℕ) → xs ≡ map f (range_with_len 0 n) → i < n → i < length xs
 numbered_length f xs n i e h = let l : length xs ≡ n = ap length e ∙ length-map (range_with_len 0 n) f ∙ length-range_with_len 0 n in omega (arith, l)
 

@@ -1,4 +1,4 @@
--- Rows of bits that say which nets are paired with a net.
+-- Lemmas about rows of bits that say which nets are paired with a net.
 use Rattle.std.proofs.Common.{◌≡◌, ◌≢◌, inl, ℕ, suc, ◌+◌, ◌<◌, ◌≤◌, ◌==◌, Bool, true, false, not, ◌&&◌, ◌||◌, List, [], ◌∷◌, length, get_or, nat_lt, take, Option, Some, None, refl, sym, ◌∙◌, ap, subst, arith}
 use Rattle.std.specs.Prelude.{slice_get}
 use Rattle.std.specs.List.{list_any}
@@ -60,7 +60,7 @@ covered_bit board n = by_net (slice_get board.nets n)
     by_net None = refl
     by_net (Some net) = by_drivers net (tested_drivers board net) refl
 
--- the nets below a number
+-- no number is below 0, so no number passes
 pub none_below : (passes : ℕ → Bool) (n : ℕ) → false ≡ (nat_lt n 0 && passes n)
 none_below passes n = let least : nat_lt n 0 ≡ false = grind arith in sym (ap (λ t. t && passes n) least)
 

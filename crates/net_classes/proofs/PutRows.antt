@@ -1,4 +1,4 @@
--- The row of one more control is added to the rows.
+-- Lemmas about the rows after the row of one more control is added.
 use Rattle.std.proofs.Common.{◌≡◌, ◌⊎◌, inl, inr, ℕ, ◌+◌, ◌<◌, ◌≤◌, Bool, true, false, List, [], ◌∷◌, ◌++◌, length, take, get_or, Option, Some, None, refl, sym, ◌∙◌, ap, subst, arith, length-append}
 use Rattle.std.specs.Prelude.{is_some, option_map, slice_index_or}
 use Rattle.std.specs.Option.{option_to_list}
@@ -22,7 +22,7 @@ use Rattle.net_classes.specs.Pairs.{fits_at}
 use Rattle.net_classes.specs.Kept.{number_in, or_none, row_in}
 use Rattle.net_facts.proofs.Notes.{at_same, at_other}
 
--- the earlier rows stay
+-- if rows are appended, the earlier rows do not change
 row_stays : (before after : PairRows) (k : ℕ) (more : List (List ℕ)) → k < length before.rows.items → after.rows.items ≡ before.rows.items ++ more → row_in after k ≡ row_in before k
 row_stays before after k more less e = ap (λ v. slice_index_or v k []) e ∙ get_or_append_left before.rows.items more [] k less
 
@@ -83,7 +83,7 @@ adds_row board before after c number row has cell for_c e f g = record {
         let Q : ℕ → Type 0 = λ n. AreRowBits (fits_at board (By c)) (row_in after n) in
         record { there = subst P (sym at) (omega (arith, size)); bits = subst Q (sym at) (subst (AreRowBits (fits_at board (By c))) (sym row) is) }
 
--- one more control
+-- if each of the first `i` useful controls has its row, and the row of control `c` is added, each of the first `i + 1` has its row
 pub rows_more : (board : RawBoard) (before after : PairRows) (useful : List Ctl) (i : ℕ) (c d : Ctl) → i < length useful → c ≡ get_or useful i c → AddsRow board before after c → ((d : Ctl) → Has (take i useful) d → IsRowOf board before d) → Has (take (i + 1) useful) d → IsRowOf board after d
 rows_more board before after useful i c d less at adds rows has =
     let P : List Ctl → Type 0 = λ v. Has v d in
@@ -98,7 +98,7 @@ rows_more board before after useful i c d less at adds rows has =
     by_place (inr (inl same)) = let P : Ctl → Type 0 = λ v. IsRowOf board after v in subst P (at ∙ same) adds.own
     by_place (inr (inr none)) = absurd none
 
--- a useful control is listed
+-- after all useful controls are handled, each useful control is among the handled controls
 pub listed : (board : RawBoard) (useful : List Ctl) (i : ℕ) (c : Ctl) → useful ≡ useful_controls board → length useful ≤ i → holds (useful_controls board) c ≡ true → Has (take i useful) c
 listed board useful i c e most h =
     let r : (d : Ctl) × Has (useful_controls board) d × (same_ctl c d ≡ true) = any_has (same_ctl c) (useful_controls board) h in

@@ -1,4 +1,4 @@
--- The nets that two controls share.
+-- Lemmas about the nets that two controls share.
 use Rattle.std.proofs.Common.{◌≡◌, ℕ, zero, suc, ◌+◌, ◌<◌, ◌≤◌, Bool, true, false, ◌&&◌, List, ◌∷◌, length, Option, Some, None, refl, sym, ◌∙◌, ap, arith, cond, slice_index}
 use Rattle.std.specs.Prelude.{slice_get, filter, Contains}
 use Rattle.std.specs.List.{range_with_len}
@@ -55,7 +55,7 @@ share_decided board a b = (there, back)
     back : (n : ℕ) × Contains (driven_nets board a) n × Contains (driven_nets board b) n → share_net board a b ≡ true
     back (n, x, y) = has_share board a b n (contains_has (driven_nets board a) n x) (contains_has (driven_nets board b) n y)
 
--- the driven nets ascend
+-- the item at a place of a list is in the list
 pub item_has : (xs : List ℕ) (i : ℕ) → i < length xs → Has xs (slice_index xs i)
 item_has xs i h = has_at xs i (slice_index xs i) (slice_get-get_or xs i 0 h)
 

@@ -1,4 +1,4 @@
--- Covered nets that are not paired with a net, by the words of rows.
+-- Lemmas which say that the words of rows give the covered nets that are not paired with a net.
 use Rattle.std.proofs.Common.{◌≡◌, ℕ, ◌+◌, ◌*◌, ◌/◌, ◌%◌, ◌-◌, ◌^◌, ◌<◌, Bool, true, false, not, ◌&&◌, List, get_or, length, min, Option, Some, None, refl, sym, ◌∙◌, ap, subst, arith, cond}
 use Rattle.std.specs.Prelude.{slice_get}
 use Rattle.std.specs.List.{list_any}
@@ -50,7 +50,7 @@ covered_says board n = by_net (slice_get board.nets n)
     by_net None = refl
     by_net (Some net) = sym (covered_fits board net)
 
--- without the bits of the paired nets, the word of the covered nets has the bits of the unpaired nets
+-- removing the bits of the paired nets from the word of the covered nets gives the bits of the unpaired nets
 pub unpaired_bits : (board : RawBoard) (pairs : PairRows) (n w word other : ℕ) → ArePairRows board pairs → word ≡ drive_word pairs AlwaysOn w → other < 2 ^ 64 → AreBitsOf (pairs_with board n) w other → AreBitsOf (unpaired_with board n) w (bit_and word (bit_not w64 other))
 unpaired_bits board pairs n w word other are e within paired i less =
     let m : ℕ = 64 * w + i in
@@ -64,7 +64,7 @@ unpaired_bits board pairs n w word other are e within paired i less =
     by_bits false true = refl
     by_bits false false = refl
 
--- a driver whose row is that of the covered nets
+-- if the row of a tested driver of net `n` is the row of the covered nets, every covered net is paired with net `n`
 pub all_paired : (board : RawBoard) (pairs : PairRows) (n : ℕ) (ds : List Drive) (i : ℕ) (d : Drive) → IsBoard board → ArePairRows board pairs → ds ≡ drivers_at board n → i < length ds → d ≡ get_or ds i d →
     ((w : ℕ) → drive_word pairs d w ≡ drive_word pairs AlwaysOn w) → (other : ℕ) → unpaired_with board n other ≡ false
 all_paired board pairs n ds i d rules are e less this same m = by_covered (covered_there board (slice_get board.nets m)) refl

@@ -1,4 +1,4 @@
--- The contents of a board's classes, each by the test that decides it for all safe settings.
+-- The contents of a board's classes. Each item is the result of the test that decides the matter for all safe settings.
 use Rattle.std.specs.Prelude.{◌≡◌, ℕ, true, List, [], map, Option, Some, None, slice_index_or}
 use Rattle.board_defs.specs.declared.board.Ctl.{Ctl}
 use Rattle.board_defs.specs.declared.board.RawBoard.{RawBoard}
@@ -25,12 +25,12 @@ number_in pairs c = or_none (item_of (table pairs.numbers.items) c)
 abbrev pub row_in : PairRows → ℕ → List ℕ
 row_in pairs k = slice_index_or pairs.rows.items k []
 
--- the first row has the covered nets; the row of a useful control has the nets that some safe setting with this control observes
+-- The first row has the covered nets. The row of a useful control has the nets that some safe setting with this control observes.
 pub record ArePairRows (board : RawBoard) (pairs : PairRows) : Type 0 where
   pub covered : AreRowBits (fits_at board AlwaysOn) (row_in pairs 0)
   pub each : (c : Ctl) → IsCell board c → is_useful board c ≡ true → AreRowBits (fits_at board (By c)) (row_in pairs (number_in pairs c))
 
--- these are the classes of the board
+-- `classes` has the classes of the board
 pub record AreClasses (board : RawBoard) (classes : Classes) : Type 0 where
   pub nets_are : classes.nets.items ≡ map (net_class_of board) board.nets
   pub controls_are : (c : Ctl) → IsCell board c → item_of (table classes.controls.items) c ≡ Some (control_class_of board c)

@@ -1,4 +1,4 @@
--- The laws of boards for one board, and laws on the lists of driven nets and on the drivers of paired nets.
+-- The laws of boards, for one board, and laws about the lists of driven nets and the drivers of paired nets.
 use Rattle.std.specs.Prelude.{◌≡◌, ℕ, false, List, Contains, is_some}
 use Rattle.std.specs.Bool.{Decides}
 use Rattle.board_defs.specs.declared.board.Ctl.{Ctl}
@@ -11,7 +11,7 @@ use Rattle.board_defs.specs.Laws.{DecidesTerms, PassesAre}
 use Rattle.net_facts.specs.Kept.{driven_nets, shared_nets}
 use Rattle.net_classes.specs.Pairs.{drivers_at, pairs_with}
 
--- the laws of boards are true of this one
+-- the laws of boards hold for this board
 pub record KeepsLaws (board : RawBoard) : Type 0 where
   pub rules : IsBoard board
   pub passes : PassesAre board
@@ -21,8 +21,8 @@ pub record KeepsLaws (board : RawBoard) : Type 0 where
 abbrev pub HaveCommon : List ℕ → List ℕ → Type 0
 HaveCommon xs ys = (n : ℕ) × Contains xs n × Contains ys n
 
--- Two controls control drivers of one net if and only if the lists of their driven nets have a number in common. If the controls differ,
--- they do so if and only if the lists of their shared nets have a number in common.
+-- Two controls control drivers of one net if and only if the lists of their driven nets have a number in common. For two different
+-- controls, this is also true of the lists of their shared nets.
 pub record SaysShared (board : RawBoard) (a b : Ctl) : Type 0 where
   pub by_driven : Decides (share_net board a b) (HaveCommon (driven_nets board a) (driven_nets board b))
   pub by_shared : same_ctl a b ≡ false → Decides (share_net board a b) (HaveCommon (shared_nets board a) (shared_nets board b))

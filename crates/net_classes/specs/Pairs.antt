@@ -1,4 +1,4 @@
--- The drivers that one safe setting enables together, and paired nets.
+-- The drivers that one safe setting enables together, and the nets that are paired.
 use Rattle.std.specs.Prelude.{◌≡◌, ◌<◌, ◌+◌, ◌*◌, ◌&&◌, ℕ, Bool, false, not, List, [], Option, None, Some, slice_get, cond}
 use Rattle.std.specs.Int.{bit_at}
 use Rattle.std.specs.List.{list_any}
@@ -16,7 +16,7 @@ fit board d e = are_compatible board (Some d) (Some e)
 abbrev pub fits_some : RawBoard → List Drive → Drive → Bool
 fits_some board es d = list_any (fit board d) es
 
--- the tested drivers of the net, if there is one
+-- the tested drivers of the net, or no drivers if there is no net
 abbrev pub drivers_there : RawBoard → Option Net → List Drive
 drivers_there board None = []
 drivers_there board (Some net) = tested_drivers board net

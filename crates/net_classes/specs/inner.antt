@@ -1,4 +1,4 @@
--- Definitions for proofs and for the contracts of private functions. Of these, public contracts cite only Kept and Pairs.
+-- Definitions for proofs and for the contracts of private functions. Public contracts cite only those in Kept and Pairs.
 pub mod Kept
 pub mod Pairs
 pub mod Known

@@ -11,7 +11,7 @@ use net_pins::{BoardPins, PinTables};
 use std::alloc::{AllocError, Global};
 
 /// The classes of a board: its nets, the cells of its parts as controls, the useful controls, the nets that each
-/// control shares with another one, and the rows of bits that say which nets are paired.
+/// control shares with another control, and the rows of bits that say which nets are paired.
 #[derive(Drop)]
 pub struct Classes {
     pub(crate) nets: Vec<NetClass>,

@@ -98,8 +98,8 @@ fn add_other_pins(
     Ok(())
 }
 
-/// Makes `others` the set of the controls with a driver on one of the nets, without those in `set`. `set` must
-/// have the controls with a driver on net `core`.
+/// Makes `others` the set of the controls that have a driver on one of the nets and are not in `set`. `set` must have the controls with a
+/// driver on net `core`.
 fn gather_others(
     others: &mut ControlSet,
     set: &ControlSet,
@@ -156,8 +156,7 @@ fn add_closed_by(
     Ok(())
 }
 
-/// Returns the nets that `set` closes, followed by the nets with a driver of a control in `others` that the two sets
-/// close together.
+/// Returns the nets that `set` closes, followed by the nets with a driver of a control in `others` that the two sets close together.
 fn closed_by_both(
     alloc: Global,
     closed: &[u32],
@@ -234,19 +233,18 @@ fn closed_nets(
     Ok(closed)
 }
 
-/// The nets that the nets in `by` close. They are kept for the next call, since many controls share the same nets, or
-/// share a bus.
+/// The nets that the nets in `by` close. They are kept for the next call, since many controls share the same nets or share a bus.
 #[derive(Drop)]
 pub struct ClosedNets {
     pub(crate) by: NetNumbers,
     pub(crate) set: ControlSet,
     pub(crate) nets: NetNumbers,
-    /// Room for the controls of the other nets of a call.
+    /// A set that is filled with the controls of the other nets during a call. It is kept so that its memory is reused.
     pub(crate) others: ControlSet,
 }
 
 impl ClosedNets {
-    /// Returns the nets that an empty list closes, of which there are none.
+    /// Returns the closed nets of an empty list, which closes no nets.
     pub fn nothing(alloc: Global, known: &Known<'_>) -> Result<ClosedNets, AllocError>
         ensures { IfOk result (λ closed. AreClosedNets known.now.board closed) }
     {

@@ -1,4 +1,4 @@
-// The facts about a board that its rows of bits are made from.
+// The facts about a board from which its rows of bits are made.
 ghost use Rattle.std.specs.Prelude.{◌≡◌, true, is_some, length, map, slice_get, IfOk};
 ghost use Rattle.board_defs.specs.declared.board.Ctl.{Ctl};
 ghost use Rattle.board_defs.specs.declared.board.RawBoard.{RawBoard};
@@ -59,7 +59,7 @@ fn first_drivers(alloc: Global, nets: &[NetClass]) -> Result<Vec<Option<Drive>>,
     Ok(firsts)
 }
 
-/// Returns how the tested drivers of the net are enabled. There are none past the last net.
+/// Returns how the tested drivers of the net are enabled. Past the last net there are no drivers.
 pub fn drivers_in(nets: &[NetClass], net: usize) -> &[Drive]
     ensures { (board : RawBoard) → nets.now ≡ map (net_class_of board) board.nets →
         result.now ≡ drivers_at board net }

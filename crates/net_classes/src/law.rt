@@ -2,7 +2,7 @@
 ghost use Rattle.net_classes.specs.Laws.{NetsAreShared, PairsHaveDrivers};
 
 /// Two controls control drivers of one net if and only if the lists of their driven nets have a number in common.
-/// If the controls differ, they do so if and only if the lists of their shared nets have a number in common.
+/// For two different controls, this is also true of the lists of their shared nets.
 pub fn nets_are_shared()
     ensures { NetsAreShared }
 {}

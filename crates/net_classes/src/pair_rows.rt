@@ -24,7 +24,7 @@ use std::alloc::{AllocError, Global};
 /// For each useful control, the nets that some safe setting with this control observes.
 #[derive(Drop)]
 pub struct PairRows {
-    /// The rows. The first one has all covered nets.
+    /// The rows. The first row has all covered nets.
     pub(crate) rows: Vec<NetRow>,
     /// The number of the row of each control.
     pub(crate) numbers: Vec<Vec<usize>>,
@@ -212,8 +212,8 @@ fn covered_rows(alloc: Global, known: &Known<'_>) -> Result<PairRows, AllocError
     Ok(PairRows { rows, numbers })
 }
 
-/// Returns the rows of a board: first the row of the covered nets, and then the row of each useful control for which
-/// some covered nets are missing.
+/// Returns the rows of a board: first the row of the covered nets, and then, for each useful control whose row lacks a covered net, the row
+/// of this control.
 pub fn pair_rows(alloc: Global, known: &Known<'_>) -> Result<PairRows, AllocError>
     ensures { IfOk result (λ pairs. ArePairRows known.now.board pairs) }
 {

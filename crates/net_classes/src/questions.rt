@@ -1,4 +1,4 @@
-// A board with its classes, and the questions that it answers.
+// A board with its classes, which answers questions about its nets, pins and controls.
 ghost use Rattle.std.specs.Prelude.{◌≡◌, ◌≢◌, ◌↔◌, ◌<◌, ◌≤◌, ◌||◌, ℕ, Some, false, true, not, length, slice_get, All, IsTrue, MatchOption};
 ghost use Rattle.board_defs.specs.BoardRules.{IsBoard};
 ghost use Rattle.board_defs.specs.Limits.{most_nets};
@@ -22,8 +22,8 @@ use board_defs::{Board, Ctl, Drive, PinRef, RawBoard, Reason, law};
 use net_facts::{ControlClass, NetClass, PinClass, meet};
 use std::marker::Model;
 
-/// A board with its classes. It answers questions about its nets, pins and controls, and takes no memory for that.
-/// Contracts see it as the board.
+/// A board with its classes. It answers questions about its nets, pins and controls without allocating memory. Contracts see it as the
+/// board.
 #[derive(Drop)]
 pub struct BoardClasses<'a> {
     board: &'a Board,
@@ -64,7 +64,7 @@ impl<'a> BoardClasses<'a> {
         self.board.raw()
     }
 
-    /// Does nothing. Its contract says that the laws of boards are true of this one.
+    /// Does nothing. Its contract says that the laws of boards hold for this board.
     pub fn laws(&self)
         ensures { KeepsLaws self.now }
     {
@@ -121,7 +121,7 @@ impl<'a> BoardClasses<'a> {
         self.reason(net).is_none()
     }
 
-    /// Returns how the tested drivers of the net are enabled, in pin order. There are none past the last net.
+    /// Returns how the tested drivers of the net are enabled, in pin order. Past the last net there are no drivers.
     pub fn tested_drivers(&self, net: usize) -> &'a [Drive]
         ensures drivers { result.now ≡ drivers_at self.now net }
         ensures useful { All (IsUsefulDriver self.now) result.now }
@@ -147,7 +147,7 @@ impl<'a> BoardClasses<'a> {
         place_in(self.useful(), c)
     }
 
-    /// Returns the numbers of the nets with a driver of this control and a driver of another one, in net order.
+    /// Returns the numbers of the nets with a driver of this control and a driver of another control, in net order.
     pub fn shared_nets(&self, c: Ctl) -> &'a [u32]
         requires { IsCell self.now c }
         ensures { result.now ≡ shared_nets self.now c }
@@ -214,8 +214,8 @@ impl<'a> BoardClasses<'a> {
         covered & !self.paired_word(net, word)
     }
 
-    /// Returns true if one tested driver of the net alone shows that every covered net is paired with the net. If the
-    /// result is false, several drivers together may still show the same.
+    /// Returns true if one tested driver of the net alone shows that every covered net is paired with the net. If the result is false,
+    /// several drivers together may still show it.
     pub fn is_paired_with_all(&self, net: usize) -> bool
         ensures { result ≡ true → (other : ℕ) → unpaired_with self.now net other ≡ false }
     {

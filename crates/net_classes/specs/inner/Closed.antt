@@ -1,5 +1,6 @@
 -- A list of nets closes net `n` if net `n` is covered and each tested driver of net `n` has a control with a driver on a net in the list.
--- If the list has the nets that control `c` shares, a safe setting with `c` enables no tested driver of net `n` except those that `c` controls.
+-- If the list has the nets that control `c` shares, a safe setting with `c` enables no tested driver of net `n` except the drivers that `c`
+-- controls.
 use Rattle.std.specs.Prelude.{◌≡◌, ℕ, Bool, true, false, ◌&&◌, ◌||◌, List, [], ◌∷◌, filter, length, nat_lt, slice_get, Contains}
 use Rattle.std.specs.Bool.{Decides}
 use Rattle.std.specs.List.{list_any, list_all, flat_map}
@@ -58,7 +59,7 @@ closes_beside board set others n = nat_lt 0 (length (drivers_at board n)) && lis
 abbrev pub closed_beside : KnownBoard → ControlSet → ControlSet → Ctl → List ℕ
 closed_beside known set others c = filter (closes_beside known.board set others) (driven_in known c)
 
--- `others` has only controls with a driver on one of the nets, and has each such control that is not in `set`
+-- Each control in `others` has a driver on one of the nets. Each control that is not in `set` and has such a driver is in `others`.
 pub record AreOthers (board : RawBoard) (set : ControlSet) (nets : List ℕ) (others : ControlSet) : Type 0 where
   pub passes : Ctl → Bool
   pub are_set : IsSet board passes others

@@ -39,7 +39,7 @@ abbrev pub number_for : ℕ → Option (List ℕ) → ℕ
 number_for count None = 0
 number_for count (Some row) = count
 
--- `after` also has the row of control `c`, and the rows of other controls stay the same
+-- `after` also has the row of control `c`, and the rows of other controls do not change
 pub record AddsRow (board : RawBoard) (before after : PairRows) (c : Ctl) : Type 0 where
   pub covered : HasCovered board after
   pub own : IsRowOf board after c

@@ -1,4 +1,5 @@
--- Drivers whose control is a cell of the board, or useful, and drivers of two nets that one safe setting enables.
+-- Drivers whose control is a cell of the board or useful, and drivers of two nets that one safe setting enables
+-- together.
 use Rattle.std.specs.Prelude.{◌≡◌, Bool, true, List}
 use Rattle.std.specs.List.{list_any}
 use Rattle.board_defs.specs.declared.board.Ctl.{Ctl}
