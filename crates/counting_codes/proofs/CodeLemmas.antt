@@ -1,11 +1,11 @@
--- Each code from 1 to `2 ^ w - 2` has a 0 bit and a 1 bit, and two different codes differ in some bit.
+-- Lemmas which say that each code from 1 to `2 ^ w - 2` has a 0 bit and a 1 bit, and that two different codes differ in some bit.
 use Rattle.std.proofs.Common.{◌≡◌, ◌≢◌, ℕ, zero, suc, ◌+◌, ◌/◌, ◌%◌, ◌^◌, ◌<◌, ◌≤◌, ◌⊎◌, inl, inr, refl, ◌∙◌, sym, arith}
 use Rattle.std.specs.Int.{bit_at}
 use Rattle.std.proofs.lemmas.Nat.Bits.{bit_at-suc, bit_at_lowest}
 use Rattle.std.proofs.Math.Nat.{pow-suc}
 use Rattle.std.proofs.lemmas.Bool.{cases_eq}
 
--- some bit below the width has this value
+-- some bit of the code below the width has this value
 abbrev pub HasBit : ℕ → ℕ → ℕ → Type 0
 HasBit c w v = (j : ℕ) × (j < w) × (bit_at c j ≡ v)
 

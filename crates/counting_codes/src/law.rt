@@ -1,4 +1,5 @@
-//! A law on the codes that can be told apart. It is the contract of a function that does nothing: a caller knows the law after calling it.
+//! A law which says that codes of the right width can be told apart. It is the contract of a function that does nothing: a caller knows the
+//! law after calling this function.
 ghost use Rattle.std.specs.Prelude.{◌≡◌, ◌≢◌, ℕ, ◌+◌, ◌^◌, ◌<◌, ◌≤◌};
 ghost use Rattle.std.specs.Int.{bit_at};
 

@@ -1,4 +1,4 @@
-//! Counting codes: the code of a net is its number, counted from 1. Codes have the smallest number of bits for which no
+//! Counting codes. The code of a net is its number, counted from 1. Codes have the smallest number of bits for which no
 //! code has only zeros or only ones.
 #![tactic(auto)]
 
