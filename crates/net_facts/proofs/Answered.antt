@@ -1,4 +1,5 @@
--- The class of each net that is found from the facts and the table is the class that the definitions on the board give.
+-- Lemmas which say that the class that the code finds for each net from the facts and the table is the class that the definitions on the
+-- board give.
 use Rattle.std.proofs.Common.{◌≡◌, ℕ, ◌==◌, Bool, true, false, not, ◌&&◌, List, [], ◌∷◌, map, length, Option, Some, None, refl, sym, ◌∙◌, ap, subst, cond, inl}
 use Rattle.std.specs.Prelude.{slice_get, option_map, filter_map, is_some}
 use Rattle.std.specs.List.{list_any, range_with_len, cons_option}
@@ -112,7 +113,7 @@ filter_map_same : {X Y : Type 0} (f g : X → Option Y) → ((x : X) → f x ≡
 filter_map_same f g h [] = refl
 filter_map_same f g h (x ∷ xs) = ap (λ o. cons_option o (filter_map f xs)) (h x) ∙ ap (λ ys. cons_option (g x) ys) (filter_map_same f g h xs)
 
--- with the rows of the safe controls, `tested_drive_in` returns the same as `tested_drive`
+-- if the table has for each control whether it is safe alone, `tested_drive_in` returns the same as `tested_drive`
 drive_tested_is : (board : RawBoard) (rows : List (List ControlClass)) (net : Net) (place : ℕ) → IsBoard board → SaysSafe board rows → tested_drive_in rows (net_facts_of board net) place ≡ tested_drive board net place
 drive_tested_is board rows net place rules says =
     ap (λ t. cond t (drive_of (map (pin_facts_of board net) net.pins) place) None) (tested_is board rows net place rules says) ∙
@@ -138,7 +139,7 @@ covered_is board net = by_list (tested_drivers board net) refl
         let t : Tested board net d = tested_has board net d (subst P (sym e) (inl refl)) in
         suc-eqb_zero (length ds) ∙ ap not (sym (below_at (length net.pins) (is_tested_driver board net) t.place (tested_below board net t.place t.tested) t.tested))
 
--- the reason why a net is not covered
+-- if the table has for each control whether it is safe alone, the code finds the reason that the definition gives
 first_is : (board : RawBoard) (rows : List (List ControlClass)) (net : Net) → IsBoard board → SaysSafe board rows → first_reason_in rows (net_facts_of board net) ≡ first_reason board net
 first_is board rows net rules says =
     ap (λ t. last t (list_any (λ (pin : PinFacts). enabled_in rows pin.drive) (map (pin_facts_of board net) net.pins))) (list_any-map (pin_facts_of board net) (λ (pin : PinFacts). is_some pin.drive) net.pins) ∙

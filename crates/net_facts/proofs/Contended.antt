@@ -1,4 +1,4 @@
--- The nets that a control shares with another control.
+-- Lemmas about the nets that a control shares with another control.
 use Rattle.std.proofs.Common.{◌≡◌, ℕ, Bool, true, false, not, ◌&&◌, ◌||◌, List, [], ◌∷◌, map, length, Option, Some, None, refl, sym, ◌∙◌, ap, cond}
 use Rattle.std.specs.Prelude.{slice_get, slice_index_or, option_map, option_and_then, filter}
 use Rattle.std.specs.Option.{unwrap_or}
@@ -43,7 +43,7 @@ several_stays (pin ∷ pins) = ap (λ s. controls_from s pins) (step pin.drive) 
     step (Some OneSided) = refl
     step (Some (By c)) = refl
 
--- after one control, the controls are several if and only if some pin has another control
+-- if one control was found before these pins, there are several if and only if some pin has another control
 one_is : (d : Ctl) (pins : List PinFacts) → is_several (controls_from (One d) pins) ≡ list_any (other_pin d) pins
 one_is d [] = refl
 one_is d (pin ∷ pins) = by_drive pin.drive (one_is d pins)
@@ -105,7 +105,7 @@ filter_same : (p q : ℕ → Bool) → ((n : ℕ) → p n ≡ q n) → (xs : Lis
 filter_same p q h [] = refl
 filter_same p q h (x ∷ xs) = ap (λ t. cond t (x ∷ filter p xs) (filter p xs)) (h x) ∙ ap (λ ys. cond (q x) (x ∷ ys) ys) (filter_same p q h xs)
 
--- the nets of a control that have a flag are those that it shares
+-- the nets of a control that have a flag are the nets that it shares with another control
 pub shared_are : (board : RawBoard) (c : Ctl) → filter (λ n. slice_index_or (flags_of (map (net_facts_of board) board.nets)) n false) (driven_nets board c) ≡ shared_nets board c
 shared_are board c = filter_both flagged driven (range_with_len 0 (length board.nets)) ∙ filter_same (λ n. driven n && flagged n) (λ n. contends_there board c (slice_get board.nets n)) each (range_with_len 0 (length board.nets))
   where

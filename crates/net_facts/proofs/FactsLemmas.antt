@@ -1,4 +1,4 @@
--- The facts that the code computes are those that the definitions on the board give.
+-- Lemmas which say that the facts that the code computes are the facts that the definitions on the board give.
 use Rattle.std.proofs.Common.{◌≡◌, ℕ, ◌+◌, ◌<◌, Bool, true, false, ◌&&◌, ◌||◌, List, [], ◌∷◌, ◌++◌, length, map, take, get_or, Option, Some, None, refl, sym, ◌∙◌, ap}
 use Rattle.std.specs.Prelude.{option_map, slice_get}
 use Rattle.std.specs.List.{list_any}
@@ -41,7 +41,7 @@ any_either f g (x ∷ xs) = turn (f x) (g x) (list_any f xs) (list_any g xs) ∙
     turn false true false d = refl
     turn false false c d = refl
 
--- an unguarded net has no pin that guards it
+-- if a net is not guarded, none of its pins guards it
 any_guarded : {X : Type 0} (s : Bool) (f g : X → Bool) (xs : List X) → ((s || list_any (λ x. f x || g x) xs) && list_any f xs ≡ list_any f xs) × ((s || list_any (λ x. f x || g x) xs) && list_any g xs ≡ list_any g xs)
 any_guarded true f g xs = (refl, refl)
 any_guarded false f g xs =
@@ -81,7 +81,7 @@ facts_are board net =
         let y : NetFacts = record { supply = net.supply; pull = net.pull; test_port = t'; dark = d'; guarded = guarded board net; closed = k'; pins = pins' } in x ≡ y
     same t t' d d' k k' pins pins' e f h i = cc
 
--- the facts so far, and those about one more net
+-- if `before` has the facts about the first `n` nets, appending the facts about net `n` gives the facts about the first `n + 1` nets
 pub facts_more : (board : RawBoard) (nets : List Net) (n : ℕ) (net : Net) (flag : Bool) (before : List NetFacts) → nets ≡ board.nets → n < length nets → net ≡ get_or nets n net → flag ≡ guarded_at board n →
     before ≡ map (net_facts_of board) (take n board.nets) → before ++ net_facts_in board flag net ∷ [] ≡ map (net_facts_of board) (take (n + 1) board.nets)
 facts_more board nets n net flag before same less is guards done =

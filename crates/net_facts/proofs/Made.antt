@@ -1,4 +1,4 @@
--- The contents of the table of the controls once it is filled.
+-- Lemmas about the contents of the table of the controls after it is filled.
 use Rattle.std.proofs.Common.{◌≡◌, ℕ, zero, suc, ◌<◌, ◌≤◌, ◌==◌, Bool, true, false, not, ◌&&◌, ◌||◌, List, [], ◌∷◌, ◌++◌, map, length, Option, Some, None, refl, sym, ◌∙◌, ap, subst, arith, cond}
 use Rattle.std.specs.Prelude.{slice_get, option_map, option_and_then, filter}
 use Rattle.std.specs.List.{list_any, list_all, range_with_len}
@@ -30,7 +30,7 @@ use Rattle.net_facts.specs.inner.Rows.{unsafe_too, ends_with, note_net, note_net
 use Rattle.net_facts.proofs.RowLemmas.{copies_get}
 use Rattle.net_facts.proofs.Notes.{at_same, at_other, by_pin, run, pins_row, run_first, ends_other}
 
--- the item of a control in a table that is not filled yet
+-- in a table that is not filled yet, the item of a control says that the control has no drivers
 fresh_at : (board : RawBoard) (c : Ctl) → IsCell board c → item_of (fresh_rows board.chain) c ≡ Some fresh
 fresh_at board c h = ap (option_and_then (λ r. slice_get r c.cell)) (slice_get-map (λ (part : Part). copies fresh (cell_count (described part.kind))) board.chain c.part) ∙ by_part (slice_get board.chain c.part) h
   where
@@ -72,7 +72,7 @@ none_is_one test (x ∷ xs) h = by_head (test x) h (none_is_one test xs)
     by_head true g rest = cc g
     by_head false g rest = rest g
 
--- one more net is noted
+-- the net exists and does not admit the control: the control makes any setting with it unsafe on this net
 abbrev pub refuses : RawBoard → Ctl → Option Net → Bool
 refuses board c None = false
 refuses board c (Some net) = not (admits board c net)
@@ -122,7 +122,7 @@ nets_row board c (suc k) h =
     net_row board c k (slice_get board.nets k) (note_nets (map (net_facts_of board) board.nets) k (fresh_rows board.chain)) (nets_row board c k h) ∙
     ap (λ xs. Some (let r : ControlClass = record { nets = xs; safe = not (refuses board c (slice_get board.nets k) || refused board c k); useful = false } in r)) (sym (driven_more board c k))
 
--- the one-sided drivers are noted
+-- the item of a control, marked as unsafe if `b` is true
 abbrev block_if : Bool → ControlClass → ControlClass
 block_if b row = record { nets = row.nets; safe = not b && row.safe; useful = row.useful }
 

@@ -1,4 +1,4 @@
--- The contents of the table of the controls once the useful controls are marked.
+-- Lemmas about the contents of the table of the controls after the useful controls are marked.
 use Rattle.std.proofs.Common.{◌≡◌, Bool, true, false, ◌||◌, List, [], ◌∷◌, map, length, Option, Some, None, refl, sym, ◌∙◌, ap}
 use Rattle.std.specs.Prelude.{option_map, filter, fold}
 use Rattle.std.specs.List.{list_any}
@@ -116,7 +116,7 @@ marked_row board rows c h =
     ap (λ b. Some (let r : ControlClass = record { nets = driven_nets board c; safe = is_safe_alone board c; useful = b } in r))
     (or-false (list_any (by_net c) (map (net_class_of board) board.nets)) ∙ list_any-map (net_class_of board) (by_net c) board.nets ∙ useful_is board c)
 
--- the result of `facts_by`
+-- `facts_by` returned the facts about the board
 pub record Made (board : RawBoard) (nets : List NetClass) (controls : List (List ControlClass)) (useful : List Ctl) : Type 0 where
   pub nets_are : nets ≡ map (net_class_of board) board.nets
   pub controls_are : (c : Ctl) → IsCell board c → item_of controls c ≡ Some (control_class_of board c)

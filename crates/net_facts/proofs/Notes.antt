@@ -1,4 +1,4 @@
--- The contents of the table of the controls once the nets are noted.
+-- Lemmas about the contents of the table of the controls after the nets are noted.
 use Rattle.std.proofs.Common.{◌≡◌, ◌≢◌, ℕ, zero, suc, ◌-◌, ◌<◌, ◌==◌, Bool, true, false, not, ◌&&◌, ◌||◌, List, [], ◌∷◌, ◌++◌, length, Option, Some, None, refl, sym, ◌∙◌, ap, subst, arith, length-append, cond}
 use Rattle.std.specs.Prelude.{slice_get, option_map, option_and_then}
 use Rattle.std.specs.List.{list_any}
@@ -16,7 +16,7 @@ use Rattle.net_facts.specs.declared.classes.ControlClass.{ControlClass}
 use Rattle.net_facts.specs.Cells.{item_of, update_at, at_control}
 use Rattle.net_facts.specs.inner.Rows.{added, ends_with, is_number, note_drive, note_pins}
 
--- the item at the place that was changed, and the item at another place
+-- after a change at place `i`, the item at place `i` is the changed item
 pub get_update_same : {X : Type 0} (i : ℕ) (f : X → X) (xs : List X) → slice_get (update_at i f xs) i ≡ option_map f (slice_get xs i)
 get_update_same i f [] = refl
 get_update_same zero f (x ∷ xs) = refl
@@ -105,7 +105,7 @@ by_pin c pin = is_by c pin.drive
 abbrev row_with : ControlClass → List ℕ → Bool → ControlClass
 row_with row nets safe = record { nets = nets; safe = safe; useful = row.useful }
 
--- the item of a control that has the net already
+-- if a control already has the net, noting the net's pins again keeps its nets, and marks it unsafe if one of the pins has its driver
 pub run_again : (n : ℕ) (closed : Bool) (c : Ctl) (pins : List PinFacts) (row : ControlClass) → ends_with row.nets n ≡ true → run n closed c pins row ≡ row_with row row.nets (row.safe && not (list_any (by_pin c) pins))
 run_again n closed c [] row h = ap (λ b. row_with row row.nets b) (sym (and-true row.safe))
 run_again n closed c (pin ∷ pins) row h = by_head (is_by c pin.drive) refl (run_again n closed c pins row h) (run_again n closed c pins (row_with row row.nets false) h)

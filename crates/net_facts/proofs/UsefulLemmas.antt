@@ -1,4 +1,4 @@
--- The useful controls, in control order.
+-- Lemmas about the list of the useful controls, which is in control order.
 use Rattle.std.proofs.Common.{◌≡◌, ℕ, ◌+◌, ◌<◌, ◌≤◌, Bool, List, [], ◌∷◌, ◌++◌, map, length, take, get_or, Option, Some, refl, sym, ◌∙◌, ap, subst, arith, inl, inr, cond}
 use Rattle.std.specs.Prelude.{slice_get, slice_index_or, filter, option_and_then, All}
 use Rattle.std.specs.List.{flat_map, enumerate_from, range_with_len}
@@ -47,7 +47,7 @@ joined : (xs ys zs : List Ctl) → (xs ++ ys) ++ zs ≡ xs ++ (ys ++ zs)
 joined [] ys zs = refl
 joined (x ∷ xs) ys zs = ap (λ v. x ∷ v) (joined xs ys zs)
 
--- one more cell of a part
+-- if `before` has the cells of a part below `cell` that pass, and `cell` is appended if it passes, `after` has those below `cell + 1`
 pub cell_more : (p : Ctl → Bool) (part cell : ℕ) (initial before after : List Ctl) (t : Bool) → before ≡ initial ++ filter p (map (cell_in part) (range_with_len 0 cell)) → t ≡ p (cell_in part cell) → after ≡ before ++ cond t (cell_in part cell ∷ []) [] →
     after ≡ initial ++ filter p (map (cell_in part) (range_with_len 0 (cell + 1)))
 cell_more p part cell initial before after t e f g =

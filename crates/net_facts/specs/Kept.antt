@@ -1,5 +1,5 @@
--- The facts about nets, pins and controls. Each fact that depends on safe settings is the value of the function that
--- decides it, such as `is_tested_driver`.
+-- The facts about nets, pins and controls. If a fact depends on safe settings, it is the result of the function that decides it, such as
+-- `is_tested_driver`.
 use Rattle.std.specs.Prelude.{◌≡◌, ℕ, Bool, false, not, ◌&&◌, List, map, filter, length, Option, Some, None, slice_get, is_some}
 use Rattle.std.specs.List.{list_any, range_with_len}
 use Rattle.board_defs.specs.declared.board.Ctl.{Ctl}

@@ -159,8 +159,8 @@ pub fn mark_useful(rows: &mut [Vec<ControlClass>], nets: &[NetClass])
     }
 }
 
-/// Returns the number of the part's boundary cells, each of which has an entry in the table of controls. A part without
-/// a description has none.
+/// Returns the number of the part's boundary cells, each of which has an item in the table of controls. A part without a description has no
+/// such cell.
 pub fn cells_of(kind: &PartKind) -> u32
     ensures { result ≡ cell_count (described kind.now) }
 {

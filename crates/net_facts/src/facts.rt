@@ -31,13 +31,13 @@ pub struct NetFacts {
     pub pull: Option<bool>,
     /// True if some pin of the net belongs to a test access port or is named by compliance patterns.
     pub test_port: bool,
-    /// True if some pin of the net is dark. Something that no setting controls may drive the net of a dark pin.
+    /// True if some pin of the net is dark. If so, something that no setting controls may drive the net.
     pub dark: bool,
     /// True if the net is guarded: it carries a supply, or it has a pin of a test access port, a pin that compliance
     /// patterns name, or a dark pin.
     pub guarded: bool,
-    /// True if no control may enable a driver of the net. This is so if the net is guarded or has a driver that is
-    /// always on.
+    /// True if no control may enable a driver of the net. This is the case if the net is guarded or has a driver that
+    /// is always on.
     pub closed: bool,
     /// The facts about the pins, in pin order.
     pub pins: Few<PinFacts>,
@@ -57,7 +57,7 @@ fn has_test_pin(board: &BoardPins<'_>, guarded: bool, pins: &[NetPin]) -> bool
     guarded && any_test_pin(board.raw(), pins)
 }
 
-// Like `has_test_pin`, but for dark pins.
+// Like `has_test_pin`, but looks for dark pins.
 fn has_dark_pin(board: &BoardPins<'_>, guarded: bool, pins: &[NetPin]) -> bool
     ensures { result ≡ (guarded && list_any (is_dark board.now) pins.now) }
 {

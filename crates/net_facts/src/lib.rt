@@ -2,12 +2,13 @@
 //!
 //! [`board_facts`] returns these facts for a board:
 //!
-//! - of each net: whether it is covered, the reason if it is not, and the ways in which its tested drivers are enabled;
-//! - of each pin: whether it is a tested driver or a tested receiver;
-//! - of each control: the nets with its drivers, whether it is safe alone, and whether it is useful;
-//! - of each control: the nets that it shares with another control. Only on such a net can two controls conflict.
+//! - for each net: whether it is covered, the reason if it is not, and the ways in which its tested drivers are
+//!   enabled;
+//! - for each pin: whether it is a tested driver or a tested receiver;
+//! - for each control: the nets with its drivers, whether it is safe alone, and whether it is useful;
+//! - for each control: the nets that it shares with another control. Only on such a net can two controls conflict.
 //!
-//! The crate above answers what one setting can do with two nets or two controls.
+//! The crate `net_classes` answers what one setting can do with two nets or two controls.
 #![tactic(auto)]
 
 mod cells;

@@ -1,4 +1,4 @@
-// A board with the port bits on pulled nets, which decide which drivers are one-sided.
+// A board with the port bits that are on pulled nets. These port bits decide which drivers are one-sided.
 ghost use Rattle.std.specs.Prelude.{◌≡◌, ◌<◌, length, map, option_and_then, IfOk};
 ghost use Rattle.board_defs.specs.BoardRules.{IsBoard};
 ghost use Rattle.board_defs.specs.Decided.{is_switching, own_control, own_where, port_bits};
@@ -12,7 +12,7 @@ use net_pins::BoardPins;
 use std::alloc::{AllocError, Global};
 use std::marker::Model;
 
-/// A board with the port bits whose pins are on unguarded nets with a pull. The value in contracts is the board.
+/// A board with the port bits whose pins are on unguarded nets with a pull. Contracts see it as the board.
 #[derive(Drop)]
 pub struct PulledBoard<'a, 'b> {
     board: &'a BoardPins<'b>,

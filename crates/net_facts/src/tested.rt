@@ -1,4 +1,4 @@
-// The facts about nets that depend on safe settings. They follow from the facts that do not, and from the table of the
+// The facts about nets that depend on safe settings. The code finds them from the other facts about nets and from the table of the
 // controls.
 ghost use Rattle.std.specs.Prelude.{◌≡◌, ◌++◌, [], None, if◌then◌else◌, length, map, option_copied, is_some, IfOk, OnOk};
 ghost use Rattle.std.specs.List.{cons_option, list_any, range_with_len};
@@ -21,7 +21,7 @@ fn row_of(rows: &[Vec<ControlClass>], c: Ctl) -> Option<&ControlClass>
     }
 }
 
-/// Returns whether the table has the control and it is safe alone.
+/// Returns whether the table has the control and marks it as safe alone.
 pub fn is_safe(rows: &[Vec<ControlClass>], c: Ctl) -> bool
     ensures { result ≡ safe_in (table rows.now) c }
 {

@@ -14,8 +14,7 @@ use Rattle.board_defs.specs.Decided.{is_always_on}
 use Rattle.net_facts.specs.declared.facts.PinFacts.{PinFacts}
 use Rattle.net_facts.specs.declared.facts.NetFacts.{NetFacts}
 
--- the way in which a driver with this entry and this control is enabled, on a net with this pull; `guarded` is true if
--- the net is guarded
+-- The way in which a driver with this entry and this control is enabled, on a net with this pull. `guarded` is true if the net is guarded.
 abbrev pub drive_from : Bool → Option Bool → ℕ → Cell → Option Control → Drive
 drive_from guarded pull part cell None = AlwaysOn
 drive_from guarded pull part cell (Some control) =

@@ -1,9 +1,9 @@
--- The places of the items of a list that pass a test, of which at most one is remembered.
+-- The places of the items of a list that pass a test. At most one of these places is remembered.
 use Rattle.std.specs.Prelude.{ℕ, zero, suc, ◌==◌, Bool, true, false, not, cond}
 use Rattle.net_facts.specs.declared.found.Found.{Found}
 use Rattle.net_facts.specs.declared.found.Found.TheVariants.{Nowhere, At, Several}
 
--- adds one more place to those that were found
+-- adds one more place to the places that were found
 abbrev pub with_place : Found → ℕ → Found
 with_place Nowhere place = At place
 with_place (At other) place = Several

@@ -1,4 +1,4 @@
--- The table of the controls while it is filled.
+-- The table of the controls while the code fills it.
 use Rattle.std.specs.Prelude.{ℕ, zero, suc, ◌==◌, ◌-◌, length, Bool, true, false, not, ◌&&◌, List, [], ◌∷◌, ◌++◌, map, Option, Some, None, slice_get, cond, fold}
 use Rattle.board_defs.specs.declared.board.Part.{Part}
 use Rattle.board_defs.specs.declared.board.PinAt.{PinAt}
@@ -21,8 +21,8 @@ is_number n (Some x) = x == n
 abbrev pub ends_with : List ℕ → ℕ → Bool
 ends_with nets n = is_number n (slice_get nets (length nets - 1))
 
--- The control with one more driver, on net `n`. A second driver on the same net makes the control unsafe. A driver on a net on which no
--- control may enable a driver makes it unsafe too.
+-- The control with one more driver, on net `n`. If the control already has a driver on net `n`, it becomes unsafe. It also becomes unsafe
+-- if no control may enable a driver of the net.
 abbrev pub added : ℕ → Bool → ControlClass → ControlClass
 added n closed row = cond (ends_with row.nets n) (record row { safe = false }) (record row { nets = row.nets ++ n ∷ []; safe = row.safe && not closed })
 
