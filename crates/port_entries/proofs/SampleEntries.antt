@@ -1,4 +1,4 @@
--- The entries of a small part, and the facts about its port bits, with values computed by hand.
+-- Samples of the entries of a small part and of the facts about its port bits. The values are computed by hand.
 use Rattle.std.proofs.Common.{◌≡◌, ℕ, Bool, true, false, List, [], ◌∷◌, map, replicate, Option, Some, None, refl}
 use Rattle.std.specs.Prelude.{find, option_map}
 use Rattle.board_defs.specs.declared.device.Cell.{Cell}
@@ -26,7 +26,7 @@ row = all_noted (replicate 2 [])
 abbrev numbers : ℕ → ℕ → List ℕ
 numbers part bit = map (λ entry. entry.num) (entries_at (row ∷ []) (record { part = part; bit = bit }))
 
--- the entries of each port bit keep their order, and other places have no entries
+-- each port bit has its entries in order, and any other place has no entries
 low : numbers 0 0 ≡ 2 ∷ []
 low = refl
 
@@ -39,7 +39,7 @@ no_bit = refl
 no_part : numbers 1 0 ≡ []
 no_part = refl
 
--- the driving entries of the port bits
+-- the number of the cell of a port bit's driving entry, if the port bit has one
 abbrev driving : ℕ → Option ℕ
 driving bit = option_map (λ entry. entry.num) (find (λ entry. is_driving entry.role) (entries_at (row ∷ []) (record { part = 0; bit = bit })))
 
@@ -74,7 +74,7 @@ unread_input = refl
 test_port : dark_by (Some (port_bit Inward true)) [] ≡ false
 test_port = refl
 
--- the mode of a port bit and its entries decide whether it is a receiver
+-- whether a port bit is a receiver depends on its mode and its entries
 input_receives : receives_by (Some (port_bit Inward false)) reads ≡ true
 input_receives = refl
 

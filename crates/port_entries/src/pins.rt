@@ -46,7 +46,7 @@ fn receives_there(rows: &[Items<BitEntries>], board: &RawBoard, at: PinAt) -> bo
     }
 }
 
-/// Returns whether the pin at this place of the chain is a receiver. Returns false without a place.
+/// Returns whether the pin at this place of the chain is a receiver. Returns false if the pin has no place.
 pub fn receives(rows: &[Items<BitEntries>], board: &RawBoard, at: Option<PinAt>) -> bool
     requires { AreEntries board.now rows.now }
     ensures { result ≡ receives_where board.now at }
@@ -93,7 +93,8 @@ fn any_dark(rows: &[Items<BitEntries>], board: &RawBoard, pins: &[NetPin]) -> bo
     pins.iter().any(|pin| is_dark(rows, board, pin))
 }
 
-/// Returns whether one of the pins is dark. Something that no setting controls may drive the net of a dark pin.
+/// Returns whether one of the pins is dark. If a pin of a net is dark, something that no setting controls may drive
+/// the net.
 pub fn has_dark_pin(rows: &[Items<BitEntries>], board: &RawBoard, pins: &[NetPin]) -> bool
     requires { AreEntries board.now rows.now }
     ensures { result ≡ list_any (is_dark board.now) pins.now }
@@ -113,8 +114,8 @@ fn guards_bit(bit: &PortBit, entries: &[Cell]) -> bool
     is_test_bit(bit) || is_dark_bit(bit, entries)
 }
 
-// Returns whether a pin guards its net. The port bit is looked up once for both questions, since this function is
-// called for each pin of each net.
+// Returns whether a pin guards its net. Looks up the port bit once for both reasons, since this function is called
+// for each pin of each net.
 fn guards(rows: &[Items<BitEntries>], board: &RawBoard, pin: &NetPin) -> bool
     ensures { result ≡ guards_in rows.now board.now pin.now }
 {

@@ -1,4 +1,4 @@
--- The steps that fill the table, and the facts about pins that follow from it.
+-- The steps that fill the table, and the facts about pins that follow from the table.
 use Rattle.std.specs.Prelude.{◌==◌, Bool, true, false, not, ◌&&◌, ◌||◌, List, [], length, map, fold, replicate, Option, Some, None}
 use Rattle.std.specs.List.{list_any}
 use Rattle.board_defs.specs.declared.device.Cell.{Cell}
