@@ -1,4 +1,4 @@
--- Small boards and their coverage lists.
+-- Samples of small boards with their coverage lists.
 use Rattle.std.proofs.Common.{◌≡◌, ℕ, ◌+◌, Bool, true, false, List, [], ◌∷◌, ◌++◌, Option, Some, None, refl}
 use Rattle.std.specs.Prelude.{codes}
 use Rattle.std.specs.List.{flat_map}
@@ -20,7 +20,7 @@ use Rattle.board_defs.specs.declared.board.Net.{Net}
 use Rattle.board_defs.specs.declared.board.RawBoard.{RawBoard}
 use Rattle.coverage_list.specs.CoverText.{cover_text}
 
--- a device with a port bit of this mode on each pin
+-- one port bit of this mode for each of these pins
 abbrev bits : Mode → List (List ℕ) → List PortBit
 bits mode [] = []
 bits mode (pin ∷ pins) = record { port = 0; index = None; mode = mode; pin = Some pin; tap = false; compliance = false } ∷ bits mode pins
@@ -50,7 +50,7 @@ control num = record { num = num; role = ControlRole; bit = None; safe = One; ct
 abbrev by : ℕ → Option Control
 by cell = Some (record { cell = cell; disable = true })
 
--- two receivers; a three-state driver; a bidirectional pin; two pairs of drivers; a driver of its own cell
+-- devices: two receivers; a three-state driver; a bidirectional pin; two pairs of drivers; a driver that its own cell controls
 abbrev rcv : RawDevice
 rcv = device (bits Inward (codes "1" ∷ codes "2" ∷ [])) (entry 0 Input 0 None ∷ entry 1 Input 1 None ∷ []) 2
 
@@ -67,7 +67,7 @@ two = device (bits Outward (codes "1" ∷ codes "2" ∷ codes "3" ∷ codes "4" 
 abbrev od : RawDevice
 od = device (bits Outward (codes "1" ∷ [])) (entry 0 Output2 0 (by 0) ∷ []) 1
 
--- part k is named U and its number from 1, and its pins are numbered from 1
+-- part `k` has the name U followed by the number `k + 1`, and its pins are numbered from 1
 abbrev part_name : ℕ → List ℕ
 part_name k = 85 ∷ (49 + k) ∷ []
 
@@ -90,19 +90,19 @@ board devices nets = record { chain = parts 0 devices; nets = nets }
 abbrev lines : List (List ℕ) → List ℕ
 lines ls = flat_map (λ l. l ++ 10 ∷ []) ls
 
--- a net with a driver of each of two controls is paired with both other nets, which are not paired with each other
+-- A net with a driver of each of two controls is paired with both other nets. These two nets are not paired with each other.
 crossing : cover_text (board (two ∷ rcv ∷ rcv ∷ []) (net (codes "A") None (pin 0 0 ∷ pin 1 0 ∷ []) ∷ net (codes "X") None (pin 0 1 ∷ pin 0 2 ∷ pin 1 1 ∷ []) ∷ net (codes "B") None (pin 0 3 ∷ pin 2 0 ∷ []) ∷ []))
     ≡ lines (codes "NETS 3 COVERED 3" ∷ codes "PAIR A B" ∷ [])
 unfolding cover_text digits
 crossing = refl
 
--- no other pin of the net receives from the bidirectional pin
+-- no other pin of the net can receive from the bidirectional pin, so its driver is untested
 shared : cover_text (board (bi ∷ ts ∷ []) (net (codes "N") None (pin 0 0 ∷ pin 1 0 ∷ []) ∷ []))
     ≡ lines (codes "NETS 1 COVERED 1" ∷ codes "DRIVER U1.1" ∷ [])
 unfolding cover_text digits
 shared = refl
 
--- a pin of a part that is not described makes its net dark, unless the part is inert
+-- a board on which a pin of a part without a description makes its net dark, unless the part is inert
 abbrev beside : Bool → RawBoard
 beside inert = board (two ∷ rcv ∷ []) (net (codes "N1") None (pin 0 0 ∷ pin 1 0 ∷ foreign inert ∷ []) ∷ net (codes "N2") None (pin 0 2 ∷ pin 1 1 ∷ []) ∷ [])
 
@@ -114,19 +114,19 @@ inert : cover_text (beside true) ≡ lines (codes "NETS 2 COVERED 2" ∷ [])
 unfolding cover_text digits
 inert = refl
 
--- a driver that its own cell enables, on a net that is pulled to another value than the disable value, is one-sided
+-- On a net that is pulled to another value than the disable value, a driver that its own cell enables is one-sided. It cannot be enabled.
 blocked : cover_text (board (od ∷ rcv ∷ []) (net (codes "N") (Some false) (pin 0 0 ∷ pin 1 0 ∷ []) ∷ []))
     ≡ lines (codes "NETS 1 COVERED 0" ∷ codes "NET N BLOCKED" ∷ [])
 unfolding cover_text digits
 blocked = refl
 
--- a one-sided driver on a net that another driver covers
+-- if another driver covers the net, the one-sided driver is listed as untested
 one_sided : cover_text (board (od ∷ ts ∷ rcv ∷ []) (net (codes "N") None (pin 0 0 ∷ pin 1 0 ∷ pin 2 0 ∷ []) ∷ []))
     ≡ lines (codes "NETS 1 COVERED 1" ∷ codes "DRIVER U1.1" ∷ [])
 unfolding cover_text digits
 one_sided = refl
 
--- a receiver whose net has no driver but on its own pin
+-- a receiver is untested if the only driver of its net is on its own pin
 lone : cover_text (board (bi ∷ rcv ∷ []) (net (codes "N") None (pin 0 0 ∷ pin 1 0 ∷ []) ∷ net (codes "M") None (pin 1 1 ∷ []) ∷ []))
     ≡ lines (codes "NETS 2 COVERED 1" ∷ codes "NET M NODRIVER" ∷ codes "RECEIVER U1.1" ∷ [])
 unfolding cover_text digits

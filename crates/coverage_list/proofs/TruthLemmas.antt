@@ -1,4 +1,4 @@
--- The coverage list is the list from answers that are true.
+-- Lemmas which say that the coverage list is made from true answers.
 use Rattle.std.proofs.Common.{◌≡◌, ℕ, Bool, Some, refl}
 use Rattle.std.specs.Prelude.{slice_get}
 use Rattle.std.specs.Bool.{Decides}

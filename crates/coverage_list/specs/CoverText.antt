@@ -13,7 +13,7 @@ use Rattle.board_defs.specs.Passes.{pairs_within}
 use Rattle.coverage_list.specs.declared.lines.PinUse.{PinUse}
 use Rattle.coverage_list.specs.declared.lines.PinUse.TheVariants.{Driver, Receiver}
 
--- the word for each reason, and for each role of a pin
+-- the word for each reason; `pin_word` below has the word for each role of a pin
 abbrev pub reason_word : Reason → List ℕ
 reason_word Supply = codes "SUPPLY"
 reason_word TestPort = codes "TESTPORT"
@@ -42,12 +42,12 @@ reason_line name (Some reason) = line_of (codes "NET " ∷ name ∷ codes " " �
 abbrev pub reason_lines : RawBoard → List ℕ
 reason_lines board = flat_map (λ net. reason_line net.name (reason_of board net)) board.nets
 
--- the pin at this place of the net is a driver, or a receiver, and is not tested as such
+-- the pin at this place of the net has this role, and is not tested in it
 abbrev pub is_untested : RawBoard → PinUse → Net → ℕ → Bool
 is_untested board Driver net place = is_some (place_drive board net place) && not (is_tested_driver board net place)
 is_untested board Receiver net place = receives_of board (slice_get net.pins place) && not (is_tested_receiver board net place)
 
--- the places of the untested drivers, or receivers, of a net, in pin order
+-- the places of a net's pins that are untested in this role, in pin order
 abbrev pub untested : RawBoard → PinUse → Net → List ℕ
 untested board pin_use net = filter (is_untested board pin_use net) (range_with_len 0 (length net.pins))
 
@@ -56,11 +56,11 @@ abbrev pub pin_line : PinUse → Option NetPin → List ℕ
 pin_line pin_use None = []
 pin_line pin_use (Some pin) = line_of (use_word pin_use ∷ pin.part ∷ codes "." ∷ pin.pin ∷ [])
 
--- the lines of the untested pins of a net
+-- the lines of a net's pins that are untested in this role
 abbrev pub net_pin_lines : RawBoard → PinUse → Net → List ℕ
 net_pin_lines board pin_use net = flat_map (λ place. pin_line pin_use (slice_get net.pins place)) (untested board pin_use net)
 
--- the lines of the untested pins of all covered nets
+-- the lines of all covered nets' pins that are untested in this role
 abbrev pub pin_lines : RawBoard → PinUse → List ℕ
 pin_lines board pin_use = flat_map (net_pin_lines board pin_use) (covered board)
 

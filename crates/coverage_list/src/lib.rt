@@ -1,4 +1,5 @@
-//! The coverage list of a board: how many nets a test can cover, and which nets, pins and pairs no test can.
+//! The coverage list of a board: how many nets a test can cover, and which nets, pins and pairs of nets no
+//! test can.
 #![tactic(auto)]
 
 pub mod law;

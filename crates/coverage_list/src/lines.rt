@@ -21,7 +21,7 @@ pub enum PinUse {
 pub enum Section {
     /// The nets that are not covered, each with its reason.
     Reasons,
-    /// The untested drivers, or receivers, of covered nets.
+    /// The untested pins of covered nets in one role, as drivers or as receivers.
     Untested(PinUse),
     /// The pairs of covered nets that are not paired.
     Pairs,

@@ -122,8 +122,8 @@ fn has_bit(word: u64, place: u32) -> bool
     word >> place & 1 == 1
 }
 
-/// Returns whether net `high` is covered and not paired with net `low`. `unpaired` is the word of net `high` in which
-/// each such net has its bit set.
+/// Returns whether net `high` is covered and not paired with net `low`. `unpaired` is the word with the bit of net `high`. In this word,
+/// the bit of each such net is set.
 fn is_unpaired(board: &BoardClasses<'_>, unpaired: u64, low: u32, high: u32) -> bool
     requires { AreBitsOf (unpaired_with board.now low) (high / 64) unpaired }
     ensures { OfNet board.now low (λ one. OfNet board.now high (λ two. result ≡ is_unpaired board.now one two)) }
@@ -131,8 +131,7 @@ fn is_unpaired(board: &BoardClasses<'_>, unpaired: u64, low: u32, high: u32) -> 
     has_bit(unpaired, high % 64)
 }
 
-/// Writes the line of two nets if net `high` is covered and not paired with net `low`. `unpaired` is the word of net
-/// `high`, as for `is_unpaired`.
+/// Writes the line of two nets if net `high` is covered and not paired with net `low`. `unpaired` is a word as for `is_unpaired`.
 fn put_pair_at<K: Sink>(
     board: &BoardClasses<'_>,
     unpaired: u64,
@@ -153,8 +152,8 @@ fn put_pair_at<K: Sink>(
     }
 }
 
-/// Writes the lines of net `low` and each net in `from..end` that is covered and not paired with net `low`. The bits
-/// of the nets `from..end` are in one word.
+/// Writes the lines of net `low` with each net in `from..end` that is covered and not paired with net `low`. The nets `from..end` must have
+/// their bits in one word.
 fn put_word<K: Sink>(
     board: &BoardClasses<'_>,
     low: u32,
@@ -178,7 +177,7 @@ fn put_word<K: Sink>(
     Ok(())
 }
 
-/// Writes the lines of net `low` and each later net that is covered and not paired with net `low`.
+/// Writes the lines of net `low` with each later net that is covered and not paired with net `low`.
 fn put_later<K: Sink>(
     board: &BoardClasses<'_>,
     low: u32,
@@ -259,12 +258,11 @@ fn put_list<K: Sink>(board: &BoardClasses<'_>, line: &mut Line, out: &mut K) -> 
     put_section(board, Section::Pairs, line, out)
 }
 
-/// Writes the coverage list of a board: the number of nets and of covered nets; each net that is not covered,
-/// with its reason; the untested drivers and then the untested receivers of covered nets; and the pairs of
-/// covered nets that are not paired. The classes must be those of the board. A line of more than `MAX_LINE` bytes
-/// goes out in pieces of that size, and any other line in one put. The call takes no memory. `line` is scratch
-/// space, and its contents are lost. The call fails only if the sink fails, and the sink then has a prefix of the
-/// list.
+/// Writes the coverage list of a board: the number of nets and of covered nets; each net that is not covered, with its reason; the untested
+/// drivers and then the untested receivers of covered nets; and the pairs of covered nets that are not paired. The classes must be those of
+/// the board. A line of more than `MAX_LINE` bytes goes out in pieces of that size and the rest, and any other line in one put. Allocates
+/// nothing. `line` is used as a buffer, and its content afterwards is unspecified. Fails only if the sink fails, which then took a prefix
+/// of the list.
 pub fn write_cover<K: Sink>(
     board: &Board,
     classes: &Classes,

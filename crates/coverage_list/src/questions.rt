@@ -1,4 +1,4 @@
-// What the coverage list asks of a board with its classes.
+// The questions about a board with its classes whose answers the coverage list needs.
 ghost use Rattle.std.specs.Prelude.{◌≡◌, ◌<◌, [], length, Some, true, false, slice_get};
 ghost use Rattle.board_defs.specs.Pins.{IsOnBoard};
 ghost use Rattle.board_defs.specs.Decided.{is_covered};
@@ -40,7 +40,7 @@ pub fn covered_count(board: &BoardClasses<'_>) -> u32
     covered
 }
 
-/// Returns whether the pin is a driver, or a receiver, and is not tested as such.
+/// Returns whether the pin has this role, driver or receiver, and is not tested in it.
 pub fn is_untested(board: &BoardClasses<'_>, pin_use: PinUse, pin: PinRef) -> bool
     requires { IsOnBoard board.now pin }
     ensures { OfNet board.now pin.net (λ net. result ≡ is_untested board.now pin_use net pin.place) }
@@ -52,8 +52,8 @@ pub fn is_untested(board: &BoardClasses<'_>, pin_use: PinUse, pin: PinRef) -> bo
     }
 }
 
-/// Returns false if the net has no line about a pair, either because it is not covered or because one of its tested
-/// drivers shows that every covered net is paired with it. If the result is true, the net is covered.
+/// Returns false only if the net has no line about a pair. It has none if it is not covered, or if one of its
+/// tested drivers shows that every covered net is paired with it. If the result is true, the net is covered.
 pub fn may_be_unpaired(board: &BoardClasses<'_>, n: u32) -> bool
     requires { n < length board.now.nets }
     ensures free { result ≡ false → OfNet board.now n (λ net. net_pairs board.now n net ≡ []) }

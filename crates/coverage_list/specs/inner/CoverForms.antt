@@ -1,4 +1,4 @@
--- The coverage list as the code writes the list: a text for each net number.
+-- The coverage list in the form in which the code writes it: a text for each net number.
 use Rattle.std.specs.Prelude.{ℕ, ◌+◌, ◌-◌, Bool, not, ◌&&◌, List, [], length, Option, None, Some, slice_get, cond}
 use Rattle.std.specs.List.{flat_map, range_with_len}
 use Rattle.board_defs.specs.declared.board.Net.{Net}
@@ -9,7 +9,7 @@ use Rattle.coverage_list.specs.declared.lines.Section.{Section}
 use Rattle.coverage_list.specs.declared.lines.Section.TheVariants.{Reasons, Untested, Pairs}
 use Rattle.coverage_list.specs.CoverText.{is_untested, reason_line, reason_lines, pin_line, pin_lines, pair_line, pair_lines}
 
--- the texts of the numbers from `n` on that are below `count`
+-- the texts of the numbers from `n` up to but not including `count`
 abbrev pub texts_from : (ℕ → List ℕ) → ℕ → ℕ → List ℕ
 texts_from text n count = flat_map text (range_with_len n (count - n))
 
@@ -18,14 +18,15 @@ abbrev pub of_item : {X : Type 0} → (X → List ℕ) → Option X → List ℕ
 of_item text None = []
 of_item text (Some x) = text x
 
--- the line of a net that is not covered, or no text if the net is covered; `reason_at` takes the number of the net
+-- The line of a net that is not covered, or no text if the net is covered. `reason_at` below takes the number of the net.
 abbrev pub net_reason : RawBoard → Net → List ℕ
 net_reason board net = reason_line net.name (reason_of board net)
 
 abbrev pub reason_at : RawBoard → ℕ → List ℕ
 reason_at board n = of_item (net_reason board) (slice_get board.nets n)
 
--- the line of the pin at a place if the pin is untested; `net_pins` has these lines for a net that is covered, and `pins_at` takes the number of the net
+-- The line of the pin at a place if the pin is untested. `net_pins` below has these lines for a covered net, and `pins_at` takes the number
+-- of the net.
 abbrev pub place_text : RawBoard → PinUse → Net → ℕ → List ℕ
 place_text board pin_use net place = cond (is_untested board pin_use net place) (pin_line pin_use (slice_get net.pins place)) []
 
@@ -35,7 +36,8 @@ net_pins board pin_use net = cond (is_covered board net) (texts_from (place_text
 abbrev pub pins_at : RawBoard → PinUse → ℕ → List ℕ
 pins_at board pin_use n = of_item (net_pins board pin_use) (slice_get board.nets n)
 
--- The lines of a covered net and each later covered net that is not paired with it. `pairs_at` takes the number of the net.
+-- True if net `high` is covered and not paired with net `low`. The next definitions have the lines of such pairs, and `pairs_at` takes the
+-- number of the first net.
 abbrev pub is_unpaired : RawBoard → Net → Net → Bool
 is_unpaired board low high = is_covered board high && not (are_paired board low high)
 
@@ -51,7 +53,7 @@ net_pairs board n low = cond (is_covered board low) (texts_from (pair_at board l
 abbrev pub pairs_at : RawBoard → ℕ → List ℕ
 pairs_at board n = of_item (net_pairs board n) (slice_get board.nets n)
 
--- the lines of a section for the net with a number; `section_lines` has the whole section
+-- The lines of a section for the net with this number. `section_lines` below has the whole section.
 abbrev pub section_at : RawBoard → Section → ℕ → List ℕ
 section_at board Reasons = reason_at board
 section_at board (Untested pin_use) = pins_at board pin_use
