@@ -1,4 +1,4 @@
--- Rows of bits that are kept as digits, row after row.
+-- Lemmas about rows of bits that a log keeps as digits, row after row.
 use Rattle.std.proofs.Common.{◌≡◌, ℕ, ◌+◌, ◌*◌, ◌/◌, ◌%◌, ◌<◌, ◌≤◌, zero, suc, Bool, false, Some, List, [], ◌∷◌, ◌++◌, length, take, drop, get_or, refl, sym, ap, ◌∙◌, arith, length-drop, length-append, option_and_then, subst, append_assoc}
 use Rattle.std.specs.Prelude.{All, slice_get}
 use Rattle.std.proofs.Math.Nat.{suc-mul}
@@ -18,7 +18,7 @@ pub length-kept_rows : (len rows : ℕ) (digits : List ℕ) → length (kept_row
 length-kept_rows len zero digits = refl
 length-kept_rows len (suc rows) digits = ap suc (length-kept_rows len rows (drop (digit_count len) digits))
 
--- the digits after the first row are as many as the other rows need
+-- if the digits are as many as `rows + 1` rows need, the digits after the first row are as many as `rows` rows need
 length-behind : (width rows : ℕ) (digits : List ℕ) → length digits ≡ suc rows * width → length (drop width digits) ≡ rows * width
 length-behind width rows digits sized = omega (arith, length-drop width digits, suc-mul rows width, sized)
 
@@ -33,7 +33,7 @@ kept_rows-lengths len (suc rows) digits sized =
     (length-row_bits len (take (digit_count len) digits) (length-take-le (digit_count len) digits (has_first (digit_count len) rows digits sized)))
     (kept_rows-lengths len rows (drop (digit_count len) digits) (length-behind (digit_count len) rows digits sized))
 
--- the digits of one more row, appended to the kept digits, add this row
+-- appending the digits of a row to the kept digits appends the row to the kept rows
 kept_rows-push : (len rows : ℕ) (digits : List ℕ) (bits : List Bool) → length digits ≡ rows * digit_count len → length bits ≡ len → kept_rows len (suc rows) (digits ++ digits_of bits) ≡ kept_rows len rows digits ++ bits ∷ []
 kept_rows-push len zero digits bits sized long =
     let none : digits ≡ [] = nil_from_length digits (omega arith) in
@@ -46,7 +46,7 @@ kept_rows-push len (suc rows) digits bits sized long =
     ∙ ap (λ ds. row_bits len (take (digit_count len) digits) ∷ kept_rows len (suc rows) ds) (drop-append-le (digit_count len) digits (digits_of bits) first)
     ∙ ap (λ log. row_bits len (take (digit_count len) digits) ∷ log) (kept_rows-push len rows (drop (digit_count len) digits) bits (length-behind (digit_count len) rows digits sized) long)
 
--- like `kept_rows-push`, for a list `next` that equals the appended digits
+-- like `kept_rows-push`, but names the longer list of digits `next`
 pub kept_rows-more : (len rows : ℕ) (digits next : List ℕ) (bits : List Bool) → next ≡ digits ++ digits_of bits → length digits ≡ rows * digit_count len → length bits ≡ len → kept_rows len (rows + 1) next ≡ kept_rows len rows digits ++ bits ∷ []
 kept_rows-more len rows digits next bits is sized long =
     let more : rows + 1 ≡ suc rows = omega arith in
@@ -57,7 +57,7 @@ length-more len rows digits next bits is sized long =
     let more : (rows + 1) * digit_count len ≡ rows * digit_count len + digit_count len = ap (λ n. n * digit_count len) (omega arith) ∙ suc-mul rows (digit_count len) in
     ap length is ∙ length-append digits (digits_of bits) ∙ omega (arith, more, sized, length-digits_of bits, long)
 
--- `AreWhole` still holds when one more row is appended whose digits are the digits of its bits
+-- if the digits of the appended row have 0 in each bit above the row's bits, `AreWhole` still holds
 whole-push : (len rows : ℕ) (digits bits : List ℕ) → length digits ≡ rows * digit_count len → length bits ≡ digit_count len → bits ≡ digits_of (row_bits len bits) → AreWhole len rows digits → AreWhole len (suc rows) (digits ++ bits)
 whole-push len zero digits bits sized long own whole =
     let none : digits ≡ [] = nil_from_length digits (omega arith) in
@@ -73,13 +73,13 @@ whole-push len (suc rows) digits bits sized long own whole =
       subst (AreWhole len (suc rows)) (sym (drop-append-le (digit_count len) digits bits first)) behind,
     )
 
--- like `whole-push`, for a list `next` that equals the appended digits
+-- like `whole-push`, but names the longer list of digits `next`
 pub whole-more : (len rows : ℕ) (digits next bits : List ℕ) → next ≡ digits ++ bits → length digits ≡ rows * digit_count len → length bits ≡ digit_count len → bits ≡ digits_of (row_bits len bits) → AreWhole len rows digits → AreWhole len (rows + 1) next
 whole-more len rows digits next bits is sized long own whole =
     let more : suc rows ≡ rows + 1 = omega arith in
     subst (λ (n : ℕ). AreWhole len n next) more (subst (AreWhole len (suc rows)) (sym is) (whole-push len rows digits bits sized long own whole))
 
--- the digits of each row are the digits of the row's bits
+-- if `AreWhole` holds, the digits of each row are the digits of the row's bits
 whole-get : (len rows : ℕ) (digits : List ℕ) (row : ℕ) → row < rows → AreWhole len rows digits → take (digit_count len) (drop (row * digit_count len) digits) ≡ digits_of (row_bits len (take (digit_count len) (drop (row * digit_count len) digits)))
 whole-get len zero digits row within whole = absurd (omega arith)
 whole-get len (suc rows) digits zero within whole =
@@ -90,12 +90,12 @@ whole-get len (suc rows) digits (suc row) within whole =
     let there : drop (row * digit_count len) (drop (digit_count len) digits) ≡ drop (suc row * digit_count len) digits = drop-drop (row * digit_count len) (digit_count len) digits ∙ ap (λ n. drop n digits) place in
     subst (λ (ds : List ℕ). take (digit_count len) ds ≡ digits_of (row_bits len (take (digit_count len) ds))) there (whole-get len rows (drop (digit_count len) digits) row (omega arith) whole.1)
 
--- the digits so far, followed by a row, end at `end`
+-- if a row is written at `at` and ends at `end`, the digits up to the end of the row are `end` digits
 put_length : (text row : List ℕ) (at end : ℕ) → end ≡ at + length row → end ≤ length text → length (take at text ++ row) ≡ end
 put_length text row at end ends within =
     omega (arith, length-append (take at text) row, length-take-le at text (omega arith))
 
--- a text over which a row is written begins with its old bytes before the row, and then the row
+-- if a row is written over a text at `at`, the text then begins with its old bytes up to `at`, followed by the row
 pub put_before : (text row next : List ℕ) (at end : ℕ) → next ≡ take at text ++ (row ++ drop (at + length row) text) → end ≡ at + length row → end ≤ length text → take end next ≡ take at text ++ row
 put_before text row next at end is ends within =
     ap (take end) (is ∙ sym (append_assoc (take at text) row (drop (at + length row) text)))
@@ -106,7 +106,7 @@ put_behind text row next at end n is ends within behind =
     ap (drop n) (is ∙ sym (append_assoc (take at text) row (drop (at + length row) text)) ∙ ap (λ k. (take at text ++ row) ++ drop k text) (sym ends))
     ∙ drop-append-drop end text (take at text ++ row) n behind (put_length text row at end ends within)
 
--- row `row` has the bits of the digits at its place
+-- row `row` of the kept rows has the bits of the digits at the row's place
 kept_rows-get : (len rows : ℕ) (digits : List ℕ) (row : ℕ) → row < rows → slice_get (kept_rows len rows digits) row ≡ Some (row_bits len (take (digit_count len) (drop (row * digit_count len) digits)))
 kept_rows-get len zero digits row within = absurd (omega arith)
 kept_rows-get len (suc rows) digits zero within =
@@ -117,7 +117,7 @@ kept_rows-get len (suc rows) digits (suc row) within =
     kept_rows-get len rows (drop (digit_count len) digits) row (omega arith)
     ∙ ap (λ ds. Some (row_bits len (take (digit_count len) ds))) (drop-drop (row * digit_count len) (digit_count len) digits ∙ ap (λ n. drop n digits) place)
 
--- bit i is bit i % 4 of digit i / 4
+-- bit `i` of the bits of some digits is bit `i % 4` of digit `i / 4`
 bits_of-get : (digits : List ℕ) (i : ℕ) → i < 4 * length digits → get_or (bits_of digits) i false ≡ digit_bit (get_or digits (i / 4) 0) (i % 4)
 bits_of-get [] i within = absurd (omega arith)
 bits_of-get (x ∷ xs) zero within = refl
@@ -148,7 +148,7 @@ digit_of len rows digits row at sized within in_row =
     let place : at / 4 < digit_count len = omega arith in
     omega (arith, place, row_within (digit_count len) rows digits row sized within)
 
--- bit `at` of a row is one bit of one kept digit
+-- bit `at` of a row is bit `at % 4` of one of the kept digits
 pub kept_bit : (len rows : ℕ) (digits : List ℕ) (row at : ℕ) → length digits ≡ rows * digit_count len → row < rows → at < len → log_bit (kept_rows len rows digits) row at ≡ Some (digit_bit (get_or digits (row * digit_count len + at / 4) 0) (at % 4))
 kept_bit len rows digits row at sized within in_row =
     let place : at / 4 < digit_count len = omega arith in
@@ -157,7 +157,7 @@ kept_bit len rows digits row at sized within in_row =
     ∙ row_bits-get len (take (digit_count len) (drop (row * digit_count len) digits)) at (length-take-le (digit_count len) (drop (row * digit_count len) digits) (omega (arith, length-drop (row * digit_count len) digits, some))) in_row
     ∙ ap (λ x. Some (digit_bit x (at % 4))) (get_or-take (digit_count len) (drop (row * digit_count len) digits) (at / 4) 0 place ∙ get_or-drop (row * digit_count len) digits (at / 4) 0)
 
--- bit `at` of row `row` has its digit among the kept digits
+-- the row and the bit are within the log, and the digit of the bit is among the kept digits
 pub record HasPlace (len rows : ℕ) (digits : List ℕ) (row at : ℕ) : Type 0 where
   pub row_within : row < rows
   pub bit_within : at < len

@@ -1,4 +1,4 @@
--- A text gives a log if and only if its lines with words are the expected number of rows.
+-- Lemmas which say that a text gives a log if and only if each of its lines with words is a row, and there are as many as expected.
 use Rattle.std.proofs.Common.{◌≡◌, ◌↔◌, ℕ, ◌≤◌, ◌==◌, Bool, true, false, cond, nat_lt, Option, Some, None, is_some, option_and_then, Ok, Err, List, [], ◌∷◌, ◌++◌, length, map, take, drop, refl, sym, ap, ◌∙◌, arith, length-drop}
 use Rattle.std.specs.Prelude.{filter_map}
 use Rattle.std.specs.List.{cons_option}
@@ -20,7 +20,7 @@ field_there true (Some field) n none = (field, refl)
 field_there true None n none = absurd cc
 field_there false field n none = absurd cc
 
--- a line is a row if and only if it has no offense
+-- if the word of a line has the bits of a row, the line has no offense
 word_right : (len n : ℕ) (word : Option Word) (bits : List Bool) → option_and_then (field_bits len) word ≡ Some bits → word_fault len n word ≡ None
 word_right len n None bits is = absurd cc
 word_right len n (Some word) bits is =
@@ -31,7 +31,7 @@ word_there len n None none = absurd cc
 word_there len n (Some word) none =
     field_there (length word == digit_count len) (option_and_then (cut_to len) (text_bits word)) n none
 
--- the lines have no offense and are the rows of the log
+-- none of the lines has an offense, and the lines are the rows of the log
 record AreRows (len : ℕ) (lines : List NumberedLine) (log : List (List Bool)) : Type 0 where
   right : filter_map (row_fault len) lines ≡ []
   rows : filter_map (bits_of_line len) lines ≡ log
@@ -75,7 +75,7 @@ counted_said false found rows log is =
     let same : rows ≡ log = cc in
     (refl, same)
 
--- if no line comes after the last wanted row, there are at most `rows` lines
+-- if no line comes after the last expected row, there are at most `rows` lines
 lines_within : (rows : ℕ) (lines : List NumberedLine) → map (λ line. Extra line.number) (drop rows lines) ≡ [] → length lines ≤ rows
 lines_within rows lines none =
     let few : length (drop rows lines) ≡ 0 = sym (length-map (drop rows lines) (λ line. Extra line.number)) ∙ ap length none in

@@ -1,4 +1,4 @@
--- From the lines of a text to the rows of a log.
+-- Lemmas that lead from the lines of a text to the rows of a log.
 use Rattle.std.proofs.Common.{◌≡◌, ℕ, ◌+◌, ◌-◌, ◌<◌, ◌≤◌, zero, suc, Bool, cond, nat_lt, Option, Some, None, Ok, Err, List, [], ◌∷◌, ◌++◌, length, map, take, drop, refl, sym, ap, ◌∙◌, arith, append_assoc, length-drop}
 use Rattle.std.specs.Prelude.{IfSome, filter, filter_map}
 use Rattle.std.specs.List.{slice_split, cons_option}
@@ -11,15 +11,15 @@ use Rattle.response_log.specs.LogRows.{Answer, NumberedLine, line_of, log_told, 
 use Rattle.response_log.specs.Kept.{text_at}
 use Rattle.response_log.proofs.KeptLemmas.{put_behind}
 
--- the answer for `found` lines without an offense, whose rows are `log`
+-- The answer for `found` lines without an offense. Their rows are `log`.
 abbrev pub counted : ℕ → ℕ → List (List Bool) → Answer
 counted rows found log = cond (nat_lt found rows) (Err (Missing found)) (Ok log)
 
--- the answer for these lines if the rows of `log` were read before them
+-- the answer for these lines, if the rows of `log` were read before them
 abbrev pub rows_after : ℕ → ℕ → List (List Bool) → List NumberedLine → Answer
 rows_after rows len log lines = first_or (counted rows (length log + length lines) (log ++ filter_map (bits_of_line len) lines)) (offenses (rows - length log) len lines)
 
--- the remaining lines with words; the first remaining line has the number n
+-- The remaining lines with words. The first remaining line has the number n.
 abbrev pub lines_left : ℕ → Option (List ℕ) → List NumberedLine
 lines_left n left = filter has_words (numbered n (lines_of left))
 
@@ -30,26 +30,26 @@ rows_after-nil rows len lines =
     sym (ap (λ n. first_or (counted rows n (filter_map (bits_of_line len) lines)) (offenses (rows - 0) len lines)) count
     ∙ ap (λ n. first_or (wanted_rows rows len lines) (offenses n len lines)) wanted)
 
--- a line without words adds nothing to the remaining lines with words
+-- if the first remaining line has no words, the lines with words are those of the later lines
 pub left_blank : (n : ℕ) (left : Option (List ℕ)) (text line : List ℕ) (more : List (List ℕ)) → left ≡ Some text → slice_split is_newline text ≡ line ∷ more → words_of line ≡ [] → lines_left n left ≡ filter has_words (numbered (n + 1) more)
 left_blank n left text line more is split none =
     ap (lines_left n) is ∙ ap (λ lines. filter has_words (numbered n lines)) split
     ∙ ap (λ words. cond (holds_word words) (record { number = n; words = words } ∷ filter has_words (numbered (n + 1) more)) (filter has_words (numbered (n + 1) more))) none
 
--- a line with words is the first of the remaining lines with words
+-- if the first remaining line has words, it is the first of the remaining lines with words
 pub left_words : (n : ℕ) (left : Option (List ℕ)) (text line : List ℕ) (more : List (List ℕ)) (word : Word) (behind : List ℕ) → left ≡ Some text → slice_split is_newline text ≡ line ∷ more → words_of line ≡ word ∷ words_of behind
     → lines_left n left ≡ line_of n word behind ∷ filter has_words (numbered (n + 1) more)
 left_words n left text line more word behind is split some =
     ap (lines_left n) is ∙ ap (λ lines. filter has_words (numbered n lines)) split
     ∙ ap (λ words. cond (holds_word words) (record { number = n; words = words } ∷ filter has_words (numbered (n + 1) more)) (filter has_words (numbered (n + 1) more))) some
 
--- a line with words behind the last wanted row gives the fault `Extra`
+-- if all expected rows were read, a line with words gives the fault `Extra`
 pub after_extra : (rows len : ℕ) (log : List (List Bool)) (line : NumberedLine) (lines : List NumberedLine) → rows ≤ length log → rows_after rows len log (line ∷ lines) ≡ Err (Extra line.number)
 after_extra rows len log line lines full =
     let none : rows - length log ≡ 0 = omega arith in
     ap (λ n. first_or (counted rows (length log + length (line ∷ lines)) (log ++ filter_map (bits_of_line len) (line ∷ lines))) (offenses n len (line ∷ lines))) none
 
--- the fault of a line that must be a row, if the line has one, comes before the faults of the later lines
+-- if a line must be a row and has a fault, this fault comes before the faults of the later lines
 after_wanted : (rows len : ℕ) (log : List (List Bool)) (line : NumberedLine) (lines : List NumberedLine) (fault : Option LogFault) → length log < rows → row_fault len line ≡ fault
     → rows_after rows len log (line ∷ lines) ≡ first_or (counted rows (length log + length (line ∷ lines)) (log ++ filter_map (bits_of_line len) (line ∷ lines))) (cons_option fault (filter_map (row_fault len) (take (rows - (length log + 1)) lines)) ++ map (λ l. Extra l.number) (drop (rows - (length log + 1)) lines))
 after_wanted rows len log line lines fault wanted is =
@@ -72,7 +72,7 @@ after_row rows len log line lines bits wanted none is =
     ∙ ap (λ all. first_or (counted rows (length (log ++ bits ∷ []) + length lines) all) (offenses (rows - (length log + 1)) len lines)) row
     ∙ sym (ap (λ n. first_or (counted rows (length (log ++ bits ∷ []) + length lines) ((log ++ bits ∷ []) ++ filter_map (bits_of_line len) lines)) (offenses (rows - n) len lines)) (length_push log bits))
 
--- an empty list of lines has no offenses
+-- if there are no lines, there are no offenses
 no_offenses : (n len : ℕ) (answer : Answer) → first_or answer (offenses n len []) ≡ answer
 no_offenses zero len answer = refl
 no_offenses (suc n) len answer = refl
@@ -94,14 +94,14 @@ after_all rows len log all =
     no_offenses (rows - length log) len (counted rows (length log + 0) (log ++ []))
     ∙ counted_all rows (length log + 0) (log ++ []) (omega arith) ∙ ap Ok (append-nil log)
 
--- a line with words has bytes
+-- a line with words is not empty
 pub filled_line : (line : List ℕ) (word : Word) (words : List Word) → words_of line ≡ word ∷ words → 0 < length line
 filled_line [] word words is =
     let none = words_of_empty [] refl in
     cc
 filled_line (b ∷ bs) word words is = omega arith
 
--- `log_told` of a fault that the definition gives is this fault or nothing
+-- if the definition gives a fault, `log_told` of the fault is this fault, or `None` for a refusal of memory
 pub fails_by : (fault : LogFault) (said : Answer) → said ≡ Err fault → IfSome (log_told fault) (λ f. said ≡ Err f)
 fails_by (Digit n) said is = is
 fails_by (Length n) said is = is
@@ -113,7 +113,7 @@ fails_by (Memory e) said is = tt
 abbrev pub Follows : ℕ → ℕ → ℕ → ℕ → Type 0
 Follows from line text next = (next ≡ from + line + 1) × (next ≤ text)
 
--- the place `from` is behind the kept bytes and within the text, and the line number is at most one above this place
+-- The place `from` is within the text and not before the end of the kept bytes. The line number is at most one more than this place.
 abbrev pub IsBehind : ℕ → ℕ → ℕ → ℕ → Type 0
 IsBehind kept text number from = (kept ≤ from) × (from ≤ text) × (number ≤ 1 + from)
 
@@ -121,13 +121,13 @@ pub next_behind : (following : Option ℕ) (from line text kept number : ℕ) �
 next_behind None from line text kept number follows before few = tt
 next_behind (Some next) from line text kept number (place, within) before few = (omega arith, within, omega arith)
 
--- less of the text is left with each line
+-- each line that is read makes the rest of the text shorter
 pub less_left : (text later : List ℕ) (left following : Option ℕ) (from line : ℕ) → left ≡ Some from → from ≤ length text → length later ≡ length text → IfSome following (Follows from line (length text)) → text_left (text_at later following) < text_left (text_at text left)
 less_left text later left None from line is within same follows = rw is (omega arith)
 less_left text later left (Some next) from line is within same (place, inside) =
     rw is (omega (arith, length-drop next later, length-drop from text))
 
--- a row that is written over the text leaves the remaining lines unchanged
+-- writing a row over the text before the next line leaves the remaining lines unchanged
 pub same_left : (text row later : List ℕ) (at end : ℕ) (following : Option ℕ) (from line : ℕ) → later ≡ take at text ++ (row ++ drop (at + length row) text) → end ≡ at + length row → end ≤ from + line → from + line ≤ length text → IfSome following (Follows from line (length text)) → text_at later following ≡ text_at text following
 same_left text row later at end None from line is ends before within follows = refl
 same_left text row later at end (Some next) from line is ends before within (place, inside) =

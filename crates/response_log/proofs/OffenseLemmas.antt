@@ -1,4 +1,4 @@
--- The fault that is reported for a text that is no log is the text's first offense.
+-- Lemmas which say that the fault that is reported for a text is the text's first offense.
 use Rattle.std.proofs.Common.{◌≡◌, ℕ, ◌+◌, ◌<◌, ◌≤◌, ◌==◌, Bool, true, false, cond, Option, Some, None, is_some, option_and_then, Ok, Err, List, [], ◌∷◌, ◌++◌, length, refl, sym, ap, ◌∙◌, subst, arith, append_assoc, append-nil, inl, inr, ◌⊎◌}
 use Rattle.std.specs.Prelude.{All}
 use Rattle.std.proofs.lemmas.Bool.{cases_lt}
@@ -22,7 +22,7 @@ Offends len line (Some (Missing found)) = ⊥
 Offends len line (Some (Extra n)) = ⊥
 Offends len line (Some (Memory e)) = ⊥
 
--- the offense of one line, from the line's words
+-- the offense of one line, which follows from the line's words
 module _ (len : ℕ) (line : NumberedLine) where
   no_words : line.words ≡ [] → ¬ HasLength len line
   no_words none (word, is, long) = absurd cc
@@ -58,7 +58,7 @@ module _ (len : ℕ) (line : NumberedLine) where
   offends : Offends len line (row_fault len line)
   offends = by_words line.words refl
 
-  -- a row has as many digits as its bits need
+  -- if a word gives the bits of a row, it has as many digits as these bits need
   not_sized : (word : Word) (bits : List Bool) (sized : Bool) → (length word == digit_count len) ≡ sized → cond sized (option_and_then (cut_to len) (text_bits word)) None ≡ Some bits → length word ≡ digit_count len
   not_sized word bits true sized is = grind arith
   not_sized word bits false sized is = absurd cc
@@ -71,7 +71,8 @@ module _ (len : ℕ) (line : NumberedLine) where
   row_has_length : IsRow len line → HasLength len line
   row_has_length (bits, is) = row_words line.words bits refl is
 
-  -- the next three lemmas: a row has no offense, a line of another length has `Length`, and any other line has `Digit`
+  -- The next three lemmas say which fault a line has: a row has none, a line of another length has `Length`, and any other line has
+  -- `Digit`.
   told_row : (fault : Option LogFault) → Offends len line fault → IsRow len line → fault ≡ None
   told_row None says row = refl
   told_row (Some (Length n)) says row = absurd (says.1 (row_has_length row))
@@ -96,7 +97,7 @@ module _ (len : ℕ) (line : NumberedLine) where
   told_digit (Some (Extra n)) says long no_row = absurd says
   told_digit (Some (Memory e)) says long no_row = absurd says
 
--- the reported fault is the first offense, also for lines behind rows that were read
+-- if `rows` rows are expected, the reported fault is the first offense, also after some rows were read
 module _ (rows len : ℕ) where
   abbrev IsFirst : List NumberedLine → LogFault → Type 0
   IsFirst lines fault = IsFirstOffense rows len lines fault
@@ -111,7 +112,7 @@ module _ (rows len : ℕ) where
   at_line before line later (Extra n) are few says = absurd says
   at_line before line later (Memory e) are few says = absurd says
 
-  -- if no line is left, too few rows are the first offense
+  -- if no line is left, a reported fault is the first offense
   at_end : (before : List NumberedLine) (log : List (List Bool)) (fault : LogFault) → All (IsRow len) before → length log ≡ length before → rows_after rows len log [] ≡ Err fault → IsFirst before fault
   at_end before log fault are count is = by_few (cases_lt (length log) rows)
     where
@@ -151,7 +152,8 @@ module _ (rows len : ℕ) where
   to : (lines : List NumberedLine) (fault : LogFault) → rows_of_lines rows len lines ≡ Err fault → IsFirst lines fault
   to lines fault is = first [] lines [] fault (All-nil (IsRow len)) refl (omega arith) (sym (rows_after-nil rows len lines) ∙ is)
 
-  -- the converse: the first offense is the reported fault. The answer stays the same when the rows `before` are read
+  -- The converse says that the first offense is the reported fault. Here the rows `before` were read, and the answer for all lines is the
+  -- answer for the lines `later`.
   record Passed (before later : List NumberedLine) (log : List (List Bool)) : Type 0 where
     passed : List (List Bool)
     count : length passed ≡ length log + length before
@@ -169,7 +171,7 @@ module _ (rows len : ℕ) where
         says = after_row rows len log line (before ++ later) row.0 (omega (arith, most)) (told_row len line (row_fault len line) (offends len line) row) row.1 ∙ rest.says;
       }
 
-  -- if a line behind `found` rows gives a fault, all lines give this fault
+  -- if the line after `found` rows has a fault, this fault is the answer for all lines
   behind : (lines : List NumberedLine) (line : NumberedLine) (found : ℕ) (fault : LogFault) → StandsBehind len lines line found → found ≤ rows → ((log : List (List Bool)) (later : List NumberedLine) → length log ≡ found → rows_after rows len log (line ∷ later) ≡ Err fault) → rows_of_lines rows len lines ≡ Err fault
   behind lines line found fault at most says =
       let p = passes at.before (line ∷ at.later) [] at.rows (omega (arith, at.count, most)) in

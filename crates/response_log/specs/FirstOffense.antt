@@ -22,9 +22,9 @@ pub record StandsBehind (len : ℕ) (lines : List NumberedLine) (line : Numbered
   pub rows : All (IsRow len) before
   pub count : length before ≡ found
 
--- The one fault of lines with words, of which `rows` must be rows of `len` bits. If a line must be a row and is not, the first such line has
--- the fault: `Length` if its length is wrong, and otherwise `Digit`. If the first `rows` lines are rows and another line follows, that line
--- has the fault `Extra`. If every line is a row but there are too few, the fault is `Missing`.
+-- The one fault of lines with words, of which `rows` must be rows of `len` bits. If a line must be a row but is not, the first such line
+-- has the fault: `Length` if its length is wrong, and otherwise `Digit`. If the first `rows` lines are rows and another line follows, that
+-- line has the fault `Extra`. If every line is a row but there are fewer than `rows` lines, the fault is `Missing`.
 abbrev pub IsFirstOffense : ℕ → ℕ → List NumberedLine → LogFault → Type 0
 IsFirstOffense rows len lines (Length n) = (line : NumberedLine) × (found : ℕ) × StandsBehind len lines line found × (found < rows) × (line.number ≡ n) × ¬ HasLength len line
 IsFirstOffense rows len lines (Digit n) = (line : NumberedLine) × (found : ℕ) × StandsBehind len lines line found × (found < rows) × (line.number ≡ n) × HasLength len line × ¬ IsRow len line

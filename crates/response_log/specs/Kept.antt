@@ -3,12 +3,12 @@ use Rattle.std.specs.Prelude.{◌≡◌, ℕ, zero, suc, ◌/◌, ◌%◌, ◌<�
 use Rattle.bt_bits.specs.Digits.{digit_bit, digits_of, row_bits}
 use Rattle.bt_bits.specs.Hex.{digit_count}
 
--- `rows` rows of `len` bits each
+-- the rows of `len` bits each that these digits keep
 abbrev pub kept_rows : ℕ → ℕ → List ℕ → List (List Bool)
 kept_rows len zero digits = []
 kept_rows len (suc rows) digits = row_bits len (take (digit_count len) digits) ∷ kept_rows len rows (drop (digit_count len) digits)
 
--- the digits of each row have the bits of the row, and 0 in the bits above them
+-- the digits of each row have the bits of the row, and 0 in each bit above the row's bits
 abbrev pub AreWhole : ℕ → ℕ → List ℕ → Type 0
 AreWhole len zero digits = Unit {0}
 AreWhole len (suc rows) digits = (take (digit_count len) digits ≡ digits_of (row_bits len (take (digit_count len) digits))) × AreWhole len rows (drop (digit_count len) digits)

@@ -15,7 +15,7 @@ pub record NumberedLine : Type 0 where
 abbrev pub line_of : ℕ → Word → List ℕ → NumberedLine
 line_of n word behind = record { number = n; words = word ∷ words_of behind }
 
--- consecutive lines, the first of which has this number
+-- lines in order, of which the first has this number
 abbrev pub numbered : ℕ → List (List ℕ) → List NumberedLine
 numbered n [] = []
 numbered n (line ∷ lines) = record { number = n; words = words_of line } ∷ numbered (n + 1) lines
@@ -27,7 +27,7 @@ holds_word (word ∷ words) = true
 abbrev pub has_words : NumberedLine → Bool
 has_words line = holds_word line.words
 
--- the lines of a text that have words. Lines are numbered from 1, and lines without words count
+-- The lines of a text that have words. All lines are numbered from 1, including lines without words.
 abbrev pub row_lines : List ℕ → List NumberedLine
 row_lines text = filter has_words (numbered 1 (slice_split is_newline text))
 
@@ -37,7 +37,7 @@ only_word [] = None
 only_word (word ∷ []) = Some word
 only_word (word ∷ other ∷ words) = None
 
--- the bits of a line that is a row: one word, the hexadecimal field of `len` bits
+-- the bits of a line that is a row; a row is one word, the hexadecimal field of `len` bits
 abbrev pub bits_of_line : ℕ → NumberedLine → Option (List Bool)
 bits_of_line len line = option_and_then (field_bits len) (only_word line.words)
 
@@ -46,13 +46,13 @@ word_fault len n None = Some (Length n)
 word_fault len n (Some word) =
     if length word == digit_count len then (if is_some (field_bits len word) then None else Some (Digit n)) else Some (Length n)
 
--- the offense of a line that must be a row of `len` bits. It is `Length` if the line is not one word of as many digits as the bits need. It is
--- `Digit` if the length is right, but a byte is not a digit or a bit above the `len` bits is 1
+-- The offense of a line that must be a row of `len` bits. It is `Length` if the line is not one word with as many digits as the bits need.
+-- It is `Digit` if the length is right, but a byte is not a digit, or a bit above the `len` bits is 1.
 abbrev pub row_fault : ℕ → NumberedLine → Option LogFault
 row_fault len line = word_fault len line.number (only_word line.words)
 
--- the offenses of lines, in order, if `rows` rows are wanted: the offense of each of the first `rows` lines that has one, and then every later
--- line, whatever it contains
+-- The offenses of lines, in order, if `rows` rows are expected. First come the offenses of the first `rows` lines. Then each later line is
+-- an offense, whatever it contains.
 abbrev pub offenses : ℕ → ℕ → List NumberedLine → List LogFault
 offenses rows len lines = filter_map (row_fault len) (take rows lines) ++ map (λ line. Extra line.number) (drop rows lines)
 
@@ -80,7 +80,7 @@ pub record IsLogOf (text : List ℕ) (rows len : ℕ) (log : List (List Bool)) :
   pub lines : map (bits_of_line len) (row_lines text) ≡ map Some log
   pub count : length log ≡ rows
 
--- the fault, or nothing for a refusal of memory, since no definition speaks of memory
+-- the fault, or `None` for a refusal of memory, which no definition describes
 abbrev pub log_told : LogFault → Option LogFault
 log_told (Memory e) = None
 log_told fault = Some fault
@@ -90,6 +90,6 @@ pub record HasSize (count len : ℕ) (log : List (List Bool)) : Type 0 where
   pub rows : length log ≡ count
   pub bits : All (λ row. length row ≡ len) log
 
--- one bit of a log
+-- bit `at` of a row of a log, if there is such a bit
 abbrev pub log_bit : List (List Bool) → ℕ → ℕ → Option Bool
 log_bit log row at = option_and_then (λ bits. slice_get bits at) (slice_get log row)

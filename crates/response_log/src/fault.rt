@@ -17,7 +17,7 @@ pub enum LogFault {
     /// No line has an offense, but there are only this many rows.
     #[error("{0} rows")]
     Missing(u64),
-    /// The line with words that comes after the last wanted row, whatever it contains.
+    /// This line has words, but comes after the last expected row. It may contain anything.
     #[error("line {0}: row too many")]
     Extra(u32),
     #[error("out of memory")]

@@ -24,11 +24,11 @@ fn digits_from(digits: &[u8], first: usize, count: usize) -> &[u8]
     &digits[first..first + count]
 }
 
-/// A response log, seen as the list of its rows. Each row is the list of its bits, with the bit that left the chain first at
-/// place 0.
+/// A response log. Contracts see it as the list of its rows. Each row is the list of its bits, with the bit that left the chain first
+/// at place 0.
 #[derive(Drop)]
 pub struct Log {
-    // The values of the digits of each row, the lowest digit first, row after row.
+    // The values of the digits of each row, with the lowest digit first, row after row.
     digits: Vec<u8>,
     rows: u64,
     len: u32,
@@ -47,7 +47,7 @@ impl Model for Log {
 }
 
 impl Log {
-    // Returns the log of `rows` rows of `len` bits each, with these digits.
+    // Returns the log of `rows` rows of `len` bits each, whose digits are `digits`.
     pub(crate) fn of(digits: Vec<u8>, rows: u64, len: u32) -> Log
         requires count { length digits.items ≡ rows * digit_count len }
         requires whole { AreWhole len rows digits.items }
@@ -83,7 +83,7 @@ impl Log {
         let first = row as usize * digit_count(self.len);
         digit_bit(self.digits[first + (at / 4) as usize], at % 4)
     }
-    /// Returns the values of the digits of a row. The row must be one of the log's. Each digit has four bits, and the lowest bit of the
+    /// Returns the values of the digits of a row, which must be one of the log's rows. Each digit has four bits. The lowest bit of the
     /// first digit left the chain first.
     #[inline]
     pub fn digits(&self, row: u64) -> &[u8]

@@ -1,10 +1,10 @@
-//! Laws of the definitions, each as the contract of a function that does nothing.
+//! Laws of the definitions. Each law is the contract of a function that does nothing.
 ghost use Rattle.std.specs.Prelude.{◌≡◌, ◌↔◌, ℕ, Bool, List};
 ghost use Rattle.response_log.specs.FirstOffense.{FirstOffenseIsTold, OneOffenseOrLog};
 ghost use Rattle.response_log.specs.LogRows.{log_rows, IsLogOf};
 
-/// A text gives a log if and only if each line with words is a row, and the number of these lines is the expected number of
-/// rows. The log has their bits. Any other text gives a fault.
+/// A text gives a log if and only if each line with words is a row and there are as many rows as expected. The log has the bits of
+/// these rows. Any other text gives a fault.
 pub fn rows_are_the_lines()
     ensures { (text : List ℕ) (rows len : ℕ) (log : List (List Bool)) → (log_rows text rows len ≡ Ok log) ↔ IsLogOf text rows len log }
 {}

@@ -1,8 +1,8 @@
 //! The response log: what the parts of a board captured while its test ran.
 //!
-//! Each line of the text that has words is a row: the bits that one compared SDR statement of the SVF text captured. The rows
-//! are in the order of these statements. A row is one word of hexadecimal digits. The rightmost digit has the bits that
-//! left the chain first.
+//! Each line with words is a row: the bits that one compared SDR statement of the SVF text captured. The rows are in the
+//! order of these statements. A row is one word of hexadecimal digits. The rightmost digit has the bits that left the chain
+//! first.
 #![tactic(auto)]
 
 mod fault;

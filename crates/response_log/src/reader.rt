@@ -15,10 +15,10 @@ use bt_bits::{HexFault, read_digits};
 use std::alloc::Global;
 use text_lines::{first_line, next_word};
 
-/// Reads a log of `rows` rows with `len` bits each from any bytes. The fault is that of the first line with an offense. A line that
-/// must be a row gives `Length` if it is not one word with as many digits as the bits need. It gives `Digit` if only a digit is
-/// wrong, or a bit above the `len` bits is 1. A line with words gives `Extra` if it comes after the last wanted row. If no line has
-/// an offense but there are too few rows, the fault is `Missing`.
+/// Reads a log of `rows` rows with `len` bits each from any bytes. The error is the fault of the first line with an offense. A line that
+/// must be a row gives `Length` if it is not one word with as many digits as the bits need. It gives `Digit` if its length is right, but a
+/// byte is not a digit or a bit above the `len` bits is 1. A line with words gives `Extra` if it comes after the last expected row. If no
+/// line has an offense but there are fewer than `rows` rows, the error is `Missing`.
 ///
 /// The log takes one byte of memory for each byte of the text.
 pub fn log(alloc: Global, bytes: &[u8], rows: u64, len: u32) -> Result<Log, LogFault>
@@ -29,8 +29,8 @@ pub fn log(alloc: Global, bytes: &[u8], rows: u64, len: u32) -> Result<Log, LogF
     log_of(alloc, Vec::from_slice(alloc, bytes)?, rows, len)
 }
 
-/// Like `log`, but takes ownership of the text and writes the digits over it. Besides the text it takes memory only for one row,
-/// and for no more bytes than the text has.
+/// Like `log`, but takes ownership of the text and writes the digits over it. Besides the text, it needs memory only for one row, and never
+/// more bytes than the text has.
 pub fn log_of(alloc: Global, mut text: Vec<u8>, rows: u64, len: u32) -> Result<Log, LogFault>
     requires { length text.items < 2 ^ 32 }
     ensures read { Gives log_told (λ log. log) (λ said. log_rows text.items rows len ≡ said) result }
@@ -41,9 +41,9 @@ pub fn log_of(alloc: Global, mut text: Vec<u8>, rows: u64, len: u32) -> Result<L
     Ok(Log::of(text, rows, len))
 }
 
-// Writes the digits of all rows, row after row, over the text from its start on, and returns the number of digits. A row has no
-// more digits than its line has bytes, so the digits never reach a line that is still to be read. Each row is first read into
-// `row`, since the last digit of a word is the first digit of its row.
+// Writes the digits of all rows, row after row, over the text from its start, and returns the number of digits. A row has no more digits
+// than its line has bytes, so the digits never reach a line that is still to be read. Each row is first read into `row`, since the last
+// digit of a word is the first digit of its row.
 fn keep_rows(alloc: Global, text: &mut [u8], rows: u64, len: u32) -> Result<usize, LogFault>
     requires { length text.old < 2 ^ 32 }
     ensures read { Gives log_told (λ kept. kept_rows len rows (take kept text.new)) (λ said. log_rows text.old rows len ≡ said) result }
@@ -91,7 +91,7 @@ fn line_at(text: &[u8], from: usize) -> (&[u8], Option<usize>)
     }
 }
 
-// Writes the digits of a row over a text, from a place on.
+// Writes the digits of a row over a text, from place `at` on.
 fn put_row(text: &mut [u8], at: usize, row: &[u8])
     requires { at + length row.now ≤ length text.old }
     ensures { text.new ≡ take at text.old ++ (row.now ++ drop (at + length row.now) text.old) }
