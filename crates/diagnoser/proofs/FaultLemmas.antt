@@ -1,4 +1,4 @@
--- The faults at the suspects' places that explain a log are all single faults that explain the log.
+-- Lemmas which say that the faults at the suspects' places that explain a log are all single faults that explain the log.
 use Rattle.std.proofs.Common.{◌≡◌, ℕ, zero, suc, Bool, true, false, ◌==◌, ◌&&◌, List, length, Result, Ok, Err, Some, ◌⊎◌, inl, inr, get_or, ◌<◌, refl, sym, ap, ◌∙◌, subst}
 use Rattle.std.specs.Prelude.{filter, filter_map, slice_get, All, IfOk}
 use Rattle.std.specs.List.{list_any}
@@ -89,7 +89,7 @@ module _ (board : RawBoard) (rules : IsBoard board) (plan : PlanTables) (lists :
   abbrev candidates : List Single
   candidates = filter_map (fault_at board) suspects
 
-  -- each single fault that explains the log is at the place of some suspect
+  -- if a single fault of the board explains the log, it is at the place of some suspect
   has_candidate : (single : Single) → Has (singles board) single → Explains board single log → Has candidates single
   has_candidate single listed explains =
       let test : Single → Bool = λ other. same_single other single in
@@ -118,12 +118,12 @@ module _ (board : RawBoard) (rules : IsBoard board) (plan : PlanTables) (lists :
           suffice board plan lists log suspects rules are test (λ single is on. only single on)
           ∙ those_filter (λ single. Explains board single log) test candidates faults (λ single candidate on. only single on) (λ single candidate explains. all single candidate explains) those
 
-  -- the faults found among all candidates are the single faults that explain the log
+  -- if a search finds the explaining faults among all candidates, they are the single faults that explain the log
   pub all_found : {V E : Type 0} (view : V → List Single) (result : Result V E) → IfOk result (λ v. Picks (λ single. Explains board single log) (filter_map (fault_at board) (items_between suspects 0 (length suspects))) (view v)) → IfOk result (λ v. AreExplaining board log (view v))
   all_found view (Err e) found = tt
   all_found view (Ok v) found = candidates_explain (view v) (subst (λ (l : List ℕ). Picks (λ single. Explains board single log) (filter_map (fault_at board) l) (view v)) (range_whole suspects) found)
 
--- the nets and the pin of a single fault are on the board
+-- the nets and the pin of a board's single fault are on the board
 pub single_named : (board : RawBoard) (single : Single) → IsSingle board single → IsNamed board single
 single_named board (StuckNet net value) is = (nets_there board (StuckNet net value) is).0
 single_named board (OpenPin pin value) is = ((nets_there board (OpenPin pin value) is).0, by_use is)

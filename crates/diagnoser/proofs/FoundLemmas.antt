@@ -1,4 +1,4 @@
--- The faults that a search finds among the candidates `from..to`.
+-- Lemmas about the faults that a search finds among the candidates `from..to`.
 use Rattle.std.proofs.Common.{◌≡◌, ℕ, ◌+◌, ◌<◌, ◌≤◌, Bool, true, false, cond, List, [], ◌∷◌, ◌++◌, length, Option, Some, None, Result, Ok, Err, refl, sym, ap, ◌∙◌, subst, inl, inr}
 use Rattle.std.specs.Prelude.{filter_map, slice_get, option_and_then, Decides, IfOk}
 use Rattle.std.specs.List.{cons_option}
@@ -37,7 +37,7 @@ pub found_nothing : (s : Search) (i : ℕ) → Found s i i []
 found_nothing s i =
     subst (λ (l : List ℕ). Picks (λ single. Explains s.logged.now.test.board single s.logged.now.log) (filter_map (fault_at s.logged.now.test.board) l) []) (sym (range_none s.suspects.now i)) refl
 
--- the range of one candidate has the fault of this candidate, if there is one
+-- the range of candidate `i` alone has the fault at the candidate's place, if there is such a fault
 one_candidate : (s : Search) (i place : ℕ) → slice_get s.suspects.now i ≡ Some place → faults_between s i (i + 1) ≡ cons_option (fault_at s.logged.now.test.board place) []
 one_candidate s i place at =
     ap (filter_map (fault_at s.logged.now.test.board)) (range_one s.suspects.now i place (slice_get_within s.suspects.now i place at) (sym (get_or_from_slice_get s.suspects.now i place place at)))
@@ -57,7 +57,7 @@ found_one s i place single holds at some decides =
     by_test true decides = inl ([], decides.0 refl, refl, refl)
     by_test false decides = inr ((λ explains. let bad : false ≡ true = decides.1 explains in cc bad), refl)
 
--- facts about a place and about the fault at this place
+-- a place and the fault at this place
 module _ (s : Search) (rules : IsBoard s.logged.now.test.board) (p : IsPlanOf s.logged.now.test.board s.logged.now.test.plan) (are : ArePasses s.logged.now.test.board s.logged.now.test.plan.passes) (search : IsSearch s) (place : ℕ) where
   abbrev plan : PlanTables
   plan = s.logged.now.test.plan
@@ -66,12 +66,12 @@ module _ (s : Search) (rules : IsBoard s.logged.now.test.board) (p : IsPlanOf s.
   place_has fault candidate =
       sym (ap (λ (l : List (Option Single)). listed_at l place) (listed_are s.logged.now.test.board rules plan p are s.universe.now search.universe)) ∙ candidate plan
 
-  -- if the place has no fault, nothing is found
+  -- if the place has no fault, the search finds nothing at it
   pub found_no_fault : (i : ℕ) → slice_get s.suspects.now i ≡ Some place → ((plan : PlanTables) → listed_at (listed_places plan s.universe.now) place ≡ None) → Found s i (i + 1) []
   found_no_fault i at candidate = found_none s i place at (place_has None candidate)
 
   module _ (fault : Single) (candidate : (plan : PlanTables) → listed_at (listed_places plan s.universe.now) place ≡ where_observed plan (Some fault)) where
-    -- the fault at the place is a single fault of the board if some pass observes all its nets
+    -- if some pass observes all nets of the fault at the place, the fault is a single fault of the board
     pub candidate_single : observes_fault plan fault ≡ true → IsSingle s.logged.now.test.board fault
     candidate_single observed =
         place_single s.logged.now.test.board rules place fault (there (slice_get (places_of s.logged.now.test.board) place) (place_has (Some fault) candidate ∙ ap (λ (b : Bool). cond b (Some fault) None) observed))
@@ -95,7 +95,7 @@ module _ (s : Search) (rules : IsBoard s.logged.now.test.board) (p : IsPlanOf s.
             (λ e. (decides.0 e).1, λ explains. decides.1 (on, explains))
         by_test false off = by_answer holds refl off
 
--- the faults found in two neighboring ranges are those found in the joined range
+-- the faults found in two neighboring ranges, joined, are the faults found in the range of both
 found_ranges : (s : Search) (items : ℕ) {E : Type 0} → IsOfRanges {E = E} items (λ from to said. IfOk said (Found s from to))
 found_ranges s items = record {
   nothing = found_nothing s;
@@ -115,7 +115,7 @@ seen_found : (s : Search) (from to : ℕ) {V E : Type 0} (view : V → List Sing
 seen_found s from to view (Ok v) found = found
 seen_found s from to view (Err e) found = tt
 
--- the faults that all pieces find are the faults found among all candidates
+-- if each piece finds the faults of its candidates, the joined faults are the faults found among all candidates
 pub found_pieces : (s : Search) (items pieces : ℕ) → 0 < pieces → items ≡ length s.suspects.now → {V E : Type 0} (view : V → List Single) (Gives : Piece → Result V E → Type 0) (IsRefusal : E → Type 0) (result : Result V E) → GivesTogether view Gives IsRefusal items pieces result →
     ((number : ℕ) (answer : Result V E) → Gives (piece_of items pieces number) answer → IfOk answer (λ v. Found s (piece_start items pieces number) (piece_start items pieces (number + 1)) (view v))) →
     IfOk result (λ v. Found s 0 (length s.suspects.now) (view v))

@@ -1,4 +1,4 @@
--- The laws of diagnoses, from the definitions of diagnoses.
+-- The laws of diagnoses, proved from the definitions of diagnoses.
 use Rattle.std.proofs.Common.{◌≡◌, Bool, List, [], sym, ap, ◌∙◌}
 use Rattle.std.specs.Bool.{one_answer}
 use Rattle.board_defs.specs.declared.board.RawBoard.{RawBoard}
@@ -38,7 +38,7 @@ module _ (listed : SinglesListed) (board : RawBoard) (log : List (List Bool)) (f
     in_order = order_pairs SinglePrecedes faults (those_order Explaining SinglePrecedes (singles board) faults (pairs_order SinglePrecedes (singles board) (listed board rules).in_order) explaining);
   }
 
-  -- if no observable faults explain a log, no single fault explains it
+  -- if no set of observable faults explains a log, no single fault explains it
   pub passing_unexplained : ((single : Single) → IsSingle board single → IsObservable board (set_of single)) → ((single : Single) → IsNonempty (set_of single)) →
       ((faults : FaultSet) → IsObservable board faults → IsNonempty faults → ExplainedBy board faults (svf_row_scans board) log → ⊥) → faults ≡ []
   passing_unexplained observable nonempty unexplained =

@@ -1,4 +1,4 @@
--- The lines of a diagnosis, worked by hand.
+-- Samples of the lines of a diagnosis, worked by hand.
 use Rattle.std.proofs.Common.{◌≡◌, ℕ, List, [], ◌∷◌, ◌++◌, codes, None, refl, true, false}
 use Rattle.std.specs.Fmt.{digits}
 use Rattle.board_defs.specs.declared.board.RawBoard.{RawBoard}

@@ -1,4 +1,4 @@
--- Facts about the list of the items for which a property holds, in order.
+-- Lemmas about the list of the items for which a property holds, in order.
 use Rattle.std.proofs.Common.{◌≡◌, ◌⊎◌, inl, inr, Bool, true, false, cond, List, [], ◌∷◌, ◌++◌, refl, sym, ap, ◌∙◌, subst}
 use Rattle.std.specs.Prelude.{filter}
 use Rattle.board_defs.proofs.Members.{Has}
@@ -35,7 +35,7 @@ module _ {X : Type 0} (P : X → Type 0) where
       by_place below (inl same) = absurd (not (subst P (sym same) holds))
       by_place below (inr later) = below later
 
-  -- there is only one such list
+  -- there is only one list of the items for which the property holds
   pub those_one : (xs a b : List X) → Picks P xs a → Picks P xs b → a ≡ b
   those_one [] a b first second = first ∙ sym second
   those_one (x ∷ xs) a b (inl (rest, holds, is, more)) (inl (rest', holds', is', more')) = is ∙ (ap (λ (l : List X). x ∷ l) (those_one xs rest rest' more more') ∙ sym is')

@@ -35,7 +35,7 @@ abbrev pub open_line : Option NetPin → Bool → List ℕ
 open_line None value = []
 open_line (Some pin) value = line_of (codes "open " ∷ pin.part ∷ codes "." ∷ pin.pin ∷ codes " " ∷ bit_word value ∷ [])
 
--- the line of a short of two nets; if one net dominates, the name of that net comes first
+-- The line of a short of two nets. If one net dominates, the name of that net comes first.
 abbrev pub pair_line : List ℕ → List ℕ → List ℕ → List ℕ
 pair_line word x y = line_of (codes "short " ∷ word ∷ codes " " ∷ x ∷ codes " " ∷ y ∷ [])
 
@@ -55,13 +55,13 @@ fault_line board (Short a b kind) = short_line kind (net_name board a) (net_name
 abbrev pub fail_line : ℕ → List ℕ
 fail_line count = line_of (codes "FAIL " ∷ decimal count ∷ [])
 
--- the text of a diagnosis: the line `PASS`, or the line `FAIL` with the number of faults and then a line for each fault
+-- The text of a diagnosis. It is the line `PASS`, or the line `FAIL` with the number of faults, followed by a line for each fault.
 unfoldable pub diag_text : RawBoard → Bool → List Single → List ℕ
 diag_text board true faults = line_of (codes "PASS" ∷ [])
 diag_text board false faults = fail_line (length faults) ++ flat_map (fault_line board) faults
 
--- `text` is the diagnosis of a log of the board's test; `pass` is true exactly if every compared bit is the expected bit; `faults` are the
--- single faults that explain the log
+-- `text` is the diagnosis of a log of the board's test. `pass` is true exactly if every compared bit is the expected bit. `faults` are the
+-- single faults that explain the log.
 pub record IsDiagText (board : RawBoard) (log : List (List Bool)) (text : List ℕ) : Type 0 where
   pub pass : Bool
   pub passes : IsTrue pass ↔ (IsExpected board (svf_row_scans board) log)

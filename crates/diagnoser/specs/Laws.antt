@@ -17,7 +17,7 @@ pub record ListsExplaining (board : RawBoard) (log : List (List Bool)) (faults :
 abbrev pub ExplainingListed : Type 0
 ExplainingListed = (board : RawBoard) (log : List (List Bool)) (faults : List Single) → IsBoard board → AreExplaining board log faults → ListsExplaining board log faults
 
--- a log has at most one list of the single faults that explain the log, in order
+-- a log has at most one list of the single faults that explain it, in order
 abbrev pub OneList : Type 0
 OneList = (board : RawBoard) (log : List (List Bool)) (faults others : List Single) → AreExplaining board log faults → AreExplaining board log others → faults ≡ others
 

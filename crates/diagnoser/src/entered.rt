@@ -1,7 +1,8 @@
-// The entry of a gate.
+// A value that shows that a gate was entered.
 use bt_base::Gate;
 
-/// Shows that a gate was entered. Only `Entered::by` makes it, so a function that takes it can't run before the gate is entered.
+/// Shows that a gate was entered. Only `Entered::by` makes this value, so a function that takes it cannot run before the gate is
+/// entered.
 #[derive(Drop)]
 pub struct Entered {
     _entry: (),

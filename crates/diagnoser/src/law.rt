@@ -11,8 +11,8 @@ pub fn explaining_listed()
     board_law::singles_listed();
 }
 
-/// A log has at most one list of explaining faults in the order of the single faults. Neither the number of workers nor the gate can
-/// therefore change the list.
+/// A log has at most one list of explaining faults in the order of the single faults. So neither the number of workers nor the gate
+/// can change the list.
 pub fn one_list()
     ensures { OneList }
 {}
@@ -22,7 +22,7 @@ pub fn one_diagnosis()
     ensures { OneDiagnosis }
 {}
 
-/// No single fault explains a log in which every compared bit is the expected one.
+/// If every compared bit of a log is the expected bit, no single fault explains the log.
 pub fn passing_unexplained()
     ensures { PassingUnexplained }
 {

@@ -1,6 +1,7 @@
 //! The diagnosis of a log of a board's test: the single faults of the board that explain the log, and the text that lists them.
 //!
-//! Faults that may explain the log are tried in pieces, which run side by side. The result does not depend on the number of pieces.
+//! The faults that may explain the log are tried in pieces, which run side by side. The result does not depend on the number of
+//! pieces.
 #![tactic(auto)]
 
 mod diagnosis;

@@ -76,10 +76,10 @@ fn put_list<K: Sink>(
     put_faults(board, faults, line, out)
 }
 
-/// Writes a diagnosis. If `pass` is true, this is the line `PASS`. Otherwise it is the line `FAIL` with the number of faults, and then a
-/// line for each fault. The nets and pins of the faults must be on the board. A line of at most `MAX_LINE` bytes is put to the sink in one
-/// call. A longer line is put in pieces of `MAX_LINE` bytes, and the last piece has the rest. Allocates nothing. `line` serves as a buffer,
-/// and its content afterwards is unspecified. Fails only if the sink fails. The sink then got a prefix of the text.
+/// Writes a diagnosis. If `pass` is true, this is the line `PASS`. Otherwise it is the line `FAIL` with the number of faults, followed by a
+/// line for each fault. The nets and pins of the faults must be on the board. A line of at most `MAX_LINE` bytes goes to the sink as one
+/// piece. A longer line goes out in pieces of `MAX_LINE` bytes, and the last piece has the rest. Allocates nothing. `line` is used as a
+/// buffer, and its content afterwards is unspecified. Fails only if the sink fails, which then took a prefix of the text.
 pub fn write_diagnosis<K: Sink>(
     board: &Board,
     pass: bool,

@@ -39,8 +39,8 @@ fn is_ruled_out(search: Search<'_, '_>, fault: Single) -> bool
 }
 
 // Returns whether some pass observes all nets of a candidate's fault and the fault explains the log. A fault at a place is a single fault
-// of the board if some pass observes all its nets. The telling net is asked first, since it rules out most candidates. The entry of the gate
-// is an argument so that no candidate is tried before it.
+// of the board if some pass observes all its nets. The telling net is tried first, since it rules out most candidates. The function takes
+// the entry of the gate so that no candidate is tried before the gate is entered.
 fn explains(search: Search<'_, '_>, fault: Single, _entered: &Entered) -> bool
     requires search { IsSearch search }
     requires fault { observes_fault search.logged.now.test.plan fault ≡ true → IsSingle search.logged.now.test.board fault }
@@ -55,8 +55,8 @@ fn explains(search: Search<'_, '_>, fault: Single, _entered: &Entered) -> bool
     search.logged.matches_by(fault, search.nets)
 }
 
-// Enters the gate for a piece, and then returns the fault of candidate `i` if this fault explains the log. `near` speeds up the look-up of
-// the fault, as in `Universe::candidate`.
+// Enters the gate for a piece, and then returns the fault of candidate `i` if this fault explains the log. `near` speeds up looking up the
+// fault, as in `Universe::candidate`.
 fn try_candidate<G: Gate>(
     search: Search<'_, '_>,
     piece: u32,

@@ -8,7 +8,8 @@ use Rattle.side_by_side.specs.Pieces.{items_between}
 use Rattle.diagnoser.specs.declared.search.Search.{Search}
 use Rattle.fault_sim.specs.Diagnosis.{Picks}
 
--- the nets are those that differ in the log, the candidates are the suspects, and the telling net is in a pass of the log
+-- `nets` are the nets that differ in the log, the candidates are the suspects, and the telling net, if there is one, is in a pass of
+-- the log
 pub record IsSearch (s : Search) : Type 0 where
   pub differing : AreDiffering s.logged.now.test.board s.logged.now.test.plan s.logged.now.log s.nets.now
   pub telling : IfSome s.telling.now (λ net. net.pass.logged ≡ s.logged.now)
