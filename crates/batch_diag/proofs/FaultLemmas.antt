@@ -1,4 +1,4 @@
--- The answer for a block's lines in the whole text, from the answer for the block's own text.
+-- Lemmas which lead from the answer for a block's own text to the answer for the block's lines in the whole text.
 use Rattle.std.proofs.Common.{◌≡◌, ℕ, zero, suc, ◌+◌, ◌≤◌, Bool, true, false, cond, nat_lt, Option, Some, None, Ok, Err, List, [], ◌∷◌, ◌++◌, length, map, take, drop, refl, sym, ap, ◌∙◌, subst, arith}
 use Rattle.std.specs.Prelude.{IfSome, filter_map, ◌==◌, is_some}
 use Rattle.std.specs.List.{slice_split, onto_first, cons_option}
@@ -13,7 +13,7 @@ use Rattle.batch_diag.specs.OwnTexts.{moved_fault}
 use Rattle.batch_diag.specs.inner.Cutting.{rows_from, in_block, moved_inner, IsUpTo}
 use Rattle.batch_diag.proofs.CutLemmas.{rows_at, with_line, worded_line}
 
--- the line with its number in a text that has `before` more lines before it
+-- the line with the number that it has in a text with `before` more lines in front
 abbrev moved_line : ℕ → NumberedLine → NumberedLine
 moved_line before line = record { number = before + line.number; words = line.words }
 
@@ -44,7 +44,7 @@ wanted_moved before rows len lines =
     by_test true = refl
     by_test false = refl
 
--- the answer for a line and the later lines: the line's fault, or the later answer if the line has none
+-- The answer for a line and the later lines. It is the line's fault, or the later answer if the line has no fault.
 abbrev front : Option LogFault → LogAnswer → LogAnswer
 front None answer = answer
 front (Some fault) answer = Err fault
@@ -125,7 +125,7 @@ wanted_up_to last rows len lines = by_test (nat_lt (length lines) rows)
     by_test true = tt
     by_test false = tt
 
--- the number of bytes of the lines, with one byte more for each line
+-- the number of bytes of the lines, plus one byte for each line
 abbrev size_of : List (List ℕ) → ℕ
 size_of [] = 0
 size_of (line ∷ lines) = length line + 1 + size_of lines

@@ -1,4 +1,4 @@
--- The laws of batches: which lines are a batch, and which fault is the first.
+-- Lemmas from which the laws of batches follow: which lines are a batch, and which fault is the first.
 use Rattle.std.proofs.Common.{◌≡◌, ℕ, ◌+◌, Bool, true, false, cond, not, Option, Some, None, Ok, Err, List, [], ◌∷◌, ◌++◌, length, suc, refl, sym, ap, ◌∙◌, subst, arith, append_assoc, append-nil}
 use Rattle.std.specs.Prelude.{All, codes, ◌&&◌}
 use Rattle.std.proofs.lemmas.List.Elements.{All-nil, All-cons, All-head, All-tail}
@@ -16,7 +16,7 @@ use Rattle.batch_diag.specs.Laws.{IsBlockOf, AreBlocksOf, BlocksAreTheLines, IsF
 abbrev IsRow : NumberedLine → Type 0
 IsRow line = begins_block line ≡ false
 
--- a title that names a board has two words, `BOARD` and the id
+-- if a title names a board, it has two words, which are `BOARD` and the id
 pub title_words : (words : List Word) → is_title words ≡ true → names_board words ≡ true → (words ≡ codes "BOARD" ∷ id_of words ∷ []) × (is_word (id_of words) ≡ true)
 title_words [] title names = absurd cc
 title_words (word ∷ []) title names = absurd cc
@@ -33,7 +33,7 @@ not_wrong line id is word =
 row_not_wrong : (line : NumberedLine) → begins_block line ≡ false → is_wrong_title line ≡ false
 row_not_wrong line row = ap (λ (b : Bool). b && not (names_board line.words)) row
 
--- lines that are no titles change neither the first wrong title nor the blocks of the lines after them
+-- if no line in `own` is a title, the lines in `own` do not change the first fault of a title
 rows_right : (own later : List NumberedLine) → All IsRow own → title_fault (own ++ later) ≡ title_fault later
 rows_right [] later rows = refl
 rows_right (line ∷ own) later rows =
@@ -56,7 +56,7 @@ rows_up_to [] later rows none = none
 rows_up_to (line ∷ own) later rows none =
     up_to_row line (own ++ later) (All-head IsRow line own rows) ∙ ap (λ (ls : List NumberedLine). line ∷ ls) (rows_up_to own later (All-tail IsRow line own rows) none)
 
--- the answer for the lines of some blocks is these blocks
+-- if lines are the lines of some blocks, the answer for them is these blocks
 module _ (rows len : ℕ) where
   block_title : (title : NumberedLine) (own : List NumberedLine) (block : Block) → IsBlockOf rows len title own block → begins_block title ≡ true
   block_title title own block is = is_title_of title.words block.id is.words
@@ -88,7 +88,7 @@ module _ (rows len : ℕ) where
       ∙ ap (λ (log : LogAnswer). block_then block.id n log (logs_from rows len (n + 1) (blocks_of later))) is.log
       ∙ ap (onto block) (said (n + 1) later blocks more)
 
-  -- the other direction: the lines are those before the first title, and then the lines of these blocks
+  -- The converse: the lines are the lines before the first title, followed by the lines of these blocks.
   record Split (lines : List NumberedLine) (blocks : List Block) : Type 0 where
     own : List NumberedLine
     later : List NumberedLine
@@ -111,7 +111,7 @@ module _ (rows len : ℕ) where
     are = split.are;
   }
 
-  -- the blocks are the block of a title, whose lines are a log, and the blocks of the rest
+  -- the blocks are the block of a title, whose lines are a log, followed by the blocks of the rest
   record Behind (id : Word) (own : List NumberedLine) (rest : Answer) (blocks : List Block) : Type 0 where
     log : List (List Bool)
     more : List Block
@@ -163,7 +163,7 @@ module _ (rows len : ℕ) where
       let faults = right_behind line lines (is_wrong_title line) refl none in
       split_line n line lines blocks (begins_block line) refl faults.0 is (λ m later said. split m lines later faults.1 said)
 
-  -- if no line comes before the first title, the lines are those of these blocks
+  -- if no line comes before the first title, the lines are the lines of these blocks
   from_start : (lines : List NumberedLine) (blocks : List Block) → start_fault lines ≡ None → Split lines blocks → AreBlocksOf rows len lines blocks
   from_start lines blocks none split = subst (λ (ls : List NumberedLine). AreBlocksOf rows len ls blocks) (sym (split.all ∙ ap (λ (ls : List NumberedLine). ls ++ split.later) (sym split.first ∙ by_lines lines none))) split.are
     where
@@ -175,7 +175,7 @@ module _ (rows len : ℕ) where
       by_lines [] none = refl
       by_lines (line ∷ lines) none = by_line line lines (begins_block line) refl none
 
-  -- if the answer is blocks, no line and no title has a fault, and all blocks have logs
+  -- no line and no title has a fault, and each block has a log; this is the case if the answer is blocks
   pub record NoFault (lines : List NumberedLine) (blocks : List Block) : Type 0 where
     pub start : start_fault lines ≡ None
     pub titles : title_fault lines ≡ None
@@ -226,7 +226,7 @@ front (line ∷ lines) = by_title (begins_block line) refl (front lines)
 abbrev IsRight : NumberedLine → Type 0
 IsRight line = is_wrong_title line ≡ false
 
--- lines without a fault of a title have no wrong title
+-- if no title has a fault, no title is wrong
 all_right : (lines : List NumberedLine) → title_fault lines ≡ None → All IsRight lines
 all_right [] none = All-nil IsRight
 all_right (line ∷ lines) none = by_wrong (is_wrong_title line) refl none (all_right lines)
@@ -235,7 +235,7 @@ all_right (line ∷ lines) none = by_wrong (is_wrong_title line) refl none (all_
     by_wrong true is none below = absurd cc
     by_wrong false is none below = All-cons IsRight line lines is (below none)
 
--- the fault is that of the first wrong title, with the lines before and after it
+-- `fault` is the fault of the first wrong title; `before` and `later` are the lines before and after it
 record Wrong (lines : List NumberedLine) (fault : BatchFault) : Type 0 where
   before : List NumberedLine
   line : NumberedLine
@@ -264,7 +264,7 @@ none_before_start (line ∷ lines) none = by_title (begins_block line) refl none
     by_title false is none = absurd cc
 
 module _ (rows len : ℕ) where
-  -- the fault is that of the first block whose lines are no log; the first of the blocks has the number `n`
+  -- `fault` is the fault of the first block whose lines are not a log; the first of the blocks has the number `n`
   record NoLog (n : ℕ) (lines : List NumberedLine) (fault : BatchFault) : Type 0 where
     front : List NumberedLine
     blocks : List Block
@@ -394,7 +394,7 @@ module _ (rows len : ℕ) where
   first_fault lines fault None (Some other) start title is = let same : other ≡ fault = cc in title_first lines fault start (title ∙ ap Some same)
   first_fault lines fault (Some other) title start title_is is = let same : other ≡ fault = cc in start_first lines fault (start ∙ ap Some same)
 
-  -- the other direction: the first fault is reported
+  -- The converse: the first fault is the reported fault. If no line comes before the first title, no line has a fault.
   starts : (lines : List NumberedLine) → up_to_title lines ≡ [] → start_fault lines ≡ None
   starts [] none = refl
   starts (line ∷ lines) none = by_title (begins_block line) refl
@@ -411,7 +411,7 @@ module _ (rows len : ℕ) where
   none_wrong : (lines : List NumberedLine) → All IsRight lines → title_fault lines ≡ None
   none_wrong lines right = ap title_fault (sym (append-nil lines)) ∙ right_before lines [] right
 
-  -- if the rest begins with a title or is empty, so do the lines of blocks with the rest after them
+  -- if the rest is empty or begins with a title, so do the lines of some blocks followed by the rest
   titles_first : (before : List NumberedLine) (blocks : List Block) (rest : List NumberedLine) → AreBlocksOf rows len before blocks → up_to_title rest ≡ [] → up_to_title (before ++ rest) ≡ []
   titles_first before [] rest are first = ap (λ (ls : List NumberedLine). up_to_title (ls ++ rest)) are ∙ first
   titles_first before (block ∷ blocks) rest (title, own, later, is, more, all) first =

@@ -1,4 +1,4 @@
--- Each block of a batch is read and diagnosed as if it were alone.
+-- Lemmas which say that each block of a batch is read and diagnosed as if it were alone.
 use Rattle.std.proofs.Common.{◌≡◌, ℕ, ◌+◌, Bool, true, false, cond, not, Option, Some, None, Ok, Err, List, [], ◌∷◌, ◌++◌, length, suc, refl, sym, ap, ◌∙◌, subst, arith, append-nil, length-append}
 use Rattle.std.specs.Prelude.{All, ◌&&◌}
 use Rattle.std.specs.List.{slice_split, onto_first, join_with_byte, flat_map}
@@ -36,7 +36,7 @@ HasRows text = All IsNoTitle text.below
 abbrev Names : BlockText → Type 0
 Names text = names_board (words_of text.title) ≡ true
 
--- the lines consist of lines without a title, and then of blocks that each begin with a title
+-- the lines are some lines that are not titles, followed by blocks that each begin with a title
 record Cut (lines : List (List ℕ)) : Type 0 where
   front : List (List ℕ)
   texts : List BlockText
@@ -115,7 +115,7 @@ own_rows_at : (n : ℕ) (lines : List (List ℕ)) → All IsClean lines → rows
 own_rows_at n [] clean = let none : words_of [] ≡ [] = words_of_empty [] refl in sym (ap (λ words. with_line n words []) none)
 own_rows_at n (line ∷ lines) clean = ap (rows_at n) (sym (split_join line lines clean))
 
--- the blocks with the numbers that their lines have in the whole text; the first title is line `m`
+-- The blocks, with the numbers that their lines have in the whole text. The first title is line `m`.
 abbrev placed : ℕ → List BlockText → List BlockLines
 placed m [] = []
 placed m (text ∷ texts) = record { id = id_of (words_of text.title); lines = rows_at (m + 1) text.below } ∷ placed (m + 1 + length text.below) texts
@@ -140,7 +140,7 @@ blocks_placed n front (text ∷ texts) none titles below =
     ∙ ap (λ (ls : List NumberedLine). record { id = id_of (words_of text.title); lines = ls } ∷ blocks_of (rows_at (m + 1) (text.below ++ lines_in texts))) (below_title m text texts later own)
     ∙ ap (λ (bs : List BlockLines). record { id = id_of (words_of text.title); lines = rows_at (m + 1) text.below } ∷ bs) (blocks_placed (m + 1) text.below texts own later (All-tail HasRows text texts below))
 
--- lines that are no titles do not change the first fault of a title
+-- if lines are not titles, they do not change the first fault of a title
 title_front : (n : ℕ) (words : List Word) (rows later : List NumberedLine) → is_title words ≡ false → title_fault (rows ++ later) ≡ title_fault later → title_fault (with_line n words rows ++ later) ≡ title_fault later
 title_front n [] rows later title below = below
 title_front n (word ∷ words) rows later title below =
@@ -190,7 +190,7 @@ titles_none m (text ∷ texts) below names =
     ∙ titles_after (m + 1) text.below texts (All-head HasRows text texts below)
     ∙ titles_none (m + 1 + length text.below) texts (All-tail HasRows text texts below) (All-tail Names text texts names)
 
--- the lines before the first title have no words, if no line has the fault that it comes before the first title
+-- if no line with words comes before the first title, the lines before it have no words
 blank_front : (n : ℕ) (front later : List (List ℕ)) → All IsNoTitle front → start_fault (rows_at n (front ++ later)) ≡ None → All IsBlank front
 blank_front n [] later none start = All-nil IsBlank
 blank_front n (line ∷ front) later none start =
@@ -229,7 +229,7 @@ onto_fails : (block : Block) (rest : Answer) (fault : BatchFault) → onto block
 onto_fails block (Ok more) fault is = absurd cc
 onto_fails block (Err other) fault is = cc
 
--- the answer for blocks, from the answers for the own text of each block
+-- the answer for blocks, which follows from the answers for the own text of each block
 module _ (rows len : ℕ) where
   abbrev Rest : ℕ → ℕ → BlockText → List BlockText → Answer
   Rest k m text texts = logs_from rows len (k + 1) (placed (m + 1 + length text.below) texts)
@@ -377,7 +377,7 @@ module _ (rows len : ℕ) where
         ap (λ (o : Option BatchFault). unless o (unless (title_fault (row_lines text)) (logs_from rows len 1 (blocks_of (row_lines text))))) start
         ∙ ap (λ (o : Option BatchFault). unless o (logs_from rows len 1 (blocks_of (row_lines text)))) titles ∙ logs
 
--- a fault of a line before the first title, or of a title, is not the fault of a block
+-- the fault of a line before the first title is not the fault of a block
 no_inner_start : (lines : List NumberedLine) (board : ℕ) (fault : LogFault) → start_fault lines ≡ Some (Inner board fault) → ⊥
 no_inner_start [] board fault is = absurd cc
 no_inner_start (line ∷ lines) board fault is = by_test (begins_block line) is

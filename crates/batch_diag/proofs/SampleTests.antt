@@ -1,4 +1,4 @@
--- The answers of small texts, and the text of a small batch, by the definition.
+-- Samples of the answers that the definition gives for small texts, and of the text of a small batch.
 use Rattle.std.proofs.Common.{◌≡◌, ℕ, true, false, Ok, Err, List, [], ◌∷◌, ◌++◌, map, replicate, None, refl}
 use Rattle.std.specs.Prelude.{codes, alloc_error}
 use Rattle.std.specs.Fmt.{digits}
@@ -13,7 +13,7 @@ use Rattle.batch_diag.specs.declared.fault.BatchFault.TheVariants.{Start, Title,
 use Rattle.batch_diag.specs.Batch.{Answer, IsOfLines, batch_of}
 use Rattle.batch_diag.specs.BatchText.{title_line, batch_text}
 
--- a comment line; a block with one row; and a block with the same id, whose title has a comment
+-- a text with a comment line, a block with one row, and a block with the same id whose title has a comment
 two_blocks : batch_of (codes "# 0\nBOARD A\n1\n\r\n BOARD\tA # B\n2") 1 2 ≡ Ok (record { id = codes "A"; log = (true ∷ false ∷ []) ∷ [] } ∷ record { id = codes "A"; log = (false ∷ true ∷ []) ∷ [] } ∷ [])
 unfolding words_of
 two_blocks = refl
@@ -26,22 +26,22 @@ no_board_yet : batch_of (codes "\n1\nBOARD A B") 1 2 ≡ Err (Start 2)
 unfolding words_of
 no_board_yet = refl
 
--- a wrong title is reported rather than the fault of an earlier block
+-- the fault of a wrong title is reported even if an earlier block has a fault
 wrong_title : batch_of (codes "BOARD A\nBOARD B\n1\nBOARD #C\n1") 1 2 ≡ Err (Title 4)
 unfolding words_of
 wrong_title = refl
 
--- the fault of the first faulty block is reported, and not that of a later block
+-- if several blocks have faults, the fault of the first of them is reported
 first_block : batch_of (codes "BOARD A\nBOARD B\n4") 1 2 ≡ Err (Inner 1 (Missing 0))
 unfolding words_of
 first_block = refl
 
--- the line number in a fault is that in the whole text
+-- the line number in a fault is the number of the line in the whole text
 line_of_text : batch_of (codes "BOARD A\n1\nBOARD B\n#\n4") 1 2 ≡ Err (Inner 2 (Digit 5))
 unfolding words_of
 line_of_text = refl
 
--- the answer for logs of one row of two bits
+-- the answer for a text whose logs have one row of two bits
 abbrev of_one_row : List ℕ → Answer
 of_one_row text = batch_of text 1 2
 
@@ -54,7 +54,7 @@ wrong_logs : map of_one_row (codes "BOARD A\n1\n1" ∷ codes "BOARD A\n11" ∷ c
 unfolding words_of
 wrong_logs = refl
 
--- titles with two ids, with none, and with an id that has a byte which no word may have
+-- wrong titles: a title with two ids, a title without an id, and an id with a byte that no word may have
 wrong_titles : map of_one_row (codes "BOARD A B\n1" ∷ codes "BOARD" ∷ (codes "BOARD " ++ 127 ∷ codes "\n1") ∷ []) ≡ Err (Title 1) ∷ Err (Title 1) ∷ Err (Title 1) ∷ []
 unfolding words_of
 wrong_titles = refl
@@ -83,7 +83,7 @@ too_long_id : batch_of (codes "BOARD " ++ replicate 256 65) 0 2 ≡ Err (Title 1
 unfolding words_of
 too_long_id = refl
 
--- the text of a batch for a board with two nets: the title of each block, followed by its diagnosis
+-- a net of a board, for the text of a batch; the text has the title of each block, followed by its diagnosis
 abbrev named : List ℕ → Net
 named name = record { name = name; supply = false; pull = None; pins = [] }
 
@@ -97,6 +97,6 @@ two_verdicts : batch_text two_nets (rowless (codes "A") ∷ rowless (codes "B") 
 unfolding diag_text digits
 two_verdicts = refl
 
--- a refusal of memory is not allowed as the fault of a block
+-- the fault of a block is never a refusal of memory
 never_memory : IsOfLines (Inner 1 (LogMemory alloc_error)) ≡ ⊥
 never_memory = refl

@@ -1,4 +1,4 @@
--- The text of a batch.
+-- Lemmas about the text of a batch.
 use Rattle.std.proofs.Common.{◌≡◌, ℕ, ◌+◌, ◌<◌, ◌≤◌, ◌==◌, false, true, List, [], ◌∷◌, ◌++◌, length, get_or, drop, Result, Ok, Err, IsErr, refl, sym, ap, ◌∙◌, arith, append_assoc}
 use Rattle.std.proofs.lemmas.List.{drop_more, drop_all}
 use Rattle.std.proofs.lemmas.Bool.{eqb-true}
@@ -32,11 +32,11 @@ one_batch_text one board (block ∷ blocks) text other (diagnosis, later, is, ar
     all ∙ ap (λ (d : List ℕ). title_line block.id ++ (d ++ later)) (one board block.log diagnosis diagnosis' is is')
     ∙ ap (λ (l : List ℕ). title_line block.id ++ (diagnosis' ++ l)) (one_batch_text one board blocks later later' are are') ∙ sym all'
 
--- the texts of the blocks from number `i` on
+-- the texts of the blocks from block `i` on
 abbrev pub texts_after : RawBoard → List Block → List Verdict → ℕ → List ℕ
 texts_after board blocks verdicts i = batch_text board (drop i blocks) (drop i verdicts)
 
--- once the sink also takes `rest`, it has taken the whole text since `start`
+-- after the sink also takes `rest`, it has taken the whole text since `start`
 abbrev pub Completes : Shown → Shown → List ℕ → List ℕ → Type 0
 Completes start now rest whole = (new : Shown) (r : Result (Unit {0}) PutFault) → Prints now new [] [] rest r → Prints start new [] [] whole r
 
@@ -63,7 +63,7 @@ module _ (board : RawBoard) (blocks : List Block) (verdicts : List Verdict) (sam
   all_put i {start} {now} past completes =
       completes now (Ok tt) (prints_same (sym (ap (λ (bs : List Block). batch_text board bs (drop i verdicts)) (drop_all i blocks past))) (prints_none tt refl))
 
--- if there are blocks, printing their text is one put of it, since the text is not empty
+-- if there are blocks, their text is not empty, so printing it is one put of it
 pub puts_some : {T E : Type 0} {old new : Shown} {r : Result T E} (board : RawBoard) (blocks : List Block) (verdicts : List Verdict) → length verdicts ≡ length blocks → 0 < length blocks → Prints old new [] [] (batch_text board blocks verdicts) r → Puts old new (batch_text board blocks verdicts) r
 puts_some board [] verdicts same some prints = absurd (omega (arith, some))
 puts_some board (block ∷ blocks) [] same some prints = absurd (omega (arith, same))

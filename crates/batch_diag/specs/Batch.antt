@@ -21,18 +21,18 @@ abbrev pub first_or_none : List Word → Word
 first_or_none [] = []
 first_or_none (word ∷ words) = word
 
--- the second word of a title, which is the id of a board, or no bytes if there is none
+-- the second word of a title, which is the id of a board, or no bytes if there is no second word
 abbrev pub id_of : List Word → Word
 id_of [] = []
 id_of (word ∷ words) = first_or_none words
 
--- true if there is exactly one word and it keeps the word rule
+-- true if there is exactly one word and this word keeps the word rule
 abbrev pub is_id : List Word → Bool
 is_id [] = false
 is_id (id ∷ []) = is_word id
 is_id (id ∷ other ∷ words) = false
 
--- true if exactly one word follows the first word and it keeps the word rule
+-- true if exactly one word follows the first word and this second word keeps the word rule
 abbrev pub names_board : List Word → Bool
 names_board [] = false
 names_board (word ∷ words) = is_id words
@@ -40,7 +40,7 @@ names_board (word ∷ words) = is_id words
 abbrev pub is_wrong_title : NumberedLine → Bool
 is_wrong_title line = begins_block line && not (names_board line.words)
 
--- the fault of the first line with words, if this line is no title
+-- the fault of the first line with words, if this line is not a title
 abbrev pub start_fault : List NumberedLine → Option BatchFault
 start_fault [] = None
 start_fault (line ∷ lines) = if begins_block line then None else Some (Start line.number)
@@ -71,12 +71,14 @@ abbrev pub onto : Block → Answer → Answer
 onto block (Ok blocks) = Ok (block ∷ blocks)
 onto block (Err fault) = Err fault
 
--- the answer for a block and the later blocks: the block's fault if its lines are no log, or else the later answer with the block in front
+-- The answer for a block and the later blocks. If the block's lines are a log, it is the later answer with the block in front. Otherwise it
+-- is the block's fault.
 abbrev pub block_then : Word → ℕ → Result (List (List Bool)) LogFault → Answer → Answer
 block_then id board (Ok log) later = onto (record { id = id; log = log }) later
 block_then id board (Err fault) later = Err (Inner board fault)
 
--- the blocks with their logs, or the fault of the first block whose lines are no log; the first block of the list has the number `board`
+-- The blocks with their logs, or the fault of the first block whose lines are not a log. The first block of the list has the number
+-- `board`.
 abbrev pub logs_from : ℕ → ℕ → ℕ → List BlockLines → Answer
 logs_from rows len board [] = Ok []
 logs_from rows len board (block ∷ blocks) = block_then block.id board (rows_of_lines rows len block.lines) (logs_from rows len (board + 1) blocks)
@@ -85,9 +87,9 @@ abbrev pub unless : Option BatchFault → Answer → Answer
 unless None answer = answer
 unless (Some fault) answer = Err fault
 
--- The answer for the lines of a text that have words. If the first line is no title, the answer is the fault of this line. Otherwise it is
--- the fault of the first wrong title, if there is one. Otherwise it is the fault of the first block whose lines are no log, if there is
--- one, or else all blocks. Blocks are counted from 1. A line has its number in the whole text.
+-- The answer for the lines of a text that have words. If the first line is not a title, the answer is the fault of this line. Otherwise, if
+-- there is a wrong title, it is the fault of the first wrong title. Otherwise, if the lines of some block are not a log, it is the fault of
+-- the first such block. Otherwise it is all blocks. Blocks are counted from 1. A line has its number in the whole text.
 abbrev pub blocks_of_lines : ℕ → ℕ → List NumberedLine → Answer
 blocks_of_lines rows len lines = unless (start_fault lines) (unless (title_fault lines) (logs_from rows len 1 (blocks_of lines)))
 
@@ -100,7 +102,7 @@ abbrev pub batch_told : BatchFault → Option BatchFault
 batch_told (Memory e) = None
 batch_told fault = Some fault
 
--- if the fault is that of a block, it is not a refusal of memory
+-- if the fault is the fault of a block, it is not a refusal of memory
 abbrev pub IsOfLines : BatchFault → Type 0
 IsOfLines (Start n) = Unit {0}
 IsOfLines (Title n) = Unit {0}

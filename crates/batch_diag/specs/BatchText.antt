@@ -20,7 +20,7 @@ batch_text board [] verdicts = []
 batch_text board (block ∷ blocks) [] = []
 batch_text board (block ∷ blocks) (verdict ∷ verdicts) = block_text board block verdict ++ batch_text board blocks verdicts
 
--- the text has for each block, in order, its title and the diagnosis of its log
+-- for each block, in order, the text has the block's title and the diagnosis of the block's log
 abbrev pub IsBatchText : RawBoard → List Block → List ℕ → Type 0
 IsBatchText board [] text = text ≡ []
 IsBatchText board (block ∷ blocks) text =

@@ -1,4 +1,4 @@
--- Each block of a batch alone: the lines below its title are a text of their own, which holds the block's log.
+-- Each block of a batch as a text of its own. The lines below the block's title are this text, which holds the block's log.
 use Rattle.std.specs.Prelude.{◌≡◌, ◌↔◌, ℕ, ◌+◌, Bool, true, false, List, [], ◌∷◌, ◌++◌, length, All, Ok, Err, codes}
 use Rattle.std.specs.List.{slice_split, join_with_byte, flat_map}
 use Rattle.text_lines.specs.Words.{is_newline, is_word, words_of}
@@ -31,7 +31,7 @@ IsTitle line = is_title (words_of line) ≡ true
 abbrev pub IsNoTitle : List ℕ → Type 0
 IsNoTitle line = is_title (words_of line) ≡ false
 
--- the text consists of lines without words, followed by these blocks; each block ends before the next title
+-- The text consists of lines without words, followed by these blocks. Each block ends before the next title.
 pub record IsCutTo (text : List ℕ) (front : List (List ℕ)) (blocks : List BlockText) : Type 0 where
   pub lines : slice_split is_newline text ≡ front ++ flat_map lines_of_block blocks
   pub blank : All (λ line. words_of line ≡ []) front
@@ -55,7 +55,7 @@ pub record HoldsBlocks (text : List ℕ) (rows len : ℕ) (blocks : List Block) 
 abbrev pub BlocksByThemselves : Type 0
 BlocksByThemselves = (text : List ℕ) (rows len : ℕ) (blocks : List Block) → (batch_of text rows len ≡ Ok blocks) ↔ HoldsBlocks text rows len blocks
 
--- the fault of a text that is part of a longer text, with its line number in the longer text; `before` lines come before the part
+-- The fault of a text that is part of a longer text, with its line number in the longer text. `before` lines come before the part.
 abbrev pub moved_fault : ℕ → LogFault → LogFault
 moved_fault before (Digit n) = Digit (before + n)
 moved_fault before (Length n) = Length (before + n)
@@ -63,8 +63,8 @@ moved_fault before (Missing found) = Missing found
 moved_fault before (Extra n) = Extra (before + n)
 moved_fault before (Memory e) = Memory e
 
--- block `board`, counted from 1, is the first whose own text holds no log, and `fault` is the fault of this text, with its line number in
--- the whole text
+-- Block `board`, counted from 1, is the first block whose own text does not hold a log. `fault` is the fault of this own text, with its
+-- line number in the whole text.
 pub record FailsInBlock (text : List ℕ) (rows len board : ℕ) (fault : LogFault) : Type 0 where
   pub front : List (List ℕ)
   pub earlier : List BlockText
@@ -81,19 +81,19 @@ pub record FailsInBlock (text : List ℕ) (rows len board : ℕ) (fault : LogFau
 abbrev pub FaultByItself : Type 0
 FaultByItself = (text : List ℕ) (rows len board : ℕ) (fault : LogFault) → batch_of text rows len ≡ Err (Inner board fault) → FailsInBlock text rows len board fault
 
--- the text holds a log, and `diagnosis` is the text of the log's diagnosis
+-- the text holds a log, and `diagnosis` is the diagnosis of this log as a text
 pub record IsDiagnosisOf (board : RawBoard) (rows len : ℕ) (text diagnosis : List ℕ) : Type 0 where
   pub log : List (List Bool)
   pub holds : log_rows text rows len ≡ Ok log
   pub is : IsDiagText board log diagnosis
 
--- `out` has for each block, in order, its title and the diagnosis of the log that its own text holds
+-- for each block, in order, `out` has the block's title and the diagnosis of the log that the block's own text holds
 abbrev pub AreDiagnosesOf : RawBoard → ℕ → ℕ → List BlockText → List ℕ → Type 0
 AreDiagnosesOf board rows len [] out = out ≡ []
 AreDiagnosesOf board rows len (block ∷ blocks) out =
     (diagnosis : List ℕ) × (later : List ℕ) × IsDiagnosisOf board rows len (own_text block) diagnosis × AreDiagnosesOf board rows len blocks later × (out ≡ title_line (id_of (words_of block.title)) ++ (diagnosis ++ later))
 
--- the text of a batch has below each title the diagnosis of the log that the block's own text holds
+-- below each title, the text of a batch has the diagnosis of the log that the block's own text holds
 abbrev pub DiagnosesByThemselves : Type 0
 DiagnosesByThemselves =
     (board : RawBoard) (text : List ℕ) (rows len : ℕ) (blocks : List Block) (out : List ℕ) → batch_of text rows len ≡ Ok blocks → IsBatchText board blocks out →

@@ -19,10 +19,10 @@ EachPair R (x ∷ xs) (y ∷ ys) = R x y × EachPair R xs ys
 abbrev pub IsVerdict : RawBoard → Block → Verdict → Type 0
 IsVerdict board block verdict = IsDiagnosis board block.log verdict.pass verdict.faults
 
--- the verdicts are those on the blocks, in order
+-- the verdicts are the verdicts on the blocks, in the same order
 abbrev pub AreVerdicts : RawBoard → List Block → List Verdict → Type 0
 AreVerdicts board blocks verdicts = EachPair (IsVerdict board) blocks verdicts
 
--- each log has as many rows as the plan's test has, each as long as a data scan
+-- each log has as many rows as the plan's test, and each row is as long as a data scan
 abbrev pub AreLogs : RawBoard → PlanTables → List Block → Type 0
 AreLogs board plan blocks = All (λ block. HasSize (length plan.passes * plan.width) (data_bits board) block.log) blocks

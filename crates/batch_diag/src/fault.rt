@@ -1,4 +1,4 @@
-// The reasons why a text is no batch of logs.
+// The reasons why a text is not a batch of logs.
 ghost use Rattle.std.specs.Prelude.{◌≡◌, alloc_error};
 ghost use Rattle.batch_diag.specs.declared.fault.BatchFault.TheVariants.{Memory};
 
@@ -7,10 +7,10 @@ use std::alloc::{AllocError, AllocFailed};
 use std::fmt;
 use thiserror::Error;
 
-/// The reason why a text is no batch of logs, or a refusal of memory. Lines are counted in the whole text, from 1.
+/// The reason why a text is not a batch of logs, or a refusal of memory. Lines are counted in the whole text, from 1.
 ///
-/// The text of a fault is its line of refusal without the name of the file and, if rows are missing, without the number of rows that a
-/// log has.
+/// The text of a fault is its line of refusal without the name of the file. If rows are missing, the text also lacks the number of rows
+/// that a log needs.
 #[derive(Debug, Drop, Error)]
 pub enum BatchFault {
     /// This line has words, but comes before the first title.
@@ -19,14 +19,14 @@ pub enum BatchFault {
     /// This line is a title, but does not have exactly two words, or its id breaks the word rule.
     #[error("line {0}: board not allowed")]
     Title(u32),
-    /// The lines of block `board`, counted from 1, are no log. `fault` is never a refusal of memory.
+    /// The lines of block `board`, counted from 1, are not a log. `fault` is never a refusal of memory.
     #[error("{}", block_text(*.board, .fault))]
     Inner { board: u32, fault: LogFault },
     #[error("out of memory")]
     Memory(AllocError),
 }
 
-// The fault of a block as a text. If rows are missing, the text has the number of the block. Any other fault has the number of its line.
+// The text of a block's fault. If rows are missing, the text has the number of the block. Otherwise it has the number of the line.
 #[derive(Clone, Copy)]
 struct BlockText<'a> {
     board: u32,

@@ -1,4 +1,4 @@
-// The verdicts on the blocks of a batch, found in pieces that run side by side.
+// Finds the verdicts on the blocks of a batch, in pieces that run side by side.
 ghost use Rattle.std.specs.Prelude.{◌≡◌, ◌+◌, ◌<◌, ◌≤◌, [], ◌∷◌, length, All, IfOk};
 ghost use Rattle.std.specs.Thread.{IsSync};
 ghost use Rattle.board_defs.specs.Passes.{passes_of};
@@ -30,13 +30,13 @@ pub struct Batch<'a, 'b> {
 }
 
 /// Returns the verdict on each block of a batch, in the order of the blocks. Neither the number of workers nor the gate changes
-/// the verdicts. The plan must be made of the board's passes. Each log must have as many rows as the plan's test, and each row
-/// must be as long as a data scan.
+/// the verdicts. The plan must be built from the board's passes. Each log must have as many rows as the plan's test, and each
+/// row must be as long as a data scan.
 ///
 /// The blocks are cut into as many pieces as there are workers, from 1 to 64. The sizes of the pieces differ by at most one
-/// block. Directly before a piece takes a block, it enters the gate with its own number and the number of the block, both from
-/// 0. Halves of the pieces run side by side, down to one piece. One worker diagnoses each block. If memory is refused in any
-/// piece, the call fails.
+/// block. Directly before a piece takes a block, it enters the gate with its own number and the number of the block, both
+/// counted from 0. The first half of the pieces runs side by side with the second half, and each half is halved again in the
+/// same way, down to single pieces. Each block is diagnosed by one worker. If memory is refused in any piece, the call fails.
 pub fn diagnose_all<R: Threads + Sync, G: Gate>(
     rt: &R,
     alloc: Global,
@@ -121,7 +121,8 @@ fn judge_all<R: Threads + Sync, G: Gate>(
     judge_pieces(rt, alloc, batch, workers, gate)
 }
 
-// Returns the verdict on a log, which one worker finds. The entry of the gate is an argument so that no log is judged before it.
+// Returns the verdict on a log, which one worker finds. The function takes the entry of the gate so that no log is judged before
+// the gate is entered.
 fn verdict_on<R: Threads + Sync>(
     rt: &R,
     alloc: Global,

@@ -10,24 +10,24 @@ pub fn blocks_are_the_lines()
     ensures { BlocksAreTheLines }
 {}
 
-/// A fault is reported for a text exactly if it is the first fault of the text. This is the fault of the first line with words, if
-/// this line is no title. Otherwise it is the fault of the first wrong title. If no title is wrong, it is the fault of the first
-/// block whose lines are no log.
+/// A fault is reported for a text exactly if it is the first fault of the text. If the first line with words is not a title, this
+/// is the fault of that line. Otherwise it is the fault of the first wrong title. If no title is wrong, it is the fault of the
+/// first block whose lines are not a log.
 pub fn fault_is_the_first()
     ensures { FaultIsTheFirst }
 {}
 
-/// Each block is read and diagnosed as if it were alone. The lines below its title are a text that holds its log. If this text
-/// holds no log, the reported fault is the fault of this text, with its line number in the whole text. Below the title, the output
-/// has the diagnosis of the log that this text holds.
+/// Each block is read and diagnosed as if it were alone. The lines below its title are a text that holds its log. If this text does
+/// not hold a log, the reported fault is the fault of this text, with its line number in the whole text. Below the title, the
+/// output has the diagnosis of the log that this text holds.
 pub fn blocks_stand_by_themselves()
     ensures logs { BlocksByThemselves }
     ensures fault { FaultByItself }
     ensures diagnoses { DiagnosesByThemselves }
 {}
 
-/// The text that `write_batch` writes for blocks and their verdicts has for each block, in order, its title and the diagnosis of
-/// its log.
+/// The text that `write_batch` writes for blocks and their verdicts has, for each block in order, the block's title and the
+/// diagnosis of its log.
 pub fn verdicts_make_text()
     ensures { VerdictsMakeText }
 {}

@@ -10,7 +10,7 @@ use crate::fault::BatchFault;
 use std::alloc::{AllocError, Global};
 use text_lines::{first_line, is_blank, is_word, next_word};
 
-/// A line that begins a block: the number of the line, the id in the line, and the text after the line.
+/// A line that begins a block: its number, the id in it, and the text after it.
 #[derive(Clone, Copy)]
 pub struct Title<'a> {
     pub line: usize,
@@ -32,7 +32,8 @@ fn has_words(line: &[u8]) -> bool
     next_word(line).is_some()
 }
 
-// Returns whether the line begins with a byte that no title begins with. Most rows do, so their words need not be read.
+// Returns whether the first byte of the line is a byte with which no title begins. Most rows begin with such a byte, so their words need
+// not be read.
 fn begins_row(line: &[u8]) -> bool
     ensures { result ≡ begins_row line.now }
 {
@@ -102,7 +103,7 @@ fn is_wrong_title(line: &[u8]) -> bool
     is_title(line) && !names_board(line)
 }
 
-/// Returns the fault of a text's first line with words, if this line is no title.
+/// Returns the fault of a text's first line with words, if this line is not a title.
 pub fn start_fault(text: &[u8]) -> Option<BatchFault>
     requires { length text.now < 2 ^ 32 }
     ensures { result ≡ start_fault (row_lines text.now) }
@@ -120,7 +121,7 @@ pub fn start_fault(text: &[u8]) -> Option<BatchFault>
     None
 }
 
-// Returns the fault of this line, which has words, unless it is a title.
+// Returns the fault of this line, which has words, unless the line is a title.
 fn no_title(line: &[u8], number: u32) -> Option<BatchFault>
     ensures { result ≡ start_fault (record { number = number; words = words_of line.now } ∷ []) }
 {
@@ -131,7 +132,8 @@ fn no_title(line: &[u8], number: u32) -> Option<BatchFault>
     }
 }
 
-/// Returns the fault of the first title of a text that does not have exactly two words or whose id breaks the word rule.
+/// Returns the fault of the first wrong title of a text. A title is wrong if it does not have exactly two words or its id breaks the word
+/// rule.
 pub fn title_fault(text: &[u8]) -> Option<BatchFault>
     requires { length text.now < 2 ^ 32 }
     ensures { result ≡ title_fault (row_lines text.now) }
@@ -149,7 +151,7 @@ pub fn title_fault(text: &[u8]) -> Option<BatchFault>
     None
 }
 
-// Returns the text, or no bytes if there is none.
+// Returns the text, or no bytes if there is no text.
 fn or_nothing(text: Option<&[u8]>) -> &[u8]
     ensures { result.now ≡ or_nothing (option_copied text.entry) }
 {

@@ -1,4 +1,4 @@
-// Reading the blocks of a batch from a text.
+// Reads the blocks of a batch from a text.
 ghost use Rattle.std.specs.Prelude.{◌≡◌, ◌+◌, ◌<◌, ◌≤◌, ◌^◌, length, slice_get, All, IfOk, IfErr, IfSome, MatchResult, Err, Some};
 ghost use Rattle.answers.specs.Gives.{Gives};
 ghost use Rattle.response_log.specs.LogRows.{HasSize, rows_of_lines};
@@ -15,12 +15,12 @@ use side_by_side::{Piece, in_pieces};
 use std::alloc::Global;
 use std::thread::Threads;
 
-/// Reads the blocks of a batch, each with a log of `rows` rows of `len` bits each. The text may have any bytes. A text
-/// without words has no block.
+/// Reads the blocks of a batch, each with a log of `rows` rows of `len` bits each. The text may have any bytes. A text without words has no
+/// blocks.
 ///
-/// If a line with words comes before the first title, the error is `Start` with the first such line. Otherwise, if a title
-/// does not have exactly two words or its id breaks the word rule, the error is `Title` with the first such title. Otherwise,
-/// if the lines of a block are no log, the error is `Inner` with the first such block. The blocks take no more memory than
+/// If a line with words comes before the first title, the error is `Start` with the number of the first such line. Otherwise, if a title
+/// does not have exactly two words or its id breaks the word rule, the error is `Title` with the number of the first such line. Otherwise,
+/// if the lines of a block are not a log, the error is `Inner` with the number of the first such block. The blocks take no more memory than
 /// the ids and one byte for each byte of the text.
 pub fn blocks(alloc: Global, bytes: &[u8], rows: u64, len: u32) -> Result<Vec<Block>, BatchFault>
     requires { length bytes.now < 2 ^ 32 }
@@ -35,10 +35,10 @@ pub fn blocks(alloc: Global, bytes: &[u8], rows: u64, len: u32) -> Result<Vec<Bl
     read_between(alloc, &reading, 0, count(&reading))
 }
 
-/// Like `blocks`, but reads the logs in as many pieces as there are workers, at least 1. The sizes of the pieces differ by at most
-/// one block. Halves of the pieces run side by side, down to one piece. If memory is refused for a block and no earlier block has a
-/// fault, the error is `Memory`. If memory is refused for joining the results of pieces, the error is `Memory` as well, even if a
-/// block has a fault.
+/// Like `blocks`, but reads the logs in as many pieces as there are workers. There must be at least one worker. The sizes of the pieces
+/// differ by at most one block. The first half of the pieces runs side by side with the second half, and each half is halved again in the
+/// same way, down to single pieces. If memory is refused for a block and no earlier block has a fault, the error is `Memory`. If memory is
+/// refused for joining the results of pieces, the error is also `Memory`, even if a block has a fault.
 pub fn blocks_by<R: Threads + Sync>(
     rt: &R,
     alloc: Global,
@@ -104,7 +104,7 @@ fn unread_at<'a>(reading: &Reading<'a>, i: usize) -> UnreadBlock<'a>
     reading.unread[i]
 }
 
-// Returns the blocks `first..end`, or the fault of the first of these blocks whose lines are no log.
+// Returns the blocks `first..end`, or the fault of the first of these blocks whose lines are not a log.
 fn read_between(
     alloc: Global,
     reading: &Reading<'_>,
@@ -128,7 +128,7 @@ fn read_between(
     Ok(found)
 }
 
-// Returns all blocks, read in `pieces` pieces, or the fault of the first block whose lines are no log.
+// Reads all blocks in `pieces` pieces and returns them. Returns the fault of the first block whose lines are not a log, if there is one.
 fn read_pieces<R: Threads + Sync>(
     rt: &R,
     alloc: Global,
@@ -147,7 +147,7 @@ fn read_pieces<R: Threads + Sync>(
     in_pieces(rt, alloc, count, pieces, &read)
 }
 
-// Reads the log of a block and returns the block. `board` is the number of the block, from 1.
+// Reads the log of a block and returns the block. `board` is the number of the block, counted from 1.
 fn read_block(
     alloc: Global,
     unread: UnreadBlock<'_>,
@@ -188,8 +188,8 @@ fn read_log(
     }
 }
 
-// Returns the fault of block `board`. `fault` is the fault of the text below the block's title, `before` lines of the whole text come
-// before this text, and `last` is at least the line number in `fault`.
+// Returns the fault of block `board`. `fault` is the fault of the text below the block's title. `before` lines of the whole text come
+// before this text. `last` must be at least the line number in `fault`.
 fn inner(board: u32, before: u32, last: u32, fault: LogFault) -> BatchFault
     requires last { IsUpTo last fault }
     requires few { before + last < 2 ^ 32 }

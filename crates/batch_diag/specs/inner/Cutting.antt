@@ -1,4 +1,4 @@
--- How the text of a batch is cut into the texts of its blocks.
+-- The steps that cut the text of a batch into the texts of its blocks.
 use Rattle.std.specs.Prelude.{ℕ, ◌+◌, ◌≤◌, ◌==◌, Bool, false, not, ◌&&◌, List, [], ◌∷◌, filter, Option, Some, None, Result, Ok, Err}
 use Rattle.std.specs.List.{slice_split}
 use Rattle.text_lines.specs.Words.{is_newline, is_blank}
@@ -10,16 +10,16 @@ use Rattle.batch_diag.specs.declared.fault.BatchFault.TheVariants.{Inner, Memory
 use Rattle.batch_diag.specs.declared.lines.Title.{Title}
 use Rattle.batch_diag.specs.Batch.{BlockLines, blocks_of, up_to_title}
 
--- the lines of a text that have words; the first line of the text has the number `n`
+-- The lines of a text that have words. The first line of the text has the number `n`.
 abbrev pub rows_from : ℕ → List ℕ → List NumberedLine
 rows_from n text = filter has_words (numbered n (slice_split is_newline text))
 
--- true if the line begins with a byte that no title begins with
+-- true if the first byte of the line is a byte with which no title begins
 abbrev pub begins_row : List ℕ → Bool
 begins_row [] = false
 begins_row (b ∷ bs) = not (b == 66) && not (is_blank b)
 
--- the text, or no bytes if there is none
+-- the text, or no bytes if there is no text
 abbrev pub or_nothing : Option (List ℕ) → List ℕ
 or_nothing None = []
 or_nothing (Some text) = text
@@ -31,12 +31,12 @@ blocks_at (Some title) =
     let behind = rows_from (title.line + 1) title.behind.now in
     record { id = title.id.now; lines = up_to_title behind } ∷ blocks_of behind
 
--- the log of block `board`, or the block's fault, from the answer for the block's lines
+-- the log of block `board`, or the fault of this block, given the answer for the block's lines
 abbrev pub in_block : ℕ → LogAnswer → Result (List (List Bool)) BatchFault
 in_block board (Ok log) = Ok log
 in_block board (Err fault) = Err (Inner board fault)
 
--- the fault of block `board`, from the fault of the block's own text; `before` lines of the whole text come before the own text
+-- The fault of block `board`, given the fault of the block's own text. `before` lines of the whole text come before the own text.
 abbrev pub moved_inner : ℕ → ℕ → LogFault → BatchFault
 moved_inner board before (Digit n) = Inner board (Digit (before + n))
 moved_inner board before (Length n) = Inner board (Length (before + n))

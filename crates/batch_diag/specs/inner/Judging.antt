@@ -1,4 +1,4 @@
--- The verdicts on the blocks of a batch, and on a range of the blocks.
+-- The verdicts on all blocks of a batch or on a range of the blocks.
 use Rattle.std.specs.Prelude.{ℕ, List, All}
 use Rattle.fault_sim.specs.Places.{IsUniverse}
 use Rattle.diagnoser.specs.Diagnosis.{IsNamed}
@@ -8,15 +8,15 @@ use Rattle.batch_diag.specs.declared.judging.Batch.{Batch}
 use Rattle.batch_diag.specs.declared.verdict.Verdict.{Verdict}
 use Rattle.batch_diag.specs.Verdicts.{EachPair, IsVerdict, AreLogs}
 
--- the universe is that of the board, and the logs are of the board's test
+-- the universe is the universe of the board, and the logs are logs of the board's test
 pub record IsBatch (b : Batch) : Type 0 where
   pub universe : IsUniverse b.test.now.board b.universe.now
   pub logs : AreLogs b.test.now.board b.test.now.plan b.blocks.now
 
--- the verdict is the one on the block, and its faults name nets and pins of the board
+-- the verdict is the verdict on the block, and its faults name nets and pins of the board
 abbrev pub Judges : Batch → Block → Verdict → Type 0
 Judges b block verdict = IsVerdict b.test.now.board block verdict × All (IsNamed b.test.now.board) verdict.faults
 
--- the verdicts are those on the blocks `from..to`, in order
+-- the verdicts are the verdicts on the blocks `from..to`, in order
 abbrev pub Judged : Batch → ℕ → ℕ → List Verdict → Type 0
 Judged b from to verdicts = EachPair (Judges b) (items_between b.blocks.now from to) verdicts

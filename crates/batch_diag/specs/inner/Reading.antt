@@ -1,4 +1,4 @@
--- The answer for the blocks of a batch, and for a range of the blocks.
+-- The answer for all blocks of a batch or for a range of the blocks.
 use Rattle.std.specs.Prelude.{◌≡◌, ℕ, ◌+◌, ◌<◌, ◌^◌, List, length, map, Result, All, IfOk, MatchResult}
 use Rattle.answers.specs.Gives.{Gives}
 use Rattle.response_log.specs.LogRows.{HasSize}
@@ -14,11 +14,11 @@ use Rattle.batch_diag.specs.inner.Cutting.{rows_from}
 abbrev pub lines_of_unread : UnreadBlock → BlockLines
 lines_of_unread block = record { id = block.id.now; lines = rows_from (block.line + 1) block.own.now }
 
--- there are fewer than 2^32 blocks; for each block, the line number of its title and the length of its text add up to less than 2^32
+-- There are fewer than 2^32 blocks. For each block, the sum of its title's line number and its text's length is less than 2^32.
 abbrev pub AreShort : List UnreadBlock → Type 0
 AreShort blocks = (length blocks < 2 ^ 32) × All (λ block. block.line + length block.own.now < 2 ^ 32) blocks
 
--- the answer for the blocks `from..to`: their logs, or the fault of the first block whose lines are no log
+-- the answer for the blocks `from..to`: their logs, or the fault of the first block whose lines are not a log
 abbrev pub said_between : Reading → ℕ → ℕ → Answer
 said_between r from to = logs_from r.rows r.len (from + 1) (map lines_of_unread (items_between r.unread.items from to))
 
@@ -26,7 +26,8 @@ said_between r from to = logs_from r.rows r.len (from + 1) (map lines_of_unread 
 abbrev pub said_of : Reading → Answer
 said_of r = logs_from r.rows r.len 1 (map lines_of_unread r.unread.items)
 
--- the result is the answer `said`, or a refusal of memory; all logs in it have this size, and a fault of a block is a fault of its lines
+-- The result is the answer `said`, or a refusal of memory. All logs in the result have this size, and the fault of a block is a fault of
+-- the block's lines.
 abbrev pub IsRead : {V : Type 0} → (V → List Block) → ℕ → ℕ → Answer → Result V BatchFault → Type 0
 IsRead view rows len said result =
     Gives batch_told view (λ answer. said ≡ answer) result × IfOk result (λ v. All (λ block. HasSize rows len block.log) (view v)) × MatchResult result (λ _. Unit {0}) IsOfLines

@@ -1,4 +1,4 @@
--- The first fault of a title, found line by line.
+-- The answers for the loop that looks for the first fault of a title, line by line.
 use Rattle.std.proofs.Common.{◌+◌, ◌≤◌, length, ap, ◌∙◌, sym, arith}
 use Rattle.std.specs.Prelude.{option_copied}
 use Rattle.text_lines.specs.Words.{words_of}
