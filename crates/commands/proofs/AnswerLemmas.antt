@@ -1,4 +1,4 @@
--- The answer of a command, from what it finds and what the sink takes.
+-- Lemmas about the answer of a command, which follows from what the command finds and what the sink takes.
 use Rattle.std.proofs.Common.{◌≡◌, ℕ, Result, Ok, Err, refl, subst, inl, inr}
 use Rattle.std.specs.Prelude.{IfSome}
 use Rattle.bt_base.specs.Puts.{Puts, Shown, Takes}
@@ -21,7 +21,7 @@ use Rattle.commands.specs.declared.texts.BoardTexts.{BoardTexts}
 use Rattle.commands.specs.declared.texts.LogTexts.{LogTexts}
 use Rattle.commands.specs.inner.Unput.{IsPutInPart, NoBoard, PutsText, unput_batch, unput_log, unput_of}
 
--- if a fault was found, it is the answer
+-- if a fault was found, this fault is the answer
 pub answers_fault : {A : Type 0} (IsFound : Result A InputFault → Type 0) (text_of : A → Text) (IsWorth : Text → Type 0) (shown : Shown) (fault : InputFault) → IfSome (input_told fault) (λ f. IsFound (Err f)) → Answers IsFound text_of IsWorth shown shown (Err (unput_of fault))
 answers_fault IsFound text_of IsWorth shown (input.Memory e) is = refl
 answers_fault IsFound text_of IsWorth shown (input.Chain fault) is = (is, refl)
@@ -43,7 +43,8 @@ cut_short {T} {E} {e} {r} old new text puts err =
     let short = subst (λ (q : Result T E). Puts old new text q) err puts in
     record { rose = short.cause; bytes = short.cut.0; takes = short.cut.1 }
 
--- three cases: the sink took the whole text, it took some first bytes, or memory ran out
+-- P holds for a result of writing if it holds in each of three cases: the sink took the whole text, it took some first bytes, or memory ran
+-- out
 by_put : (P : Result (Unit {0}) Unput → Type 0) (text : Text) (old new : Shown) (result : Result (Unit {0}) Unput) → PutsText text old new result → (Takes old new text → P (Ok tt)) → (IsPutInPart text old new → P (Err unput.Write)) → (new ≡ old → P (Err unput.Memory)) → P result
 by_put P text old new (Ok done) takes whole cut none = whole takes
 by_put P text old new (Err (unput.Input fault)) bad whole cut none = absurd bad
@@ -52,19 +53,19 @@ by_put P text old new (Err (unput.Batch rows fault)) bad whole cut none = absurd
 by_put P text old new (Err unput.Write) short whole cut none = cut short
 by_put P text old new (Err unput.Memory) same whole cut none = none same
 
--- if a value was found, writing the value's text is the answer
+-- if a value was found, the result of writing the value's text is an answer
 pub text_answers : {A : Type 0} (IsFound : Result A InputFault → Type 0) (text_of : A → Text) (IsWorth : Text → Type 0) (value : A) → IsFound (Ok value) → (old new : Shown) (result : Result (Unit {0}) Unput) → PutsText (text_of value) old new result
     → IsWorth (text_of value) → Answers IsFound text_of IsWorth old new result
 text_answers IsFound text_of IsWorth value found old new result put worth =
     by_put (Answers IsFound text_of IsWorth old new) (text_of value) old new result put (λ takes. record { value = value; found = found; takes = takes; worth = worth }) (λ cut. record { rose = cut.rose; value = value; found = found; bytes = cut.bytes; takes = cut.takes }) (λ same. same)
 
--- like `text_answers`, if one of the texts holds logs
+-- like `text_answers`, but for a command that reads logs
 pub text_judged : {A : Type 0} (IsFound : Result A TextFault → Type 0) (text_of : A → Text) (IsWorth : Text → Type 0) (value : A) → IsFound (Ok value) → (old new : Shown) (result : Result (Unit {0}) Unput) → PutsText (text_of value) old new result
     → IsWorth (text_of value) → LogAnswers IsFound text_of IsWorth old new result
 text_judged IsFound text_of IsWorth value found old new result put worth =
     by_put (LogAnswers IsFound text_of IsWorth old new) (text_of value) old new result put (λ takes. record { value = value; found = found; takes = takes; worth = worth }) (λ cut. record { rose = cut.rose; value = value; found = found; bytes = cut.bytes; takes = cut.takes }) (λ same. same)
 
--- if reading the texts failed, the fault is the reason why there is no board
+-- if reading the texts failed with a fault, this fault is the reason why there is no board
 pub no_board : (texts : BoardTexts) (fault : InputFault) → IfSome (input_told fault) (λ f. IsBoardOf texts (Err f)) → NoBoard texts (unput_of fault)
 no_board texts (input.Memory e) is = tt
 no_board texts (input.Chain fault) is = is
@@ -76,7 +77,7 @@ no_board texts (input.Device number fault) is = is
 no_board texts (input.Link fault) is = is
 no_board texts (input.NoIdent line) is = is
 
--- if there is no board, the reason is the answer, and nothing is written
+-- if there is no board, the reason is an answer, and nothing is written
 pub no_board_answers : (texts : BoardTexts) (text_of : RawBoard → Text) (IsWorth : Text → Type 0) (shown : Shown) (failure : Unput) → NoBoard texts failure → Answers (IsBoardOf texts) text_of IsWorth shown shown (Err failure)
 no_board_answers texts text_of IsWorth shown (unput.Input fault) is = (is, refl)
 no_board_answers texts text_of IsWorth shown (unput.Log rows fault) is = absurd is
@@ -84,7 +85,7 @@ no_board_answers texts text_of IsWorth shown (unput.Batch rows fault) is = absur
 no_board_answers texts text_of IsWorth shown unput.Write is = absurd is
 no_board_answers texts text_of IsWorth shown unput.Memory is = refl
 
--- like `no_board_answers`, if one of the texts holds logs
+-- like `no_board_answers`, but for a command that reads logs
 pub no_board_judged : {L E A : Type 0} (judging : Judging L E A) (text_of : RawBoard × A → Text) (texts : LogTexts) (IsWorth : Text → Type 0) (shown : Shown) (failure : Unput) → NoBoard texts.board failure
     → LogAnswers (IsJudgedOf judging texts) text_of IsWorth shown shown (Err failure)
 no_board_judged judging text_of texts IsWorth shown (unput.Input fault) is = (inl is, refl)
@@ -105,14 +106,14 @@ judged_denoted judging text_of P texts board denoted old new (Err unput.Write) c
     record { rose = cut.rose; value = (board, cut.value); found = (denoted, cut.found); bytes = cut.bytes; takes = cut.takes }
 judged_denoted judging text_of P texts board denoted old new (Err unput.Memory) same = same
 
--- a fact about two values also holds for two values that are equal to them; likewise for three values
+-- If a relation holds for two values, it also holds for two values that are equal to them. `of_three` says the same about three values.
 pub of_two : {A B : Type 0} (P : A → B → Type 0) {a b : A} {c d : B} → a ≡ b → c ≡ d → P a c → P b d
 of_two {A} {B} P {a} {b} {c} {d} first second is = subst (λ (x : A). P x d) first (subst (P a) second is)
 
 pub of_three : {A B C : Type 0} (P : A → B → C → Type 0) {a b : A} {c d : B} {e f : C} → a ≡ b → c ≡ d → e ≡ f → P a c e → P b d f
 of_three {A} {B} {C} P {a} {b} {c} {d} {e} {f} first second third is = subst (λ (x : A). P x d f) first (of_two (P a) second third is)
 
--- if the log has a fault, it is the answer
+-- if the log has a fault, this fault is an answer
 pub log_wrong : {A : Type 0} (IsFound : Result A TextFault → Type 0) (text_of : A → Text) (IsWorth : Text → Type 0) (shown : Shown) (rows : ℕ) (said : LogAnswer) (fault : LogFault) → IfSome (log_told fault) (λ f. said ≡ Err f) → ((f : LogFault) → said ≡ Err f → IsFound (Err (Log rows f)))
     → LogAnswers IsFound text_of IsWorth shown shown (Err (unput_log rows fault))
 log_wrong IsFound text_of IsWorth shown rows said (log.Memory e) fails is = refl
@@ -121,7 +122,7 @@ log_wrong IsFound text_of IsWorth shown rows said (log.Length line) fails is = (
 log_wrong IsFound text_of IsWorth shown rows said (log.Extra line) fails is = (is (log.Extra line) fails, refl)
 log_wrong IsFound text_of IsWorth shown rows said (log.Missing found) fails is = (is (log.Missing found) fails, refl)
 
--- if the batch of logs has a fault, it is the answer
+-- if the batch of logs has a fault, this fault is an answer
 pub batch_wrong : {A : Type 0} (IsFound : Result A TextFault → Type 0) (text_of : A → Text) (IsWorth : Text → Type 0) (shown : Shown) (rows : ℕ) (said : BatchAnswer) (fault : BatchFault) → IfSome (batch_told fault) (λ f. said ≡ Err f) → ((f : BatchFault) → said ≡ Err f → IsFound (Err (OfBatch rows f)))
     → LogAnswers IsFound text_of IsWorth shown shown (Err (unput_batch rows fault))
 batch_wrong IsFound text_of IsWorth shown rows said (batch.Memory e) fails is = refl

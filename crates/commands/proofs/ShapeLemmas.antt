@@ -1,4 +1,4 @@
--- A log of the walking test has a row for each compared SDR statement of the test.
+-- Lemmas which say that a log of the walking test has a row for each compared SDR statement of the test.
 use Rattle.std.proofs.Common.{◌≡◌, ◌∙◌, ℕ, suc, ◌+◌, Bool, true, false, cond, List, [], ◌∷◌, length, Option, Some, None, refl, ap, sym, arith}
 use Rattle.std.specs.Prelude.{count_by, filter, slice_get}
 use Rattle.std.specs.List.{range_with_len}
@@ -39,7 +39,7 @@ module _ {X : Type 0} (p : X → Bool) (q : ℕ → Bool) where
 
 module _ (board : RawBoard) (compare : (walk : List Ctl) → CompareRows (walk_row board) (count_by (is_walked board walk) board.nets) (walk ∷ []) (compared_scans board (walk_row_scans board walk)))
     (counted : (rows : List RowScan) → count_by is_compared (board_scans board rows) ≡ length (compared_scans board rows)) where
-  -- a log has one row for each compared SDR statement
+  -- the number of rows of a log is the number of compared SDR statements
   pub walk_rows_compared : walk_rows board ≡ count_by is_compared (board_scans board (walk_row_list board))
   walk_rows_compared = by_setting (walk_setting board) refl
     where
@@ -61,7 +61,7 @@ module _ (board : RawBoard) (compare : (walk : List Ctl) → CompareRows (walk_r
           ∙ sym (counted (walk_row_scans board walk))
           ∙ ap (λ (o : Option (List Ctl)). count_by is_compared (board_scans board (scans_by board o))) (sym is)
 
-  -- a log has the shape of the walking test exactly if it has the test's numbers of rows and bits
+  -- if a log has the walking test's numbers of rows and bits, it has the shape of the test
   pub walk_shaped : (log : List (List Bool)) → HasSize (walk_rows board) (data_bits board) log → HasShape board (walk_row_list board) log
   walk_shaped log size = record { rows = size.rows ∙ walk_rows_compared; bits = size.bits }
 

@@ -1,4 +1,4 @@
--- Writing the text of a test scan by scan.
+-- Lemmas for writing the text of a test scan by scan.
 use Rattle.std.proofs.Common.{◌≡◌, ◌<◌, ◌≤◌, ℕ, zero, suc, ◌+◌, ◌*◌, List, [], ◌∷◌, ◌++◌, length, take, drop, Option, Some, slice_get, Result, Ok, Err, IsErr, refl, sym, ap, ◌∙◌, subst, append_assoc, append-nil, arith}
 use Rattle.std.specs.Prelude.{IfSome}
 use Rattle.std.proofs.lemmas.List.{take_all}
@@ -20,25 +20,25 @@ use Rattle.commands.specs.LogRead.{test_rows}
 same_scan : (x y : Scan) → ◌≡◌ {A = Option Scan} (Some x) (Some y) → x ≡ y
 same_scan x y e = cc
 
--- there is a scan with each number below the number of scans
+-- if a number is below the number of scans, there is a scan with this number
 pub scan_at : (scans : List Scan) (k : ℕ) → k < length scans → (scan : Scan) × (slice_get scans k ≡ Some scan)
 scan_at [] k within = absurd (omega (arith, within))
 scan_at (s ∷ scans) zero within = (s, refl)
 scan_at (s ∷ scans) (suc k) within = scan_at scans k (omega (arith, within))
 
--- the text of the scans up to scan `k` is that of the scans before scan `k`, followed by that of scan `k`
+-- the text of the first `k + 1` scans is the text of the first `k` scans, followed by the text of scan `k`
 texts_more : (scans : List Scan) (k : ℕ) (scan : Scan) → slice_get scans k ≡ Some scan → scan_texts (take (suc k) scans) ≡ scan_texts (take k scans) ++ scan_text scan
 texts_more [] k scan at = absurd cc
 texts_more (s ∷ scans) zero scan at = append-nil (scan_text s) ∙ ap scan_text (same_scan s scan at)
 texts_more (s ∷ scans) (suc k) scan at = ap (λ t. scan_text s ++ t) (texts_more scans k scan at) ∙ sym (append_assoc (scan_text s) (scan_texts (take k scans)) (scan_text scan))
 
--- the text of all scans is that of the scans before scan `k`, of scan `k`, and of the scans after scan `k`
+-- the text of all scans is the text of the scans before scan `k`, followed by scan `k` and by the scans after scan `k`
 texts_split : (scans : List Scan) (k : ℕ) (scan : Scan) → slice_get scans k ≡ Some scan → scan_texts scans ≡ scan_texts (take k scans) ++ (scan_text scan ++ scan_texts (drop (suc k) scans))
 texts_split [] k scan at = absurd cc
 texts_split (s ∷ scans) zero scan at = ap (λ x. scan_text x ++ scan_texts scans) (same_scan s scan at)
 texts_split (s ∷ scans) (suc k) scan at = ap (λ t. scan_text s ++ t) (texts_split scans k scan at) ∙ sym (append_assoc (scan_text s) (scan_texts (take k scans)) (scan_text scan ++ scan_texts (drop (suc k) scans)))
 
--- a number is below the number of the test's scans exactly if it is below the plan's count of scans
+-- if a number is below the plan's count of scans, it is below the number of the test's scans
 pub below_count : (board : RawBoard) (passes : List (List Ctl)) (width k count : ℕ) → AreTestScans board passes width (test_scans board passes width) → count ≡ 3 + length passes * suc width → k < count → k < length (test_scans board passes width)
 below_count board passes width k count placed is below = subst (λ n. k < n) (is ∙ sym placed.count) below
 
@@ -80,18 +80,18 @@ cut_scan {E} {old} {mid} {new} {r} {s} {e} head tail scans k within before put e
     ∙ sym (append_assoc head front (scan_text at.0 ++ (rest ++ tail))) in
     puts_cut (rest ++ tail) before one err fails text
 
--- the tail, written once all scans are written, completes the text
+-- if all scans are written, writing the tail completes the text
 pub puts_tail : {E : Type 0} {old mid new : Shown} {r : Result (Unit {0}) E} (head tail : Text) (scans : List Scan) (k : ℕ) → length scans ≤ k → Puts {T = Unit {0}} {E = E} old mid (head ++ scan_texts (take k scans)) (Ok tt) → Puts mid new tail r → Puts old new (head ++ (scan_texts scans ++ tail)) r
 puts_tail {E} {old} {mid} {new} {r} head tail scans k past before put =
     let text : (head ++ scan_texts (take k scans)) ++ tail ≡ head ++ (scan_texts scans ++ tail) =
     append_assoc head (scan_texts (take k scans)) tail ∙ ap (λ l. head ++ (scan_texts l ++ tail)) (take_all k scans past) in
     subst (λ (t : Text). Puts old new t r) text (puts_ok before refl put)
 
--- the text of a plan of the board's passes is the text of the board's test
+-- if a plan has the board's passes, the text of the plan is the text of the board's test
 pub plan_text : (board : RawBoard) (plan : PlanTables) → IsPlanOf board plan → plan.passes ≡ passes_of board → pass_text board plan.passes plan.width ≡ board_text board
 plan_text board plan is passes = ap (pass_text board plan.passes) is.width_is ∙ ap (λ ps. pass_text board ps (code_width (observed_count board ps))) passes
 
--- a plan of the board's passes has as many rows as a log of the board's test
+-- if a plan has the board's passes, it has as many rows as a log of the board's test
 pub rows_are : (board : RawBoard) (plan : PlanTables) → IsPlanOf board plan → plan.passes ≡ passes_of board → length plan.passes * plan.width ≡ test_rows board
 rows_are board plan planned same =
     ap (λ (w : ℕ). length plan.passes * w) planned.width_is ∙ ap (λ (p : List (List Ctl)). length p * code_width (observed_count board p)) same

@@ -1,4 +1,4 @@
--- Diagnoses and groups are right for their logs.
+-- Lemmas which say that diagnoses and groups are right for their logs.
 use Rattle.std.proofs.Common.{◌≡◌, ◌↔◌, ℕ, Bool, List, [], ◌∷◌, Option, Some, None, IsTrue, ap, subst}
 use Rattle.board_defs.specs.declared.board.RawBoard.{RawBoard}
 use Rattle.board_defs.specs.declared.fault.Single.{Single}
@@ -15,18 +15,18 @@ use Rattle.walk_test.specs.Laws.{OneSet}
 use Rattle.commands.specs.Worth.{IsRight}
 
 module _ (listed : ExplainingListed) (unexplained : PassingUnexplained) (board : RawBoard) (rules : IsBoard board) where
-  -- a diagnosis is right
+  -- if a diagnosis says whether the log passes, and picks the faults that explain the log, it is right
   pub is_right : (rows : List (List Bool)) (pass : Bool) (faults : List Single) → (IsTrue pass ↔ IsExpected board (svf_row_scans board) rows) → AreExplaining board rows faults → IsRight board rows pass faults
   is_right rows pass faults passes explaining = record { passes = passes; lists = listed board rows faults rules explaining; none = λ e. unexplained board rows faults rules (passes.0 e) explaining }
 
-  -- each verdict on a block is right
+  -- if there is a verdict on each block, each verdict is right
   pub each_right : (blocks : List Block) (verdicts : List Verdict) → AreVerdicts board blocks verdicts → EachPair (λ block verdict. IsRight board block.log verdict.pass verdict.faults) blocks verdicts
   each_right [] [] are = tt
   each_right [] (verdict ∷ verdicts) are = absurd are
   each_right (block ∷ blocks) [] are = absurd are
   each_right (block ∷ blocks) (verdict ∷ verdicts) are = (is_right block.log verdict.pass verdict.faults are.0.passes are.0.list, each_right blocks verdicts are.1)
 
--- the set of groups that was found is exactly the set that explains the log
+-- if `found` is the answer for a log, a set of groups is `found` exactly if it explains the log
 pub exactly_found : OneSet → (board : RawBoard) → IsBoard board → (rows : List (List Bool)) (found : Option (List (List ℕ))) → AreFound board rows found → (groups : List (List ℕ)) → (found ≡ Some groups) ↔ Explain board rows groups
 exactly_found one board rules rows None none groups = (λ e. absurd cc, λ explains. absurd (none groups explains))
 exactly_found one board rules rows (Some found) explained groups =

@@ -1,4 +1,4 @@
--- The answers of the commands: what a command writes and returns, for what it finds in its texts.
+-- The answers of the commands. An answer says what a command writes and returns, given what it finds in its texts.
 use Rattle.std.specs.Prelude.{◌≡◌, ℕ, List, take, Result, Ok, Err}
 use Rattle.bt_base.specs.Counts.{Rose}
 use Rattle.bt_base.specs.Puts.{Shown, Takes}
@@ -14,11 +14,11 @@ use Rattle.commands.specs.declared.texts.LogTexts.{LogTexts}
 use Rattle.commands.specs.declared.unput.Unput.{Unput}
 use Rattle.commands.specs.declared.unput.Unput.TheVariants as unput
 
--- a property of a text that always holds, for a command whose text has no stated property
+-- A property that holds for every text. A command whose text has no stated property uses it.
 abbrev pub Nothing : Text → Type 0
 Nothing text = Unit {0}
 
--- a value was found, and the sink failed once it had taken some first bytes of the value's text
+-- a value was found, and the sink failed after it had taken some first bytes of the value's text
 pub record IsCutBy {A F : Type 0} (IsFound : Result A F → Type 0) (text_of : A → Text) (old new : Shown) : Type 0 where
   pub rose : Rose old.faults new.faults
   pub value : A
@@ -33,8 +33,8 @@ pub record IsPutBy {A F : Type 0} (IsFound : Result A F → Type 0) (text_of : A
   pub takes : Takes old new (text_of value)
   pub worth : IsWorth (text_of value)
 
--- The answer for what is found in the texts. If a value is found, its text is written whole or cut short. If a fault is found, nothing is
--- written and the fault is returned. If memory runs out, nothing is written.
+-- The answer for what is found in the texts. If a value is found, the command writes the value's text, whole or cut short. If a fault is
+-- found, the command writes nothing and returns the fault. If memory runs out, it writes nothing.
 abbrev pub Answers : {A : Type 0} → (Result A InputFault → Type 0) → (A → Text) → (Text → Type 0) → Shown → Shown → Result (Unit {0}) Unput → Type 0
 Answers IsFound text_of IsWorth old new (Ok done) = IsPutBy IsFound text_of IsWorth old new
 Answers IsFound text_of IsWorth old new (Err (unput.Input fault)) = IsFound (Err fault) × (new ≡ old)
@@ -43,7 +43,7 @@ Answers IsFound text_of IsWorth old new (Err (unput.Batch rows fault)) = ⊥
 Answers IsFound text_of IsWorth old new (Err unput.Write) = IsCutBy IsFound text_of old new
 Answers IsFound text_of IsWorth old new (Err unput.Memory) = new ≡ old
 
--- like `Answers`, for a command one of whose texts holds logs
+-- like `Answers`, but for a command that reads logs
 abbrev pub LogAnswers : {A : Type 0} → (Result A TextFault → Type 0) → (A → Text) → (Text → Type 0) → Shown → Shown → Result (Unit {0}) Unput → Type 0
 LogAnswers IsFound text_of IsWorth old new (Ok done) = IsPutBy IsFound text_of IsWorth old new
 LogAnswers IsFound text_of IsWorth old new (Err (unput.Input fault)) = IsFound (Err (Input fault)) × (new ≡ old)
@@ -68,10 +68,11 @@ BoardAnswers text_of IsWorth texts old new result = Answers (IsBoardOf texts) te
 abbrev pub AnswersOn : {L E A : Type 0} → Judging L E A → (RawBoard × A → Text) → (Text → RawBoard → Text → Type 0) → Text → RawBoard → Shown → Shown → Result (Unit {0}) Unput → Type 0
 AnswersOn judging text_of IsWorth text board old new result = LogAnswers (OnBoard judging text board) (λ found. text_of (board, found)) (IsWorth text board) old new result
 
--- `found` is the board that the other texts denote, with what the text of logs says of the board, or the first fault of the texts
+-- `found` is the board that the other texts denote, together with what the text of logs shows for this board, or the first fault of the
+-- texts
 abbrev pub IsJudgedOf : {L E A : Type 0} → Judging L E A → LogTexts → Result (RawBoard × A) TextFault → Type 0
 IsJudgedOf judging texts found = OnDenoted judging texts.log texts.board.chain texts.board.nets texts.board.bsdl found
 
--- the answer for what a text of logs says of the board that the other texts denote
+-- the answer for what a text of logs shows for the board that the other texts denote
 abbrev pub JudgedAnswers : {L E A : Type 0} → Judging L E A → (RawBoard × A → Text) → (Text → RawBoard → Text → Type 0) → LogTexts → Shown → Shown → Result (Unit {0}) Unput → Type 0
 JudgedAnswers judging text_of IsWorth texts old new result = LogAnswers (IsJudgedOf judging texts) text_of (OfDenoted (IsWorth texts.log) texts.board) old new result

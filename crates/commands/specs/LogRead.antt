@@ -1,4 +1,4 @@
--- The result of reading and judging a text of response logs of a board that other texts denote.
+-- The result of reading and judging a text of response logs, for the board that other texts denote.
 use Rattle.std.specs.Prelude.{◌≡◌, ◌⊎◌, ℕ, ◌*◌, Bool, List, length, Option, Result, Ok, Err}
 use Rattle.board_defs.specs.declared.board.RawBoard.{RawBoard}
 use Rattle.board_defs.specs.declared.fault.Single.{Single}
@@ -29,39 +29,39 @@ pub data TextFault : Type 0 where
   Batch : ℕ → BatchFault → TextFault
 
 -- A way to read and judge logs of a board. `row_count` is the number of rows of a log. `read` gives the contents of a text, or the cause
--- why the text can't be read. `wrong` makes a fault of the number of rows and the cause. `Finds` holds for contents and what is found in
--- the contents.
+-- why the text cannot be read. `wrong` makes a fault from the number of rows and the cause. `Finds` relates contents to what is found in
+-- them.
 pub record Judging (L E A : Type 0) : Type 1 where
   pub row_count : RawBoard → ℕ
   pub read : Text → RawBoard → Result L E
   pub wrong : ℕ → E → TextFault
   pub Finds : RawBoard → L → A → Type 0
 
--- the text can be read for the board, and `found` is found in its contents
+-- the text can be read for the board, and `found` is what its contents show
 pub record IsJudged {L E A : Type 0} (judging : Judging L E A) (text : Text) (board : RawBoard) (found : A) : Type 0 where
   pub contents : L
   pub holds : judging.read text board ≡ Ok contents
   pub finds : judging.Finds board contents found
 
--- the text can't be read for the board, and `fault` is its fault
+-- the text cannot be read for the board, and `fault` is its fault
 pub record IsWrong {L E A : Type 0} (judging : Judging L E A) (text : Text) (board : RawBoard) (fault : TextFault) : Type 0 where
   pub cause : E
   pub fails : judging.read text board ≡ Err cause
   pub is : fault ≡ judging.wrong (judging.row_count board) cause
 
--- the result is what is found for the board in the text, or the fault of the text
+-- the result is what the text shows for the board, or the fault of the text
 abbrev pub OnBoard : {L E A : Type 0} → Judging L E A → Text → RawBoard → Result A TextFault → Type 0
 OnBoard judging text board (Ok found) = IsJudged judging text board found
 OnBoard judging text board (Err fault) = IsWrong judging text board fault
 
--- the texts denote no board, and the fault is their first fault
+-- the texts denote no board, and `fault` is their first fault
 abbrev pub IsInputFault : Text → Text → List Text → TextFault → Type 0
 IsInputFault chain nets texts (Input fault) = IsBoardRead chain nets texts (Err fault)
 IsInputFault chain nets texts (Log rows fault) = ⊥
 IsInputFault chain nets texts (Batch rows fault) = ⊥
 
--- The result is the board that the other texts denote, together with what is found for the board in the text of logs, or the first fault.
--- A fault of the other texts comes before a fault of the text of logs.
+-- The result is the board that the other texts denote, together with what the text of logs shows for this board, or the first fault. A
+-- fault of the other texts comes before a fault of the text of logs.
 abbrev pub OnDenoted : {L E A : Type 0} → Judging L E A → Text → Text → Text → List Text → Result (RawBoard × A) TextFault → Type 0
 OnDenoted judging text chain nets texts (Ok (board, found)) = Denotes chain nets texts board × OnBoard judging text board (Ok found)
 OnDenoted judging text chain nets texts (Err fault) =
@@ -75,7 +75,7 @@ test_rows board = length (passes_of board) * code_width (observed_count board (p
 abbrev pub test_log : Text → RawBoard → Result (List (List Bool)) LogFault
 test_log text board = log_rows text (test_rows board) (data_bits board)
 
--- the way to judge a log of the board's test: whether the log passes, and the single faults that explain the log
+-- The way to judge a log of the board's test. It finds whether the log passes and which single faults explain the log.
 abbrev pub diagnosing : Judging (List (List Bool)) LogFault (Bool × List Single)
 diagnosing = record { row_count = test_rows; read = test_log; wrong = Log; Finds = λ board rows found. IsDiagnosis board rows found.0 found.1 }
 
@@ -86,7 +86,7 @@ diagnosis_text (board, found) = diag_text board found.0 found.1
 abbrev pub test_blocks : Text → RawBoard → Result (List Block) BatchFault
 test_blocks text board = batch_of text (test_rows board) (data_bits board)
 
--- the way to judge a batch of logs of the board's test: the blocks, and the verdict on each block
+-- The way to judge a batch of logs of the board's test. It finds the blocks and the verdict on each block.
 abbrev pub judging_each : Judging (List Block) BatchFault (List Block × List Verdict)
 judging_each = record { row_count = test_rows; read = test_blocks; wrong = Batch; Finds = λ board blocks found. (found.0 ≡ blocks) × AreVerdicts board blocks found.1 }
 
@@ -101,7 +101,7 @@ walk_rows board = length (walk_nets board)
 abbrev pub walk_log : Text → RawBoard → Result (List (List Bool)) LogFault
 walk_log text board = log_rows text (walk_rows board) (data_bits board)
 
--- the way to judge a log of the board's walking test: the set of groups that explains the log, if there is one
+-- The way to judge a log of the board's walking test. It finds the set of groups that explains the log, if there is one.
 abbrev pub grouping : Judging (List (List Bool)) LogFault (Option (List (List ℕ)))
 grouping = record { row_count = walk_rows; read = walk_log; wrong = Log; Finds = AreFound }
 

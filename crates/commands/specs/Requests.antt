@@ -19,7 +19,7 @@ board_texts chain nets bsdl = record { chain = chain; nets = nets; bsdl = bsdl }
 abbrev pub log_texts : Text → Text → Text → List Text → LogTexts
 log_texts log chain nets bsdl = record { log = log; board = board_texts chain nets bsdl }
 
--- the command with these texts, one for each of its file names, in order; `None` if the texts do not fit the command
+-- The command with these texts, one for each of its file names, in order. It is `None` if the texts do not fit the command.
 abbrev pub request_of : Command → List Text → Option Request
 request_of (Chain names) (chain ∷ bsdl) = Some (request.Chain (chain_texts chain bsdl))
 request_of (Ident names) (chain ∷ bsdl) = Some (request.Ident (chain_texts chain bsdl))

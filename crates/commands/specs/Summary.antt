@@ -1,4 +1,4 @@
--- The summary of a generated board, which `make` writes.
+-- The summary of a generated board, which the command `make` writes.
 use Rattle.std.specs.Prelude.{ℕ, [], ◌∷◌, length, codes, decimal, min}
 use Rattle.bt_base.specs.Counts.{last_count}
 use Rattle.line_printer.specs.Prints.{line_of}
@@ -14,8 +14,8 @@ counts_line devices nets covered passes scans bytes =
     line_of (codes "DEVICES " ∷ decimal devices ∷ codes " NETS " ∷ decimal nets ∷ codes " COVERED " ∷ decimal covered ∷ codes " PASSES " ∷ decimal passes
     ∷ codes " SCANS " ∷ decimal scans ∷ codes " BYTES " ∷ decimal bytes ∷ [])
 
--- The line with the numbers of devices, nets and covered nets of a board, and of passes, scans and bytes of its test. The number of bytes
--- is at most the largest number of 64 bits.
+-- The line with the numbers of devices, nets and covered nets of a board, and of passes, scans and bytes of its test. If there are more
+-- bytes than the largest number of 64 bits, the line has this number instead.
 abbrev pub summary_text : RawBoard → Text
 summary_text board =
     counts_line (length board.chain) (length board.nets) (length (covered board)) (length (passes_of board)) (length (svf_scans board)) (min (length (board_text board)) last_count)

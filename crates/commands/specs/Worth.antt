@@ -42,7 +42,7 @@ pub record TestsChain (texts : ChainTexts) (text : Text) : Type 0 where
   pub bounds : AreLengths lengths
   pub tests : IsChainTest lengths text
 
--- The listing is that of the device that the text describes. The device keeps the rules of a device.
+-- The text is the listing of the device that the BSDL text describes. The device keeps the rules of a device.
 pub record ListsDevice (text listing : Text) : Type 0 where
   pub device : RawDevice
   pub described : IsDeviceText text (Ok device)
@@ -57,8 +57,8 @@ pub record ListsCover (texts : BoardTexts) (text : Text) : Type 0 where
   pub rules : IsBoard board
   pub lists : IsCoverList board text
 
--- The text is a test of the board that these texts denote. The text has a meaning. The test passes if nothing is faulty. Once its reset is
--- done, the test is quiet under every fault set. It fails under every nonempty fault set that is observable.
+-- The text is a test of the board that these texts denote. It has a meaning. The test passes if nothing is faulty. After its reset, the
+-- test is quiet under every fault set. It fails under every nonempty fault set that is observable.
 pub record TestsBoard (texts : BoardTexts) (text : Text) : Type 0 where
   pub board : RawBoard
   pub denoted : Denotes texts.chain texts.nets texts.bsdl board
@@ -71,8 +71,8 @@ pub record TestsIdents (texts : ChainTexts) (text : Text) : Type 0 where
   pub bounds : ArePatterns patterns
   pub tests : IsIdentTest patterns text
 
--- The text may be applied to the board that these texts denote. The text has a meaning. The test passes if nothing is faulty. Once its
--- reset is done, the test is quiet under every fault set.
+-- The text may be applied to the board that these texts denote. It has a meaning. The test passes if nothing is faulty. After its reset,
+-- the test is quiet under every fault set.
 pub record WalksBoard (texts : BoardTexts) (text : Text) : Type 0 where
   pub board : RawBoard
   pub denoted : Denotes texts.chain texts.nets texts.bsdl board
@@ -85,16 +85,16 @@ pub record IsRight (board : RawBoard) (rows : List (List Bool)) (pass : Bool) (f
   pub lists : ListsExplaining board rows faults
   pub none : pass ≡ true → faults ≡ []
 
--- the text of the board's test means the clocks of its scans; the logs of the test refer to these scans
+-- the text of the board's test means the clocks of the test's scans, to which the logs of the test refer
 abbrev pub TestMeans : RawBoard → Type 0
 TestMeans board = meaning (board_text board) ≡ Some (test_clocks (svf_scans board))
 
--- the text of the walking test means the clocks of its scans
+-- the text of the walking test means the clocks of the test's scans
 abbrev pub WalkMeans : RawBoard → Type 0
 WalkMeans board = meaning (board_walk_text board) ≡ Some (test_clocks (walk_scans board))
 
--- Each single fault of the board has one response to the board's test. The fault explains some log, and any two logs that the fault
--- explains have the same compared bits.
+-- Each single fault of the board has one response to the board's test. The fault explains some log, and all logs that it explains have the
+-- same compared bits.
 pub record RespondOnce (board : RawBoard) : Type 0 where
   pub some : (single : Single) → IsSingle board single → (log : List (List Bool)) × Explains board single log
   pub one : (single : Single) (log other : List (List Bool)) → Explains board single log → Explains board single other → AgreeOn board (svf_row_scans board) log other
@@ -112,7 +112,7 @@ pub record Diagnoses (log : Text) (board : RawBoard) (text : Text) : Type 0 wher
   pub right : IsRight board rows pass faults
   pub is : text ≡ diag_text board pass faults
 
--- Like `Diagnoses`, but for a batch of logs: the text has for each block its title and the diagnosis of its log.
+-- Like `Diagnoses`, but for a batch of logs. For each block, the text has the block's title and the diagnosis of its log.
 pub record DiagnosesEach (log : Text) (board : RawBoard) (text : Text) : Type 0 where
   pub means : TestMeans board
   pub respond : RespondOnce board
@@ -124,8 +124,8 @@ pub record DiagnosesEach (log : Text) (board : RawBoard) (text : Text) : Type 0 
   pub is : text ≡ batch_text board blocks verdicts
 
 -- The text names the groups that explain a log of the walking test of a board. The log has a row for each compared SDR statement of the
--- test. `found` is the only set of groups that explains the log, or `None` if no set explains the log. Each set of groups explains some
--- log, and any two logs that one set explains have the same compared bits.
+-- test. `found` is the only set of groups that explains the log, or `None` if no set explains it. Each set of groups explains some log, and
+-- all logs that one set explains have the same compared bits.
 pub record FindsGroups (log : Text) (board : RawBoard) (text : Text) : Type 0 where
   pub means : WalkMeans board
   pub rows : List (List Bool)
@@ -142,7 +142,7 @@ abbrev pub OfDenoted : (RawBoard → Text → Type 0) → BoardTexts → Text �
 OfDenoted P texts text = (board : RawBoard) × Denotes texts.chain texts.nets texts.bsdl board × P board text
 
 -- The property of the text that is written for a request. The text of a test tests the chain, the parts or the board. The text of a walking
--- test is harmless. The statements of a list, of a diagnosis and of groups are true. A summary has no stated property.
+-- test is harmless. What a list, a diagnosis or groups state is true. A summary has no stated property.
 abbrev pub IsWorthFor : Request → Text → Type 0
 IsWorthFor (Chain texts) text = TestsChain texts text
 IsWorthFor (Ident texts) text = TestsIdents texts text

@@ -45,7 +45,7 @@ struct Counts {
     bytes: u64,
 }
 
-/// Writes the summary of the generated board with `number` parts. All memory is allocated before the first write.
+/// Writes the summary of the generated board with `number` parts, from 1 to 255. All memory is allocated before the first write.
 pub fn summary<K: Sink>(alloc: Global, number: u32, out: &mut K) -> Result<(), Unput>
     requires some { 1 ≤ number }
     requires few { number ≤ 255 }
@@ -96,15 +96,15 @@ fn net_count(board: &Board) -> u32
     board.raw().nets.len() as u32
 }
 
-// Returns the number of bytes of the text of the plan's test, or the largest number of 64 bits if there are more. The text is
-// written to a sink that only counts.
+// Returns the number of bytes of the text of the plan's test, or the largest number of 64 bits if there are more. Writes the text to a sink
+// that only counts bytes.
 fn text_bytes(alloc: Global, board: &Board, plan: &Plan) -> Result<u64, AllocError>
     requires { IsPlanOf board.now plan.now }
     ensures { IfOk result (λ bytes. bytes ≡ min (length (pass_text board.now plan.now.passes plan.now.width)) last_count) }
 {
     let mut rows = TestRows::for_board(alloc, board)?;
     let mut counter = CountSink::new();
-    // A counter never fails.
+    // A sink that only counts never fails.
     let _ = write_test(board, plan, &mut rows, &mut counter);
     Ok(counter.count())
 }

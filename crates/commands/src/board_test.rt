@@ -50,7 +50,7 @@ pub fn svf<K: Sink>(alloc: Global, texts: &BoardTexts, out: &mut K) -> Result<()
     }
 }
 
-// Writes the test of a board that has its plan already.
+// Writes the test of a board whose plan is already made.
 fn put_test<K: Sink>(alloc: Global, planned: &Planned, out: &mut K) -> Result<(), Unput>
     ensures { PutsText (board_text planned.now.board) (K.shown out.old) (K.shown out.new) result }
 {
@@ -94,9 +94,9 @@ fn singles_respond(board: &Board)
     scans_in_turn();
 }
 
-/// States the laws that the diagnoses of a board rest on. The board keeps the rules. The text of any data scans of the board has a
-/// meaning. A log with the rows and bits of the board's test has the shape of the test. Each single fault of the board has one
-/// response. A diagnosis lists exactly the faults that explain its log. No fault explains a log that passes. Does nothing.
+/// States the laws on which the diagnoses of a board rest. The board keeps the rules. The text of any data scans of the board has a
+/// meaning. A log with the rows and bits of the board's test has the shape of the test. Each single fault of the board has one response. A
+/// diagnosis lists exactly the faults that explain its log. No fault explains a log that passes. Does nothing.
 pub fn judging_laws(board: &Board)
     ensures rules { IsBoard board.now }
     ensures means { (scans : List RowScan) → meaning (svf_text (board_scans board.now scans)) ≡ Some (test_clocks (board_scans board.now scans)) }
@@ -178,8 +178,8 @@ fn write_scans<K: Sink>(
     write_tail(out)
 }
 
-// Writes scan `k` of a plan. If `held` has a shape, the rows must hold scan `k - 1`, and this must be its shape. Afterwards
-// the rows hold scan `k`, and `held` has its shape.
+// Writes scan `k` of a plan. If `held` has a shape, the rows must hold scan `k - 1`, and the shape must be the shape of this scan.
+// Afterwards the rows hold scan `k`, and `held` has its shape.
 fn write_scan_at<K: Sink>(
     board: &Board,
     plan: &Plan,
@@ -206,8 +206,8 @@ fn write_scan_at<K: Sink>(
     write_scan(shape, &scan.tdi, &scan.tdo, &scan.mask, line, out)
 }
 
-// Fills the rows with scan `k` of a plan and returns its shape. If `before` has a shape, the rows must hold scan `k - 1`, and
-// this must be its shape. The call is faster in that case.
+// Fills the rows with scan `k` of a plan and returns its shape. If `before` has a shape, the rows must hold scan `k - 1`, and the shape
+// must be the shape of this scan. In that case the call is faster.
 fn fill_at(
     board: &Board,
     plan: &Plan,

@@ -34,7 +34,7 @@ use tap_defs::board_law::{rows_compared, statements_compared};
 use walk_test::Walk;
 use walk_test::law::{scans_counted, walk_harmless};
 
-/// A board and its walking test. Contracts see a pair of the board and the test.
+/// A board and its walking test. Contracts see the pair of the two.
 #[derive(Drop)]
 pub struct Walked {
     pub board: Board,
@@ -154,7 +154,7 @@ pub fn walk<K: Sink>(alloc: Global, texts: &BoardTexts, out: &mut K) -> Result<(
     }
 }
 
-// Writes the walking test of a board that has its test already.
+// Writes the walking test of a board, which is already made.
 fn put_walk<K: Sink>(alloc: Global, walked: &Walked, out: &mut K) -> Result<(), Unput>
     ensures { PutsText (board_walk_text walked.now.board) (K.shown out.old) (K.shown out.new) result }
 {

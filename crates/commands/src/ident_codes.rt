@@ -20,8 +20,8 @@ use ident_test::law::ident_tests;
 use ident_test::write_ident;
 use std::alloc::Global;
 
-// The largest number of bits of the scan that reads the codes: 32 for each of at most 255 parts. The length of a code is
-// from section 11 of IEEE 1149.1-1990.
+// The largest number of bits of the scan that reads the codes: 32 for each of at most 255 parts. Section 11 of IEEE
+// 1149.1-1990 gives the length of a code.
 const MOST_CODE_BITS: u32 = 8160;
 
 /// Writes the test of the identification codes of the parts that the texts describe. All memory is allocated before the
@@ -69,8 +69,8 @@ fn write_test<K: Sink>(
     )
 }
 
-// States that the text of the test tests the codes, and that the scan of the codes has at most 32 bits for each of 255
-// parts. Does nothing.
+// States that the text of the test tests the codes, and that the scan of the codes has at most 255 times 32 bits. Does
+// nothing.
 fn tests_codes(patterns: &[Option<Code>])
     requires { ArePatterns patterns.now }
     ensures tests { IsIdentTest patterns.now (ident_text patterns.now) }

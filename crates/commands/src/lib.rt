@@ -1,8 +1,7 @@
-//! The commands. Each command reads its texts and writes its output. If it writes no output or only a part, it returns the
+//! The commands. Each command reads its texts and writes its output. If it does not write the whole output, it returns the
 //! reason.
 //!
-//! Boards, plans and other large values are dropped by explicit calls of `drop`, which makes the proofs short (docs/PROVING.md,
-//! "Time").
+//! Explicit calls of `drop` drop boards, plans and other large values, which makes the proofs short (docs/PROVING.md, "Time").
 #![tactic(auto)]
 
 mod board_cover;

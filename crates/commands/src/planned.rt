@@ -23,7 +23,7 @@ use scan_planner::Plan;
 use std::alloc::{AllocError, Global};
 use std::marker::Model;
 
-/// A board and the plan of its test. The plan has the passes of the board. Contracts see a pair of the board and the plan.
+/// A board and the plan of its test. The plan has the passes of the board. Contracts see the pair of the two.
 #[derive(Drop)]
 pub struct Planned {
     pub board: Board,
@@ -56,7 +56,7 @@ impl Planned {
         BoardTest::of(&self.board, &self.plan)
     }
 
-    /// Returns the board's test with a log of the test. The log must have the rows and the bits of the test.
+    /// Returns the board's test with a log of the test. The log must have the test's numbers of rows and bits.
     pub fn with_log<'a>(&'a self, log: &'a Log) -> LoggedTest<'a>
         requires { HasSize (test_rows self.now.board) (data_bits self.now.board) log.now }
         ensures { result ≡ logged_board self.now log.now }

@@ -62,7 +62,7 @@ impl Model for ShortTexts {
 }
 
 impl ShortTexts {
-    /// Takes over these texts.
+    /// Takes ownership of these texts.
     pub fn of(texts: Vec<Vec<u8>>) -> ShortTexts
         requires each { All (λ text. length text.items < 2 ^ 32) texts.items }
         requires few { length texts.items < 2 ^ 32 }

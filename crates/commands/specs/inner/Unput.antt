@@ -1,4 +1,4 @@
--- The reasons why nothing is written if texts have a fault, and what the sink takes of an output.
+-- The reasons why nothing is written if texts have a fault, and how much of an output the sink takes.
 use Rattle.std.specs.Prelude.{◌≡◌, ℕ, take, Result, Ok, Err}
 use Rattle.bt_base.specs.Counts.{Rose}
 use Rattle.bt_base.specs.Puts.{Shown, Takes}
@@ -49,13 +49,14 @@ unput_of (input.Device text fault) = unput.Input (input.Device text fault)
 unput_of (input.Link fault) = unput.Input (input.Link fault)
 unput_of (input.NoIdent line) = unput.Input (input.NoIdent line)
 
--- the sink failed once it had taken some first bytes of the text
+-- the sink failed after it had taken some first bytes of the text
 pub record IsPutInPart (text : Text) (old new : Shown) : Type 0 where
   pub rose : Rose old.faults new.faults
   pub bytes : ℕ
   pub takes : Takes old new (take bytes text)
 
--- the sink took the whole text, or it failed and took some first bytes, or memory ran out before the first write
+-- The sink took the whole text, or it failed after it took some first bytes, or memory ran out before the first
+-- write.
 abbrev pub PutsText : Text → Shown → Shown → Result (Unit {0}) Unput → Type 0
 PutsText text old new (Ok done) = Takes old new text
 PutsText text old new (Err (unput.Input fault)) = ⊥

@@ -9,7 +9,7 @@ use Rattle.scan_planner.specs.Plans.{IsRoom}
 use Rattle.commands.specs.inner.Rows.{EachStoredHasRoom, HoldScan}
 use Rattle.commands.proofs.board_test.write_scans.Given as goal
 
--- The sink took the head and the scans before scan `k`. If `held` has a shape, the rows hold scan `k - 1`, which has this shape. The rows
+-- The sink took the head and the scans before scan `k`. If `held` has a shape, the rows hold scan `k - 1`, and this is its shape. The rows
 -- still have room for a scan.
 abbrev pub invariant-loop-k : goal.invariant-loop-k
 invariant-loop-k g l = record {
