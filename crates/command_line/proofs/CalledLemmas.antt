@@ -1,4 +1,4 @@
--- The command of a name that differs from all earlier names.
+-- Lemmas which say that a name that differs from all earlier names gives the command of the later names.
 use Rattle.std.proofs.Common.{◌≡◌, refl, sym, ◌∙◌, Bool, true, false, List, codes, None}
 use Rattle.std.specs.Prelude.{if◌then◌else◌}
 use Rattle.std.specs.Str.{bytes_eq}

@@ -1,4 +1,4 @@
--- The number that a word denotes.
+-- Lemmas about the number that a word denotes.
 use Rattle.std.proofs.Common.{◌≡◌, ◌≤◌, ◌<◌, ◌^◌, ℕ, Bool, true, false, length, Some, None, Err, refl, arith, rules}
 use Rattle.std.specs.Prelude.{IfSome, ◌&&◌, if◌then◌else◌}
 use Rattle.std.specs.Char.{is_ascii_digit}
@@ -8,14 +8,14 @@ use Rattle.std.proofs.lemmas.Grind.{common_steps}
 use Rattle.std.proofs.lemmas.Str.Parse.{IsNumeralModel, numerals_by_value, parse_digits}
 use Rattle.command_line.specs.Words.{Text, number_of, is_within}
 
--- a word of decimal digits
+-- the word has only decimal digits
 abbrev pub Digits : Text → Type 0
 Digits word = list_all is_ascii_digit word ≡ true
 
 numerals : IsNumeralModel Digits (digits_value 10)
 numerals = numerals_by_value Digits (search rules)
 
--- true if a word of this length and value is a number; `digits` is true if the word has only digits
+-- True if a word of this length and value is a number. `digits` is true if the word has only digits.
 abbrev is_number : Bool → ℕ → ℕ → ℕ → Bool
 is_number digits most len value = digits && is_within 1 20 len && is_within 1 most value
 
@@ -24,7 +24,7 @@ within_by true most len value true test = grind (arith, common_steps)
 within_by false most len value true test = absurd cc
 within_by digits most len value false test = tt
 
--- the number that a word denotes is from 1 to `most`
+-- if a word denotes a number, the number is from 1 to `most`
 pub number_within : (most : ℕ) (word : Text) → IfSome (number_of most word) (λ n. (1 ≤ n) × (n ≤ most))
 number_within most word =
     let digits : Bool = list_all is_ascii_digit word in
@@ -35,7 +35,7 @@ unread_by true most len value true test fits unread = grind (arith, common_steps
 unread_by false most len value true test fits unread = absurd cc
 unread_by digits most len value false test fits unread = refl
 
--- a word of digits that `parse` refuses denotes no number
+-- if `parse` refuses a word of digits, the word denotes no number
 pub unread_number : {E : Type 0} (most : ℕ) (word : Text) (error : E) → ParsesUnsigned 32 10 word (Err error) → Digits word → most < 2 ^ 32 → None ≡ number_of most word
 unread_number {E} most word error parses plain fits =
     let digits : Bool = list_all is_ascii_digit word in

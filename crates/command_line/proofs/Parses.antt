@@ -1,4 +1,4 @@
--- The command that `clap` finds in plain words.
+-- Lemmas about the command that `clap` finds in plain words.
 use Rattle.std.proofs.Common.{◌≡◌, refl, sym, ap, subst, ◌∙◌, true, false, Bool, List, [], ◌∷◌, ◌++◌, codes, ℕ, cond, Option, Some, None, inl, inr, ◌⊎◌, append_assoc, append-nil}
 use Rattle.std.specs.Prelude.{fold, is_some, not, ◌||◌, find, unwrap_or, option_map, option_and_then, length, nat_le, if◌then◌else◌, slice_get}
 use Rattle.std.specs.List.{list_all}
@@ -25,7 +25,7 @@ simple : is_simple btest_app ≡ true
 unfolding clap_on_literals
 simple = refl
 
--- the program's command, built by `clap`
+-- the program's command, as `clap` builds it
 abbrev built_app : App
 built_app = built btest_app
 
@@ -38,11 +38,11 @@ names = names_of built_app
 abbrev start : Turns
 start = walk_from nothing_held
 
--- the shape of a subcommand, built by `clap`
+-- the shape of a subcommand, as `clap` builds it
 abbrev shape_in : App → Shape
 shape_in app = unwrap_or (slice_get (built (with_subcommand top_app app.top)).subs 0) top
 
--- the faults at the end of all words, from the walk at the end
+-- the faults that follow after all words, given the walk at its end
 abbrev whole_fault : Turns → Kinds
 whole_fault w = end_fault top w (is_some (entered built_app w.stopped)) (entered_fault built_app w.stopped)
 
@@ -53,7 +53,7 @@ fault_parts words = refl
 abbrev answer : List Text → Option Command
 answer words = if_none (fault_of btest_app words) (command_in (subcommand_of btest_app words))
 
--- the walk once the subcommand `name` is met: the further words go to the subcommand
+-- the walk after it has met the subcommand `name`, to which the further words go
 abbrev stopped_at : Text → List Text → Turns
 stopped_at name words = record start { stopped = Some (name, words) }
 
@@ -75,11 +75,11 @@ record Enters (name : Text) (shape : Shape) : Type 0 where
   finds : (rest : List Text) → entered built_app (Some (name, rest)) ≡ Some (name, rows_after shape.rules [] rest)
   no_trail : list_all (λ a. not a.trailing_var_arg) shape.rules ≡ true
 
--- `read` reads the command `command words` from the matches, if each word goes to the positional argument of its place
+-- if each word goes to the positional argument of its place, `read` finds in the matches what `command` makes of the words
 abbrev Reads : Shape → (List Row → Option Command) → (List Text → Option Command) → Type 0
 Reads shape read command = (words : List Text) → placed_from shape read start words ≡ command words
 
--- no faults come after those of a level
+-- if no faults follow the faults of a level, only the faults of the level decide whether the command is given
 alone : (k : Kinds) (command : Option Command) → if_none (or_else k []) command ≡ if_none k command
 alone [] command = refl
 alone (k ∷ ks) command = refl
@@ -106,7 +106,7 @@ few_by of bsdl false = refl
 few_names : {A : Type 0} (of : List Text → A) (bsdl : List Text) → option_map of (with_names bsdl bsdl) ≡ with_names bsdl (of bsdl)
 few_names of bsdl = few_by of bsdl (nat_le (length bsdl) most_names)
 
--- the shape of a command that works on a chain, for any name
+-- the shape of a command that works on a chain, for any name of the command
 abbrev chain_shape : Text → Shape
 chain_shape name = shape_in (chain_app name)
 
@@ -141,7 +141,7 @@ make_read [] = refl
 make_read (number ∷ []) = refl
 make_read (number ∷ other ∷ others) = refl
 
--- the shape of a command that works on a board, for any name
+-- the shape of a command that works on a board, for any name of the command
 abbrev board_shape : Text → Shape
 board_shape name = shape_in (board_app name)
 
@@ -167,7 +167,7 @@ board_read name command (chain ∷ nets ∷ []) = refl
 board_read name command (chain ∷ nets ∷ x ∷ rest) = names_placed (board_shape name) (λ rows. option_map command (board_in rows)) (board_rows chain nets) 3 (board_takes name chain nets) [] x rest
     ∙ ap (option_map command) (few_board chain nets (x ∷ rest))
 
--- the shape of a command that works on response logs with a given number of workers, for any name
+-- the shape of a command that works on response logs with a given number of workers, for any name of the command
 abbrev log_shape : Text → Shape
 log_shape name = shape_in (log_app name)
 
@@ -274,7 +274,7 @@ unfolding clap_on_literals
 other_word w rest p other =
     ap (λ k. if_none (or_else (or_else k (walk_fault top names (walked top.rules names start w) rest)) (whole_fault (walk top.rules names nothing_held (w ∷ rest)))) (command_in (subcommand_of btest_app (w ∷ rest)))) (other_turn w p other)
 
--- the answer for words: one command if the first word is this name, another otherwise
+-- if the first word is this name, the answer for the words is the one command, and otherwise it is the other
 named_by : (name w : Text) (rest : List Text) (command others : Option Command) (b : Bool) → bytes_eq name w ≡ b → answer (name ∷ rest) ≡ command → (bytes_eq name w ≡ false → answer (w ∷ rest) ≡ others) → answer (w ∷ rest) ≡ (if b then command else others)
 named_by name w rest command others true test is else_is = subst (λ (v : Text). answer (v ∷ rest) ≡ command) ((bytes_eq-Decides name w).0 test) is
 named_by name w rest command others false test is else_is = else_is test
@@ -282,7 +282,7 @@ named_by name w rest command others false test is else_is = else_is test
 named : (name w : Text) (rest : List Text) (command others : Option Command) → answer (name ∷ rest) ≡ command → (bytes_eq name w ≡ false → answer (w ∷ rest) ≡ others) → answer (w ∷ rest) ≡ (if bytes_eq name w then command else others)
 named name w rest command others is else_is = named_by name w rest command others (bytes_eq name w) refl is else_is
 
--- a word that differs from a name is not the name of that subcommand
+-- if a word differs from a name, the subcommand with this name does not answer to the word
 no_name : (name w : Text) → bytes_eq name w ≡ false → answers_to w (name, []) ≡ false
 no_name name w e = ap (λ b. b || false) e
 
@@ -318,7 +318,7 @@ exact : (words : List Text) → AllPlain words → answer words ≡ parsed words
 exact [] all = none_word
 exact (w ∷ rest) all = first_word w rest all.0 all.1
 
--- the command in the matches is the command that the words form
+-- if `clap` accepts the words, the command in the matches is the command that the words form
 pub found_by : (a : App) (words : List Text) (found : Option (Text × List Row)) → a ≡ btest_app → list_all is_plain words ≡ true → (is_simple_and_free a ≡ true → fault_of a words ≡ []) → (is_simple a ≡ true → found ≡ subcommand_of a words) → command_in found ≡ parsed words
 found_by a words found is plain passes finds =
     let none : fault_of btest_app words ≡ [] = subst (λ (x : App). is_simple_and_free x ≡ true → fault_of x words ≡ []) is passes is_free in
@@ -329,7 +329,7 @@ among : (k : ErrorKind) (ks : Kinds) (command : Option Command) → IsAmong k ks
 among k [] command is = absurd is
 among k (x ∷ xs) command is = refl
 
--- words that are refused form no command
+-- if `clap` refuses the words, they form no command
 pub refused_by : (a : App) (words : List Text) (k : ErrorKind) → a ≡ btest_app → list_all is_plain words ≡ true → (is_simple_and_free a ≡ true → (k ≡ kind.OutOfMemory) ⊎ IsAmong k (fault_of a words)) → (k ≡ kind.OutOfMemory → ⊥) → None ≡ parsed words
 refused_by a words k is plain err other =
     elim (subst (λ (x : App). is_simple_and_free x ≡ true → (k ≡ kind.OutOfMemory) ⊎ IsAmong k (fault_of x words)) is err is_free) [

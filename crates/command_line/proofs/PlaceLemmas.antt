@@ -1,4 +1,4 @@
--- `clap` gives the plain words of a command to its positional arguments in turn.
+-- Lemmas which say that `clap` gives the plain words of a command to its positional arguments in turn.
 use Rattle.std.proofs.Common.{◌≡◌, refl, sym, ap, subst, ◌∙◌, true, false, Bool, List, [], ◌∷◌, ◌++◌, codes, cond, ℕ, Option, Some, None, append_assoc}
 use Rattle.std.specs.Prelude.{find, fold, not}
 use Rattle.std.specs.List.{list_all}
@@ -15,14 +15,14 @@ use Rattle.clap.proofs.OnLiterals.{clap_on_literals}
 use Rattle.command_line.specs.Words.{Command}
 use Rattle.command_line.proofs.PlainLemmas.{AllPlain, before, placed, plain_turn, plain_walked}
 
--- the faults at the end of a level, from the walk at its end
+-- the faults at the end of a level, given the walk at its end
 abbrev pub end_fault : Shape → Walk → Bool → Kinds → Kinds
 end_fault s w has_subcommand below =
     or_else below (or_else (settle_fault s.rules s.args_override_self w.held)
     (or_else (defaults_fault (settled s.rules w.held).rows s.rules)
     (check_fault s (finished s.rules w.held) has_subcommand)))
 
--- the command, if there is no fault
+-- the command if there is no fault, and otherwise `None`
 abbrev pub if_none : Kinds → Option Command → Option Command
 if_none [] command = command
 if_none (k ∷ ks) command = None
@@ -33,11 +33,11 @@ placed_fault s w [] = []
 placed_fault s w (word ∷ rest) = or_else (step_fault s w.position w.held value) (placed_fault s (placed s.rules w word) rest)
 
 module _ (s : Shape) (read : List Row → Option Command) where
-  -- the command that is read at the end of a walk, or `None` if there is a fault on the way or at the end
+  -- the command that is read at the end of a walk, or `None` if there is a fault during the walk or at its end
   abbrev pub answer_at : Kinds → Walk → Option Command
   answer_at fault end = if_none (or_else fault (end_fault s end false [])) (read (finished s.rules end.held))
 
-  -- the command that is read once the walk over these words is done
+  -- the command that is read after the walk over these words
   abbrev pub answer_from : Walk → List Text → Option Command
   answer_from w words = answer_at (walk_fault s [] w words) (fold (walked s.rules []) w words)
 
@@ -45,7 +45,7 @@ module _ (s : Shape) (read : List Row → Option Command) where
   abbrev pub placed_from : Walk → List Text → Option Command
   placed_from w words = answer_at (placed_fault s w words) (fold (placed s.rules) w words)
 
--- the argument, if there is one, does not take all remaining words unchanged
+-- if there is an argument, it does not take all remaining words unchanged
 abbrev pub NoTrail : Option Rule → Type 0
 NoTrail rule = option_map_or (λ a. a.trailing_var_arg) rule false ≡ false
 
@@ -59,7 +59,7 @@ no_trail (a ∷ rest) p all =
     let parts = and_parts (not a.trailing_var_arg) (list_all (λ a. not a.trailing_var_arg) rest) all in
     by_test (p a) a (find p rest) (not-true a.trailing_var_arg parts.0) (no_trail rest p parts.1)
 
--- the walk gives each word to the positional argument of its place, and its faults are those of these steps
+-- The walk gives each word to the positional argument of the word's place. Its faults are the faults of these steps.
 abbrev ArePlaced : Shape → Walk → List Text → Type 0
 ArePlaced s w words = (fold (walked s.rules []) w words ≡ fold (placed s.rules) w words) × (walk_fault s [] w words ≡ placed_fault s w words)
 
@@ -91,16 +91,16 @@ answer_placed s read never words all h position =
 abbrev pub row_of : Text → Text → Row
 row_of id word = record { id = id; values = word ∷ []; count = None; source = Some CommandLine; reading = reading_of (parser_of_value None) }
 
--- the row of the BSDL names, if there are any
+-- the row of the BSDL names, or no row if there are none
 abbrev pub names_row : List Text → List Row
 names_row [] = []
 names_row (name ∷ names) = record (row_of (codes "BSDL") name) { values = name ∷ names } ∷ []
 
--- the walk once the rows `front`, the BSDL names `names` and one more BSDL name are read
+-- the walk after it has read the rows `front`, the BSDL names `names` and one more BSDL name
 abbrev pub at_names : List Row → ℕ → List Text → Text → Walk
 at_names front position names name = before true (record { rows = front ++ names_row names; pending = Some (codes "BSDL", name ∷ []); skip = 0 }) position
 
--- once these names are read, the walk can take one more name, and it can end without a fault
+-- after these names are read, the walk can take one more name, and it can end without a fault
 pub record TakesName (s : Shape) (front : List Row) (position : ℕ) (names : List Text) (name : Text) : Type 0 where
   pub step : (next : Text) → placed s.rules (at_names front position names name) next ≡ at_names front position (names ++ name ∷ []) next
   pub passes : step_fault s position (at_names front position names name).held value ≡ []

@@ -1,4 +1,4 @@
--- Words that are no flags: `clap` gives each of them to the positional argument of its place.
+-- Lemmas about words that are not flags. `clap` gives each of them to the positional argument of its place.
 use Rattle.std.proofs.Common.{◌≡◌, ap, ◌∙◌, true, false, Bool, List, [], ◌∷◌, ℕ, nat_eq, Some, None}
 use Rattle.std.specs.Prelude.{option_and_then, if◌then◌else◌}
 use Rattle.std.specs.List.{list_all}
@@ -13,7 +13,7 @@ use Rattle.clap.specs.Faults.{other_fault, flag_word_fault, bundle_fault, step_f
 use Rattle.clap.proofs.OnLiterals.{clap_on_literals}
 use Rattle.command_line.specs.Words.{is_plain}
 
--- a plain word is no flag
+-- the word is not a flag
 pub record Plain (word : Text) : Type 0 where
   pub dashes : bytes_eq word (45 ∷ 45 ∷ []) ≡ false
   pub long : long_of word ≡ None
@@ -29,7 +29,7 @@ plain b bs e = record {
   short = ap (λ o. option_and_then short_of_rest o) (strip-plain b bs e);
 }
 
--- a list of words that are plain
+-- all words of the list are plain
 abbrev pub AllPlain : List Text → Type 0
 AllPlain [] = Unit {0}
 AllPlain (w ∷ ws) = Plain w × AllPlain ws
@@ -42,7 +42,7 @@ pub all_plain : (ws : List Text) → list_all is_plain ws ≡ true → AllPlain 
 all_plain [] e = tt
 all_plain (w ∷ ws) e = (is_plain_gives w ((and_parts (is_plain w) (list_all is_plain ws) e).0), all_plain ws ((and_parts (is_plain w) (list_all is_plain ws) e).1))
 
--- the state of the walk before a positional argument; `many` is true if the argument takes many values and has one already
+-- The state of the walk before a positional argument. `many` is true if the argument takes many values and already has one.
 abbrev pub waiting_for : Bool → Waiting
 waiting_for many = if many then positional else idle
 
@@ -60,15 +60,15 @@ plain_fault s word h p =
     ∙ ap (λ l. flag_word_fault s.rules s.args_override_self l word h) p.long
     ∙ ap (λ f. option_map_or (λ flags. bundle_fault s.rules s.args_override_self flags h) f []) p.short
 
--- the walk before the positional argument with this number
+-- the walk before the positional argument at this position
 abbrev pub before : Bool → Held → ℕ → Walk
 before many h position = record { held = h; waiting = waiting_for many; position = position; is_trailing = false; stopped = None }
 
--- the walk once it has given a word to the positional argument at the walk's position
+-- the walk after it has given a word to the positional argument at its position
 abbrev pub placed : List Rule → Walk → Text → Walk
 placed c w word = to_positional c (arg_by_index c w.position) word w w.held
 
--- a plain word goes to the positional argument at the walk's position
+-- if a word is plain, the walk gives it to the positional argument at its position
 pub plain_walked : (s : Shape) (many : Bool) (h : Held) (position : ℕ) (word : Text) → Plain word → walked s.rules [] (before many h position) word ≡ placed s.rules (before many h position) word
 unfolding clap_on_literals
 plain_walked s many h position word p = ap (λ m. after_step s.rules word (before many h position) m.0 m.1) (met s.rules many position word h p)

@@ -1,4 +1,4 @@
--- The number in a command is in range.
+-- Lemmas which say that the number in a command is in range.
 use Rattle.std.proofs.Common.{◌≡◌, ◌≤◌, ℕ, Bool, true, false, List, [], ◌∷◌, codes, Option, Some, None, sym, subst}
 use Rattle.std.specs.Prelude.{IfSome, option_and_then, option_map, if◌then◌else◌}
 use Rattle.std.specs.Str.{bytes_eq}
@@ -15,7 +15,7 @@ either : (b : Bool) (one other : Option Command) → AreInRange one → AreInRan
 either true one other first second = first
 either false one other first second = second
 
--- a command that has only file names has no number that could be out of range
+-- if a kind of command has only file names, its commands are in range
 named : {A : Type 0} (command : A → Command) → ((names : A) → HasNumber (command names)) → (names : Option A) → AreInRange (option_map command names)
 named command has None = tt
 named command has (Some names) = has names
@@ -34,7 +34,7 @@ make_in_range [] = tt
 make_in_range (number ∷ []) = made_in_range (number_of most_made number) (number_within most_made number)
 make_in_range (number ∷ other ∷ others) = tt
 
--- a command with a log and a number of workers has its number in range
+-- the command has a log and a number of workers, and a number from 1 to the limit is in range for it
 abbrev IsWork : (ℕ → Text → BoardNames → Command) → Type 0
 IsWork command = (log : Text) (names : BoardNames) (n : ℕ) → (1 ≤ n) × (n ≤ most_workers) → HasNumber (command n log names)
 
@@ -82,7 +82,7 @@ parsed_in_range (word ∷ rest) =
     (either (bytes_eq (codes "ident") word) (option_map Ident (chain_of rest)) device (named Ident (λ names. tt) (chain_of rest))
     (either (bytes_eq (codes "device") word) (device_of rest) (board_called word rest) (device_in_range rest) (board_in_range word rest)))
 
--- the number in the command that the words form is in range
+-- if the words form a command, the number in this command is in range
 pub command_in_range : (words : List Text) (command : Option Lent) → option_map command_view command ≡ parsed words → IfSome command (λ c. HasNumber (command_view c))
 command_in_range words None is = tt
 command_in_range words (Some command) is = subst AreInRange (sym is) (parsed_in_range words)

@@ -1,4 +1,4 @@
--- The values that the getters of `clap` return are those in the rows.
+-- Lemmas which say that the getters of `clap` return the values in the rows.
 use Rattle.std.proofs.Common.{◌≡◌, option_map}
 use Rattle.clap.specs.Matches.{first_value, matched_of, raw_values}
 use Rattle.clap.specs.Walk.{Text, all_of, first_of, rows_of}

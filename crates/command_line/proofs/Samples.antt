@@ -1,4 +1,4 @@
--- Commands and numbers of given words, worked by hand.
+-- Samples of the commands and the numbers of given words, worked by hand.
 use Rattle.std.proofs.Common.{◌≡◌, ℕ, List, [], ◌∷◌, map, replicate, Option, Some, None, codes, refl}
 use Rattle.command_line.specs.Words.{Text, BoardNames, Command, Walk, Ident, Make, Diagnose, Groups, Batch, board_called, log_called, command_of, number_of}
 
@@ -20,7 +20,7 @@ too_many_workers = refl
 zero : number_of 255 (codes "000") ≡ None
 zero = refl
 
--- this number of twenty digits is too great, and a word of 21 digits is no number, whatever its value
+-- this number of twenty digits is above the limit, and a word of 21 digits is never a number, whatever its value
 twenty_nines : number_of 255 (codes "99999999999999999999") ≡ None
 twenty_nines = refl
 
@@ -67,7 +67,7 @@ workers_past_the_limit = refl
 identified : command_of (codes "ident" ∷ codes "c" ∷ codes "b" ∷ []) ≡ Some (Ident (record { chain = codes "c"; bsdl = codes "b" ∷ [] }))
 identified = refl
 
--- the file names of a command that works on a response log
+-- the file names of a command that reads response logs
 abbrev logged : List Text
 logged = codes "g" ∷ codes "c" ∷ codes "n" ∷ codes "drv" ∷ []
 
@@ -103,7 +103,7 @@ walked_without_nets : command_of (codes "walk" ∷ codes "c" ∷ []) ≡ None
 unfolding board_called
 walked_without_nets = refl
 
--- a word that is an option, and an empty word
+-- if a word is an option or is empty, the words form no command
 no_plain_words : map command_of ((codes "walk" ∷ codes "-c" ∷ codes "n" ∷ []) ∷ (codes "walk" ∷ codes "c" ∷ [] ∷ []) ∷ []) ≡ None ∷ None ∷ []
 no_plain_words = refl
 

@@ -1,4 +1,4 @@
--- The program's commands as commands of the definitions: each word is a list of bytes, without its place in memory.
+-- The program's commands as the definitions see them: each word is a list of bytes, without its place in memory.
 use Rattle.std.specs.Prelude.{List, map}
 use Rattle.command_line.specs.declared.command.Command.{Command as Lent}
 use Rattle.command_line.specs.declared.command.Command.TheVariants as lent

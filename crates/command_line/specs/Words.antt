@@ -31,11 +31,11 @@ pub record BoardNames : Type 0 where
   pub nets : Text
   pub bsdl : List Text
 
--- A command. The length test and the identity test of a chain have the file names of the chain. The listing of a device has the name of a
--- BSDL file. The coverage list, the test and the walking test of a board have the file names of the board. The summary of a generated board
--- has the number of parts of the board. The diagnosis of a board and the diagnoses of many boards have the number of workers, the name of a
--- file of response logs and the file names of the board. The groups of shorted nets have the name of a response log and the file names of
--- the board.
+-- A command. `Chain` and `Ident`, the length test and the identity test, have the file names of a chain. `Device`, the listing of a device,
+-- has the name of a BSDL file. `Cover`, `Svf` and `Walk`, the coverage list and the two tests of a board, have the file names of the board.
+-- `Make`, the summary of a generated board, has the number of the board's parts. `Diagnose` and `Batch`, the diagnoses of one board and of
+-- many boards, have the number of workers, the name of a file of response logs and the file names of the board. `Groups`, the groups of
+-- shorted nets, has the name of a response log and the file names of the board.
 pub data Command : Type 0 where
   Chain : ChainNames → Command
   Ident : ChainNames → Command
@@ -61,35 +61,35 @@ with_names names value = if nat_le (length names) most_names then Some value els
 abbrev pub is_within : ℕ → ℕ → ℕ → Bool
 is_within least most n = nat_le least n && nat_le n most
 
--- the value of a word of 1 to 20 decimal digits; `None` if the value is not from 1 to `most`, or the word has another form
+-- The value of a word of 1 to 20 decimal digits. It is `None` if the value is not from 1 to `most`, or if the word has another form.
 abbrev pub number_of : ℕ → Text → Option ℕ
 number_of most word =
     if list_all is_ascii_digit word && is_within 1 20 (length word) && is_within 1 most (digits_value 10 word) then Some (digits_value 10 word) else None
 
--- the file names of a chain from these words: a chain file, then any number of BSDL names
+-- the file names of a chain that these words give: a chain file, then any number of BSDL names
 abbrev pub chain_of : List Text → Option ChainNames
 chain_of [] = None
 chain_of (chain ∷ names) = with_names names (record { chain = chain; bsdl = names })
 
--- the command `device` with these words: one BSDL name
+-- the command `device` that these words give: one BSDL name
 abbrev pub device_of : List Text → Option Command
 device_of [] = None
 device_of (name ∷ []) = Some (Device name)
 device_of (name ∷ other ∷ others) = None
 
--- the file names of a board from these words: a chain file and a net file, then any number of BSDL names
+-- the file names of a board that these words give: a chain file and a net file, then any number of BSDL names
 abbrev pub board_of : List Text → Option BoardNames
 board_of [] = None
 board_of (chain ∷ []) = None
 board_of (chain ∷ nets ∷ names) = with_names names (record { chain = chain; nets = nets; bsdl = names })
 
--- the command `make` with these words: one number of parts
+-- the command `make` that these words give: one number of parts
 abbrev pub make_of : List Text → Option Command
 make_of [] = None
 make_of (number ∷ []) = option_map Make (number_of most_made number)
 make_of (number ∷ other ∷ others) = None
 
--- the command with these words: a number of workers, a file of response logs, and the file names of a board
+-- the command that these words give: a number of workers, a file of response logs, and the file names of a board
 abbrev pub worked_of : (ℕ → Text → BoardNames → Command) → List Text → Option Command
 worked_of command [] = None
 worked_of command (workers ∷ []) = None
@@ -101,12 +101,12 @@ diagnose_of words = worked_of Diagnose words
 abbrev pub batch_of : List Text → Option Command
 batch_of words = worked_of Batch words
 
--- the command `groups` with these words: a response log, and the file names of a board
+-- the command `groups` that these words give: a response log, and the file names of a board
 abbrev pub groups_of : List Text → Option Command
 groups_of [] = None
 groups_of (log ∷ names) = option_map (Groups log) (board_of names)
 
--- the command with this name and these words, if the name is that of a command that works on response logs
+-- the command with this name and these words, if commands with this name read response logs
 unfoldable pub log_called : Text → List Text → Option Command
 log_called word rest =
     if bytes_eq (codes "diagnose") word then diagnose_of rest else
@@ -153,7 +153,7 @@ names_of (Diagnose workers log names) = log ∷ board_names names
 names_of (Groups log names) = log ∷ board_names names
 names_of (Batch workers log names) = log ∷ board_names names
 
--- if the command has a number, the number is in range: the number of parts of a generated board, or the number of workers
+-- The number in a command is in range, if there is one. It is the number of parts of a generated board or the number of workers.
 abbrev pub HasNumber : Command → Type 0
 HasNumber (Make parts) = (1 ≤ parts) × (parts ≤ most_made)
 HasNumber (Diagnose workers log names) = (1 ≤ workers) × (workers ≤ most_workers)

@@ -1,4 +1,4 @@
-// The program's command for `clap`: the subcommands and their arguments.
+// Builds the program's command for `clap`: the subcommands and their arguments.
 ghost use Rattle.std.specs.Prelude.{◌≡◌, false, IfOk};
 ghost use Rattle.clap.specs.Simple.{App, app_of, with_rule, with_subcommand};
 ghost use Rattle.clap.specs.Walk.{rule_of};
@@ -24,8 +24,8 @@ fn names_arg<'a>(alloc: Global) -> Arg<'a>
     Arg::new(alloc, "BSDL").action(ArgAction::Append)
 }
 
-// Adds an argument that takes exactly one word to a command. Like the next functions, `with_name` takes the command as
-// a result and passes on an error. So its callers need no `?`: each `?` costs the proof of a caller several seconds.
+// Adds an argument that takes exactly one word to a command. Like the next functions, `with_name` takes the command as a result and passes
+// on an error. So its callers need no `?`, which would cost the proof of a caller several seconds each.
 fn with_name<'a>(
     alloc: Global,
     command: Result<clap::Command<'a>, AllocError>,
@@ -127,7 +127,7 @@ fn top_command<'a>(alloc: Global) -> clap::Command<'a>
         .disable_help_subcommand(true)
 }
 
-// Adds a subcommand to a command. Takes both commands as results and passes on an error.
+// Adds a subcommand to a command. Takes both commands as results, and passes on an error of either.
 fn with_made<'a>(
     command: Result<clap::Command<'a>, AllocError>,
     made: Result<clap::Command<'a>, AllocError>,

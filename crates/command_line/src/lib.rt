@@ -1,4 +1,4 @@
-//! The words of the command line, read by `clap`.
+//! Reads the words of the command line with `clap`.
 #![tactic(auto)]
 
 mod command;

@@ -28,7 +28,7 @@ pub fn command_of<'a>(alloc: Global, words: &'a [String]) -> Result<Option<Comma
     }
 }
 
-// Returns true if no word is empty and no word begins with `-`.
+// Returns true if no word is empty or begins with `-`.
 fn are_plain(words: &[String]) -> bool
     ensures { result ≡ list_all is_plain (map string_bytes words.now) }
 {

@@ -1,4 +1,4 @@
--- The program's command with its subcommands and their arguments, as definitions of `clap`.
+-- The program's command with its subcommands and their arguments, in terms of the definitions of `clap`.
 use Rattle.std.specs.Prelude.{true, codes, Some}
 use Rattle.clap.specs.Walk.{Rule, Text}
 use Rattle.clap.specs.Simple.{App, new_app, new_rule, on_top, with_rule, with_subcommand}
@@ -12,11 +12,11 @@ name_rule id = record (new_rule id) { required = true; action = Some Set }
 abbrev pub names_rule : Rule
 names_rule = record (new_rule (codes "BSDL")) { action = Some Append }
 
--- a command that works on a chain: a chain file and any number of BSDL files
+-- a command that works on a chain; its arguments are a chain file and any number of BSDL files
 abbrev pub chain_app : Text → App
 chain_app name = with_rule (with_rule (new_app name) (name_rule (codes "CHAIN"))) names_rule
 
--- a command that takes one word: a BSDL file or a number
+-- a command that takes one word, which is a BSDL file or a number
 abbrev pub single_app : Text → Text → App
 single_app name id = with_rule (new_app name) (name_rule id)
 
@@ -28,11 +28,12 @@ with_board app = with_rule (with_rule (with_rule app (name_rule (codes "CHAIN"))
 abbrev pub board_app : Text → App
 board_app name = with_board (new_app name)
 
--- a command that works on response logs with a given number of workers: the number of workers, the file of logs and the files of the board
+-- A command that works on response logs with a given number of workers. Its arguments are the number of workers, the file of logs and the
+-- files of the board.
 abbrev pub log_app : Text → App
 log_app name = with_board (with_rule (with_rule (new_app name) (name_rule (codes "WORKERS"))) (name_rule (codes "LOG")))
 
--- a command that works on a response log with one worker: the log and the files of the board
+-- A command that works on a response log with one worker. Its arguments are the log and the files of the board.
 abbrev pub groups_app : Text → App
 groups_app name = with_board (with_rule (new_app name) (name_rule (codes "LOG")))
 
@@ -57,6 +58,6 @@ logs_app =
     with_subcommand (with_subcommand (with_subcommand boards_app (log_app (codes "diagnose")).top) (groups_app (codes "groups")).top)
     (log_app (codes "batch")).top
 
--- `logs_app` with the subcommand that generates a board: the program's whole command
+-- the program's whole command: `logs_app` with the subcommand that generates a board
 abbrev pub btest_app : App
 btest_app = with_subcommand logs_app (single_app (codes "make") (codes "NUMBER")).top

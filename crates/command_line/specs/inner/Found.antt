@@ -1,4 +1,4 @@
--- The program's command, from the values that `clap` found for the arguments.
+-- The program's command, as it follows from the values that `clap` found for the arguments.
 use Rattle.std.specs.Prelude.{ℕ, List, [], codes, Option, None, option_and_then, option_map, unwrap_or, if◌then◌else◌}
 use Rattle.std.specs.Str.{bytes_eq}
 use Rattle.clap.specs.Simple.{subcommand_rows_of}
@@ -23,7 +23,7 @@ abbrev pub board_in : List Row → Option BoardNames
 board_in rows =
     option_and_then (λ chain. option_and_then (λ nets. option_map (λ bsdl. record { chain = chain; nets = nets; bsdl = bsdl }) (few_in rows)) (first_of (codes "NETS") rows)) (first_of (codes "CHAIN") rows)
 
--- each command, from the matches of its subcommand
+-- The command `device` that the matches of its subcommand give. The next definitions do the same for the other commands.
 abbrev pub device_in : List Row → Option Command
 device_in rows = option_map Device (first_of (codes "BSDL") rows)
 
