@@ -1,4 +1,4 @@
--- Reads of several texts in turn, put together to one reading.
+-- Lemmas which combine the reads of several texts in turn into one reading.
 use Rattle.std.proofs.Common.{◌≡◌, ℕ, suc, ◌+◌, ◌<◌, ◌≤◌, Bool, true, false, List, [], ◌∷◌, ◌++◌, length, map, take, drop, nat_lt, slice_index_or, Global, Vec, Option, Some, None, refl, ap, sym, ◌∙◌, subst, arith, append_assoc, append-nil}
 use Rattle.std.specs.Prelude.{if◌then◌else◌, Ok, Err}
 use Rattle.std.specs.Borrow.{Bor}
@@ -24,7 +24,7 @@ pub is_long : (limit n : ℕ) (b : Bool) → nat_lt limit n ≡ b → limit < n 
 is_long limit n true test long = refl
 is_long limit n false test long = grind (arith, common_steps)
 
--- a fetched text is the text that the store holds under the name
+-- if a text was fetched under a name, the store holds this text under the name
 pub text_told : (held : Held) (name text : Text) → Told held name (λ t. text ≡ t) → IsText held name text
 text_told None name text told = tt
 text_told (Some held) name text told = by (held name) refl told
@@ -52,7 +52,7 @@ first_read wanted text rest reading short is =
 first_long : (wanted : Wanted) (text : Text) (rest : Option Reading) → wanted.limit < length text → read_first wanted (Some text) rest ≡ Some (TooLong wanted)
 first_long wanted text rest long = ap (λ (b : Bool). if b then Some (TooLong wanted) else and_text text rest) (is_long wanted.limit (length text) (nat_lt wanted.limit (length text)) refl long)
 
--- a reading with one more text before it
+-- if a text that is short enough comes before the texts of a reading, the reading with this text in front reads all of them
 reads_more : (held : Held) (wanted : Wanted) (text : Text) (others : List Wanted) (reading : Reading) → IsText held wanted.name text → length text ≤ wanted.limit → IsRead held others reading → IsRead held (wanted ∷ others) (behind (text ∷ []) reading)
 reads_more None wanted text others reading is short read = (text ∷ read.0, first_read wanted text (reading_in others read.0) reading short read.1)
 reads_more (Some held) wanted text others reading is short read = ap (λ o. read_first wanted o (reading_of held others)) is ∙ first_read wanted text (reading_of held others) reading short read
@@ -80,14 +80,14 @@ continued held wanted front continues =
     let whole = subst (λ texts. IsRead held (wanted ++ []) (Read texts)) (append-nil front) (continues [] (Read []) (reads_none held)) in
     subst (λ texts. IsRead held texts (Read front)) (append-nil wanted) whole
 
--- the names of two joined lists of texts are the names of the first list and then the names of the second
+-- the names of two joined lists of texts are the names of the first list, followed by the names of the second
 names_both : (first rest : List Wanted) → names_in (first ++ rest) ≡ names_in first ++ names_in rest
 names_both first rest = map-append (λ (text : Wanted). text.name) first rest
 
 asks_both : (old mid new names more : List Text) → Asks old mid names → Asks mid new more → Asks old new (names ++ more)
 asks_both old mid new names more first second = second ∙ ap (λ (l : List Text). l ++ more) first ∙ append_assoc old names more
 
--- the read of one text, for each way in which it may end
+-- the read of one text, with a lemma for each way in which it may end
 module _ (held held' : Held) (before now : Text → ℕ) (asked asked' : List Text) (same : held' ≡ held) (later : (name : Text) → before name ≤ now name) (last : Lent) (asks : Asks asked asked' (last.name.now ∷ [])) where
   up_to_here : IsReadUpTo held (wanted_view last ∷ []) (wanted_view last) asked asked'
   up_to_here = record { before = []; after = []; are = refl; found = []; read = reads_none held; asked = asks }
@@ -136,7 +136,7 @@ pub lost_first : {A B : Type 0} {Of : A → List Text → Type 0} {first : List 
 lost_first {first = first} rest {held = held} {before = before} {now = now} {asked = asked} {asked' = asked'} As {lost = lost} reads =
     record { same = reads.same; later = reads.later; told = more_unread first rest held asked asked' before now lost reads.told }
 
--- if memory ran out once the first texts were read, memory ran out for all of the texts
+-- if memory ran out after the first texts were read, memory ran out for the whole list
 lost_between : {A B : Type 0} {Of : A → List Text → Type 0} {first : List Wanted} (rest : List Wanted) {held held' : Held} {before now : Text → ℕ} {asked asked' : List Text} (As : B → List Text → Type 0) {value : A} → Reads Of first held held' before now asked asked' (Ok value)
     → Reads As (first ++ rest) held held' before now asked asked' (Err unread.Memory)
 lost_between {first = first} rest As reads = record {
@@ -145,7 +145,7 @@ lost_between {first = first} rest As reads = record {
   told = record { first = names_in first; others = names_in rest; are = names_both first rest; asks = reads.told.asks };
 }
 
--- if the texts of `first` were read but not all texts of `rest`, not all texts of the two lists were read
+-- if the texts of `first` were read, but not all texts of `rest`, then not all texts of both lists were read
 module _ (first rest : List Wanted) (held : Held) (front asked asked_mid asked' : List Text) (continues : Continues held first front) (asks : Asks asked asked_mid (names_in first)) where
   up_to_there : (last : Wanted) → IsReadUpTo held rest last asked_mid asked' → IsReadUpTo held (first ++ rest) last asked asked'
   up_to_there last there = record {
@@ -173,7 +173,7 @@ module _ (first rest : List Wanted) (held : Held) (front asked asked_mid asked' 
 both_later : (before between now : Text → ℕ) → ((name : Text) → before name ≤ between name) → ((name : Text) → between name ≤ now name) → (name : Text) → before name ≤ now name
 both_later before between now one other name = let first = one name in let more = other name in omega (arith, first, more)
 
--- two reads in turn, the second of which failed
+-- if the first of two reads succeeded and the second failed, the joined read failed
 pub lost_then : {A B C : Type 0} {Of : A → List Text → Type 0} {Then : B → List Text → Type 0} {first rest : List Wanted} {held mid held' : Held} {before between now : Text → ℕ} {asked asked_mid asked' : List Text} {value : A} {lost : Unread} (As : C → List Text → Type 0)
     → Reads Of first held mid before between asked asked_mid (Ok value) → Reads Then rest mid held' between now asked_mid asked' (Err lost) → Reads As (first ++ rest) held held' before now asked asked' (Err lost)
 lost_then {first = first} {rest = rest} {held = held} {before = before} {between = between} {now = now} {asked = asked} {asked_mid = asked_mid} {asked' = asked'} {lost = lost} As one other = record {
@@ -184,7 +184,7 @@ lost_then {first = first} {rest = rest} {held = held} {before = before} {between
       (subst (λ (h : Held). IsUnread rest h between now asked_mid asked' lost) one.same other.told);
 }
 
--- two reads in turn that both succeeded
+-- if two reads in turn succeeded, the joined read succeeded
 pub read_then : {A B C : Type 0} {Of : A → List Text → Type 0} {Then : B → List Text → Type 0} {first rest : List Wanted} {held mid held' : Held} {before between now : Text → ℕ} {asked asked_mid asked' : List Text} {value : A} {found : B} (As : C → List Text → Type 0) (made : C)
     → Reads Of first held mid before between asked asked_mid (Ok value) → Reads Then rest mid held' between now asked_mid asked' (Ok found) → ((texts more : List Text) → Of value texts → Then found more → As made (texts ++ more)) → Reads As (first ++ rest) held held' before now asked asked' (Ok made)
 read_then {Then = Then} {first = first} {rest = rest} {held = held} {before = before} {between = between} {now = now} {asked = asked} {asked_mid = asked_mid} {asked' = asked'} {found = found} As made one other stand =
@@ -200,12 +200,12 @@ read_then {Then = Then} {first = first} {rest = rest} {held = held} {before = be
       };
     }
 
--- the reads of two single texts
+-- if two single texts were read in turn, the list of both was read
 pub read_two : {first second : Wanted} {held mid held' : Held} {before between now : Text → ℕ} {asked asked_mid asked' : List Text} {one other : Text} → Reads IsOne (first ∷ []) held mid before between asked asked_mid (Ok one) → Reads IsOne (second ∷ []) mid held' between now asked_mid asked' (Ok other)
     → Reads AreAll (first ∷ second ∷ []) held held' before now asked asked' (Ok (one ∷ other ∷ []))
 read_two {one = one} {other = other} first second = read_then AreAll (one ∷ other ∷ []) first second (λ texts more is are. ap (λ (l : List Text). l ++ more) is ∙ ap (λ (l : List Text). one ∷ l) are)
 
--- the text that a borrowed name holds
+-- the text of a borrowed name
 abbrev pub now_of : Bor Text → Text
 now_of name = name.now
 
@@ -228,11 +228,11 @@ module _ (names : List (Bor Text)) (k : ℕ) {held held' : Held} {before now : T
   lost_of : {lost : Unread} → Reads AreAll (called (take k names)) held held' before now asked asked' (Err lost) → Reads AreAll (called names) held held' before now asked asked' (Err lost)
   lost_of {lost} reads = subst (λ (wanted : List Wanted). Reads AreAll wanted held held' before now asked asked' (Err lost)) (sym (cut_at names k)) (lost_first (called (drop k names)) AreAll reads)
 
-  -- if memory ran out once these k texts were read, memory ran out for all names
+  -- if memory ran out after these k texts were read, memory ran out for all names
   pub memory_of : {found : List Text} → Reads AreAll (called (take k names)) held held' before now asked asked' (Ok found) → Reads AreAll (called names) held held' before now asked asked' (Err unread.Memory)
   memory_of {found} reads = subst (λ (wanted : List Wanted). Reads AreAll wanted held held' before now asked asked' (Err unread.Memory)) (sym (cut_at names k)) (lost_between (called (drop k names)) AreAll reads)
 
--- the read of the text with name k, once the texts of the first k names were read
+-- the read of the text with name k, after the texts of the first k names were read
 module _ (names : List (Bor Text)) (k : ℕ) (d : Bor Text) (name : Text) (within : k < length names) (is : name ≡ now_of (slice_index_or names k d)) {held mid held' : Held} {before between now : Text → ℕ} {asked asked_mid asked' : List Text} {found : List Text}
     (so_far : Reads AreAll (called (take k names)) held mid before between asked asked_mid (Ok found)) where
   pub next_read : {text : Text} → Reads IsOne (text_called name ∷ []) mid held' between now asked_mid asked' (Ok text) → (all : List Text) → all ≡ found ++ text ∷ [] → Reads AreAll (called (take (k + 1) names)) held held' before now asked asked' (Ok all)
@@ -245,7 +245,7 @@ module _ (names : List (Bor Text)) (k : ℕ) (d : Bor Text) (name : Text) (withi
       lost_of names (k + 1)
       (subst (λ (wanted : List Wanted). Reads AreAll wanted held held' before now asked asked' (Err lost)) (sym (one_more names k d name within is)) (lost_then AreAll so_far one))
 
--- the bytes of some texts and one more text
+-- the bytes of `texts ++ last ∷ []` are the bytes of `texts`, followed by the bytes of `last`
 pub items_more : (texts all : List (Vec ℕ Global)) (last : Vec ℕ Global) (text : Text) → all ≡ texts ++ last ∷ [] → last.items ≡ text → map (λ t. t.items) all ≡ map (λ t. t.items) texts ++ text ∷ []
 items_more texts all last text are is =
     ap (λ (l : List (Vec ℕ Global)). map (λ t. t.items) l) are ∙ map-append (λ (t : Vec ℕ Global). t.items) texts (last ∷ []) ∙ ap (λ (t : Text). map (λ t. t.items) texts ++ t ∷ []) is

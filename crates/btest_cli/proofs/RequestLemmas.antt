@@ -1,4 +1,4 @@
--- A command with its texts.
+-- Lemmas about commands with their texts.
 use Rattle.std.proofs.Common.{◌≡◌, ℕ, List, [], ◌∷◌, length, Option, Some, None, refl, subst, arith}
 use Rattle.command_line.specs.Words.{Text, BoardNames, ChainNames, Command, Chain, Ident, Device, Cover, Svf, Walk, Make, Diagnose, Groups, Batch, HasNumber, names_of}
 use Rattle.commands.specs.Requests.{board_texts, chain_texts, log_texts, request_of}
@@ -12,7 +12,7 @@ same_request e = cc
 none_made : {a : Request} → ◌≡◌ {A = Option Request} None (Some a) → ⊥
 none_made e = cc e
 
--- if P holds of each kind of command with its texts, P holds of every request
+-- if P holds for each kind of command with its texts, it holds for every request
 module _ (P : Command → List Text → Request → Type 0) (of_chain : (names : ChainNames) (chain : Text) (bsdl : List Text) → P (Chain names) (chain ∷ bsdl) (request.Chain (chain_texts chain bsdl)))
     (of_ident : (names : ChainNames) (chain : Text) (bsdl : List Text) → P (Ident names) (chain ∷ bsdl) (request.Ident (chain_texts chain bsdl))) (of_device : (name bsdl : Text) → P (Device name) (bsdl ∷ []) (request.Device bsdl))
     (of_cover : (names : BoardNames) (chain nets : Text) (bsdl : List Text) → P (Cover names) (chain ∷ nets ∷ bsdl) (request.Cover (board_texts chain nets bsdl)))
@@ -58,7 +58,7 @@ numbered =
     by_request (λ command texts made. HasNumber command → IsNumbered made) (λ names chain bsdl has. tt) (λ names chain bsdl has. tt) (λ name bsdl has. tt) (λ names chain nets bsdl has. tt) (λ names chain nets bsdl has. tt) (λ names chain nets bsdl has. tt)
     (λ parts texts has. has) (λ workers name names log chain nets bsdl has. has) (λ name names log chain nets bsdl has. tt) (λ workers name names log chain nets bsdl has. has)
 
--- a command makes a request of as many texts as it has names
+-- the command and these texts make a request; this is the case if there are as many texts as the command has names
 abbrev pub MakesRequest : Command → List Text → Type 0
 MakesRequest command texts = (made : Request) × (request_of command texts ≡ Some made)
 

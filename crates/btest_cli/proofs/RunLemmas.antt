@@ -1,4 +1,4 @@
--- Runs of a command: the effect of each run, and that every kind of run is covered.
+-- Lemmas about runs of a command: the effect of each kind of run, and the completeness of these kinds.
 use Rattle.std.proofs.Common.{◌≡◌, ℕ, zero, suc, Bool, true, false, nat_lt, length, List, [], ◌∷◌, Option, Some, None, Result, Ok, Err, refl, sym, ap, ◌∙◌, subst, inl, inr}
 use Rattle.std.specs.Prelude.{IfSome, map, take, ◌++◌, if◌then◌else◌}
 use Rattle.std.proofs.lemmas.List.{append-nil}
@@ -47,12 +47,12 @@ use Rattle.btest_cli.specs.inner.Reads.{IsUnread, OfRequest, Reads}
 use Rattle.btest_cli.specs.inner.Failures.{IsPut, IsUnput, wanted_view, unread_status, unread_line, unput_status, unput_line}
 use Rattle.btest_cli.specs.inner.RunOf.{IsRunOf}
 
--- the notes took the line that was written, wholly or in part
+-- after a line was written to the notes, the notes took the line, wholly or in part
 pub took_or_cut : {T E : Type 0} {old new : Shown} {line : Text} (r : Result T E) → Puts old new line r → TookOrCut old new line
 took_or_cut (Ok x) puts = inl puts.whole
 took_or_cut (Err e) puts = inr (puts.cause, puts.cut)
 
--- the names of the texts of a command
+-- the names of the texts of a command are the given names
 pub names_wanted : (names : List Text) → names_in (map text_called names) ≡ names
 names_wanted [] = refl
 names_wanted (name ∷ names) = ap (λ (l : List Text). name ∷ l) (names_wanted names)
@@ -75,7 +75,7 @@ all_asked command asked asked' asks = subst (Asks asked asked') (wanted_names co
 all_wanted : (command : Command) (asked asked' : List Text) → Asks asked asked' (names_of command) → Asks asked asked' (names_in (wanted_of command))
 all_wanted command asked asked' asks = subst (Asks asked asked') (sym (wanted_names command)) asks
 
--- if the texts of a command were read, they make the request
+-- if the texts of a command were read, they make the request, and each was asked for once and in order
 pub was_read : (command : Command) {held held' : Held} {before now : Text → ℕ} {asked asked' : List Text} {request : Request} → Reads (OfRequest command) (wanted_of command) held held' before now asked asked' (Ok request) → IsReadAs held command asked asked' request
 was_read command {held} {held'} {before} {now} {asked} {asked'} reads = record {
   texts = reads.told.texts;
@@ -84,7 +84,7 @@ was_read command {held} {held'} {before} {now} {asked} {asked'} reads = record {
   asks = all_asked command asked asked' reads.told.asks;
 }
 
--- a run that wrote its text
+-- if the command wrote its text, the run is a run at `Done`
 pub run_put : (command : Command) (held : Held) (before now : Text → ℕ) (asked asked' : List Text) (request : Request) (out out' notes : Shown) → IsReadAs held command asked asked' request → IsPut (roles_of command) request out out' → IsRunOf command held before now asked asked' out out' notes notes status.Done
 run_put command held before now asked asked' request out out' notes read put = record {
   no_usage = λ e. cc;
@@ -100,7 +100,7 @@ run_put command held before now asked asked' request out out' notes read put = r
   memory_asks = λ e. absurd cc;
 }
 
--- a run that was refused
+-- if the texts have a fault and the notes took its line, the run is a run at `Refused`
 refused_run : (command : Command) (held : Held) (before now : Text → ℕ) (asked asked' : List Text) (reading : Reading) (line : Text) (out notes notes' : Shown) → IsRead held (wanted_of command) reading → AsksFor held (wanted_of command) reading asked asked' → IsOutcome command reading (Err line) → TookOrCut notes notes' line
     → IsRunOf command held before now asked asked' out out notes notes' status.Refused
 refused_run command held before now asked asked' reading line out notes notes' read asks gives noted = record {
@@ -117,7 +117,7 @@ refused_run command held before now asked asked' reading line out notes notes' r
   memory_asks = λ e. absurd cc;
 }
 
--- a run in which memory ran out
+-- if memory ran out, the run is a run at `NoMemory`
 pub memory_run : (command : Command) (held : Held) (before now : Text → ℕ) (asked asked' : List Text) (out notes notes' : Shown) → AsksSome command asked asked' → TookOrCut notes notes' memory_line → IsRunOf command held before now asked asked' out out notes notes' status.NoMemory
 memory_run command held before now asked asked' out notes notes' asks noted = record {
   no_usage = λ e. cc;
@@ -133,7 +133,7 @@ memory_run command held before now asked asked' out notes notes' asks noted = re
   memory_asks = λ e. asks;
 }
 
--- a run that asked for no text asked for the first 0 names
+-- if a run asked for no text, it asked for the first 0 names
 pub none_asked : (command : Command) (asked : List Text) → AsksSome command asked asked
 none_asked command asked = (zero, sym (append-nil asked))
 
@@ -141,7 +141,7 @@ pub none_asked_for : (command : Option Command) (asked : List Text) → IfSome c
 none_asked_for None asked = tt
 none_asked_for (Some command) asked = none_asked command asked
 
--- the first names of a joined list are the names of the first list
+-- the first `length first` names of a joined list are the first list
 first_of : (first others : List Text) → take (length first) (first ++ others) ≡ first
 first_of [] others = refl
 first_of (name ∷ first) others = ap (λ (l : List Text). name ∷ l) (first_of first others)
@@ -153,7 +153,7 @@ asked_first command first others asked asked' are asks =
 asked_all : (command : Command) (asked asked' : List Text) → Asks asked asked' (names_of command) → AsksSome command asked asked'
 asked_all command asked asked' asks = asked_first command (names_of command) [] asked asked' (sym (append-nil (names_of command))) asks
 
--- a run whose texts were not all read
+-- if the texts were not all read, the run is a run at the status of the reason
 pub run_unread : (command : Command) (held : Held) (before now : Text → ℕ) (asked asked' : List Text) (lost : Unread) (out notes notes' : Shown) → IsUnread (wanted_of command) held before now asked asked' lost → TookOrCut notes notes' (unread_line lost)
     → IsRunOf command held before now asked asked' out out notes notes' (unread_status lost)
 run_unread command held before now asked asked' (unread.TooLong wanted) out notes notes' is noted =
@@ -180,7 +180,7 @@ run_unread command held before now asked asked' unread.Memory out notes notes' i
 same_out : (command : Command) (held : Held) (before now : Text → ℕ) (asked asked' : List Text) (out out' notes notes' : Shown) (ended : Status) → out' ≡ out → IsRunOf command held before now asked asked' out out notes notes' ended → IsRunOf command held before now asked asked' out out' notes notes' ended
 same_out command held before now asked asked' out out' notes notes' ended same run = subst (λ o. IsRunOf command held before now asked asked' out o notes notes' ended) (sym same) run
 
--- a run whose text was not written whole
+-- if the text was not written whole, the run is a run at the status of the reason
 pub run_unput : (command : Command) (held : Held) (before now : Text → ℕ) (asked asked' : List Text) (request : Request) (failure : Unput) (out out' notes notes' : Shown) → IsReadAs held command asked asked' request → IsUnput (roles_of command) request out out' failure → TookOrCut notes notes' (unput_line (roles_of command) failure)
     → IsRunOf command held before now asked asked' out out' notes notes' (unput_status failure)
 run_unput command held before now asked asked' request (unput.Input fault) out out' notes notes' read is noted =
@@ -205,7 +205,7 @@ run_unput command held before now asked asked' request unput.Write out out' note
 run_unput command held before now asked asked' request unput.Memory out out' notes notes' read is noted =
     same_out command held before now asked asked' out out' notes notes' status.NoMemory is (memory_run command held before now asked asked' out notes notes' (asked_all command asked asked' read.asks) noted)
 
--- if the count of a text among these rose, the count of one of these names rose
+-- if the count of `last` rose, and `last` is among the texts, the count of one of their names rose
 rose_in : (before now : Text → ℕ) (front : List Wanted) (last : Wanted) (after : List Wanted) → Rose (before last.name) (now last.name) → SomeRose before now (names_in (front ++ last ∷ after))
 rose_in before now [] last after rose = inl rose
 rose_in before now (wanted ∷ front) last after rose = inr (rose_in before now front last after rose)
@@ -214,15 +214,15 @@ pub rose_among : (command : Command) (held : Held) (before now : Text → ℕ) (
 rose_among command held before now asked asked' last up_to rose =
     subst (SomeRose before now) (ap names_in (sym up_to.are) ∙ wanted_names command) (rose_in before now up_to.before last up_to.after rose)
 
--- a reading gives at most one outcome
+-- a reading of a command's texts gives at most one outcome
 abbrev pub OneOutcome : Type 0
 OneOutcome = (command : Command) (reading : Reading) (a b : Result Text Text) → IsOutcome command reading a → IsOutcome command reading b → a ≡ b
 
--- a known reading gives some outcome
+-- if the reading of a command's texts is known, it gives some outcome
 abbrev pub SomeOutcome : Type 0
 SomeOutcome = (command : Command) (held : Held) (reading : Reading) → known_reading held (wanted_of command) ≡ Some reading → (outcome : Result Text Text) × IsOutcome command reading outcome
 
--- `NoMemory` may come instead of any outcome
+-- the status `NoMemory` agrees with every outcome, since memory may run out in any run
 settles_memory : (rose : Type 0) (outcome : Result Text Text) → Settles rose outcome status.NoMemory
 settles_memory rose (Ok text) = λ calm. inr refl
 settles_memory rose (Err line) = inr refl
@@ -236,7 +236,7 @@ pub memory_for : SomeOutcome → (command : Option Command) (held : Held) (befor
 memory_for some None held before now out_rose = tt
 memory_for some (Some command) held before now out_rose = memory_complete some command held (SomeRose before now (names_of command)) out_rose
 
--- a known reading is the only reading
+-- if a reading is known, there is no other reading
 pub one_reading : (held : Held) (wanted : List Wanted) (reading other : Reading) → known_reading held wanted ≡ Some reading → IsRead held wanted other → other ≡ reading
 one_reading None [] reading other known read =
     let same : ◌≡◌ {A = Option Reading} (Some other) (Some reading) = sym read.1 ∙ known in
@@ -253,7 +253,7 @@ same_outcome : (held : Held) (command : Command) (reading other : Reading) (a b 
 same_outcome held command reading other a b one known is gives_a gives_b =
     one command reading a b (subst (λ r. IsOutcome command r a) (one_reading held (wanted_of command) reading other known is) gives_a) gives_b
 
--- a text and a line are not the same outcome
+-- an outcome that is a text is different from an outcome that is a line
 apart : {text line : Text} → ◌≡◌ {A = Result Text Text} (Ok text) (Err line) → ⊥
 apart e = cc e
 
@@ -284,7 +284,7 @@ run_complete one some command held before now asked asked' out out' notes notes'
         let told = run.cut refl in absurd (apart (same_outcome held command reading (Read told.read.texts) (Ok told.text) (Err line) one known told.read.read (told.request, told.read.made, told.gives) gives))
     settle (Err line) status.NoMemory reading known gives no_rise run = inr refl
 
--- the outcome for what is found in texts
+-- the outcome for a result: the text of a value, or the line of a fault
 abbrev said : {A F : Type 0} → (A → Text) → (F → Text) → Result A F → Result Text Text
 said text_of line_of (Ok value) = Ok (text_of value)
 said text_of line_of (Err fault) = Err (line_of fault)
@@ -302,7 +302,8 @@ one_said text_of line_of IsFound a b one says_a says_b =
     let y = found_of text_of line_of IsFound b says_b in
     x.2 ∙ ap (said text_of line_of) (one x.0 y.0 x.1 y.1) ∙ sym y.2
 
--- laws that these proofs take as arguments: the texts of a device, of a chain, of its codes and of a board have at most one answer
+-- These proofs take the following laws as arguments: the texts of a device, of a chain, of its codes and of a board have at most one
+-- answer.
 abbrev OneDevice : Type 0
 OneDevice = (text : Text) → AtMostOne (IsDeviceText text)
 
@@ -319,11 +320,11 @@ OneBoard = (chain nets : Text) (texts : List Text) → AtMostOne (IsBoardRead ch
 abbrev OneJudged : {L E A : Type 0} → Judging L E A → Type 0
 OneJudged judging = (text chain nets : Text) (texts : List Text) → AtMostOne (OnDenoted judging text chain nets texts)
 
--- at most one value is found in the contents of a text
+-- at most one value is what the contents of a text show
 abbrev FindsOne : {L E A : Type 0} → Judging L E A → Type 0
 FindsOne {L} {E} {A} judging = (board : RawBoard) (contents : L) (x y : A) → IsBoard board → judging.Finds board contents x → judging.Finds board contents y → x ≡ y
 
--- the board that texts denote keeps the rules of a board
+-- if texts denote a board, the board keeps the rules of a board
 abbrev KeepRules : Type 0
 KeepRules = (chain nets : Text) (texts : List Text) (board : RawBoard) → Denotes chain nets texts board → IsBoard board
 
@@ -340,7 +341,7 @@ same_cause : {X Y : Type 0} (f g : Y) → ◌≡◌ {A = Result X Y} (Err f) (Er
 same_cause f g e = cc
 
 module _ (boards : OneBoard) (rules : KeepRules) {L E A : Type 0} (judging : Judging L E A) (one : FindsOne judging) (text chain nets : Text) (texts : List Text) where
-  -- texts that denote a board have no fault
+  -- if texts denote a board, they have no fault
   no_input : (board : RawBoard) (fault : TextFault) → Denotes chain nets texts board → IsInputFault chain nets texts fault → ⊥
   no_input board (Input f) denoted is = not_both board f (boards chain nets texts (Ok board) (Err f) denoted is)
   no_input board (Log rows f) denoted is = is
@@ -356,7 +357,7 @@ module _ (boards : OneBoard) (rules : KeepRules) {L E A : Type 0} (judging : Jud
   one_denoted : (a b : RawBoard) → Denotes chain nets texts a → Denotes chain nets texts b → a ≡ b
   one_denoted a b is_a is_b = same_board a b (boards chain nets texts (Ok a) (Ok b) is_a is_b)
 
-  -- a text with contents for the board has no fault
+  -- if a text can be read for the board, it has no fault
   no_wrong : (board : RawBoard) (contents : L) (fault : TextFault) → judging.read text board ≡ Ok contents → IsWrong judging text board fault → ⊥
   no_wrong board contents fault holds wrong = not_both contents wrong.cause (sym holds ∙ wrong.fails)
 
@@ -416,7 +417,7 @@ one_grouping one board rows None (Some groups) rules is_x is_y = absurd (is_x gr
 one_grouping one board rows (Some groups) None rules is_x is_y = absurd (is_y groups is_x)
 one_grouping one board rows (Some groups) (Some others) rules is_x is_y = ap Some (one board rows groups others rules is_x is_y)
 
--- texts of logs have at most one meaning
+-- a text of logs has at most one meaning
 pub record LogsSayOne : Type 0 where
   pub diagnoses : OneJudged diagnosing
   pub groups : OneJudged grouping
@@ -429,7 +430,7 @@ logs_say_one boards rules diagnosis set = record {
   each = one_judged boards rules judging_each (one_each diagnosis);
 }
 
--- texts that have at most one meaning give at most one outcome
+-- if texts have at most one meaning, they give at most one outcome
 module _ (devices : OneDevice) (chains : OneChain) (idents : OneIdents) (boards : OneBoard) (logs : LogsSayOne) where
   one_given : (names : Names) (request : Request) (a b : Result Text Text) → IsGiven names request a → IsGiven names request b → a ≡ b
   one_given names (Chain texts) a b is_a is_b = one_said chain_text (input_fault_line names) (AreChainLengths texts.chain texts.bsdl) a b (chains texts.chain texts.bsdl) is_a is_b
@@ -448,7 +449,7 @@ module _ (devices : OneDevice) (chains : OneChain) (idents : OneIdents) (boards 
   one_outcome command (Read texts) a b (request, made_a, is_a) (other, made_b, is_b) =
       one_given (roles_of command) other a b (subst (λ (r : Request). IsGiven (roles_of command) r a) (same_request (sym made_a ∙ made_b)) is_a) is_b
 
--- the number of texts that were read is the length of `wanted`
+-- if the texts of `wanted` were read, as many texts were read as `wanted` has
 count_read : (held : Text → Option Text) (wanted : List Wanted) (found : List Text) → reading_of held wanted ≡ Some (Read found) → length found ≡ length wanted
 count_read held [] [] reads = refl
 count_read held [] (text ∷ found) reads = absurd cc
@@ -492,7 +493,7 @@ wanted_count (word.Diagnose workers log names) = ap suc (count_of (board_names n
 wanted_count (word.Groups log names) = ap suc (count_of (board_names names))
 wanted_count (word.Batch workers log names) = ap suc (count_of (board_names names))
 
--- `IsFound` holds of some answer
+-- there is an answer for which `IsFound` holds
 abbrev HasAnswer : {A F : Type 0} → (Result A F → Type 0) → Type 0
 HasAnswer {A} {F} IsFound = (answer : Result A F) × IsFound answer
 
@@ -506,7 +507,7 @@ says text_of line_of IsFound (Err fault) found = (Err (line_of fault), inr (faul
 some_said : {A F : Type 0} (text_of : A → Text) (line_of : F → Text) (IsFound : Result A F → Type 0) → HasAnswer IsFound → HasOutcome (IsSaid text_of line_of IsFound)
 some_said text_of line_of IsFound some = says text_of line_of IsFound some.0 some.1
 
--- laws that these proofs take as arguments: the texts of a device, of a chain, of its codes and of a board have an answer
+-- These proofs take the following laws as arguments: the texts of a device, of a chain, of its codes and of a board have an answer.
 abbrev SomeDevice : Type 0
 SomeDevice = (text : Text) → HasAnswer (IsDeviceText text)
 
@@ -523,7 +524,7 @@ SomeBoard = (chain nets : Text) (texts : List Text) → HasAnswer (IsBoardRead c
 abbrev SomeJudged : {L E A : Type 0} → Judging L E A → Type 0
 SomeJudged judging = (text chain nets : Text) (texts : List Text) → HasAnswer (OnDenoted judging text chain nets texts)
 
--- something is found in all contents of a text
+-- the contents of a text always show something
 abbrev FindsSome : {L E A : Type 0} → Judging L E A → Type 0
 FindsSome {L} {E} {A} judging = (board : RawBoard) (contents : L) → IsBoard board → (found : A) × judging.Finds board contents found
 
@@ -571,7 +572,7 @@ logs_say_some boards rules diagnosis groups = record {
   each = some_judged boards rules judging_each (some_each diagnosis);
 }
 
--- texts that have a meaning give some outcome
+-- if texts have a meaning, they give some outcome
 module _ (devices : SomeDevice) (chains : SomeChain) (idents : SomeIdents) (boards : SomeBoard) (logs : LogsSaySome) where
   some_given : (names : Names) (request : Request) → HasOutcome (IsGiven names request)
   some_given names (Chain texts) = some_said chain_text (input_fault_line names) (AreChainLengths texts.chain texts.bsdl) (chains texts.chain texts.bsdl)

@@ -1,4 +1,5 @@
--- The six exit statuses, as the guide lists them: done, refused, words that are no command, a text not read, a failed write, and memory that ran out.
+-- Samples of the six exit statuses, as the guide lists them: done, refused, words that are no command, a text not read, a failed write, and
+-- memory that ran out.
 use Rattle.std.proofs.Common.{◌≡◌, [], ◌∷◌, map, refl}
 use Rattle.btest_cli.specs.declared.status.Status.TheVariants.{Done, Refused, Usage, ReadFault, WriteFault, NoMemory}
 use Rattle.btest_cli.specs.ExitNumbers.{exit_number}

@@ -1,4 +1,4 @@
--- The outcome of a command for its texts, and the effect of a run at each status.
+-- The outcome of a command for its texts, and the effect that a run has at each status.
 use Rattle.std.specs.Prelude.{◌≡◌, ◌⊎◌, ℕ, List, [], ◌∷◌, take, Some, Result, Ok, Err, map, String, string_bytes, IfSome}
 use Rattle.std.specs.declared.alloc.Global.{Global}
 use Rattle.bt_base.specs.Counts.{Rose}
@@ -28,12 +28,12 @@ use Rattle.btest_cli.specs.Refusals.{roles_of, text_fault_line}
 use Rattle.commands.specs.Summary.{summary_text}
 use Rattle.commands.specs.Worth.{IsWorthFor}
 
--- the outcome is the text for what is found in the texts, or the line for their first fault
+-- the outcome is the text for what the texts give, or the line for their first fault
 abbrev pub IsSaid : {A F : Type 0} → (A → Text) → (F → Text) → (Result A F → Type 0) → Result Text Text → Type 0
 IsSaid {A} {F} text_of line_of IsFound outcome =
     ((value : A) × IsFound (Ok value) × (outcome ≡ Ok (text_of value))) ⊎ ((fault : F) × IsFound (Err fault) × (outcome ≡ Err (line_of fault)))
 
--- the outcome of a request, whose texts have these names: the text to write, or the line for the first fault
+-- The outcome of a request, whose texts have these names. It is the text to write, or the line for the first fault.
 abbrev pub IsGiven : Names → Request → Result Text Text → Type 0
 IsGiven names (Chain texts) outcome = IsSaid chain_text (input_fault_line names) (AreChainLengths texts.chain texts.bsdl) outcome
 IsGiven names (Ident texts) outcome = IsSaid ident_text (input_fault_line names) (AreIdents texts.chain texts.bsdl) outcome
@@ -46,19 +46,19 @@ IsGiven names (Diagnose workers texts) outcome = IsSaid diagnosis_text (text_fau
 IsGiven names (Groups texts) outcome = IsSaid grouping_text (text_fault_line names) (IsJudgedOf grouping texts) outcome
 IsGiven names (Batch workers texts) outcome = IsSaid verdicts_text (text_fault_line names) (IsJudgedOf judging_each texts) outcome
 
--- the outcome of a command for the texts that were read; a text that is too long is the first fault
+-- The outcome of a command for the texts that were read. If a text is too long, this is the first fault.
 abbrev pub IsOutcome : Command → Reading → Result Text Text → Type 0
 IsOutcome command (Read texts) outcome = (request : Request) × (request_of command texts ≡ Some request) × IsGiven (roles_of command) request outcome
 IsOutcome command (TooLong wanted) outcome = outcome ≡ Err (long_line wanted.name wanted.limit)
 
--- the texts of a command were read, each text was asked for once and in order, and `request` is the command with its texts
+-- The texts of a command were read, and each text was asked for once and in order. `request` is the command with its texts.
 pub record IsReadAs (held : Held) (command : Command) (asked asked' : List Text) (request : Request) : Type 0 where
   pub texts : List Text
   pub read : IsRead held (wanted_of command) (Read texts)
   pub made : request_of command texts ≡ Some request
   pub asks : Asks asked asked' (names_of command)
 
--- the texts were read, the sink took the text that they give, and `IsWorthFor` holds of this text
+-- the texts were read, the sink took the text that they give, and `IsWorthFor` holds for this text
 pub record IsDone (held : Held) (command : Command) (asked asked' : List Text) (old new : Shown) : Type 0 where
   pub request : Request
   pub read : IsReadAs held command asked asked' request
@@ -80,7 +80,7 @@ pub record IsCutShort (held : Held) (command : Command) (asked asked' : List Tex
 abbrev pub TookOrCut : Shown → Shown → Text → Type 0
 TookOrCut old new line = Takes old new line ⊎ (Rose old.faults new.faults × ((bytes : ℕ) × Takes old new (take bytes line)))
 
--- the reading has a first fault, no text was asked for after a text that is too long, and the notes took the line for the fault
+-- The reading has a first fault, and the notes took the line for this fault. No text was asked for after a text that is too long.
 pub record IsRefused (held : Held) (command : Command) (asked asked' : List Text) (old new : Shown) : Type 0 where
   pub reading : Reading
   pub read : IsRead held (wanted_of command) reading
@@ -94,7 +94,7 @@ abbrev pub SomeRose : (Text → ℕ) → (Text → ℕ) → List Text → Type 0
 SomeRose before now [] = ⊥
 SomeRose before now (name ∷ names) = Rose (before name) (now name) ⊎ SomeRose before now names
 
--- the texts before `last` were read, the count of `last` rose, no later text was asked for, and the notes took the line for `last`
+-- The texts before `last` were read, and the count of `last` rose. No later text was asked for. The notes took the line for `last`.
 pub record IsNotRead (held : Held) (command : Command) (before now : Text → ℕ) (asked asked' : List Text) (old new : Shown) : Type 0 where
   pub last : Wanted
   pub asks : IsReadUpTo held (wanted_of command) last asked asked'
@@ -105,17 +105,17 @@ pub record IsNotRead (held : Held) (command : Command) (before now : Text → �
 abbrev pub AsksSome : Command → List Text → List Text → Type 0
 AsksSome command asked asked' = (count : ℕ) × Asks asked asked' (take count (names_of command))
 
--- if the words are in the grammar, P holds of their command
+-- if the words are in the grammar, P holds for their command
 abbrev pub ForCommand : List (String Global) → (Command → Type 0) → Type 0
 ForCommand words P = IfSome (command_of (map string_bytes words)) P
 
--- the outcome settles the status, unless memory ran out: a text gives Done if no write failed, and a fault gives Refused in any case
+-- Unless memory ran out, the outcome settles the status. A text gives `Done` if no write failed, and a line gives `Refused` in any case.
 abbrev pub Settles : Type 0 → Result Text Text → Status → Type 0
 Settles rose (Ok text) status = (rose → ⊥) → (status ≡ Done) ⊎ (status ≡ NoMemory)
 Settles rose (Err line) status = (status ≡ Refused) ⊎ (status ≡ NoMemory)
 
--- if the reading of the command's texts is known and no count of these texts rose, there is an outcome, and this outcome settles
--- the status
+-- If the reading of the command's texts is known, and no count of these texts rose, there is an outcome, and this outcome settles the
+-- status.
 abbrev pub IsComplete : Held → Command → Type 0 → Type 0 → Status → Type 0
 IsComplete held command store_rose out_rose status =
     (reading : Reading) → known_reading held (wanted_of command) ≡ Some reading → (store_rose → ⊥) → (outcome : Result Text Text) × IsOutcome command reading outcome × Settles out_rose outcome status

@@ -1,4 +1,4 @@
--- The line for the first fault of a command's texts, and the names in this line.
+-- The line for the first fault of a command's texts, and the names of the texts in this line.
 use Rattle.std.specs.Prelude.{[], ◌∷◌, codes}
 use Rattle.command_line.specs.Words.{Text, Command, Chain, Device, Cover, Svf, Walk, Ident, Make, Diagnose, Groups, Batch}
 use Rattle.refusal_lines.specs.Refusals.{Names, input_fault_line, log_fault_line, batch_fault_line}

@@ -31,11 +31,11 @@ wanted_of (Batch workers log names) = log_called log ∷ map text_called (board_
 abbrev pub names_in : List Wanted → List Text
 names_in texts = map (λ text. text.name) texts
 
--- the text that a store holds under each name, if the store's texts are known, as those of a store in memory are
+-- The text that a store holds under each name, if these texts are known. They are known for a store in memory.
 abbrev pub Held : Type 0
 Held = Option (Text → Option Text)
 
--- the result of reading texts: all texts, or the first text that is too long
+-- the result of reading texts, which is all texts or the first text that is too long
 pub data Reading : Type 0 where
   Read : List Text → Reading
   TooLong : Wanted → Reading
@@ -54,18 +54,18 @@ abbrev pub reading_of : (Text → Option Text) → List Wanted → Option Readin
 reading_of held [] = Some (Read [])
 reading_of held (wanted ∷ others) = read_first wanted (held wanted.name) (reading_of held others)
 
--- the result of reading these texts, if `found` are the texts that the store gives
+-- the result of reading these texts, if the store gives the texts `found`
 abbrev pub reading_in : List Wanted → List Text → Option Reading
 reading_in [] found = Some (Read [])
 reading_in (wanted ∷ others) [] = None
 reading_in (wanted ∷ others) (text ∷ found) = read_first wanted (Some text) (reading_in others found)
 
--- the result of reading the texts: from the store's texts if these are known, and otherwise from some texts
+-- The reading is the result of reading the texts. If the store's texts are known, it reads these, and otherwise some texts.
 abbrev pub IsRead : Held → List Wanted → Reading → Type 0
 IsRead None texts reading = (found : List Text) × (reading_in texts found ≡ Some reading)
 IsRead (Some held) texts reading = reading_of held texts ≡ Some reading
 
--- the result of reading these texts, if it is known: the store's texts are known, or there is no text to read
+-- The result of reading these texts, if it is known. It is known if the store's texts are known or if there is no text to read.
 abbrev pub known_reading : Held → List Wanted → Option Reading
 known_reading held [] = Some (Read [])
 known_reading None (wanted ∷ others) = None
@@ -76,16 +76,16 @@ abbrev pub IsText : Held → Text → Text → Type 0
 IsText None name text = Unit {0}
 IsText (Some held) name text = held name ≡ Some text
 
--- some text has more bytes than the limit; if the store's texts are known, the store holds this text under the name
+-- Some text has more bytes than the limit. If the store's texts are known, the store holds this text under the name.
 abbrev pub IsLong : Held → Wanted → Type 0
 IsLong None wanted = (text : Text) × (wanted.limit < length text)
 IsLong (Some held) wanted = (text : Text) × (held wanted.name ≡ Some text) × (wanted.limit < length text)
 
--- these names were asked for in turn, and no others
+-- the store was asked for these names in turn, and for no others
 abbrev pub Asks : List Text → List Text → List Text → Type 0
 Asks old new names = new ≡ old ++ names
 
--- the texts before `last` were read, and then `last` was asked for, but no later text
+-- the texts before `last` were read, and then the store was asked for `last`, but for no later text
 pub record IsReadUpTo (held : Held) (texts : List Wanted) (last : Wanted) (old new : List Text) : Type 0 where
   pub before : List Wanted
   pub after : List Wanted
@@ -94,7 +94,7 @@ pub record IsReadUpTo (held : Held) (texts : List Wanted) (last : Wanted) (old n
   pub read : IsRead held before (Read found)
   pub asked : Asks old new (names_in before ++ last.name ∷ [])
 
--- the names that were asked for if this is the reading: all names, or the names up to the first text that is too long
+-- The store was asked for the names that this reading needs: all names, or the names up to the first text that is too long.
 abbrev pub AsksFor : Held → List Wanted → Reading → List Text → List Text → Type 0
 AsksFor held texts (Read found) old new = Asks old new (names_in texts)
 AsksFor held texts (TooLong last) old new = IsReadUpTo held texts last old new

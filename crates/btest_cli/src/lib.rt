@@ -1,4 +1,5 @@
-//! The top call of the program: texts, refusals and the status.
+//! The top call of the program. It reads texts, writes the text or a refusal, and returns the
+//! status.
 #![tactic(auto)]
 
 mod failure;

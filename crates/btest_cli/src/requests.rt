@@ -1,4 +1,4 @@
-// Reads each text of a command as the kind of text that the command needs there.
+// Reads the texts of a command, each as the kind of text that the command needs there.
 ghost use Rattle.std.specs.Prelude.{◌∷◌, map};
 ghost use Rattle.command_line.specs.Words.{board_names, chain_names};
 ghost use Rattle.command_line.specs.CommandView.{board_view, chain_view, command_view};

@@ -26,8 +26,8 @@ use std::alloc::Global;
 use std::thread::Threads;
 use walk_test::law::logs_have_one_set;
 
-/// Runs a command line: reads its words, fetches the texts that they name, checks them, and writes the
-/// defined text to `out`. At every status but `Done`, it writes one line to `notes`.
+/// Runs a command line: reads its words, fetches the texts that they name, checks these texts, and writes the text that they give to `out`.
+/// At every status but `Done`, writes one line to `notes`.
 pub fn run<R: Threads + Sync, S: Store, K: Sink, N: Sink, G: Gate>(
     rt: &R,
     alloc: Global,
@@ -37,13 +37,13 @@ pub fn run<R: Threads + Sync, S: Store, K: Sink, N: Sink, G: Gate>(
     notes: &mut N,
     gate: &G,
 ) -> Status
-    // Usage: the words are not in the grammar. Such words give Usage, unless memory runs out, and nothing is fetched.
+    // Usage: the words are not in the grammar. Unless memory runs out, such words give Usage, and nothing is fetched.
     ensures usage { result ≡ Status.Usage → command_of (map string_bytes words.now) ≡ None }
     ensures words { command_of (map string_bytes words.now) ≡ None → (result ≡ Status.Usage) ⊎ (result ≡ Status.NoMemory) }
     ensures not_fetched { command_of (map string_bytes words.now) ≡ None → store.new ≡ store.old }
     ensures usage_noted { result ≡ Status.Usage → TookOrCut (N.shown notes.old) (N.shown notes.new) usage_line }
 
-    // Done: each text was asked for once and read, `out` took exactly the text that these texts give, and `IsWorthFor` holds of this text.
+    // Done: each text was asked for once and read, `out` took exactly the text that these texts give, and `IsWorthFor` holds for this text.
     ensures done { result ≡ Status.Done → ForCommand words.now (λ c. IsDone (S.held store.old) c (S.asked store.old) (S.asked store.new) (K.shown out.old) (K.shown out.new)) }
     ensures silent { result ≡ Status.Done → N.shown notes.new ≡ N.shown notes.old }
 
@@ -51,7 +51,8 @@ pub fn run<R: Threads + Sync, S: Store, K: Sink, N: Sink, G: Gate>(
     // text that is too long.
     ensures refused { result ≡ Status.Refused → ForCommand words.now (λ c. IsRefused (S.held store.old) c (S.asked store.old) (S.asked store.new) (N.shown notes.old) (N.shown notes.new)) }
 
-    // ReadFault: the texts before one text were read, the count of this text rose, no later text was asked for, and `notes` took its line.
+    // ReadFault: the texts before one text were read, the count of this text rose, and no later text was asked for. `notes` took the line
+    // for this text.
     ensures read { result ≡ Status.ReadFault → ForCommand words.now (λ c. IsNotRead (S.held store.old) c (S.faults store.old) (S.faults store.new) (S.asked store.old) (S.asked store.new) (N.shown notes.old) (N.shown notes.new)) }
 
     // WriteFault: the count of `out` rose, and `out` took some first bytes of the text.
@@ -64,7 +65,7 @@ pub fn run<R: Threads + Sync, S: Store, K: Sink, N: Sink, G: Gate>(
     ensures memory_noted { result ≡ Status.NoMemory → TookOrCut (N.shown notes.old) (N.shown notes.new) memory_line }
     ensures memory_asks { result ≡ Status.NoMemory → ForCommand words.now (λ c. AsksSome c (S.asked store.old) (S.asked store.new)) }
 
-    // If no count rose, the texts settle the status, unless memory ran out. For a command that reads no text, this holds for every store.
+    // If no count rose, the texts settle the status, unless memory ran out. For a command that reads no text, this is true of every store.
     ensures complete { ForCommand words.now (λ c. IsComplete (S.held store.old) c
         (SomeRose (S.faults store.old) (S.faults store.new) (names_of c)) (Rose (K.shown out.old).faults (K.shown out.new).faults) result) }
 {
@@ -155,7 +156,7 @@ fn roles_of<'n, 'a>(command: &'n Command<'a>) -> Names<'n, 'a>
     }
 }
 
-// Writes the outcome of a request. The clause holds for all names of its texts.
+// Writes the outcome of a request. The clause holds whatever names the texts have.
 fn answer<R: Threads + Sync, K: Sink, G: Gate>(
     rt: &R,
     alloc: Global,

@@ -52,7 +52,7 @@ pub record IsCut (names : Names) (request : Request) (old new : Shown) : Type 0 
   pub bytes : ℕ
   pub takes : Takes old new (take bytes text)
 
--- the sink took the text that a request gives, and `IsWorthFor` holds of this text
+-- the sink took the text that a request gives, and `IsWorthFor` holds for this text
 pub record IsPut (names : Names) (request : Request) (old new : Shown) : Type 0 where
   pub text : Text
   pub gives : IsGiven names request (Ok text)
@@ -67,7 +67,7 @@ IsUnput names request old new (unput.Batch rows fault) = IsGiven names request (
 IsUnput names request old new unput.Write = IsCut names request old new
 IsUnput names request old new unput.Memory = new ≡ old
 
--- the outcome of a request: the sink took the whole answer, or `IsUnput` holds for the failure
+-- The outcome of a request. The sink took the whole answer, or `IsUnput` holds for the failure.
 abbrev pub IsAnswered : Names → Request → Shown → Shown → Result (Unit {0}) Unput → Type 0
 IsAnswered names request old new (Ok done) = IsPut names request old new
 IsAnswered names request old new (Err failure) = IsUnput names request old new failure

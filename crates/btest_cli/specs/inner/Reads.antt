@@ -1,4 +1,4 @@
--- Texts that are read in turn.
+-- Definitions for texts that are read in turn.
 use Rattle.std.specs.Prelude.{◌≡◌, ℕ, ◌≤◌, List, [], ◌∷◌, ◌++◌, Some, Result, Ok, Err}
 use Rattle.bt_base.specs.Counts.{Rose}
 use Rattle.command_line.specs.Words.{Text, Command, most_made, most_workers}
@@ -13,30 +13,31 @@ use Rattle.btest_cli.specs.declared.failure.Unread.TheVariants as unread
 use Rattle.btest_cli.specs.Texts.{Held, Wanted, Reading, Read, TooLong, Asks, IsRead, IsReadUpTo, names_in}
 use Rattle.btest_cli.specs.inner.Failures.{wanted_view}
 
--- prepends the texts of `front` to the texts of the reading
+-- the reading with the texts of `front` in front of its texts
 abbrev pub behind : List Text → Reading → Reading
 behind front (Read texts) = Read (front ++ texts)
 behind front (TooLong wanted) = TooLong wanted
 
--- the texts of `wanted` were read as `front`, so a reading of more texts continues them
+-- The texts of `wanted` were read, and they are `front`. If more texts are read, their reading with `front` in front is the reading of all.
 abbrev pub Continues : Held → List Wanted → List Text → Type 0
 Continues held wanted front = (rest : List Wanted) (reading : Reading) → IsRead held rest reading → IsRead held (wanted ++ rest) (behind front reading)
 
--- some first texts of `wanted` were asked for, and no others
+-- the store was asked for some first texts of `wanted`, and for no others
 pub record AsksFirst (wanted : List Wanted) (asked asked' : List Text) : Type 0 where
   pub first : List Text
   pub others : List Text
   pub are : names_in wanted ≡ first ++ others
   pub asks : Asks asked asked' first
 
--- `value` was read: it has these texts, and each was asked for once and in order
+-- `value` was read. It has these texts, and the store was asked for each of them once and in order.
 pub record IsReadOf {A : Type 0} (Of : A → List Text → Type 0) (wanted : List Wanted) (held : Held) (asked asked' : List Text) (value : A) : Type 0 where
   pub texts : List Text
   pub stands : Of value texts
   pub continues : Continues held wanted texts
   pub asks : Asks asked asked' (names_in wanted)
 
--- the reason why the texts were not all read, and the names that were asked for; a text that is too long decides, whatever texts follow
+-- The reason why the texts were not all read, and the names for which the store was asked. If a text is too long, this is the reason
+-- whatever texts follow.
 abbrev pub IsUnread : List Wanted → Held → (Text → ℕ) → (Text → ℕ) → List Text → List Text → Unread → Type 0
 IsUnread wanted held before now asked asked' (unread.TooLong last) = ((rest : List Wanted) → IsRead held (wanted ++ rest) (TooLong (wanted_view last))) × IsReadUpTo held wanted (wanted_view last) asked asked'
 IsUnread wanted held before now asked asked' (unread.Failed last) = IsReadUpTo held wanted (wanted_view last) asked asked' × Rose (before last.name.now) (now last.name.now)
@@ -46,20 +47,21 @@ abbrev pub TellsRead : {A : Type 0} → (A → List Text → Type 0) → List Wa
 TellsRead Of wanted held before now asked asked' (Ok value) = IsReadOf Of wanted held asked asked' value
 TellsRead Of wanted held before now asked asked' (Err lost) = IsUnread wanted held before now asked asked' lost
 
--- reads of texts in turn: the store holds the same texts, no count fell, and the result and the names asked for agree
+-- The effect of reading texts in turn. The store holds the same texts as before, no count fell, and the result agrees with the names for
+-- which the store was asked.
 pub record Reads {A : Type 0} (Of : A → List Text → Type 0) (wanted : List Wanted) (held held' : Held) (before now : Text → ℕ) (asked asked' : List Text) (result : Result A Unread) : Type 0 where
   pub same : held' ≡ held
   pub later : (name : Text) → before name ≤ now name
   pub told : TellsRead Of wanted held before now asked asked' result
 
--- the number of a request is in its range: the number of parts of a board to make, or of the workers of diagnoses
+-- The number of a request is in its range. It is the number of parts of a board to make, or the number of workers of diagnoses.
 abbrev pub IsNumbered : Request → Type 0
 IsNumbered (Make parts) = (1 ≤ parts) × (parts ≤ most_made)
 IsNumbered (Diagnose workers texts) = (1 ≤ workers) × (workers ≤ most_workers)
 IsNumbered (Batch workers texts) = (1 ≤ workers) × (workers ≤ most_workers)
 IsNumbered other = Unit {0}
 
--- the value that was read has these texts, in order; the next definitions are for each kind of value
+-- The value that was read has these texts, in order. The next definitions say this for the other kinds of values.
 abbrev pub IsOne : Text → List Text → Type 0
 IsOne text texts = texts ≡ text ∷ []
 
