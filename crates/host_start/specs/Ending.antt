@@ -1,4 +1,4 @@
--- The exit number of a run, and the effect of the run at each status.
+-- The exit number of a run, and the effect that the run has at each status.
 use Rattle.std.specs.Prelude.{◌≡◌, ◌≢◌, ◌⊎◌, ℕ, List, None, String, map, string_bytes}
 use Rattle.std.specs.declared.alloc.Global.{Global}
 use Rattle.bt_base.specs.Counts.{Rose}
@@ -11,7 +11,7 @@ use Rattle.btest_cli.specs.ExitNumbers.{exit_number}
 use Rattle.btest_cli.specs.Texts.{Held}
 use Rattle.btest_cli.specs.Outcome.{AsksSome, ForCommand, IsComplete, IsCutShort, IsDone, IsNotRead, IsRefused, SomeRose, TookOrCut}
 
--- the words were run on this store, with these sinks for the text and for the line of refusal, and `number` is the exit number of the status
+-- The words were run on this store, with these sinks for the text and for the line of refusal. `number` is the exit number of the status.
 pub record IsEndOf (words : List (String Global)) (held : Held) (before now : Text → ℕ) (asked asked' : List Text) (out out' notes notes' : Shown) (number : ℕ) : Type 0 where
   pub ended : Status
   pub exits : number ≡ exit_number ended

@@ -17,7 +17,7 @@ use std::rt::{Env, Files};
 use std::thread::Threads;
 use std::{env, io};
 
-// Returns the words after the program's name.
+// Returns the words that come after the program's name.
 fn words(rt: &(impl Env + AllocGlobal)) -> io::Result<Vec<String>> {
     let mut words = Vec::new(rt.alloc());
     for word in env::args(rt)?.skip(1) {
@@ -41,7 +41,7 @@ fn end_with<R: Threads + Sync, S: Store, K: Sink, N: Sink>(
     run(rt, alloc, words, store, out, notes, &OpenGate).number()
 }
 
-// Ends a run that got no words, and returns the exit status. If memory ran out, nothing is written.
+// Ends a run for which the system gave no words, and returns the exit status. If memory ran out, writes nothing.
 fn end_without<N: Sink>(error: &io::Error, notes: &mut N) -> u8
     ensures no_words { error_kind error.now ≢ ErrorKind.OutOfMemory → (result ≡ 2) × TookOrCut (N.shown notes.old) (N.shown notes.new) usage_line }
     ensures no_memory { error_kind error.now ≡ ErrorKind.OutOfMemory → (result ≡ 5) × (N.shown notes.new ≡ N.shown notes.old) }
@@ -53,8 +53,8 @@ fn end_without<N: Sink>(error: &io::Error, notes: &mut N) -> u8
     Status::Usage.number()
 }
 
-// Returns the exit status for the words from the system. Words that the system can't give, for example since they are not UTF-8, count as
-// no command.
+// Returns the exit status for the words from the system. If the system cannot give the words, for example because they are not UTF-8, they
+// count as no command.
 fn end_of<R: Threads + Sync, S: Store, K: Sink, N: Sink>(
     rt: &R,
     alloc: Global,
@@ -63,11 +63,11 @@ fn end_of<R: Threads + Sync, S: Store, K: Sink, N: Sink>(
     out: &mut K,
     notes: &mut N,
 ) -> u8
-    // The system gave words, and these words were run.
+    // If the system gave words, these words were run.
     ensures run { IfOk words.now (λ words. IsEndOf words.items (S.held store.old) (S.faults store.old) (S.faults store.new) (S.asked store.old) (S.asked store.new)
         (K.shown out.old) (K.shown out.new) (N.shown notes.old) (N.shown notes.new) result) }
 
-    // The system gave no words, and no text was asked for.
+    // If the system gave no words, the run asked for no text.
     ensures no_words { IfErr words.now (λ error. error_kind error ≢ ErrorKind.OutOfMemory
         → (result ≡ 2) × TookOrCut (N.shown notes.old) (N.shown notes.new) usage_line) }
     ensures no_memory { IfErr words.now (λ error. error_kind error ≡ ErrorKind.OutOfMemory
@@ -80,8 +80,8 @@ fn end_of<R: Threads + Sync, S: Store, K: Sink, N: Sink>(
     }
 }
 
-/// Runs the words of the command line on the files of the system and standard output. `notes` takes the lines of refusal. The
-/// number of the status is the exit status.
+/// Runs the words of the command line on the files of the system and on standard output. `notes` takes the line of refusal. The number of
+/// the status is the exit status.
 pub fn start<R, E>(rt: &R, notes: E) -> ExitCode
 where
     R: AllocGlobal + Env + Files + Print + Sync + Threads,
