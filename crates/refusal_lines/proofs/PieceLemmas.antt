@@ -1,4 +1,4 @@
--- Texts that are written in pieces.
+-- Lemmas about texts that are written in pieces.
 use Rattle.std.proofs.Common.{◌≡◌, ℕ, ◌<◌, List, [], ◌∷◌, ◌++◌, length, take, drop, map, Result, Ok, Err, IsErr, refl, sym, ap, ◌∙◌, subst, append_assoc, append-nil, Bor, get_or, ◌+◌}
 use Rattle.bt_base.specs.Puts.{Puts, Shown}
 use Rattle.line_printer.proofs.PrintLemmas.{whole-split}
@@ -10,7 +10,7 @@ pub puts_first : {E : Type 0} {old mid : Shown} {first : Text} {r : Result (Unit
 puts_first {E} {old} {mid} {first} {r} {x} put ok =
     subst (λ (t : Text). Puts {T = Unit {0}} {E = E} old mid t (Ok tt)) (sym (append-nil first)) (subst (λ (q : Result (Unit {0}) E). Puts old mid first q) ok put)
 
--- the whole text is the first piece, the other pieces before place i, the piece at place i, and the pieces after it
+-- The whole text is the first piece, the other pieces before place i, the piece at place i, and the pieces after place i.
 pub whole-from : (first : Text) (others : List (Bor Text)) (i : ℕ) (d : Bor Text) → i < length others
     → first ++ whole (map (λ p. p.now) others) ≡ (first ++ whole (map (λ p. p.now) (take i others))) ++ ((get_or others i d).now ++ whole (map (λ p. p.now) (drop (i + 1) others)))
 whole-from first others i d within =

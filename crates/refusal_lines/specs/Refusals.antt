@@ -66,7 +66,7 @@ pub record Names : Type 0 where
   pub nets : Text
   pub bsdl : List Text
 
--- the name of BSDL text n, counted from 0
+-- the name of BSDL text n, counted from 0, or an empty name if there is no such text
 abbrev pub text_name : List Text → ℕ → Text
 text_name names n = unwrap_or (slice_get names n) []
 
@@ -105,7 +105,7 @@ parse_fault_line name (parse.Expected n) = at_line name n (codes ": not in the g
 parse_fault_line name (parse.Package n) = at_line name n (codes ": package text\n")
 parse_fault_line name (parse.Memory e) = memory_line
 
--- the name of the attribute with this number; the attribute has a string with a grammar of its own
+-- the name of the attribute with this number, whose string has a grammar of its own
 abbrev pub attribute_name : ℕ → Text
 attribute_name n =
     if n == 7 then codes "INSTRUCTION_OPCODE" else (if n == 8 then codes "INSTRUCTION_CAPTURE"
@@ -151,7 +151,7 @@ log_fault_line name rows (log.Extra n) = at_line name n (codes ": row too many\n
 log_fault_line name rows (log.Missing found) = whole (name ∷ codes ": " ∷ decimal found ∷ codes " rows of " ∷ decimal rows ∷ codes "\n" ∷ [])
 log_fault_line name rows (log.Memory e) = memory_line
 
--- the line for a block of a batch that is not a log of `rows` rows; the block belongs to board `board`
+-- The line for a block of a batch that is not a log of `rows` rows. The block is block `board`, counted from 1.
 abbrev pub block_fault_line : Text → ℕ → ℕ → LogFault → Text
 block_fault_line name rows board (log.Digit n) = log_fault_line name rows (log.Digit n)
 block_fault_line name rows board (log.Length n) = log_fault_line name rows (log.Length n)

@@ -1,4 +1,5 @@
-// The lines for words that are no command, for a text that was not read or is too long, for a failed write and for refused memory.
+// Writes the lines for words that are no command, for a text that was not read or is too long, for a failed write, and for a
+// refusal of memory.
 ghost use Rattle.bt_base.specs.Puts.{Puts};
 ghost use Rattle.refusal_lines.specs.Refusals.{long_line, memory_line, read_line, usage_line, write_line};
 

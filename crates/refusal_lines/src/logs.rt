@@ -1,4 +1,4 @@
-// The lines for the first fault of a response log or of a batch of logs.
+// Writes the lines for the first fault of a response log or of a batch of logs.
 ghost use Rattle.std.specs.Prelude.{◌∷◌, [], codes, decimal};
 ghost use Rattle.bt_base.specs.Puts.{Puts};
 ghost use Rattle.line_printer.specs.Prints.{whole};
@@ -11,7 +11,7 @@ use bt_base::{PutFault, Sink};
 use itoa::Buffer;
 use response_log::LogFault;
 
-// Writes the line for a log with too few rows: how many rows the log has, and how many it must have.
+// Writes the line for a log with too few rows. The line says how many rows the log has, and how many it must have.
 fn put_missing_rows<N: Sink>(
     name: &str,
     found: u64,
@@ -55,7 +55,7 @@ pub fn put_log_fault<N: Sink>(
     }
 }
 
-// Writes the line for a board's log with too few rows: how many rows the log has, and how many it must have.
+// Writes the line for a board's log with too few rows. The line says how many rows the log has, and how many it must have.
 fn put_missing_of_board<N: Sink>(
     name: &str,
     board: u32,

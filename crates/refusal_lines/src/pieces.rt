@@ -1,4 +1,4 @@
-// Lines that are written in pieces.
+// Writes lines in pieces.
 ghost use Rattle.std.specs.Prelude.{◌≡◌, ◌++◌, map};
 ghost use Rattle.bt_base.specs.Puts.{Puts};
 ghost use Rattle.line_printer.specs.Prints.{whole};

@@ -1,4 +1,4 @@
-// The lines for the first fault of a chain file, a net file and BSDL texts.
+// Writes the lines for the first fault of a chain file, a net file and BSDL texts.
 ghost use Rattle.std.specs.Prelude.{◌≡◌};
 ghost use Rattle.bt_base.specs.Puts.{Puts};
 ghost use Rattle.refusal_lines.specs.Refusals.{attribute_name, board_fault_line, device_fault_line, input_fault_line, lex_fault_line, limit_line, line_fault_line, link_fault_line, parse_fault_line, rule_line, string_line};
