@@ -1,4 +1,4 @@
--- The lengths of the texts of a generated board.
+-- Lemmas about the lengths of the texts of a generated board.
 use Rattle.std.proofs.Common.{◌≡◌, ℕ, zero, suc, ◌+◌, ◌*◌, ◌<◌, ◌≤◌, Bool, true, false, List, ◌++◌, length, refl, arith}
 use Rattle.std.specs.Prelude.{codes, decimal, ◌==◌, if◌then◌else◌}
 use Rattle.std.specs.Fmt.{digits}

@@ -3,7 +3,7 @@
 use Rattle.std.specs.Prelude.{ℕ, ◌+◌, ◌==◌, List, ◌++◌, codes, decimal, if◌then◌else◌}
 use Rattle.std.specs.List.{flat_map, range_with_len}
 
--- the texts of `count` consecutive numbers; the first number is `first`
+-- The texts of `count` consecutive numbers. The first number is `first`.
 abbrev pub each : (ℕ → List ℕ) → ℕ → ℕ → List ℕ
 each text first count = flat_map text (range_with_len first count)
 
@@ -15,20 +15,20 @@ part_line part = codes "DEVICE U" ++ decimal part ++ codes " GEN -\n"
 unfoldable pub chain_text : ℕ → List ℕ
 chain_text k = each part_line 1 k
 
--- a blank, and then the word of a pin in the net file
+-- a blank, followed by the word of a pin in the net file
 abbrev pub pin_word : ℕ → ℕ → List ℕ
 pin_word part pin = codes " U" ++ decimal part ++ codes "." ++ decimal pin
 
--- the next part; the first part comes after the last
+-- the number of the next part; part 1 comes after part k
 abbrev pub next_part : ℕ → ℕ → ℕ
 next_part k part = if part == k then 1 else part + 1
 
--- the net from output `bit` of a part to input `bit` of the next part
+-- the line of the net from output `bit` of a part to input `bit` of the next part
 abbrev pub ring_line : ℕ → ℕ → ℕ → List ℕ
 ring_line k part bit =
     codes "NET R" ++ decimal part ++ codes "_" ++ decimal bit ++ pin_word part (bit + 1) ++ pin_word (next_part k part) (bit + 33) ++ codes "\n"
 
--- the net of a bit of the bus, with a pin of each part
+-- the line of the net of a bit of the bus, with a pin of each part
 abbrev pub bus_line : ℕ → ℕ → List ℕ
 bus_line k bit = codes "NET B" ++ decimal bit ++ each (λ part. pin_word part (bit + 65)) 1 k ++ codes "\n"
 

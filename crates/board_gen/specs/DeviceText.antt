@@ -3,7 +3,7 @@
 use Rattle.std.specs.Prelude.{ℕ, ◌+◌, ◌-◌, ◌/◌, ◌==◌, List, ◌++◌, codes, decimal, nat_lt, if◌then◌else◌}
 use Rattle.board_gen.specs.BoardTexts.{each}
 
--- `count` consecutive numbers with commas between them; the first number is `first`
+-- `count` consecutive numbers with commas between them, from `first` on
 abbrev pub numbers : ℕ → ℕ → List ℕ
 numbers first count = decimal first ++ each (λ n. codes "," ++ decimal n) (first + 1) (count - 1)
 
@@ -15,7 +15,7 @@ cell_text cell =
     if nat_lt cell 69 then codes " (BC_1, D(" ++ decimal (cell - 37) ++ codes "), input, X)"
     else codes " (BC_7, B(" ++ decimal (cell - 69) ++ codes "), bidir, X, 4, 1, Z)"))
 
--- the line of a cell; the line of the last cell ends the string
+-- The line of a cell. The line of the last cell ends the string.
 abbrev pub cell_line : ℕ → List ℕ
 cell_line cell = codes "\"" ++ decimal cell ++ cell_text cell ++ (if cell == 76 then codes "\";\n" else codes ",\" &\n")
 
@@ -29,7 +29,7 @@ head_text =
     ++ codes "use STD_1149_1_1994.all;\n"
     ++ codes "attribute PIN_MAP of GEN : entity is PHYSICAL_PIN_MAP;\n"
 
--- the pins of the ports
+-- the line of the pin map, which lists the pins of the ports
 unfoldable pub map_line : List ℕ
 map_line =
     codes "constant P : PIN_MAP_STRING := \"TDI:T1, TDO:T2, TMS:T3, TCK:T4, "
@@ -48,6 +48,6 @@ attributes_text =
     ++ codes "attribute BOUNDARY_LENGTH of GEN : entity is 77;\n"
     ++ codes "attribute BOUNDARY_REGISTER of GEN : entity is\n"
 
--- the BSDL text
+-- the whole BSDL text
 unfoldable pub bsdl_text : List ℕ
 bsdl_text = head_text ++ map_line ++ attributes_text ++ each cell_line 0 77 ++ codes "end GEN;\n"

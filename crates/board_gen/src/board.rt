@@ -1,4 +1,4 @@
-// The chain file and the net file.
+// Makes the chain file and the net file of a board.
 ghost use Rattle.std.specs.Prelude.{◌≡◌, ◌+◌, ◌≤◌, ◌<◌, ◌++◌, IfOk, OnOk};
 ghost use Rattle.board_gen.specs.BoardTexts.{each, chain_text, part_line, net_text, pin_word, next_part, ring_line, bus_line};
 

@@ -1,4 +1,4 @@
-// The BSDL text.
+// Makes the BSDL text of the device.
 ghost use Rattle.std.specs.Prelude.{◌≡◌, ◌==◌, ◌+◌, ◌/◌, ◌≤◌, ◌<◌, ◌++◌, codes, decimal, if◌then◌else◌, IfOk, OnOk};
 ghost use Rattle.board_gen.specs.BoardTexts.{each};
 ghost use Rattle.board_gen.specs.DeviceText.{attributes_text, bsdl_text, cell_line, cell_text, head_text, map_line, numbers};
@@ -9,7 +9,7 @@ use std::alloc::{AllocError, Global};
 // The number of cells of the boundary register.
 const CELLS: u32 = 77;
 
-// Returns the BSDL text of the device.
+// Returns the BSDL text of GEN, the device of all generated boards.
 #[tactic(auto, unfolding(crate::specs::DeviceText::bsdl_text))]
 pub fn bsdl(alloc: Global) -> Result<Vec<u8>, AllocError>
     ensures { IfOk result (λ text. text.items ≡ bsdl_text) }

@@ -1,4 +1,4 @@
-// Pieces that are appended to a text.
+// Appends pieces to a text.
 ghost use Rattle.std.specs.Prelude.{◌≡◌, ◌++◌, decimal, OnOk};
 
 use itoa::Buffer;
