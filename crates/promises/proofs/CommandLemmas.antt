@@ -1,4 +1,4 @@
--- The promise of each command follows from `IsWorthFor` of the text that the command writes.
+-- Lemmas which say that the promise of each command follows from `IsWorthFor` of the text that the command writes.
 use Rattle.std.proofs.Common.{◌≡◌, ◌∙◌, ℕ, Bool, List, [], ◌∷◌, Option, Result, Ok, Err, refl, sym, ap, subst, inl, inr}
 use Rattle.std.specs.Prelude.{◌↔◌, Some}
 use Rattle.board_defs.specs.declared.board.RawBoard.{RawBoard}
@@ -36,7 +36,7 @@ use Rattle.promises.proofs.GiveLemmas.{not_both, same_ok}
 use Rattle.promises.proofs.RunLemmas.{gives_text, prints}
 
 module _ (run : Run) (is : IsRun run) (one : SayOne) where
-  -- the files denote one board
+  -- if the files denote two boards, the boards are equal
   same_board : (chain nets : Text) (bsdl : List Text) (board other : RawBoard) → Denotes chain nets bsdl board → Denotes chain nets bsdl other → other ≡ board
   same_board chain nets bsdl board other denotes also = same_ok (one.board chain nets bsdl (Ok other) (Ok board) also denotes)
 
@@ -98,7 +98,7 @@ module _ (run : Run) (is : IsRun run) (one : SayOne) where
       prints run is (Make parts) on.0 [] on.1 _ refl _ (λ line gives. not_both (one.board chain nets (bsdl_text ∷ []) (Ok board) (Err gives.0) denotes gives.1))
       (λ text gives worth. gives.2 ∙ ap summary (same_board chain nets (bsdl_text ∷ []) board gives.0 denotes gives.1))
 
-  -- if a log is read on the board, the log and the other files have no fault
+  -- if a log can be read for the board that the files denote, neither the log nor the other files have a fault
   read_well : {L E : Type 0} (read : Text → RawBoard → Result L E) (log chain nets : Text) (bsdl : List Text) (board : RawBoard) (contents : L) → Denotes chain nets bsdl board → read log board ≡ Ok contents
       → (other : RawBoard) (fault : E) → Denotes chain nets bsdl other → read log other ≡ Err fault → ⊥
   read_well {L} {E} read log chain nets bsdl board contents denotes holds other fault also fails =

@@ -1,4 +1,4 @@
--- Reading the files of a command gives the texts that the store holds for them.
+-- Lemmas which say that reading the files of a command gives the texts that the store holds for them.
 use Rattle.std.proofs.Common.{◌≡◌, ◌∙◌, ℕ, zero, suc, ◌<◌, ◌≤◌, Bool, true, false, List, [], ◌∷◌, ◌++◌, length, nat_lt, Option, Some, None, refl, sym, ap, subst, arith, inl, inr}
 use Rattle.std.specs.Prelude.{Contains, if◌then◌else◌}
 use Rattle.std.proofs.lemmas.Bool.{ltb-false, ltb-true}
@@ -21,7 +21,7 @@ files_are (Diagnose workers log names) = refl
 files_are (Groups log names) = refl
 files_are (Batch workers log names) = refl
 
--- if a file's text is short enough, the reading is this text and then the reading of the other files
+-- if a file's text is short enough, the reading is this text, followed by the reading of the other files
 then_rest : (file : Wanted) (text : Text) (rest : Option Reading) → length text ≤ file.limit → read_first file (Some text) rest ≡ and_text text rest
 then_rest file text rest short = ap (λ (b : Bool). if b then Some (TooLong file) else and_text text rest) (not_long file.limit (length text) (nat_lt file.limit (length text)) refl short)
 
@@ -52,7 +52,7 @@ reads_long None before file after texts text each is long = absurd is
 reads_long (Some held) [] file after texts text each is long = long_of held [] file after texts text each is long
 reads_long (Some held) (first ∷ before) file after texts text each is long = long_of held (first ∷ before) file after texts text each is long
 
--- the texts that were read are the texts that the store holds
+-- if the files were read, the store holds the texts that were read
 pub holds_read : (held : Text → Option Text) (files : List Wanted) (texts : List Text) → reading_of held files ≡ Some (Read texts) → HoldsEach (Some held) files texts
 holds_read held [] [] e = tt
 holds_read held [] (text ∷ texts) e = absurd cc
@@ -86,7 +86,7 @@ pub read_holds : (held : Held) → Tells held → (files : List Wanted) (texts :
 read_holds None (of_name, tells) files texts read = absurd cc
 read_holds (Some held) tells files texts read = holds_read held files texts read
 
--- if the first file is short enough, the first file that is too long is among the others
+-- if the first file is short enough, the first file that is too long is among the other files
 after_first : (held : Text → Option Text) (first : Wanted) (text : Text) (files : List Wanted) (file : Wanted) → held first.name ≡ Some text → length text ≤ first.limit → IsTooLong (Some held) files file → IsTooLong (Some held) (first ∷ files) file
 after_first held first text files file is short long = record {
   before = first ∷ long.before;
@@ -126,7 +126,7 @@ pub read_long : (held : Held) → Tells held → (files : List Wanted) (file : W
 read_long None (of_name, tells) files file read = absurd cc
 read_long (Some held) tells files file read = long_held held files file read
 
--- the first file that is too long is at one place only
+-- two places of the first file that is too long are the same place
 same_cut : (held : Text → Option Text) (before others after behind : List Wanted) (file : Wanted) (texts found : List Text) (text : Text) → held file.name ≡ Some text → file.limit < length text → HoldsEach (Some held) before texts → HoldsEach (Some held) others found
     → before ++ file ∷ after ≡ others ++ file ∷ behind → others ≡ before
 same_cut held [] [] after behind file texts found text is long each also e = refl

@@ -1,4 +1,4 @@
--- A row of a log has as many bits as the log needs.
+-- Lemmas which say that a row of a log has as many bits as the log needs.
 use Rattle.std.proofs.Common.{◌≡◌, ℕ, suc, ◌*◌, ◌≤◌, ◌==◌, Bool, true, false, cond, Option, Some, None, option_and_then, List, [], ◌∷◌, length, map, drop, take, refl, subst, ◌∙◌, length-append, arith}
 use Rattle.std.specs.Prelude.{◌||◌, All, IfSome, not}
 use Rattle.std.specs.List.{list_all}
@@ -13,8 +13,8 @@ use Rattle.response_log.specs.LogRows.{NumberedLine, bits_of_line, only_word}
 abbrev AreMany : ℕ → Option (List Bool) → Type 0
 AreMany n bits = IfSome bits (λ b. length b ≡ n)
 
--- If a digit has bits, there are four. This is a record, so that a proof can go through the tests of a digit without naming what each test
--- leaves.
+-- If a digit has bits, it has four. This is a record so that a proof can go through the tests of a digit without naming the cases that each
+-- test leaves.
 record AreFour (bits : Option (List Bool)) : Type 0 where
   four : AreMany 4 bits
 

@@ -1,4 +1,4 @@
--- The clauses of `run` state the effect of a run of a command.
+-- Lemmas which turn the clauses of `run` into facts about a run of a command.
 use Rattle.std.proofs.Common.{◌≡◌, ◌≢◌, ◌⊎◌, ◌∙◌, List, Option, Some, Result, Ok, Err, sym, ap, subst, inl, inr}
 use Rattle.std.specs.Prelude.{IfSome}
 use Rattle.bt_base.specs.Counts.{Rose}
@@ -38,19 +38,19 @@ nothing_put run same = same_some (ap (λ (shown : Shown). shown.taken) same)
 nothing_noted : (run : Run) → notes_of run.new ≡ notes_of run.old → run.new.notes ≡ run.old.notes
 nothing_noted run same = same_some (ap (λ (shown : Shown). shown.taken) same)
 
--- a run has only one status
+-- a run cannot have two different statuses
 pub apart : {s : Status} (a b : Status) → s ≡ a → s ≡ b → (a ≡ b → ⊥) → ⊥
 apart a b one other differ = differ (sym one ∙ other)
 
 module _ (run : Run) (is : IsRun run) (command : Command) (asks : Asks run command) where
-  -- the clauses of `run` hold of the command of the words
+  -- a fact that the clauses of `run` state for the command of the words holds for this command
   pub here : (P : Command → Type 0) → IfSome (command_of run.words) P → P command
   here P all = subst (λ (c : Option Command). IfSome c P) (command_is run command asks) all
 
   pub none_rose : NoReadFailed run command → SomeRose run.old.unread run.new.unread (names_of command) → ⊥
   none_rose calm rose = let one = some_rose run.old.unread run.new.unread (names_of command) rose in calm one.0 one.1 one.2
 
-  -- the outcome of the texts that were read settles the status
+  -- unless a read failed, the outcome of the texts that were read settles the status
   pub settled : (reading : Reading) → known_reading run.old.held (wanted_of command) ≡ Some reading → NoReadFailed run command → (outcome : Result Text Text) × IsOutcome command reading outcome × Settles (Rose run.old.unwritten run.new.unwritten) outcome run.status
   settled reading known calm =
       here (λ c. IsComplete run.old.held c (SomeRose run.old.unread run.new.unread (names_of c)) (Rose run.old.unwritten run.new.unwritten) run.status) is.complete reading known (none_rose calm)
@@ -64,7 +64,7 @@ module _ (run : Run) (is : IsRun run) (command : Command) (asks : Asks run comma
   pub cut_here : run.status ≡ WriteFault → IsCutShort run.old.held command run.old.asked run.new.asked (out_of run.old) (out_of run.new)
   cut_here e = here (λ c. IsCutShort run.old.held c run.old.asked run.new.asked (out_of run.old) (out_of run.new)) (is.cut e)
 
-  -- if the texts that were read have a fault, the run is refused
+  -- if the texts that were read have a fault, the run ends as Refused
   pub ends_refused : SayOne → (reading : Reading) (line : Text) → known_reading run.old.held (wanted_of command) ≡ Some reading → IsOutcome command reading (Err line) → EndsWith run command Refused
   ends_refused one reading line known fault calm = let told = settled reading known calm in by_outcome told.0 told.1 told.2
     where
@@ -94,7 +94,7 @@ module _ (run : Run) (is : IsRun run) (command : Command) (asks : Asks run comma
         let same = one_reading run.old.held (wanted_of command) (Read texts) (Read others) known read in
         cc
 
-    -- an outcome for the texts that were read is an outcome for the texts of the files
+    -- if the texts that were read give a text, the texts of the files give this text
     given : (request : Request) (text : Text) → IsReadAs run.old.held command run.old.asked run.new.asked request → IsGiven (roles_of command) request (Ok text) → Gives command texts (Ok text)
     given request text read gives =
         let made = subst (λ (l : List Text). request_of command l ≡ Some request) (texts_are read.texts read.read) read.made in
@@ -105,7 +105,7 @@ module _ (run : Run) (is : IsRun run) (command : Command) (asks : Asks run comma
     gives_text (inl e) = let told = done_here e in (told.text, given told.request told.text told.read told.gives)
     gives_text (inr e) = let told = cut_here e in (told.text, given told.request told.text told.read told.gives)
 
-    -- a command whose text has the property P keeps the promise to print
+    -- if the text of a command has the property P, the command keeps the promise to print
     pub prints : (request : Request) → request_of command texts ≡ Some request → (P : Text → Type 0) → ((line : Text) → Gives command texts (Err line) → ⊥) → ((text : Text) → Gives command texts (Ok text) → IsWorthFor request text → P text) → Prints run command P
     prints request made P sound worth = record {
       asks = λ e. (done_here e).read.asks;

@@ -1,5 +1,5 @@
--- Texts that hold a log of the test of a small board or a batch of logs, and texts that hold neither, worked out by hand. The board has four
--- data bits, and its test has two SDR statements that compare.
+-- Samples of texts that hold a log of a small board's test or a batch of logs, and of texts that hold neither. They are worked out by hand.
+-- The board has four data bits, and its test has two SDR statements that compare.
 use Rattle.std.proofs.Common.{◌≡◌, ◌∙◌, ℕ, Bool, true, false, List, [], ◌∷◌, length, Some, refl, sym, ap, arith}
 use Rattle.std.specs.Prelude.{All, codes}
 use Rattle.std.proofs.lemmas.List.{length-map}
@@ -20,7 +20,7 @@ Holds text log = HoldsLog wires (svf_row_scans wires) text log
 abbrev HoldsNone : Text → Type 0
 HoldsNone text = (log : List (List Bool)) → Holds text log → ⊥
 
--- the rows 1 and 2
+-- row 1 of the samples, whose digit is 1; `row_2` below has the digit 2
 abbrev row_1 : List Bool
 row_1 = true ∷ false ∷ false ∷ false ∷ []
 
@@ -37,7 +37,7 @@ two_rows : Holds (codes "1\n2\n") both
 unfolding words_of
 two_rows = record { lines = refl; shape = both_shaped }
 
--- comments, a line without words, a carriage return, and no newline after the last row
+-- a text with comments, a line without words and a carriage return, but without a newline after the last row
 with_comments : Holds (codes "# x\n\n1 # y\r\n2") both
 unfolding words_of
 with_comments = record { lines = refl; shape = both_shaped }
@@ -56,7 +56,7 @@ three_rows log holds =
     let wanted : length log ≡ 2 = holds.shape.rows in
     absurd (omega (arith, count, wanted))
 
--- a batch of two blocks with lines of all kinds, after a comment
+-- a block of a batch that has two blocks, lines of all kinds, and a comment at the start
 abbrev block : Text → Block
 block id = record { id = id; log = both }
 
@@ -105,7 +105,7 @@ no_blocks = record {
   each = tt;
 }
 
--- a block with only one row, and a block with two ids in its title
+-- a block does not hold its log if it has only one row, or if its title has two ids
 block_of_one_row : (found : Block) → HoldsBlock wires (record { title = codes "BOARD A"; below = codes "1" ∷ [] }) found → ⊥
 unfolding words_of
 block_of_one_row found holds =

@@ -1,6 +1,6 @@
--- Runs that break a promise, worked out by hand: for each fact that a promise states, a run in which only this fact is false. Other runs are
--- covered by a promise, since only the read of another name or a write to the notes failed. Some runs break nothing. The files may have any
--- texts with the properties stated here.
+-- Samples of runs that break a promise, worked out by hand. For each fact that a promise states, there is a run in which only this fact is
+-- false. In other runs, only the read of another name or a write to the notes failed, so a promise still covers them. Some runs break
+-- nothing. The files may have any texts with the properties stated here.
 use Rattle.std.proofs.Common.{◌≡◌, ◌⊎◌, ◌∙◌, ℕ, zero, suc, ◌+◌, ◌<◌, ◌≤◌, Bool, true, false, List, [], ◌∷◌, ◌++◌, length, map, cond, Option, Some, None, Result, Ok, Err, refl, sym, ap, subst, inl, inr, length-append, arith}
 use Rattle.std.specs.Prelude.{Contains, codes, take}
 use Rattle.std.specs.Str.{bytes_eq}
@@ -19,11 +19,12 @@ use Rattle.promises.specs.Promises.{FilesGive, FindsOutcome, RestsOnFiles, Tells
 use Rattle.promises.proofs.WordLemmas.{command_is, none_asked}
 use Rattle.promises.proofs.RunLemmas.{same_some}
 
--- the ends of a run without failed reads and writes: the texts of the store, the names asked for, the output and the notes
+-- The ends of a run in which no read and no write failed: the texts of the store, the names asked for, the output and the notes.
 abbrev pub ends : Held → List Text → Text → Text → Ends
 ends held asked out notes = record { held = held; asked = asked; unread = λ name. 0; out = out; unwritten = 0; notes = notes; unnoted = 0 }
 
--- a run of these words; at its start nothing was asked for, written or noted, and at its end these names were asked for and these texts written
+-- A run of these words. At its start nothing had been asked for, written or noted. At its end, the store was asked for these names, and
+-- these texts were written.
 abbrev pub run_of : List Text → Held → Status → List Text → Text → Text → Run
 run_of words held status asked out notes = record { words = words; old = ends held [] [] []; new = ends held asked out notes; status = status }
 
@@ -74,7 +75,7 @@ no_front : (one line : Text) → bytes_eq one one ≡ true → bytes_eq one [] �
 no_front one line same some differ zero is = apart one [] same some is
 no_front one line same some differ (suc count) is = apart one (take (suc count) line) same (differ count) is
 
--- the notes took nothing, so the notes did not take this line
+-- if the notes took nothing, they did not take this line
 none_noted : (words : List Text) (held : Held) (status : Status) (asked : List Text) (out line : Text) → bytes_eq [] line ≡ false → Notes (run_of words held status asked out []) line → ⊥
 none_noted words held status asked out line some (inl is) = apart [] line refl some is
 none_noted words held status asked out line some (inr (rose, cut)) = calm rose
@@ -84,7 +85,7 @@ neither : (status one other : Status) → (status ≡ one → ⊥) → (status �
 neither status one other first second (inl is) = first is
 neither status one other first second (inr is) = second is
 
--- A run in which a write to the notes failed.
+-- The same run, but with one failed write to the notes.
 
 abbrev unnoted : Run → Run
 unnoted run = record run { new = record run.new { unnoted = 1 } }
@@ -98,12 +99,12 @@ noted_whole line = inl refl
 noted_in_part : (line : Text) (count : ℕ) → Notes (unnoted (noting (take count line))) line
 noted_in_part line count = inr (inl (omega arith), (count, refl))
 
--- the notes took only the first bytes of the line, although no write failed
+-- unless a write failed, the notes must not take only the first bytes of the line
 noted_in_part_alone : Notes (noting (codes "us")) usage_line → ⊥
 noted_in_part_alone (inl is) = apart (codes "us") usage_line refl refl is
 noted_in_part_alone (inr (rose, cut)) = calm rose
 
--- the notes took bytes with which the line does not begin, although a write failed
+-- although a write failed, the notes must not take bytes with which the line does not begin
 noted_other : Notes (unnoted (noting (codes "x"))) usage_line → ⊥
 noted_other (inl is) = apart (codes "x") usage_line refl refl is
 noted_other (inr (rose, (count, is))) = no_front (codes "x") usage_line refl refl (λ n. refl) count is
@@ -133,22 +134,22 @@ prints_more prints =
 prints_with_note : PrintsOne (run_of device_words empty Done b_asked (1 ∷ []) (1 ∷ [])) → ⊥
 prints_with_note prints = let count : 1 ≡ 0 = ap length (prints.silent refl) in absurd (omega (arith, count))
 
--- the notes took a part of a line, although only a write to the notes failed
+-- although a write to the notes failed, a run that prints must not write a part of a line to the notes
 prints_with_part : PrintsOne (unnoted (run_of device_words empty Done b_asked (1 ∷ []) (codes "us"))) → ⊥
 prints_with_part prints = let count : 2 ≡ 0 = ap length (prints.silent refl) in absurd (omega (arith, count))
 
 prints_refused : PrintsOne (run_of device_words empty Refused b_asked [] []) → ⊥
 prints_refused prints = neither Refused Done NoMemory (λ e. cc) (λ e. cc) (prints.ends calm (λ name among rose. calm rose))
 
--- the status is WriteFault, although no write of the output failed and no read of the file failed
+-- the status must not be WriteFault if no write of the output and no read of the file failed
 prints_unwritten : PrintsOne (run_of device_words empty WriteFault b_asked [] []) → ⊥
 prints_unwritten prints = neither WriteFault Done NoMemory (λ e. cc) (λ e. cc) (prints.ends calm (λ name among rose. calm rose))
 
--- the status is WriteFault, although only a write to the notes failed
+-- the status must not be WriteFault if only a write to the notes failed
 prints_unnoted : PrintsOne (unnoted (run_of device_words empty WriteFault b_asked [] [])) → ⊥
 prints_unnoted prints = neither WriteFault Done NoMemory (λ e. cc) (λ e. cc) (prints.ends calm (λ name among rose. calm rose))
 
--- A run on a store in which the read of this name failed once.
+-- The same run, but on a store in which the read of this name failed once.
 
 abbrev failing : Text → Run → Run
 failing name run = record run { new = record run.new { unread = λ other. cond (bytes_eq name other) 1 0 } }
@@ -169,7 +170,7 @@ b_read words asked held status out notes name among rose = was_read (codes "x") 
 other_read_failed : PrintsOne (failing (codes "x") (run_of device_words empty ReadFault [] [] (read_line (codes "x")))) → ⊥
 other_read_failed prints = neither ReadFault Done NoMemory (λ e. cc) (λ e. cc) (prints.ends calm (b_read device_words [] empty ReadFault [] (read_line (codes "x"))))
 
--- Words that ask for no command.
+-- These words ask for no command.
 
 nothing_asked : (held : Held) (status : Status) (asked : List Text) (out notes : Text) → AsksNothing (run_of [] held status asked out notes)
 nothing_asked held status asked out notes = none_asked (run_of [] held status asked out notes) refl
@@ -195,7 +196,7 @@ usage_that_read tells =
     let count : 1 ≡ 0 = ap (λ (unread : Text → ℕ). unread (codes "b")) (tells.1 nothing).2 in
     absurd (omega (arith, count))
 
--- before the run the store is known to hold no file, and after the run its texts are not known
+-- a run before which the store is known to hold no file, and after which its texts are not known
 abbrev forgotten : Run
 forgotten = let run = run_of [] empty Usage [] [] usage_line in record run { new = record run.new { held = None } }
 
@@ -209,7 +210,7 @@ is_device run command one other =
     let same : ◌≡◌ {A = Option Command} (Some command) (Some device) = sym (command_is run command other) ∙ command_is run device one in
     cc
 
--- a listing has bytes; the lemma below says that it does not begin with an x
+-- A listing is not empty. The next lemma says that it does not begin with an x.
 some_listing : (described : RawDevice) → ◌≡◌ {A = Text} [] (device_text described) → ⊥
 unfolding device_text
 some_listing described is = apart [] (device_text described) refl refl is
@@ -226,7 +227,7 @@ module _ (text : Text) (short : length text ≤ 4194304) where
   on_text : (status : Status) (asked : List Text) (out notes : Text) → RunsOn (run_of device_words holding status asked out notes) device (text ∷ [])
   on_text status asked out notes = ((refl, refl), (refl, short, tt))
 
-  -- an outcome that the files of this store give is given for the text
+  -- if the files of this store give an outcome, the text gives it
   only_text : (texts : List Text) → HoldsEach holding (files_of device) texts → text ∷ [] ≡ texts
   only_text [] each = absurd each
   only_text (one ∷ []) each = ap (λ (t : Text). t ∷ []) (same_some each.0)
@@ -258,7 +259,7 @@ module _ (text : Text) (short : length text ≤ 4194304) where
   device_gives status asked out notes command asks outcome gives =
       given_text outcome (subst (λ (c : Command). FilesGive (run_of device_words holding status asked out notes) c outcome) (is_device (run_of device_words holding status asked out notes) command (refl, refl) asks) gives)
 
-  -- A file has a first fault, and its line is not empty. The run must be refused with this line.
+  -- The file has a first fault, and the line of this fault is not empty. The run must be refused with this line.
 
   refused_without_fault : ((line : Text) → Gives device (text ∷ []) (Err line) → ⊥) → TellsFault (run_of device_words holding Refused b_asked [] (1 ∷ [])) → ⊥
   refused_without_fault sound tells = let told = ((tells.1 device (text ∷ []) (on_text Refused b_asked [] (1 ∷ []))).0 refl).1 in sound told.0 told.1
@@ -281,7 +282,7 @@ module _ (text : Text) (short : length text ≤ 4194304) where
     refused_unasked : TellsFault (run_of device_words holding Refused [] [] line) → ⊥
     refused_unasked tells = let count : 0 ≡ 1 = ap length ((tells.1 device (text ∷ []) (on_text Refused [] [] line)).0 refl).0 in absurd (omega (arith, count))
 
-    -- a failed read of the file is no excuse for Done or WriteFault
+    -- although a read of the file failed, the status must not be Done, nor WriteFault
     fault_done : TellsFault (failing (codes "b") (run_of device_words holding Done b_asked [] [])) → ⊥
     fault_done tells = ((tells.1 device (text ∷ []) ((refl, refl), (refl, short, tt))).1 line gives).0 refl
 
@@ -292,7 +293,7 @@ module _ (text : Text) (short : length text ≤ 4194304) where
     fault_as_usage tells =
         neither Usage Refused NoMemory (λ e. cc) (λ e. cc) (((tells.1 device (text ∷ []) (on_text Usage b_asked [] [])).1 line gives).2 (λ name among rose. calm rose))
 
-    -- only the read of another name failed, which is no excuse
+    -- the run must be refused if only the read of another name failed
     fault_as_unread : TellsFault (failing (codes "x") (run_of device_words holding ReadFault [] [] (read_line (codes "x")))) → ⊥
     fault_as_unread tells =
         neither ReadFault Refused NoMemory (λ e. cc) (λ e. cc) (((tells.1 device (text ∷ []) ((refl, refl), (refl, short, tt))).1 line gives).2 (b_read device_words [] holding ReadFault [] (read_line (codes "x"))))
@@ -300,12 +301,12 @@ module _ (text : Text) (short : length text ≤ 4194304) where
     refused_as_told : RestsOnFiles (run_of device_words holding Refused b_asked [] line)
     refused_as_told = (λ e. absurd cc, λ e. absurd cc, λ e. (device, (refl, refl), line, inl (text ∷ [], (refl, short, tt), gives), inl refl))
 
-    -- the words ask for no command
+    -- the status must not be Refused if the words ask for no command
     refused_without_words : RestsOnFiles (run_of [] holding Refused b_asked [] line) → ⊥
     refused_without_words rests = let told = rests.2 refl in nothing_asked holding Refused b_asked [] line told.0 told.1
 
-  -- A file describes a device. The listing must be printed, in part if a write of the output failed. In these runs the output took nothing, or
-  -- bytes with which no listing begins.
+  -- The file describes a device. The run must print the listing of this device, or a part of it if a write of the output failed. In these
+  -- samples the output took nothing, or bytes with which no listing begins.
 
   -- a run in which a write of the output failed
   abbrev cut_after : List Text → Text → Text → Run
@@ -317,7 +318,7 @@ module _ (text : Text) (short : length text ≤ 4194304) where
   unwritten_without_fault : TellsUnwritten (run_of device_words holding WriteFault b_asked [] write_line) → ⊥
   unwritten_without_fault tells = calm (tells refl).0
 
-  -- only a write to the notes failed
+  -- the status must not be WriteFault if only a write to the notes failed
   unwritten_as_unnoted : TellsUnwritten (unnoted (run_of device_words holding WriteFault b_asked [] write_line)) → ⊥
   unwritten_as_unnoted tells = calm (tells refl).0
 
@@ -358,14 +359,14 @@ module _ (text : Text) (short : length text ≤ 4194304) where
     unwritten_as_told : RestsOnFiles (run_of device_words holding WriteFault b_asked (take 3 (device_text described)) [])
     unwritten_as_told = (λ e. absurd cc, λ e. (device, (refl, refl), device_text described, inl (text ∷ [], (refl, short, tt), (described, is, refl)), 3, refl), λ e. absurd cc)
 
-    -- the words ask for no command
+    -- the status must not be Done if the words ask for no command
     done_without_words : RestsOnFiles (run_of [] holding Done b_asked (device_text described) []) → ⊥
     done_without_words rests = let told = rests.0 refl in nothing_asked holding Done b_asked (device_text described) [] told.0 told.1
 
     unwritten_without_words : RestsOnFiles (run_of [] holding WriteFault b_asked [] []) → ⊥
     unwritten_without_words rests = let told = rests.1 refl in nothing_asked holding WriteFault b_asked [] [] told.0 told.1
 
-    -- the output took more than the listing, although the text describes only one device
+    -- the output must not take more than the listing, since the text describes only one device
     done_past_text : ((other : RawDevice) → IsDeviceText text (Ok other) → other ≡ described) → RestsOnFiles (run_of device_words holding Done b_asked (device_text described ++ 10 ∷ []) []) → ⊥
     done_past_text only rests =
         let told = rests.0 refl in
@@ -379,7 +380,7 @@ module _ (text : Text) (short : length text ≤ 4194304) where
   something_given : FindsOutcome (run_of device_words holding NoMemory [] [] []) → (outcome : Result Text Text) × Gives device (text ∷ []) outcome
   something_given finds = finds.1 device (text ∷ []) (on_text NoMemory [] [] [])
 
--- A file that is too long is refused, with its own line.
+-- If a file is too long, the run must be refused with the line for this file.
 module _ (text : Text) (over : 4194304 < length text) where
   abbrev too_long : Held
   too_long = Some (λ name. Some text)
@@ -390,7 +391,7 @@ module _ (text : Text) (over : 4194304 < length text) where
   abbrev long_c : IsTooLong too_long (files_of chain) c_file
   long_c = record { before = []; after = b_file ∷ []; are = refl; texts = []; each = tt; text = text; holds = refl; long = over }
 
-  -- the file after the long one was asked for
+  -- the run must not ask for the file after the long one
   long_and_next : TellsLong (run_of chain_words too_long Refused (codes "c" ∷ codes "b" ∷ []) [] (long_line (codes "c") 4194304)) → ⊥
   long_and_next tells = let count : 2 ≡ 1 = ap length ((tells chain c_file ((refl, omega arith), refl) long_c).0 refl).0 in absurd (omega (arith, count))
 
@@ -400,7 +401,7 @@ module _ (text : Text) (over : 4194304 < length text) where
   long_without_note : TellsLong (run_of device_words too_long Refused b_asked [] []) → ⊥
   long_without_note tells = none_noted device_words too_long Refused b_asked [] (long_line (codes "b") 4194304) refl ((tells device b_file (refl, refl) long_b).0 refl).1
 
-  -- a failed read of the file is no excuse for Done or WriteFault
+  -- although a read of the file failed, the status must not be Done, nor WriteFault
   long_done : TellsLong (failing (codes "b") (run_of device_words too_long Done b_asked [] [])) → ⊥
   long_done tells = (tells device b_file (refl, refl) long_b).1 refl
 
@@ -413,7 +414,7 @@ module _ (text : Text) (over : 4194304 < length text) where
   long_as_unread : TellsLong (failing (codes "x") (run_of device_words too_long ReadFault [] [] (read_line (codes "x")))) → ⊥
   long_as_unread tells = neither ReadFault Refused NoMemory (λ e. cc) (λ e. cc) ((tells device b_file (refl, refl) long_b).3 (b_read device_words [] too_long ReadFault [] (read_line (codes "x"))))
 
--- The files of a store that holds no file give nothing. Only `make` needs no file.
+-- If a store holds no file, its files give nothing. Only `make` needs no file.
 
 no_file_given : (run : Run) → run.old.held ≡ empty → (outcome : Result Text Text) → FilesGive run device outcome → ⊥
 no_file_given run none outcome (inl (texts, each, gives)) = by_texts texts (subst (λ (held : Held). HoldsEach held (files_of device) texts) none each)
@@ -445,7 +446,7 @@ refused_on_no_file rests =
     let told = rests.2 refl in
     rests_on_no_file (run_of device_words empty Refused b_asked [] []) refl (refl, refl) told.0 told.1 (Err told.2) told.3
 
--- no read of the file failed, and yet the store holds no file
+-- a read of the file must fail, or the status must be NoMemory, if the store holds no file
 nothing_found : (status : Status) → (status ≡ NoMemory → ⊥) → FindsOutcome (run_of device_words empty status b_asked [] []) → ⊥
 nothing_found status other finds =
     let told = finds.0 device (refl, refl) (λ name among rose. calm rose) other in
@@ -456,7 +457,7 @@ nothing_found_otherwise finds =
     let told = finds.0 device (refl, refl) (b_read device_words b_asked empty ReadFault [] []) (λ e. cc) in
     no_file_given (failing (codes "x") (run_of device_words empty ReadFault b_asked [] [])) refl told.0 told.1
 
--- Runs in which memory ran out.
+-- Samples of runs in which memory ran out.
 
 memory_with_text : TellsMemory (run_of device_words empty NoMemory [] (1 ∷ []) memory_line) → ⊥
 memory_with_text tells = let count : 1 ≡ 0 = ap length (tells refl).0 in absurd (omega (arith, count))
@@ -464,7 +465,7 @@ memory_with_text tells = let count : 1 ≡ 0 = ap length (tells refl).0 in absur
 memory_without_note : TellsMemory (run_of device_words empty NoMemory [] [] []) → ⊥
 memory_without_note tells = none_noted device_words empty NoMemory [] [] memory_line refl (tells refl).1
 
--- the second file was asked for before the first
+-- the run must not ask for the second file before the first
 memory_out_of_order : TellsMemory (run_of svf_words empty NoMemory (codes "n" ∷ []) [] memory_line) → ⊥
 memory_out_of_order tells = let told = (tells refl).2 svf ((refl, omega arith), refl) in by_count told.0 told.1
   where
@@ -476,7 +477,7 @@ memory_out_of_order tells = let told = (tells refl).2 svf ((refl, omega arith), 
         first_of default [] = default
         first_of default (name ∷ names) = name
 
--- The notes must name a file whose read failed, and this file must be the last that was asked for.
+-- At ReadFault the notes must name a file whose read failed, and this file must be the last that was asked for.
 
 abbrev last_of : Text → List Text → Text
 last_of first [] = first
@@ -486,11 +487,11 @@ last_is : (first : Text) (before : List Text) (name : Text) → last_of first (b
 last_is first [] name = refl
 last_is first (other ∷ before) name = last_is other before name
 
--- the last name that was asked for is the name of the file
+-- if the names asked for end with the name of the file, the last of them is this name
 last_named : (first : Text) (others : List Text) (before : List Wanted) (file : Wanted) → first ∷ others ≡ map (λ f. f.name) before ++ file.name ∷ [] → file.name ≡ last_of first others
 last_named first others before file asked = sym (last_is first (map (λ f. f.name) before) file.name) ∙ sym (ap (last_of first) asked)
 
--- the read of each name failed
+-- a run in which the read of each name failed
 abbrev none_read : Held → List Text → List Text → Text → Text → Run
 none_read held words asked out notes = let run = run_of words held ReadFault asked out notes in record run { new = record run.new { unread = λ name. 1 } }
 
@@ -506,7 +507,7 @@ unread_without_words tells = let told = tells refl in none_asked (unread [] b_as
 unread_without_fault : TellsUnread (run_of device_words empty ReadFault b_asked [] (read_line (codes "b"))) → ⊥
 unread_without_fault tells = calm (tells refl).7
 
--- only the read of another name failed, or of another file of the command
+-- the notes must not name a file if only the read of another name failed, or of another file of the command
 unread_otherwise : TellsUnread (failing (codes "x") (run_of device_words empty ReadFault b_asked [] (read_line (codes "b")))) → ⊥
 unread_otherwise tells = let told = tells refl in was_read (codes "x") (codes "b") refl told.5.name (last_named (codes "b") [] told.3 told.5 told.8) told.7
 
@@ -527,7 +528,7 @@ unread_without_note tells = let told = tells refl in by_note (read_line told.5.n
     by_note line some (inl is) = apart [] line refl some is
     by_note line some (inr (rose, cut)) = calm rose
 
--- the second file was asked for, but the notes name the first file, which the store holds
+-- a run that asked for the second file, while the notes name the first file, which the store holds
 abbrev first_for_second : Run
 first_for_second = none_read (Some (λ name. Some [])) svf_words (codes "c" ∷ codes "n" ∷ []) [] (read_line (codes "c"))
 
@@ -538,7 +539,7 @@ first_named tells = let told = tells refl in by_note told.5.name (last_named (co
     by_note name same (inl is) = apart (read_line (codes "c")) (read_line (codes "n")) refl refl (is ∙ ap read_line same)
     by_note name same (inr (rose, cut)) = calm rose
 
--- the notes name a file that the command does not ask for
+-- the notes must not name a file that the command does not ask for
 other_file : TellsUnread (unread device_words (codes "x" ∷ []) [] (read_line (codes "x"))) → ⊥
 other_file tells =
     let told = tells refl in
@@ -555,7 +556,7 @@ other_file tells =
         let more : length (before ++ file ∷ after) ≡ length before + suc (length after) = length-append before (file ∷ after) in
         absurd (omega (arith, count, more))
 
--- the store does not hold the first file, and yet the second file was asked for
+-- the run must not ask for the second file if the store does not hold the first file
 first_not_held : TellsUnread (unread svf_words (codes "c" ∷ codes "n" ∷ []) [] (read_line (codes "n"))) → ⊥
 first_not_held tells = let told = tells refl in by_before told.3 told.5 told.8 (told.10 (λ name. None) refl)
   where

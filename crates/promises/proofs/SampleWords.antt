@@ -1,4 +1,4 @@
--- Words that ask for a command, for each command, and words that ask for no command, worked out by hand.
+-- Samples of words that ask for a command, for each command, and of words that ask for no command. They are worked out by hand.
 use Rattle.std.proofs.Common.{ℕ, List, [], ◌∷◌, replicate, codes, refl, arith}
 use Rattle.command_line.specs.Words.{Text, ChainNames, BoardNames, Chain, Ident, Device, Cover, Svf, Walk, Make, Diagnose, Groups, Batch, board_called, log_called}
 use Rattle.btest_cli.specs.declared.status.Status.{Status}

@@ -1,4 +1,4 @@
--- The clauses of `run` say what each status other than Done implies.
+-- Lemmas which say what each status other than Done implies, given the clauses of `run`.
 use Rattle.std.proofs.Common.{◌≡◌, ◌≢◌, ◌⊎◌, ◌∙◌, ℕ, List, [], ◌∷◌, ◌++◌, map, Option, Some, None, Result, Ok, Err, refl, sym, subst, inl, inr}
 use Rattle.std.specs.Prelude.{take}
 use Rattle.command_line.specs.Words.{Text, Command, command_of, names_of}
@@ -19,7 +19,7 @@ use Rattle.promises.proofs.ReadLemmas.{Tells, files_are, long_cut, read_holds, r
 use Rattle.promises.proofs.GiveLemmas.{gives_is, is_gives}
 use Rattle.promises.proofs.RunLemmas.{cut_here, done_here, ends_refused, here, known, none_rose, not_cut, not_done, noted, nothing_put, out_taken, refused_here, texts_are}
 
--- at a status other than Done and WriteFault, the output took nothing
+-- if the status is neither Done nor WriteFault, the output took nothing
 untouched : (run : Run) → IsRun run → (status : Status) → run.status ≡ status → status ≢ Done → status ≢ WriteFault → PutsNothing run
 untouched run is status e not_done not_cut = nothing_put run (is.untouched (λ d. not_done (sym e ∙ d)) (λ w. not_cut (sym e ∙ w)))
 
@@ -69,7 +69,7 @@ tells_long run is one command file asks long =
         let cut = long_cut run.old.held long.before asked.before long.after asked.after file long.texts asked.found long.text long.holds long.long long.each asked.read (sym wanted ∙ asked.are) in
         (subst (λ (l : List Wanted). AsksFor run (map (λ f. f.name) l ++ file.name ∷ [])) cut asked.asked, subst (λ (t : Text). Notes run t) line_is (noted run told.line told.noted))
 
--- at a status other than Usage and NoMemory, the words ask for a command
+-- if the status is neither Usage nor NoMemory, the words ask for a command
 some_asked : (run : Run) → IsRun run → (status : Status) → run.status ≡ status → status ≢ Usage → status ≢ NoMemory → (command : Command) × Asks run command
 some_asked run is status e not_usage not_memory = by_command (command_of run.words) refl
   where

@@ -26,27 +26,28 @@ use Rattle.refusal_lines.specs.Refusals.{Names, input_fault_line, log_fault_line
 use Rattle.commands.specs.LogRead.{test_blocks, test_log, test_rows, walk_log, walk_rows}
 use Rattle.command_line.specs.Words.{Text, ChainNames, BoardNames, Command, Chain, Ident, Device, Cover, Svf, Walk, Make, Diagnose, Groups, Batch}
 
--- the names of the files of a chain, each name in the place for its kind of file; `of_board` does the same for a board
+-- The names of the files of a chain, each name in the place for its kind of file. `of_board` does the same for a board.
 abbrev pub of_chain : ChainNames → Names
 of_chain names = record { log = []; chain = names.chain; nets = []; bsdl = names.bsdl }
 
 abbrev pub of_board : Text → BoardNames → Names
 of_board log names = record { log = log; chain = names.chain; nets = names.nets; bsdl = names.bsdl }
 
--- the summary of a board: the numbers of its devices, nets and covered nets, and of the passes, scans and bytes of its test. The number of
--- bytes is at most the largest 64-bit number
+-- The summary of a board: the numbers of its devices, nets and covered nets, and of the passes, scans and bytes of its test. If there are
+-- more bytes than the largest 64-bit number, the summary has this number instead.
 abbrev pub summary : RawBoard → Text
 summary board =
     line_of (codes "DEVICES " ∷ decimal (length board.chain) ∷ codes " NETS " ∷ decimal (length board.nets) ∷ codes " COVERED " ∷ decimal (length (covered board))
     ∷ codes " PASSES " ∷ decimal (length (passes_of board)) ∷ codes " SCANS " ∷ decimal (length (svf_scans board))
     ∷ codes " BYTES " ∷ decimal (min (length (board_text board)) 18446744073709551615) ∷ [])
 
--- the outcome for what is found in files: the text of a value, or the line for their first fault
+-- the outcome for what files give: the text of a value, or the line for their first fault
 abbrev pub Finds : {A : Type 0} → (Result A InputFault → Type 0) → (A → Text) → Names → Result Text Text → Type 0
 Finds {A} IsFound text_of names (Ok text) = (value : A) × IsFound (Ok value) × (text ≡ text_of value)
 Finds {A} IsFound text_of names (Err line) = (fault : InputFault) × IsFound (Err fault) × (line ≡ input_fault_line names fault)
 
--- the outcome for a file of logs: if the other files denote a board, the logs are read for this board, and the text says what the logs show
+-- The outcome for a file of logs. If the other files denote a board, the logs are read for this board, and the text says what the logs
+-- show.
 abbrev pub FindsLogs : {L E A : Type 0} → (Text → RawBoard → Result L E) → (RawBoard → L → A → Type 0) → (RawBoard → L → A → Text) → (RawBoard → E → Text) → Names → Text → Text → Text → List Text → Result Text Text → Type 0
 FindsLogs {L} {E} {A} read IsFound text_of line_of names logs chain nets bsdl (Ok text) =
     (board : RawBoard) × Denotes chain nets bsdl board × (log : L) × (read logs board ≡ Ok log) × (found : A) × IsFound board log found × (text ≡ text_of board log found)

@@ -14,27 +14,27 @@ use Rattle.btest_core.specs.BoardRead.{Denotes}
 use Rattle.commands.specs.LogRead.{test_blocks, test_log, walk_log}
 use Rattle.command_line.specs.Words.{Text}
 
--- the lines with words are these rows. A row is one word, the hexadecimal digits of a bit for each position of a data scan. There is a row
--- for each SDR statement of these scans that compares, in order
+-- The lines with words are these rows. A row is one word, whose hexadecimal digits have a bit for each position of a data scan. There is a
+-- row for each SDR statement of these scans that compares, in order.
 pub record HoldsLog (board : RawBoard) (scans : List RowScan) (text : Text) (rows : List (List Bool)) : Type 0 where
   pub lines : map (bits_of_line (data_bits board)) (row_lines text) ≡ map Some rows
   pub shape : HasShape board scans rows
 
--- the title names the board of the block, and the lines below it, as a text of their own, hold a log of the board's test
+-- The title names the board of the block. The lines below it, as a text of their own, hold a log of the board's test.
 pub record HoldsBlock (board : RawBoard) (text : BlockText) (block : Block) : Type 0 where
   pub title : words_of text.title ≡ codes "BOARD" ∷ block.id ∷ []
   pub id : is_word block.id ≡ true
   pub log : HoldsLog board (svf_row_scans board) (own_text text) block.log
 
--- the text is lines without words and then these blocks; a block reaches from its title up to the next title
+-- The text consists of lines without words, followed by these blocks. A block reaches from its title up to the next title.
 pub record HoldsBlocks (board : RawBoard) (text : Text) (blocks : List Block) : Type 0 where
   pub front : List Text
   pub texts : List BlockText
   pub cut : IsCutTo text front texts
   pub each : EachPair (HoldsBlock board) texts blocks
 
--- on the board that files denote, a text is read as a log of the board's test, as a log of its walking test or as a batch if and only if
--- the lines of the text hold such a log or batch
+-- For the board that files denote, a text is read as a log of the board's test, as a log of its walking test or as a batch if and only if
+-- the lines of the text hold such a log or batch.
 pub record LinesAreRead : Type 0 where
   pub test : (chain nets : Text) (texts : List Text) (board : RawBoard) (log : Text) (rows : List (List Bool)) → Denotes chain nets texts board → (test_log log board ≡ Ok rows) ↔ HoldsLog board (svf_row_scans board) log rows
   pub walk : (chain nets : Text) (texts : List Text) (board : RawBoard) (log : Text) (rows : List (List Bool)) → Denotes chain nets texts board → (walk_log log board ≡ Ok rows) ↔ HoldsLog board (walk_row_list board) log rows

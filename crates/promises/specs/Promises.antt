@@ -47,7 +47,7 @@ use Rattle.promises.specs.Gives.{Gives, summary}
 use Rattle.promises.specs.Logs.{HoldsLog, HoldsBlocks}
 
 -- `chain`: the text has a meaning. It passes on every chain of parts with the instruction lengths of the files. It fails on every chain of
--- one or more parts that has another number of parts and no more instruction bits. Both are true whatever the pins capture
+-- one or more parts that has another number of parts and no more instruction bits. Both are true whatever the pins capture.
 abbrev pub TestsChain : Run → Type 0
 TestsChain run =
     (names : ChainNames) (chain : Text) (bsdl : List Text) (lengths : List ℕ) → RunsOn run (Chain names) (chain ∷ bsdl) → AreChainLengths chain bsdl (Ok lengths) →
@@ -55,8 +55,8 @@ TestsChain run =
     × ((wiring : Wiring) (parts : List TestLogic) → ir_lengths parts ≡ lengths → PassesOn wiring parts clocks)
     × ((wiring : Wiring) (parts : List TestLogic) → AreIrLengths (ir_lengths parts) → length parts ≢ length lengths → sum (ir_lengths parts) ≤ sum lengths → FailsOn wiring parts clocks))
 
--- `ident`: the text has a meaning. On every chain of parts with the patterns of the files the text passes if each code fits its pattern,
--- and fails if some code does not fit, whatever the pins capture
+-- `ident`: the text has a meaning. On every chain of parts with the patterns of the files, the text passes if each code fits its pattern,
+-- and fails if some code does not fit. This is true whatever the pins capture.
 abbrev pub TestsIdents : Run → Type 0
 TestsIdents run =
     (names : ChainNames) (chain : Text) (bsdl : List Text) (patterns : List (Option (List Symbol))) → RunsOn run (Ident names) (chain ∷ bsdl) → AreIdents chain bsdl (Ok patterns) →
@@ -70,41 +70,42 @@ ListsDevice run =
     (name text : Text) (device : RawDevice) → RunsOn run (Device name) (text ∷ []) → IsDeviceText text (Ok device) →
     Prints run (Device name) (λ listing. (listing ≡ device_text device) × IsDevice device)
 
--- `cover`: The text lists each net that no safe setting covers, with the reason. For the covered nets it lists each
--- driver, receiver and pair of nets that no safe setting tests.
+-- `cover`: the text lists each net that no safe setting covers, with the reason. For the covered nets it lists each driver, receiver and
+-- pair of nets that no safe setting tests.
 abbrev pub ListsCover : Run → Type 0
 ListsCover run =
     (names : BoardNames) (chain nets : Text) (bsdl : List Text) (board : RawBoard) → RunsOn run (Cover names) (chain ∷ nets ∷ bsdl) → Denotes chain nets bsdl board →
     Prints run (Cover names) (λ text. (text ≡ cover_text board) × IsBoard board × IsCoverList board text)
 
 -- `svf`: the text has a meaning. Run on the board from any state, it is quiet after its reset under every fault set, passes without faults,
--- and fails under every nonempty set of observable faults
+-- and fails under every nonempty set of observable faults.
 abbrev pub TestsBoard : Run → Type 0
 TestsBoard run =
     (names : BoardNames) (chain nets : Text) (bsdl : List Text) (board : RawBoard) → RunsOn run (Svf names) (chain ∷ nets ∷ bsdl) → Denotes chain nets bsdl board →
     Prints run (Svf names) (λ text. (text ≡ board_text board) × (clocks : List Clock) × (meaning text ≡ Some clocks) × IsQuiet board clocks × PassOnBoard board no_faults clocks
     × ((faults : FaultSet) → IsObservable board faults → IsNonempty faults → FailOnBoard board faults clocks))
 
--- `walk`: the text has a meaning. Run on the board from any state, it is quiet after its reset under every fault set, and passes without faults
+-- `walk`: the text has a meaning. Run on the board from any state, it is quiet after its reset under every fault set, and passes without
+-- faults.
 abbrev pub WalksBoard : Run → Type 0
 WalksBoard run =
     (names : BoardNames) (chain nets : Text) (bsdl : List Text) (board : RawBoard) → RunsOn run (Walk names) (chain ∷ nets ∷ bsdl) → Denotes chain nets bsdl board →
     Prints run (Walk names) (λ text. (text ≡ board_walk_text board) × (clocks : List Clock) × (meaning text ≡ Some clocks) × IsQuiet board clocks × PassOnBoard board no_faults clocks)
 
--- `make`: the text is the summary of the generated board. No file is read, so this holds for every store
+-- `make`: the text is the summary of the generated board. No file is read, so this is true of every store.
 abbrev pub SumsUp : Run → Type 0
 SumsUp run =
     (parts : ℕ) (board : RawBoard) → RunsOn run (Make parts) [] → Denotes (made.chain_text parts) (made.net_text parts) (bsdl_text ∷ []) board → Prints run (Make parts) (λ text. text ≡ summary board)
 
--- the text of the board's test means the clocks of the test's scans. Each single fault explains a log, and all logs that one fault
--- explains have the same compared bits
+-- The text of the board's test means the clocks of the test's scans. Each single fault explains a log, and all logs that one fault explains
+-- have the same compared bits.
 pub record HasResponses (board : RawBoard) : Type 0 where
   pub means : meaning (board_text board) ≡ Some (test_clocks (svf_scans board))
   pub some : (single : Single) → IsSingle board single → (log : List (List Bool)) × Explains board single log
   pub one : (single : Single) (log other : List (List Bool)) → Explains board single log → Explains board single other → AgreeOn board (svf_row_scans board) log other
 
--- the log passes if and only if each compared bit is the expected bit, and a log that passes has no faults. The faults are exactly the
--- single faults that explain the log, each once and in order
+-- The log passes if and only if each compared bit is the expected bit, and a log that passes has no faults. The faults are exactly the
+-- single faults that explain the log, each once and in order.
 pub record IsDiagnosed (board : RawBoard) (log : List (List Bool)) (pass : Bool) (faults : List Single) : Type 0 where
   pub passes : Decides pass (IsExpected board (svf_row_scans board) log)
   pub none : pass ≡ true → faults ≡ []
@@ -112,14 +113,14 @@ pub record IsDiagnosed (board : RawBoard) (log : List (List Bool)) (pass : Bool)
   pub in_order : AllPairs SinglePrecedes faults
 
 -- `diagnose`: if the file holds a log of the board's test, the printed text says whether the log passes, and lists exactly the single
--- faults that explain it
+-- faults that explain it.
 abbrev pub DiagnosesLog : Run → Type 0
 DiagnosesLog run =
     (workers : ℕ) (name : Text) (names : BoardNames) (log chain nets : Text) (bsdl : List Text) (board : RawBoard) (rows : List (List Bool)) →
     RunsOn run (Diagnose workers name names) (log ∷ chain ∷ nets ∷ bsdl) → Denotes chain nets bsdl board → HoldsLog board (svf_row_scans board) log rows →
     Prints run (Diagnose workers name names) (λ text. HasResponses board × (pass : Bool) × (faults : List Single) × IsDiagnosed board rows pass faults × (text ≡ diag_text board pass faults))
 
--- `diagnose` prints a text, in whole or in part, only if the files denote a board and the log is a log of the board's test
+-- `diagnose` prints a text, in whole or in part, only if the files denote a board and the log is a log of the board's test.
 abbrev pub RestsOnLog : Run → Type 0
 RestsOnLog run =
     (workers : ℕ) (name : Text) (names : BoardNames) (log chain nets : Text) (bsdl : List Text) →
@@ -127,7 +128,7 @@ RestsOnLog run =
     (board : RawBoard) × Denotes chain nets bsdl board × (rows : List (List Bool)) × HoldsLog board (svf_row_scans board) log rows
 
 -- `batch`: if the file holds blocks with logs of the board's test, the printed text has a title and a diagnosis for each block, in order.
--- The diagnosis of a block depends on the block's log alone
+-- The diagnosis of a block depends on the block's log alone.
 abbrev pub DiagnosesBlocks : Run → Type 0
 DiagnosesBlocks run =
     (workers : ℕ) (name : Text) (names : BoardNames) (logs chain nets : Text) (bsdl : List Text) (board : RawBoard) (blocks : List Block) →
@@ -135,16 +136,16 @@ DiagnosesBlocks run =
     Prints run (Batch workers name names) (λ text. HasResponses board × (verdicts : List Verdict)
     × EachPair (λ block verdict. IsDiagnosed board block.log verdict.pass verdict.faults) blocks verdicts × (text ≡ batch_text board blocks verdicts))
 
--- `batch` prints a text, in whole or in part, only if the files denote a board and the text holds blocks with logs of the board's test
+-- `batch` prints a text, in whole or in part, only if the files denote a board and the text holds blocks with logs of the board's test.
 abbrev pub RestsOnBlocks : Run → Type 0
 RestsOnBlocks run =
     (workers : ℕ) (name : Text) (names : BoardNames) (logs chain nets : Text) (bsdl : List Text) →
     RunsOn run (Batch workers name names) (logs ∷ chain ∷ nets ∷ bsdl) → (run.status ≡ Done) ⊎ (run.status ≡ WriteFault) →
     (board : RawBoard) × Denotes chain nets bsdl board × (blocks : List Block) × HoldsBlocks board logs blocks
 
--- `groups`: if the file holds a log of the walking test, the printed text names the only set of groups of walk nets that explains the log, or
--- says that no set does. A set explains a log if every run with the set's shorts, in which a 1 wins, and no other fault gives the log's
--- compared bits. Each set explains some log, and all logs that one set explains have the same compared bits
+-- `groups`: if the file holds a log of the walking test, the printed text names the only set of groups of walk nets that explains the log,
+-- or says that no set does. A set explains a log if every run with the set's shorts and no other fault gives the log's compared bits. In
+-- such a short, a 1 wins. Each set explains some log, and all logs that one set explains have the same compared bits.
 abbrev pub FindsGroups : Run → Type 0
 FindsGroups run =
     (name : Text) (names : BoardNames) (log chain nets : Text) (bsdl : List Text) (board : RawBoard) (rows : List (List Bool)) →
@@ -154,21 +155,21 @@ FindsGroups run =
     × ((groups : List (List ℕ)) → AreGroups board groups → (other : List (List Bool)) × Explain board other groups)
     × ((groups : List (List ℕ)) (one other : List (List Bool)) → Explain board one groups → Explain board other groups → AgreeOn board (walk_row_list board) one other))
 
--- `groups` prints a text, in whole or in part, only if the files denote a board and the log is a log of its walking test
+-- `groups` prints a text, in whole or in part, only if the files denote a board and the log is a log of its walking test.
 abbrev pub RestsOnWalkLog : Run → Type 0
 RestsOnWalkLog run =
     (name : Text) (names : BoardNames) (log chain nets : Text) (bsdl : List Text) →
     RunsOn run (Groups name names) (log ∷ chain ∷ nets ∷ bsdl) → (run.status ≡ Done) ⊎ (run.status ≡ WriteFault) →
     (board : RawBoard) × Denotes chain nets bsdl board × (rows : List (List Bool)) × HoldsLog board (walk_row_list board) log rows
 
--- Usage comes if and only if the words ask for no command, unless memory ran out. The store stays unchanged
+-- Unless memory ran out, the status is Usage if and only if the words ask for no command. The store stays unchanged.
 abbrev pub TellsUsage : Run → Type 0
 TellsUsage run =
     (run.status ≡ Usage → AsksNothing run × PutsNothing run × Notes run usage_line)
     × (AsksNothing run → ((run.status ≡ Usage) ⊎ (run.status ≡ NoMemory)) × (run.new.asked ≡ run.old.asked) × (run.new.unread ≡ run.old.unread) × (run.new.held ≡ run.old.held))
 
--- Refused comes if and only if the files have a first fault, unless a read of a file failed or memory ran out. The
--- notes take the fault's line
+-- Unless a read of a file failed or memory ran out, the status is Refused if and only if the files have a first fault. The notes then take
+-- the line of this fault.
 abbrev pub TellsFault : Run → Type 0
 TellsFault run =
     (run.status ≡ Refused → PutsNothing run)
@@ -176,36 +177,38 @@ TellsFault run =
     (run.status ≡ Refused → AsksFor run (names_of command) × ((line : Text) × Gives command texts (Err line) × Notes run line))
     × ((line : Text) → Gives command texts (Err line) → (run.status ≢ Done) × (run.status ≢ WriteFault) × EndsWith run command Refused))
 
--- Refused comes if a file is longer than allowed, unless a read of a file failed or memory ran out. A refused run asks for no file after this
--- file. If memory ran out, later files may have been asked for (`TellsMemory`)
+-- If a file is longer than allowed, the status is Refused, unless a read of a file failed or memory ran out. A refused run asks for no file
+-- after this file. If memory ran out, later files may have been asked for (`TellsMemory`).
 abbrev pub TellsLong : Run → Type 0
 TellsLong run =
     (command : Command) (file : Wanted) → Asks run command → (long : IsTooLong run.old.held (files_of command) file) →
     (run.status ≡ Refused → AsksFor run (map (λ f. f.name) long.before ++ file.name ∷ []) × Notes run (long_line file.name file.limit))
     × (run.status ≢ Done) × (run.status ≢ WriteFault) × EndsWith run command Refused
 
--- the outcome that the files of a command give, if the store holds them: the outcome of their texts, or the line for the first file that is too long
+-- The outcome that the files of a command give, if the store holds them. It is the outcome of their texts, or the line for the first file
+-- that is too long.
 abbrev pub FilesGive : Run → Command → Result Text Text → Type 0
 FilesGive run command outcome =
     ((texts : List Text) × HoldsEach run.old.held (files_of command) texts × Gives command texts outcome)
     ⊎ ((file : Wanted) × IsTooLong run.old.held (files_of command) file × (outcome ≡ Err (long_line file.name file.limit)))
 
--- Done and WriteFault come only if the words ask for a command whose files give a text. Refused comes only if the files give a line
+-- The status is Done or WriteFault only if the words ask for a command whose files give a text. It is Refused only if the files give a
+-- line.
 abbrev pub RestsOnFiles : Run → Type 0
 RestsOnFiles run =
     (run.status ≡ Done → (command : Command) × Asks run command × (text : Text) × FilesGive run command (Ok text) × Puts run text)
     × (run.status ≡ WriteFault → (command : Command) × Asks run command × (text : Text) × FilesGive run command (Ok text) × (count : ℕ) × Puts run (take count text))
     × (run.status ≡ Refused → (command : Command) × Asks run command × (line : Text) × FilesGive run command (Err line) × Notes run line)
 
--- if the words ask for a command, no read of its files failed and memory did not run out, the files give a text or a line. Texts that the
--- store holds for the files give a text or a line however the run ends
+-- If the words ask for a command, no read of its files failed and memory did not run out, the files give a text or a line. Texts that the
+-- store holds for the files give a text or a line, however the run ends.
 abbrev pub FindsOutcome : Run → Type 0
 FindsOutcome run =
     ((command : Command) → Asks run command → NoReadFailed run command → run.status ≢ NoMemory → (outcome : Result Text Text) × FilesGive run command outcome)
     × ((command : Command) (texts : List Text) → RunsOn run command texts → (outcome : Result Text Text) × Gives command texts outcome)
 
--- ReadFault comes only if the words ask for a command and a read of one of its files failed. The notes name this file. The earlier files were
--- asked for, and no later file was. If the texts of the store are known, the store holds the earlier files
+-- The status is ReadFault only if the words ask for a command and a read of one of its files failed. The notes name this file. The earlier
+-- files were asked for, and no later file was. If the texts of the store are known, the store holds the earlier files.
 abbrev pub TellsUnread : Run → Type 0
 TellsUnread run =
     run.status ≡ ReadFault → PutsNothing run
@@ -213,14 +216,14 @@ TellsUnread run =
     × Rose (run.old.unread file.name) (run.new.unread file.name) × AsksFor run (map (λ f. f.name) before ++ file.name ∷ []) × Notes run (read_line file.name)
     × ((held : Text → Option Text) → run.old.held ≡ Some held → (texts : List Text) × HoldsEach run.old.held before texts)
 
--- WriteFault comes only if a write of the output failed. The output took some first bytes of the text
+-- The status is WriteFault only if a write of the output failed. The output took some first bytes of the text.
 abbrev pub TellsUnwritten : Run → Type 0
 TellsUnwritten run =
     run.status ≡ WriteFault → Rose run.old.unwritten run.new.unwritten × Notes run write_line
     × ((command : Command) (texts : List Text) → RunsOn run command texts → AsksFor run (names_of command) × ((text : Text) × Gives command texts (Ok text) × (count : ℕ) × Puts run (take count text)))
 
--- if memory ran out, nothing was written to the output. Some first files were asked for, each once and in order, perhaps also files after a
--- file that is too long
+-- If memory ran out, nothing was written to the output. Some first files were asked for, each once and in order. They may include files
+-- after a file that is too long.
 abbrev pub TellsMemory : Run → Type 0
 TellsMemory run =
     run.status ≡ NoMemory → PutsNothing run × Notes run memory_line × ((command : Command) → Asks run command → (count : ℕ) × AsksFor run (take count (names_of command)))

@@ -1,4 +1,5 @@
--- One run of the program: its words, its status, and what is at its ends before and after it.
+-- One run of the program: its words, its status, and the state of its ends before and after it. The ends are the store, the output and the
+-- notes.
 use Rattle.std.specs.Prelude.{◌≡◌, ◌⊎◌, ℕ, ◌<◌, ◌≤◌, true, List, [], ◌∷◌, ◌++◌, length, map, take, codes, Some, None, Contains, String, string_bytes}
 use Rattle.std.specs.List.{list_all}
 use Rattle.std.specs.declared.alloc.Global.{Global}
@@ -12,8 +13,8 @@ use Rattle.btest_cli.specs.declared.status.Status.{Status}
 use Rattle.btest_cli.specs.declared.status.Status.TheVariants.{Done, NoMemory}
 use Rattle.promises.specs.declared.desk.Desk.{Desk}
 
--- the text that a store holds under each name, if the store's texts are known; the names that were asked for, and how often a read of each
--- name failed; and for the output and for the notes, the bytes that were taken, and how often a write failed
+-- The ends of a run at one time. For the store: the text under each name, if the store's texts are known, the names that were asked for,
+-- and how often a read of each name failed. For the output and for the notes: the bytes that were taken, and how often a write failed.
 pub record Ends : Type 0 where
   pub held : Held
   pub asked : List Text
@@ -33,7 +34,7 @@ pub record Run : Type 0 where
 abbrev pub run_of : List (String Global) → Ends → Ends → Status → Run
 run_of words old new status = record { words = map string_bytes words; old = old; new = new; status = status }
 
--- the ends with a store of these texts and counts, and with an output and notes in memory
+-- the ends of a run whose store has these texts and counts, and whose output and notes are in memory
 abbrev pub ends_of : Held → List Text → (Text → ℕ) → MemSink → MemSink → Ends
 ends_of held asked unread out notes = record { held = held; asked = asked; unread = unread; out = taken_of out; unwritten = faults_of out; notes = taken_of notes; unnoted = faults_of notes }
 
@@ -44,8 +45,8 @@ abbrev pub desk_run : List (String Global) → Desk → Desk → Status → Run
 desk_run words old new status = run_of words (desk_ends old) (desk_ends new) status
 
 -- The limits on BSDL files and on workers are numbers here, although the reader of the words has names for them. The limits are promises of
--- the program, so a limit that is changed only in the reader breaks a proof here. The limit on the parts of a generated board has its name,
--- and samples fix it at 255.
+-- the program, so changing a limit only in the reader breaks a proof here. The limit on the parts of a generated board has its name, and
+-- samples fix it at 255.
 
 -- these words, then a chain file and at most 255 BSDL files
 abbrev pub ThenChain : List Text → ChainNames → List Text → Type 0
@@ -55,7 +56,7 @@ ThenChain front names words = (words ≡ front ++ names.chain ∷ names.bsdl) ×
 abbrev pub ThenBoard : List Text → BoardNames → List Text → Type 0
 ThenBoard front names words = (words ≡ front ++ names.chain ∷ names.nets ∷ names.bsdl) × (length names.bsdl ≤ 255)
 
--- the words of each command. A generated board has 1 to 255 parts, and there are 1 to 64 workers
+-- The words of each command. A generated board has 1 to 255 parts, and there are 1 to 64 workers.
 abbrev pub AreWords : Command → List Text → Type 0
 AreWords (Chain names) words = ThenChain (codes "chain" ∷ []) names words
 AreWords (Ident names) words = ThenChain (codes "ident" ∷ []) names words
@@ -80,7 +81,7 @@ AsksNothing run = (command : Command) → Asks run command → ⊥
 abbrev pub texts_called : List Text → List Wanted
 texts_called names = map (λ name. record { name = name; limit = 4194304 }) names
 
--- the files of a command, in order; a file of logs may have up to 64 MiB
+-- The files of a command, in order. A file of logs may have up to 64 MiB.
 abbrev pub files_of : Command → List Wanted
 files_of (Diagnose workers log names) = record { name = log; limit = 67108864 } ∷ texts_called (board_names names)
 files_of (Groups log names) = record { name = log; limit = 67108864 } ∷ texts_called (board_names names)
@@ -99,7 +100,7 @@ HoldsEach held [] (text ∷ texts) = ⊥
 HoldsEach held (file ∷ files) [] = ⊥
 HoldsEach held (file ∷ files) (text ∷ texts) = Holds held file.name text × (length text ≤ file.limit) × HoldsEach held files texts
 
--- the file is the first of these files that is too long, and the store holds the files before it
+-- `file` is the first of these files that is too long, and the store holds the files before it
 pub record IsTooLong (held : Held) (files : List Wanted) (file : Wanted) : Type 0 where
   pub before : List Wanted
   pub after : List Wanted
@@ -137,8 +138,8 @@ PutsNothing run = run.new.out ≡ run.old.out
 abbrev pub Notes : Run → Text → Type 0
 Notes run line = (run.new.notes ≡ run.old.notes ++ line) ⊎ (Rose run.old.unnoted run.new.unnoted × ((count : ℕ) × (run.new.notes ≡ run.old.notes ++ take count line)))
 
--- at Done each file was asked for once and in order, the output took exactly a text for which P holds, and the notes took nothing. The
--- status is Done, unless a read of a file failed, a write of the output failed, or memory ran out
+-- At Done, each file was asked for once and in order, the output took exactly a text for which P holds, and the notes took nothing. The
+-- status is Done, unless a read of a file failed, a write of the output failed, or memory ran out.
 pub record Prints (run : Run) (command : Command) (P : Text → Type 0) : Type 0 where
   pub asks : run.status ≡ Done → AsksFor run (names_of command)
   pub puts : run.status ≡ Done → (text : Text) × Puts run text × P text

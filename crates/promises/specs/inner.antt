@@ -1,2 +1,2 @@
--- Terms that serve proofs and the contracts of private functions. No public contract cites them.
+-- Definitions for proofs and for the contracts of private functions. No public contract cites them.
 pub mod Facts

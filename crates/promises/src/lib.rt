@@ -1,5 +1,5 @@
-//! The promises of the program, command by command, in the words of the board and of its model. Each promise is proved from the clauses
-//! of `run` alone, and from the laws that texts and logs each have one answer.
+//! The promises of the program, command by command, in terms of the board and of its model. The proof of each promise uses only the
+//! clauses of `run` and the laws that texts and logs each have one answer.
 #![tactic(auto)]
 
 mod desk;

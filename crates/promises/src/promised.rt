@@ -1,4 +1,4 @@
-// The promises of the program: first the promises of each command, and then the meanings of the other statuses.
+// The promises of the program: first the promise of each command, and then the meaning of each other status.
 ghost use Rattle.promises.specs.Runs.{desk_run, ends_of, run_of};
 ghost use Rattle.promises.specs.Promises.{DiagnosesBlocks, DiagnosesLog, FindsGroups, FindsOutcome, ListsCover, ListsDevice, RestsOnBlocks, RestsOnFiles, RestsOnLog, RestsOnWalkLog, SumsUp, TellsFault, TellsLong, TellsMemory, TellsUnread, TellsUnwritten, TellsUsage, TestsBoard, TestsChain, TestsIdents, WalksBoard};
 
@@ -116,7 +116,7 @@ impl Desk {
         self.run(rt, words, gate)
     }
 
-    /// The usage line answers exactly the words that are no command, and no file is read for these words.
+    /// The usage line answers exactly the words that ask for no command. For these words no file is read.
     pub fn usage<R: Threads + Sync, G: Gate>(
         &mut self,
         rt: &R,
@@ -128,9 +128,9 @@ impl Desk {
         self.run(rt, words, gate)
     }
 
-    /// A text is printed only if the words ask for a command whose files give this text. Refused comes only if the files give the
-    /// line that is written. This says nothing about the lines of other statuses. Files that were read or that the store holds
-    /// give a text or a line.
+    /// A text is printed only if the words ask for a command whose files give this text. The status is Refused only if the files give the
+    /// line that is written. Nothing is said here about the lines of other statuses. Files that were read or that the store holds give a
+    /// text or a line.
     pub fn outcome<R: Threads + Sync, G: Gate>(
         &mut self,
         rt: &R,
@@ -168,7 +168,7 @@ impl Desk {
         self.run(rt, words, gate)
     }
 
-    /// If memory ran out, nothing is written to the output.
+    /// If memory ran out, nothing was written to the output.
     pub fn no_memory<R: Threads + Sync, G: Gate>(
         &mut self,
         rt: &R,
@@ -181,7 +181,7 @@ impl Desk {
     }
 }
 
-/// `make` writes the summary of a generated board, for every store.
+/// `make` writes the summary of a generated board. This is true of every store.
 pub fn make<R: Threads + Sync, S: Store, G: Gate>(
     rt: &R,
     alloc: Global,
@@ -196,7 +196,7 @@ pub fn make<R: Threads + Sync, S: Store, G: Gate>(
     run_on(rt, alloc, words, store, out, notes, gate)
 }
 
-/// At ReadFault a read of a file failed and the notes name this file, for every store.
+/// If the status is ReadFault, a read of a file failed and the notes name this file. This is true of every store.
 pub fn read_fault<R: Threads + Sync, S: Store, G: Gate>(
     rt: &R,
     alloc: Global,

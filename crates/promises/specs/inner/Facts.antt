@@ -1,4 +1,4 @@
--- The clauses of `run` as one fact about a run, and the laws that texts have at most one answer.
+-- The clauses of `run`, stated as one fact about a run, and the laws that texts have at most one answer.
 use Rattle.std.specs.Prelude.{◌≡◌, ◌≢◌, ◌⊎◌, ℕ, List, Some, None, Result, IfSome}
 use Rattle.bt_base.specs.Counts.{Rose}
 use Rattle.bt_base.specs.Puts.{Shown}
@@ -15,14 +15,14 @@ use Rattle.btest_cli.specs.Outcome.{AsksSome, IsComplete, IsCutShort, IsDone, Is
 use Rattle.btest_cli.specs.declared.status.Status.TheVariants.{Done, Refused, Usage, ReadFault, WriteFault, NoMemory}
 use Rattle.promises.specs.Runs.{Ends, Run}
 
--- the output at these ends, as a sink shows it; `notes_of` shows the notes
+-- The output at these ends, as contracts see a sink. `notes_of` does the same for the notes.
 abbrev pub out_of : Ends → Shown
 out_of ends = record { taken = Some ends.out; amount = None; faults = ends.unwritten }
 
 abbrev pub notes_of : Ends → Shown
 notes_of ends = record { taken = Some ends.notes; amount = None; faults = ends.unnoted }
 
--- P holds of the command of the words, if the words have a command
+-- if the words have a command, P holds for it
 abbrev pub Commanded : Run → (Command → Type 0) → Type 0
 Commanded run P = IfSome (command_of run.words) P
 
@@ -45,8 +45,8 @@ pub record IsRun (run : Run) : Type 0 where
   pub memory_asks : run.status ≡ NoMemory → Commanded run (λ c. AsksSome c run.old.asked run.new.asked)
   pub complete : Commanded run (λ c. IsComplete run.old.held c (SomeRose run.old.unread run.new.unread (names_of c)) (Rose run.old.unwritten run.new.unwritten) run.status)
 
--- texts have at most one answer for a device, for a chain, for its identification codes, and for a board. A reading has at most one outcome,
--- and a known reading has one
+-- The texts of a device, of a chain, of its identification codes and of a board have at most one answer. A reading has at most one outcome,
+-- and a known reading has one.
 pub record SayOne : Type 0 where
   pub device : (text : Text) (a b : Result RawDevice InputFault) → IsDeviceText text a → IsDeviceText text b → a ≡ b
   pub chain : (chain : Text) (texts : List Text) (a b : Result (List ℕ) InputFault) → AreChainLengths chain texts a → AreChainLengths chain texts b → a ≡ b
