@@ -1,4 +1,4 @@
-//! Tokens of texts.
+//! Tests of the tokens of texts.
 use bsdl_lexer::LexFault::{self, Byte, OpenString, TooMany};
 use bsdl_lexer::TOKEN_LIMIT;
 use device_bench::Source::{Bytes, Filled};
@@ -32,7 +32,8 @@ fn every_form_of_token(rt: HostRuntime) -> Result<(), CaseFault> {
     tokens_hold(rt.alloc(), &FORMS)
 }
 
-// Blanks, and the first and last byte of the marks. Beside each is a byte that is neither a blank nor a mark.
+// Blanks, and the first and the last byte of each kind of mark. Next to each of them is a byte that is
+// neither a blank nor a mark.
 static LETTERS: [(Source, Result<(), LexFault>, usize); 9] = [
     (Bytes(b"a\x0bb\x0cc\td e\rf\ng"), Ok(()), 7),
     (Bytes(b"\x08"), Err(Byte(1)), 0),
@@ -42,7 +43,7 @@ static LETTERS: [(Source, Result<(), LexFault>, usize); 9] = [
     (Bytes(b"\x7f"), Err(Byte(1)), 0),
     // An underscore or a digit may be in a word, but not at its beginning.
     (Bytes(b"a_1 _a 1a"), Ok(()), 5),
-    // A string may have any byte but a quote and the ends of lines.
+    // A string may contain any byte except a quote and the bytes that end lines.
     (Bytes(b"\"\x00\x0b\xff\""), Ok(()), 1),
     (Bytes(b"-- \x00\xff\"\r\na"), Ok(()), 1),
 ];

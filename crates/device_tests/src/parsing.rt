@@ -1,4 +1,4 @@
-//! Whole texts, read from their bytes.
+//! Tests of reading whole texts from their bytes.
 use bsdl_lexer::LexFault::{Byte, OpenString, TooMany};
 use bsdl_parser::ParseFault::{Expected, Package};
 use device_bench::Reading::{Entity, Lex, Parse};
@@ -6,7 +6,7 @@ use device_bench::Source::{Buffer, Bytes, Driver, Filled, Front};
 use device_bench::{CaseFault, Reading, Source, entities_hold, readings_hold};
 
 static CHANGED: [(Source, Reading); 24] = [
-    // A text without faults, no generic, no ports, and the generic twice.
+    // A text without faults, a text without the generic, a text without ports, and a text that has the generic twice.
     (Driver(&[(1, "entity DRV is\n")]), Entity),
     (Driver(&[(2, "")]), Parse(Expected(17))),
     (Driver(&[(3, "")]), Parse(Expected(17))),
@@ -14,7 +14,7 @@ static CHANGED: [(Source, Reading); 24] = [
         Driver(&[(3, "generic (PHYSICAL_PIN_MAP : string := \"P\");\n")]),
         Parse(Expected(3)),
     ),
-    // The ports twice, and a generic without a default.
+    // A text that has the ports twice, and a generic without a default.
     (
         Driver(&[(4, "port (A : buffer bit);\n")]),
         Parse(Expected(4)),
@@ -48,7 +48,7 @@ static CHANGED: [(Source, Reading); 24] = [
         )]),
         Parse(Expected(10)),
     ),
-    // An attribute that is not read, and then one that also has no semicolon.
+    // An attribute that is not read, and then a text in which such an attribute also lacks its semicolon.
     (
         Driver(&[(
             14,
@@ -95,9 +95,9 @@ static CHANGED: [(Source, Reading); 24] = [
     ),
     (Driver(&[(18, "package DRV;\n")]), Parse(Expected(18))),
     (Driver(&[(18, "end DRV\n\n")]), Parse(Expected(19))),
-    // The text of another device.
+    // The text of a different device.
     (Buffer, Entity),
-    // Generic and ports exchanged.
+    // The generic comes after the ports.
     (
         Driver(&[
             (
@@ -137,7 +137,7 @@ fn parts_of_texts(rt: HostRuntime) -> Result<(), CaseFault> {
 }
 
 static LARGE: [(Source, Reading); 2] = [
-    // Deep parentheses in an attribute that is not read.
+    // Deeply nested parentheses in an attribute that is not read.
     (
         Filled {
             lines: 17,
@@ -148,7 +148,7 @@ static LARGE: [(Source, Reading); 2] = [
         },
         Entity,
     ),
-    // One token too many.
+    // A text with one token more than the limit.
     (
         Filled {
             lines: 0,

@@ -1,4 +1,4 @@
-//! Texts that break a rule of devices, and the devices of texts that break none.
+//! Tests of texts that break a rule of devices, and of the devices of texts that break no rule.
 use device_bench::{CaseFault, Change, draft_holds, orders_hold, rules_hold};
 
 static PORTS_AND_PINS: [(Change, (u32, u32)); 20] = [
@@ -40,7 +40,7 @@ static INSTRUCTIONS: [(Change, (u32, u32)); 20] = [
     (Change::Opcodes("SAMPLE (10), EXTEST (01)"), (6, 2)),
     (Change::Opcodes("SAMPLE (10), EXTEST (01, X0)"), (0, 0)),
     (Change::Opcodes("SAMPLE (10), BYPASS (10)"), (6, 3)),
-    // One right code is enough, and X fits any bit.
+    // One correct code is enough, and X fits any bit.
     (Change::Opcodes("SAMPLE (10), BYPASS (10, 11)"), (0, 0)),
     (Change::Opcodes("SAMPLE (10), BYPASS (1X)"), (0, 0)),
     (Change::Of2001("SAMPLE (10)"), (6, 2)),
@@ -134,7 +134,7 @@ fn boundary_entries(rt: HostRuntime) -> Result<(), CaseFault> {
     rules_hold(rt.alloc(), &ENTRIES)
 }
 
-// Two consecutive rules are broken, or two items of one rule. The first is reported.
+// In each row, two consecutive rules are broken, or two items of one rule. The first is reported.
 static PORT_ORDER: [(&[Change], (u32, u32)); 7] = [
     (&[Change::Range(2, 1, true), Change::ScanOut("Q")], (2, 5)),
     (&[Change::ScanOut("Q"), Change::Clock("TDI")], (3, 3)),
@@ -200,7 +200,7 @@ fn instructions_come_before_entries(rt: HostRuntime) -> Result<(), CaseFault> {
 }
 
 static ENTRY_ORDER: [(Change, (u32, u32)); 9] = [
-    // A cell number that is too large is reported before a missing cell.
+    // The fault of a cell number that is too large is reported before the fault of a missing cell.
     (
         Change::Entries(2, "1 (B, Q(1), output2, X), 5 (B, Q(2), output2, X)"),
         (8, 5),

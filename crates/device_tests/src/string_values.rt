@@ -1,4 +1,4 @@
-//! The strings of worked devices, and strings that leave their grammars.
+//! Tests of the strings of worked devices, and of strings that leave their grammars.
 use board_defs::Symbol;
 use device_bench::{CaseFault, Grammar, strings_hold, symbols_hold};
 
@@ -15,7 +15,7 @@ static PIN_MAPS: [(&str, Result<&str, u32>); 18] = [
     ("A:(1)", Ok("A 1; ")),
     ("\t A\t: ( 1 , 2 ) , B : 3 ", Ok("A 1 2; B 3; ")),
     ("A:(1,2),B:_3", Ok("A 1 2; B _3; ")),
-    // An empty string, a port without a pin, an entry without a name, and a comma at the front.
+    // An empty string, a string of one blank, a port without a pin, a name that begins with a digit, and a comma at the front.
     ("", Err(1)),
     (" ", Err(1)),
     ("A", Err(1)),
@@ -91,14 +91,14 @@ static COMPLIANCE: [(&str, Result<&str, u32>); 16] = [
     ("(A, B(1), C) (1X0, 010)", Ok("A B[1] C  1X0 010")),
     (" ( en(7) ) ( 0 , 1 ) ", Ok("EN[7]  0 1")),
     ("(A)(X)", Ok("A  X")),
-    // The first parenthesis is missing, not closed or empty, or has a comma too many.
+    // The first pair of parentheses is missing, not closed or empty, or contains a comma too many.
     ("", Err(1)),
     ("A (1)", Err(1)),
     ("(A", Err(1)),
     ("() (1)", Err(1)),
     ("(A,) (1)", Err(1)),
     ("(A(1234567890)) (1)", Err(1)),
-    // The second parenthesis is missing, has no codes, or is not the end.
+    // The second pair of parentheses is missing, contains no codes, or is not the end.
     ("(A)", Err(2)),
     ("(A),(1)", Err(2)),
     ("(A) (2)", Err(2)),
