@@ -1,5 +1,5 @@
-//! Tests of values: that they may go to another thread and be shared between threads, and that a fault's text agrees with the line of
-//! refusal that is written for it.
+//! Tests of values. Some values may go to another thread and be shared between threads. The text of each fault agrees with the line
+//! of refusal that is written for it.
 #![tactic(auto)]
 
 #[cfg(test)]

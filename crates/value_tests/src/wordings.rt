@@ -1,5 +1,6 @@
-// The text of each fault, and its line of refusal. A row has a fault, the start of its line, and the fault's text. The line is the start
-// followed by the text, and in some tables by the end of the line. The start names the file, which no fault holds. The lines for refused memory and for a limit name no file.
+// Compares the text of each fault with its line of refusal. A row has a fault, the start of its line, and the fault's text. The line is the
+// start followed by the text, and in some tables by an end. The start names the file, since a fault does not hold this name. The lines for
+// refused memory and for a limit name no file.
 use batch_diag::BatchFault;
 use board_build::BoardFault;
 use board_defs::Spot;
@@ -20,10 +21,10 @@ use series_parts::LinkFault;
 use std::alloc::{AllocError, Global};
 use thiserror::Error;
 
-/// Why a table does not hold.
+/// The reason why a table does not hold.
 #[derive(Debug, Drop, Error)]
 pub enum Missed {
-    /// The fault of the row with this number, from 0, has another text or another line.
+    /// The fault of the row with this number, counted from 0, has another text or another line.
     #[error("row {0} gives something else")]
     Row(usize),
     #[error("out of memory")]
@@ -336,7 +337,7 @@ static DEVICES: [(InputFault, &str, &str); 15] = [
     ),
 ];
 
-// The line for missing rows ends with the number of rows that the log must have, which the fault doesn't hold.
+// The line for missing rows ends with the number of rows that the log must have, which the fault does not hold.
 static LOGS: [(LogFault, &str, &str, &str); 5] = [
     (LogFault::Digit(5), "g ", "line 5: digit not allowed", ""),
     (LogFault::Length(5), "g ", "line 5: wrong length", ""),
@@ -397,7 +398,8 @@ static BATCHES: [(BatchFault, &str, &str, &str); 8] = [
     (BatchFault::Memory(AllocError), "", "out of memory", ""),
 ];
 
-// These faults have no line of refusal. Each one becomes the other fault of its row, whose text is the start followed by the text.
+// These faults have no line of refusal. Each of them becomes the other fault of its row. The text of that fault is the start of the row,
+// followed by the text of the row.
 static STRINGS: [(StringFault, DeviceFault, &str, &str); 2] = [
     (
         StringFault::At(3),
@@ -436,7 +438,7 @@ fn expect(row: usize, holds: bool) -> Result<(), Missed> {
     if holds { Ok(()) } else { Err(Missed::Row(row)) }
 }
 
-// Returns whether the bytes are the pieces in turn.
+// Returns whether the bytes are these pieces in turn.
 fn is_joined(alloc: Global, bytes: &[u8], pieces: &[&str]) -> Result<bool, AllocError> {
     let mut joined = String::new(alloc);
     for piece in pieces {
@@ -532,7 +534,7 @@ fn put_fetch_fault(fault: &FetchFault, notes: &mut MemSink) -> Result<(), PutFau
     }
 }
 
-// The line for a text that is too long has the limit in bytes, which the fault doesn't hold.
+// The line for a text that is too long states the limit in bytes, which the fault does not hold.
 static FETCHES: [(FetchFault, &str, &str); 3] = [
     (FetchFault::Failed, "cannot read", "cannot read g\n"),
     (
