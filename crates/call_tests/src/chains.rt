@@ -1,4 +1,4 @@
-// The text of the identity test of a chain.
+// Tests of the text of a chain's identity test.
 ghost use Rattle.std.specs.Prelude.{◌≡◌, length, All, IfSome, IsTrue};
 
 use crate::missed::{Missed, expect};
@@ -125,7 +125,8 @@ fn compares_the_fixed_bits_of_patterns(rt: HostRuntime) -> Result<(), Missed> {
     Ok(())
 }
 
-// The fields of 2,040 digits. A field has a text before its digits, eight digits that are repeated, and a text after them.
+// The fields of 2,040 digits. A field has a text before its digits, eight digits that are repeated, and a text after the
+// digits.
 static FIELDS: [(&[u8], &[u8], &[u8]); 3] = [
     (b"TDI (", b"00000000", b")\n"),
     (b"TDO (", b"00000001", b")\n"),
@@ -162,7 +163,7 @@ fn puts_long_chains(rt: HostRuntime) -> Result<(), Missed> {
     expect(0, puts(rt.alloc(), &[Some(LOWEST); 255], &statement)?)
 }
 
-// The number of the put that fails once it has taken four bytes, counted from 1, and all bytes that were taken.
+// The number of the put that fails after it has taken four bytes, counted from 1, and all bytes that the sink took.
 static CUTS: [(u32, &[u8]); 3] = [
     (1, b"TRST"),
     (

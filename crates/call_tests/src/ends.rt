@@ -1,4 +1,4 @@
-// Files of the system, sinks over their writers, and sinks in memory.
+// Tests of the files of the system, of sinks over their writers, and of sinks in memory.
 use crate::missed::{Missed, expect};
 use bt_base::{
     CountSink, FetchFault, Gate, HostSink, HostStore, MemSink, OpenGate, PutFault, Sink, Store,

@@ -1,4 +1,4 @@
-// The files of a board: the answers of their readers, joined files, and the files of generated boards.
+// Tests of the files of a board: the answers of their readers, joined files, and the files of generated boards.
 use crate::missed::{Missed, expect};
 use board_defs::Name;
 use board_files::{ChainFile, ChainStatement, LineFault, NetFile, PinWord, chain, nets};
@@ -32,7 +32,7 @@ static CHAIN_FILES: [Answer; 22] = [
     (b"PULL N 2", "line 1: number not allowed"),
     (b"PULL N 01", "line 1: number not allowed"),
     (b"PULL N", "line 1: no statement"),
-    // A vertical tab and a form feed are no blanks in these files.
+    // In these files, a vertical tab and a form feed are not blanks.
     (b"SUPPLY\x0bV", "line 1: no statement"),
     (b"SUPPLY V\x0c", "line 1: word not allowed"),
 ];
@@ -52,12 +52,12 @@ static NET_FILES: [Answer; 16] = [
     (b"NET N1 U1..1 U1.1.", ""),
     (b"NETS N1 U1.", "line 1: no statement"),
     (b"NET N1 U1.1\x0bU2.1", "line 1: word not allowed"),
-    // 66 words.
+    // A line of 66 words.
     (
         b"NET N A.1 A.2 A.3 A.4 A.5 A.6 A.7 A.8 A.9 A.10 A.11 A.12 A.13 A.14 A.15 A.16 A.17 A.18 A.19 A.20 A.21 A.22 A.23 A.24 A.25 A.26 A.27 A.28 A.29 A.30 A.31 A.32 A.33 A.34 A.35 A.36 A.37 A.38 A.39 A.40 A.41 A.42 A.43 A.44 A.45 A.46 A.47 A.48 A.49 A.50 A.51 A.52 A.53 A.54 A.55 A.56 A.57 A.58 A.59 A.60 A.61 A.62 A.63 A.64",
         "",
     ),
-    // 66 words, the last of which has no pin.
+    // A line of 66 words whose last word has no pin.
     (
         b"NET N A.1 A.2 A.3 A.4 A.5 A.6 A.7 A.8 A.9 A.10 A.11 A.12 A.13 A.14 A.15 A.16 A.17 A.18 A.19 A.20 A.21 A.22 A.23 A.24 A.25 A.26 A.27 A.28 A.29 A.30 A.31 A.32 A.33 A.34 A.35 A.36 A.37 A.38 A.39 A.40 A.41 A.42 A.43 A.44 A.45 A.46 A.47 A.48 A.49 A.50 A.51 A.52 A.53 A.54 A.55 A.56 A.57 A.58 A.59 A.60 A.61 A.62 A.63 A",
         "line 1: word not allowed",
@@ -82,7 +82,7 @@ fn nets_of(alloc: Global, text: &[u8]) -> Result<NetFile, LineFault> {
     }
 }
 
-// Returns whether the fault has this message.
+// Returns whether the message of the fault is `wanted`.
 fn is_told(alloc: Global, fault: &LineFault, wanted: &str) -> Result<bool, AllocError> {
     Ok(fault.to_string(alloc)?.as_str() == wanted)
 }
@@ -173,7 +173,8 @@ fn show(shown: &mut Vec<u8>, joined: &Joined) -> Result<(), AllocError> {
     Ok(())
 }
 
-// The result of joining a chain file and a net file: the text that `show` gives for them, or the line and the word of a missing pin.
+// The result of joining a chain file and a net file. It is the text that `show` gives for the joined files, or the line and the word of a
+// missing pin.
 #[derive(Clone, Copy)]
 enum Shown {
     Files(&'static [u8]),
@@ -225,7 +226,7 @@ fn texts_join(
     }
 }
 
-// A driver and a receiver, with a resistor between their pins.
+// The net file of a driver and a receiver with a resistor between two of their pins.
 const BOARD: &[u8] = b"NET N1A U1.1 R1.1\nNET N1B R1.2 U2.1\nNET N2 U1.2 U2.2";
 
 static JOINED: [(&[u8], &[u8], Shown); 9] = [
@@ -246,19 +247,19 @@ static JOINED: [(&[u8], &[u8], Shown); 9] = [
     ),
     (b"LINK R1 1 2\nLINK R1 8 9", BOARD, Shown::Missing(2, 3)),
     (b"LINK R2 1 2", BOARD, Shown::Missing(1, 3)),
-    // Three nets in a row, and a fourth net that is not joined.
+    // Two resistors join three nets in a row. A fourth net is not joined.
     (
         b"LINK R2 1 2\nLINK R1 1 2",
         b"NET A R1.1\nNET B R1.2 R2.1\nNET X\nNET C R2.2",
         Shown::Files(b" A A X A inert R2 inert R1"),
     ),
-    // Two rows of three nets, and a resistor that joins the rows.
+    // Resistors join two rows of three nets, and one more resistor joins the rows.
     (
         b"LINK R1 1 2\nLINK R2 1 2\nLINK R3 1 2\nLINK R4 1 2\nLINK R5 2 1",
         b"NET E R3.1\nNET F R3.2 R4.1\nNET G R4.2 R5.1\nNET A R1.1\nNET B R1.2 R2.1\nNET C R2.2 R5.2",
         Shown::Files(b" E E E E E E inert R1 inert R2 inert R3 inert R4 inert R5"),
     ),
-    // The first net with R1.1 is A, and the first line of B comes before the first line of A.
+    // The first net that has the pin R1.1 is A. The first line of B comes before the first line of A.
     (
         b"LINK R1 1 2",
         b"NET Z\nNET B R1.2\nNET A R1.1\nNET C R1.1\nNET B\nNET A",

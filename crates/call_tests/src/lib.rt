@@ -1,4 +1,5 @@
-//! Tests of the public calls of the lower crates. A test is a table, and a function that goes through its rows.
+//! Tests of the public calls of the lower crates. Each test is a table with a function that goes through the
+//! table's rows.
 #![tactic(auto)]
 
 #[cfg(test)]

@@ -1,4 +1,4 @@
-// Logs and batches of logs, as texts. The values are worked out by hand.
+// Tests of logs and of batches of logs, as texts. The values are worked out by hand.
 ghost use Rattle.std.specs.Prelude.{◌<◌, ◌^◌, length};
 
 use crate::missed::{Missed, expect};
@@ -7,7 +7,7 @@ use response_log::{Log, log};
 use std::alloc::{AllocError, Global};
 use std::thread::Threads;
 
-// Appends the bits of each row, with bit 0 first, and a space after each row.
+// Appends the bits of each row, bit 0 first, and a space after each row.
 fn push_bits(text: &mut String, log: &Log) -> Result<(), AllocError> {
     for row in 0..log.rows() {
         for at in 0..log.len() {
@@ -110,7 +110,7 @@ fn answer_in<R: Threads + Sync>(
     }
 }
 
-// Returns whether a text has this answer as a whole, and for several numbers of pieces.
+// Returns whether reading a text gives this answer, both as a whole and in several numbers of pieces.
 fn answers<R: Threads + Sync>(
     rt: &R,
     alloc: Global,

@@ -1,11 +1,12 @@
-// Lines of text that are written to a sink.
+// Tests of lines of text that are written to a sink.
 use crate::missed::{Missed, expect};
 use bt_base::{MemSink, PutFault, Sink};
 use bt_bits::Line;
 use line_printer::{begin_line, end_line, print, print_all, put_line};
 use std::alloc::{AllocError, Global};
 
-// The number of bytes of a name, the number of the put that fails, counted from 1, the answer, and the number of bytes that were taken.
+// The number of bytes of a name, the number of the put that fails, counted from 1, the answer of the writer, and the number of bytes
+// that the sink took.
 type Cut = (usize, u32, Result<(), PutFault>, usize);
 
 // A line goes to the sink in one put, or in full pieces of 1,024 bytes.
@@ -64,7 +65,7 @@ fn print_nets<K: Sink>(line: &mut Line, out: &mut K) -> Result<(), PutFault> {
     end_line(line, out)
 }
 
-// Returns whether the pieces of a line go to the sink in one put, and what the line held before is dropped.
+// Returns whether the pieces of a line go to the sink in one put, without the earlier content of the line.
 fn is_one_line(alloc: Global) -> Result<bool, AllocError> {
     let mut line = Line::new(alloc)?;
     line.push(b"dropped");

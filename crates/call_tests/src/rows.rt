@@ -1,11 +1,12 @@
-// Rows of bits and stacks of them, as digits.
+// Tests of rows of bits and of stacks of rows, which are compared as digits.
 ghost use Rattle.std.specs.Prelude.{◌<◌};
 
 use crate::missed::{Missed, expect};
 use bt_bits::{Column, HexFault, Line, Row, RowStack};
 use std::alloc::{AllocError, Global};
 
-// The number of bits of a row, the places of its 1 bits, the first digit to print, the number of digits to print, and their text.
+// The number of bits of a row, the places of its 1 bits, the first digit to print, the number of digits to print, and the printed
+// text.
 type Printed = (u32, &'static [u32], u32, u32, &'static [u8]);
 
 static PRINTED: [Printed; 4] = [
@@ -102,7 +103,7 @@ fn a_line_takes_words_digits_and_numbers(rt: HostRuntime) -> Result<(), Missed> 
 
 static BITS: [bool; 5] = [true, false, true, true, true];
 
-// Returns whether a row takes the bits of a list in place of its own, and a second row then takes the bits of the first.
+// Returns whether a row takes the bits of a list in place of its own bits, and a second row then takes the bits of the first.
 fn is_copied(alloc: Global) -> Result<bool, AllocError> {
     let mut row = row_of(alloc, 300, &[0, 299])?;
     if row.len() == 300 {
@@ -163,7 +164,7 @@ enum Bits {
     Same(bool),
 }
 
-// Columns at five places of a stack of six bits, and a column past the stack's end.
+// Columns at five places of a stack whose rows have six bits, and a column past the end of the rows.
 static COLUMNS: [(u32, Bits); 6] = [
     (0, Bits::Of(0x8002)),
     (1, Bits::Same(false)),
@@ -180,7 +181,7 @@ fn column(bits: Bits) -> Column {
     }
 }
 
-// Returns a copy of the stack, with the columns of `COLUMNS` in place of its own.
+// Returns a copy of the stack in which the columns of `COLUMNS` replace the old columns.
 fn changed_stack(alloc: Global, common: &RowStack) -> Result<RowStack, AllocError> {
     let mut stack = RowStack::with_room(alloc, common.len())?;
     stack.copy_from(common);
@@ -206,7 +207,7 @@ fn stacks_rows(rt: HostRuntime) -> Result<(), Missed> {
     stacks_hold(rt.alloc(), &common, &changed)
 }
 
-// The text of a row, its number of bits, and the answer.
+// The text of a row, the number of the row's bits, and the answer of the reader.
 type Read = (&'static [u8], u32, Result<(), HexFault>);
 
 static READ: [Read; 12] = [

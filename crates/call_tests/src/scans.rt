@@ -1,4 +1,4 @@
-// The texts of scans.
+// Tests of the texts of scans.
 ghost use Rattle.std.specs.Prelude.{◌≡◌, ◌≤◌, ◌<◌, length, All, IfOk, IsTrue};
 ghost use Rattle.board_defs.specs.Limits.{IsInstructionLength};
 
@@ -64,7 +64,7 @@ fn puts_the_chain_test(rt: HostRuntime) -> Result<(), Missed> {
     Ok(())
 }
 
-// Returns a row of `len` bits. The first and the last bit are 1, and the others are 0.
+// Returns a row of `len` bits. Its first and last bits are 1, and its other bits are 0.
 fn tdi_of(alloc: Global, len: u32) -> Result<Row, AllocError>
     requires { 5 ≤ len }
     ensures { IfOk result (λ row. length row.bits ≡ len) }

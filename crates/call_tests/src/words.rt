@@ -1,11 +1,11 @@
-// Words, codes, settings and names.
+// Tests of words, codes, settings and names.
 use crate::missed::{Missed, expect};
 use board_defs::{Code, Ctl, Name, Setting, Symbol};
 use counting_codes::{bit, width};
 use std::alloc::{AllocError, Global};
 use text_lines::next_word;
 
-// A line, and its words before the comment.
+// A line, and the words in it before the comment.
 static LINES: [(&[u8], &[&[u8]]); 2] = [(b"\t 0A 3#F\r # C", &[b"0A", b"3#F"]), (b" \r", &[])];
 
 fn has_words(line: &[u8], words: &[&[u8]]) -> bool {
