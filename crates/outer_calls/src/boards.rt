@@ -1,4 +1,4 @@
-//! Questions about the pins and nets of a board, as `board_defs` answers them.
+//! Calls of `board_defs` that answer questions about the pins and nets of a board.
 ghost use Rattle.std.specs.Prelude.{◌≡◌, ◌<◌, length};
 ghost use Rattle.board_defs.specs.Pins.{IsOnBoard, drive_at, guarded_at, receives_at, switches_at};
 

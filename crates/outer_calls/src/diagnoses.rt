@@ -1,4 +1,5 @@
-//! The diagnosis of one log, as `diagnoser` answers, and the blocks of a batch with their diagnoses, as `batch_diag` answers.
+//! Calls of `diagnoser` for the diagnosis of one log, and calls of `batch_diag` for the blocks of a batch and their
+//! diagnoses.
 ghost use Rattle.std.specs.Prelude.{◌≡◌, ◌*◌, ◌<◌, ◌≤◌, ◌^◌, length, All, IfOk, MatchResult};
 ghost use Rattle.answers.specs.Gives.{Gives};
 ghost use Rattle.board_defs.specs.Passes.{passes_of};

@@ -1,4 +1,4 @@
-//! Calls of `fault_sim`: whether a log passes, the faults that explain it, and the places of single faults.
+//! Calls of `fault_sim` about a log, the single faults that explain the log, and the places of single faults.
 ghost use Rattle.std.specs.Prelude.{◌≡◌, ◌↔◌, ◌*◌, ◌<◌, length, All, IfOk, IsTrue, slice_get, Some};
 ghost use Rattle.board_defs.specs.declared.board.RawBoard.{RawBoard};
 ghost use Rattle.board_defs.specs.BoardRules.{IsBoard};
@@ -73,7 +73,7 @@ pub fn suspects(
     Suspects::new(alloc, board, plan, universe, log)
 }
 
-/// Returns the nets of which some compared bit is not the expected bit.
+/// Returns the nets that differ in the log. A net differs if some compared bit of the net is not the expected bit.
 pub fn differing_nets(
     alloc: Global,
     board: &Board,
@@ -89,7 +89,7 @@ pub fn differing_nets(
     fault_sim::differing_nets(alloc, board, plan, log)
 }
 
-/// Returns whether the fault explains the log, of which the nets that differ are known.
+/// Like `matches`, but takes the nets that differ in the log.
 pub fn matches_by(board: &Board, plan: &Plan, fault: Single, log: &Log, nets: &[u32]) -> bool
     requires plan { IsPlanOf board.now plan.now }
     requires passes { plan.now.passes ≡ passes_of board.now }

@@ -1,5 +1,5 @@
-//! Callers of the calls that the program doesn't make. Each function here makes one such call and has the same contract. If a clause of the
-//! call gets weaker, the function is no longer proved. The proofs of the program need the clauses of all other calls.
+//! Callers of the calls that the program doesn't make. Each function here makes one such call and has the same contract as the call. If a
+//! clause of the call gets weaker, the proof of the function fails. For all other calls, the proofs of the program need the clauses.
 #![tactic(auto)]
 
 pub mod boards;

@@ -1,4 +1,4 @@
-//! The six questions about nets, pins and controls that `net_classes` answers.
+//! Calls of `net_classes` that answer its six questions about nets, pins and controls.
 ghost use Rattle.std.specs.Prelude.{◌≡◌, ◌≢◌, ◌↔◌, ◌<◌, length, IsTrue, MatchOption};
 ghost use Rattle.board_defs.specs.Pins.{IsCell, IsOnBoard};
 ghost use Rattle.board_defs.specs.Coverage.{AreTogether, ArePaired, IsCovered, IsReason, IsTestedDriver, IsTestedReceiver, IsUseful};

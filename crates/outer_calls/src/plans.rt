@@ -1,4 +1,4 @@
-//! The plan of a board's test and its walk, made from the passes alone.
+//! Calls that make the plan of a board's test and the board's walk from the passes alone.
 ghost use Rattle.std.specs.Prelude.{◌≡◌, ◌<◌, ◌^◌, length, slice_get, IfOk};
 ghost use Rattle.board_defs.specs.Passes.{passes_of};
 ghost use Rattle.scan_planner.specs.Plans.{ArePlannable, IsPlanOf};
@@ -19,7 +19,7 @@ pub fn plan(alloc: Global, board: &Board, passes: Vec<Setting>) -> Result<Plan, 
     Plan::new(alloc, board, passes)
 }
 
-/// Returns the walk of the board, of whose passes it takes the first.
+/// Returns the walk of the board. It uses only the first of the passes.
 pub fn walk(alloc: Global, board: &Board, passes: &[Setting]) -> Result<Walk, AllocError>
     requires { slice_get passes.now 0 ≡ slice_get (passes_of board.now) 0 }
     ensures { IfOk result (λ walk. IsWalkOf board.now walk) }
