@@ -1,4 +1,4 @@
-// The verdicts on a batch of logs of the board with two nets, by the calls that take a board and a plan.
+// Tests of the verdicts on a batch of logs of the board with two nets. They use the calls that take a board and a plan.
 ghost use Rattle.std.specs.Prelude.{◌≡◌, ◌≤◌};
 ghost use Rattle.board_defs.specs.Passes.{passes_of};
 ghost use Rattle.scan_planner.specs.Plans.{IsPlanOf};
@@ -13,7 +13,7 @@ use scan_planner::Plan;
 use std::alloc::{AllocError, Global};
 use std::thread::Threads;
 
-// The logs of three boards. The first log has the expected bits, one fault explains the second, and no single fault explains the third.
+// The logs of three boards. The first log has the expected bits. One fault explains the second log. No single fault explains the third.
 const BATCH: &str = "BOARD A\n1\n2\nBOARD B\n0\n0\nBOARD C\n1\n1\n";
 
 // The expected verdict on a log.

@@ -1,4 +1,4 @@
-// The moves of a TAP controller (IEEE 1149.1-1990, section 5).
+// Tests of the moves of a TAP controller (IEEE 1149.1-1990, section 5).
 use run_bench::{RowFault, expect};
 use tap_defs::TapState;
 use tap_defs::TapState::{
@@ -6,7 +6,7 @@ use tap_defs::TapState::{
     SelectDR, SelectIR, ShiftDR, ShiftIR, TestLogicReset, UpdateDR, UpdateIR,
 };
 
-// A state, and the next states for TMS 0 and for TMS 1.
+// A state, the next state for TMS 0, and the next state for TMS 1.
 static MOVES: [(TapState, TapState, TapState); 16] = [
     (TestLogicReset, RunTestIdle, TestLogicReset),
     (RunTestIdle, RunTestIdle, SelectDR),

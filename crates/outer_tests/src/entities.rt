@@ -1,4 +1,5 @@
-// The entity of a BSDL text, or the first fault of the text, which gives the text's number among several texts.
+// Tests of reading the entity of a BSDL text. The first fault of a text has the number of the text among
+// several texts.
 ghost use Rattle.std.specs.Prelude.{◌<◌, ◌^◌, length};
 
 use bsdl_lexer::LexFault;
@@ -7,7 +8,7 @@ use btest_core::{InputFault, read_entity};
 use run_bench::{DRV, RowFault, expect};
 use std::alloc::Global;
 
-// How the reading of a text ends.
+// The result of reading a text.
 #[derive(Clone, Copy)]
 enum Reading {
     // The text describes an entity with this name, this number of ports and this number of pin maps.
@@ -22,7 +23,7 @@ enum Reading {
     Package(u32),
 }
 
-// A text, its number, and how the reading of the text ends.
+// A text, its number, and the result of reading it.
 type Read = (&'static str, u32, Reading);
 
 static READS: [Read; 8] = [

@@ -1,5 +1,5 @@
-// The places of single faults, and the suspects and diagnoses of logs, of small boards. The answers are worked out by hand from the
-// model.
+// Tests of the places of single faults, and of the suspects and diagnoses of logs, on small boards. The answers are worked out by hand
+// from the model.
 ghost use Rattle.std.specs.Prelude.{◌≡◌, ◌*◌, ◌≤◌, length, All, IfSome};
 ghost use Rattle.board_defs.specs.Faults.{IsSingle};
 ghost use Rattle.board_defs.specs.Passes.{passes_of};
@@ -58,10 +58,10 @@ const PAIR_PLACES: [&str; 16] = [
     "second 0 1",
 ];
 
-// The places of the shorts of the two nets.
+// The places of the shorts of the only pair of nets.
 const PAIR_SHORTS: &[u64] = &[12, 13, 14, 15];
 
-// The places of the faults of each of the two nets.
+// The places of all faults of the first net; `OF_SECOND` has those of the second net.
 const OF_FIRST: &[u64] = &[0, 1, 4, 5, 6, 7, 12, 13, 14, 15];
 
 const OF_SECOND: &[u64] = &[2, 3, 8, 9, 10, 11, 12, 13, 14, 15];
@@ -212,7 +212,8 @@ const GROUPS_LOGS: [Logged; 7] = [
         suspects: OF_NET_0,
         explaining: &[23],
     },
-    // Only net 2 is wrong: it reads the bits of net 1. An AND short gives the same bits, since net 2 carries a 1 wherever net 1 does.
+    // Only net 2 is wrong: it reads the bits of net 1. An AND short gives the same bits, since net 2 carries a 1 in each row in which net
+    // 1 does.
     Logged {
         log: "004\n008\n000\n000\n009\n000\n",
         passes: false,
@@ -232,7 +233,7 @@ const ONE_NET_PLACES: [&str; 6] = [
 
 const ALL_OF_ONE: &[u64] = &[0, 1, 2, 3, 4, 5];
 
-// If the driver is off or its pin is open, the net has the value of its pull, 1.
+// If the driver is off or its pin is open, the net has the value to which it is pulled, which is 1.
 const PULLED_LOGS: [Logged; 3] = [
     Logged {
         log: "1\n0\n",
@@ -351,8 +352,8 @@ fn has(list: &[u64], number: u64) -> bool {
     list.iter().any(|one| *one == number)
 }
 
-// Returns whether the fault at a place explains a log, and `None` if `matches` and `matches_by` disagree. `nets` has the nets that differ
-// in the log.
+// Returns whether the fault at a place explains a log. Returns `None` if `matches` and `matches_by` disagree. `nets` has the nets that
+// differ in the log.
 fn explains(tested: Tested<'_>, log: &Log, nets: &[u32], place: u64) -> Option<bool>
     requires plan { IsPlanOf tested.board.now tested.plan.now }
     requires passes { tested.plan.now.passes ≡ passes_of tested.board.now }

@@ -1,4 +1,5 @@
-// The questions that a board and its classes answer. The answers are worked out by hand from the terms of the model.
+// Tests of the questions that a board and its classes answer. The answers are worked out by hand from the terms of
+// the model.
 ghost use Rattle.net_classes.specs.Kept.{AreClasses};
 
 use crate::boards::{BIDIR, Files, GROUPS, PAIR, PULLED, board_of, is_cell, is_net, is_pin};
@@ -7,10 +8,11 @@ use net_classes::{Classes, classify};
 use run_bench::{RowFault, expect};
 use std::alloc::Global;
 
-// A pin, as the number of its net and its place in the net. Or a control, as the number of its part and its cell.
+// A pin or a control. A pin is the number of its net and its place in the net. A control is the number of its part
+// and the number of its cell.
 type Place = (u32, u32);
 
-// How a pin drives its net.
+// The way in which a pin drives its net.
 #[derive(Clone, Copy)]
 enum Driven {
     Not,
@@ -20,7 +22,7 @@ enum Driven {
     By(Place),
 }
 
-// A question with the right answer.
+// A question with its correct answer.
 #[derive(Clone, Copy)]
 enum Question {
     // The reason why this net is not covered.
@@ -47,7 +49,7 @@ enum Question {
     Guarded(u32, bool),
 }
 
-// Each net has a driver that is always on, and a receiver.
+// In these answers, each net has a driver that is always on, and a receiver.
 const PAIR_ANSWERS: [Question; 16] = [
     Question::Reason(0, None),
     Question::Reason(1, None),
@@ -68,7 +70,7 @@ const PAIR_ANSWERS: [Question; 16] = [
     Question::Together((0, 0), (0, 1), true),
 ];
 
-// Cell 4 enables one driver each of nets 0 and 1, and cell 5 enables one driver each of nets 1 and 2.
+// Cell 4 enables a driver of net 0 and a driver of net 1. Cell 5 enables a driver of net 1 and a driver of net 2.
 const GROUPS_ANSWERS: [Question; 22] = [
     Question::Reason(0, None),
     Question::Reason(1, None),
@@ -120,7 +122,8 @@ const PULLED_ANSWERS: [Question; 7] = [
     Question::ReceiverTested((0, 1), true),
 ];
 
-// The net is pulled to the value that the driver drives, so no test can tell whether the driver works.
+// A board on which the net is pulled to the value that the driver drives, so no test can tell whether the driver
+// works.
 const PULLED_DOWN: Files = Files {
     chain: "DEVICE U1 OD -\nDEVICE U2 RCV1 -\nPULL N 0\n",
     nets: "NET N U1.1 U2.1\n",
@@ -135,7 +138,7 @@ const PULLED_DOWN_ANSWERS: [Question; 6] = [
     Question::ReceiverTested((0, 1), false),
 ];
 
-// Two buffers. The first buffer drives the second. There is a supply net and a net of the test access port.
+// A board of two buffers, of which the first drives the second, with a supply net and a net of the test access port.
 const BUFFERS: Files = Files {
     chain: "DEVICE U1 BUF2 -\nDEVICE U2 BUF2 -\nSUPPLY VCC\n",
     nets: "NET N0 U1.5 U2.3\nNET N1 U1.4 U2.2\nNET OE U1.1 U2.1\nNET VCC U1.7 U2.7 C1.1\n\
@@ -152,7 +155,7 @@ const BUFFERS_ANSWERS: [Question; 17] = [
     Question::Guarded(2, false),
     Question::Guarded(3, true),
     Question::Guarded(4, true),
-    // A linkage pin, a pin of a part without a description, a pin of the test access port, and an input.
+    // A linkage pin, a pin of a part without a description, a pin of the test access port, and an input pin.
     Question::Dark((3, 0), true),
     Question::Dark((3, 2), true),
     Question::Dark((4, 0), false),
@@ -163,7 +166,7 @@ const BUFFERS_ANSWERS: [Question; 17] = [
     Question::Paired(0, 2, false),
 ];
 
-// The first net has a pin of a part without a description, and the second net has no receiver.
+// A board on which the first net has a pin of a part without a description, and the second net has no receiver.
 const UNSEEN: Files = Files {
     chain: "DEVICE U1 DRV -\nDEVICE U2 RCV -\n",
     nets: "NET N1 U1.1 U2.1 RAM.7\nNET N2 U1.2\n",
@@ -183,7 +186,8 @@ const UNSEEN_ANSWERS: [Question; 11] = [
     Question::Paired(0, 1, false),
 ];
 
-// An INERT line says that the part without a description neither drives its pins nor connects them.
+// A board with an INERT line, which says that the part without a description neither drives its pins nor connects
+// them.
 const INERT: Files = Files {
     chain: "DEVICE U1 DRV -\nDEVICE U2 RCV -\nINERT RAM\n",
     nets: "NET N1 U1.1 U2.1 RAM.7\nNET N2 U1.2 U2.2\n",

@@ -1,4 +1,5 @@
-// Plans and walks of small boards, with the rows of each scan. The scans are worked out by hand from the model.
+// Tests of plans and walks of small boards, with the rows of each scan. The scans are worked out by hand from
+// the model.
 ghost use Rattle.std.specs.Prelude.{◌≡◌, ◌<◌, IfOk};
 ghost use Rattle.board_defs.specs.Passes.{passes_of};
 ghost use Rattle.scan_planner.specs.Plans.{IsPlanOf, IsRoom, scan_count};
@@ -30,7 +31,7 @@ enum Scan {
     Compares(u64, u64, u64),
 }
 
-// Returns whether this shape and these bits of the rows are those of the scan.
+// Returns whether this shape and these bits of the rows belong to the scan.
 fn is_scan(shape: Shape, [tdi, tdo, mask]: [u64; 3], scan: Scan) -> bool {
     let (ir, compare, bits) = match scan {
         Scan::Codes(tdi, tdo, mask) => (true, true, (tdi, tdo, mask)),
@@ -164,7 +165,7 @@ fn longest_scan(board: &Board) -> u32
     board.ir_bits().max(board.dr_bits())
 }
 
-// Returns whether scan `k` of a plan is this one.
+// Returns whether scan `k` of a plan is this scan.
 fn scan_is(
     alloc: Global,
     board: &Board,
@@ -295,7 +296,7 @@ const DRIVERS_SCANS: [Scan; 7] = [
     Scan::Compares(0x00, 0x01, 0x0D),
 ];
 
-// A board without a driver has no pass.
+// A board without a driver, which has no pass.
 const RECEIVER: Files = Files {
     chain: "DEVICE U2 RCV -\n",
     nets: "NET N1 U2.1\n",
@@ -322,7 +323,7 @@ static WALKS: [Walked; 2] = [
     },
 ];
 
-// Returns whether scan `k` of a walk is this one.
+// Returns whether scan `k` of a walk is this scan.
 fn walk_scan_is(
     alloc: Global,
     board: &Board,
