@@ -13,7 +13,7 @@ const LOGS: [Line; 22] = [
     (TWO_BLOCKS, Ending::Puts(TWO_VERDICTS)),
     ("", Ending::Puts("")),
     ("# no board today\r\n\r\n", Ending::Puts("")),
-    // A name may occur again, and lines may have blanks and comments.
+    // Several blocks may have the same id, and lines may have blanks and comments.
     (
         " BOARD A # first\r\n\r\n1\r\n2\r\nBOARD A\n# again\n0\n0\n",
         Ending::Puts("BOARD A\nPASS\nBOARD A\nFAIL 1\nshort AND N1 N2\n"),
@@ -23,7 +23,7 @@ const LOGS: [Line; 22] = [
         Ending::Refused("g board 1: 1 rows of 2\n"),
     ),
     ("1\nBOARD A\n", Ending::Refused("g line 1: no board yet\n")),
-    // A byte order mark, and words that are not `BOARD`.
+    // A byte order mark, and first words other than `BOARD`.
     (
         "\u{feff}BOARD A\n1\n2\n",
         Ending::Refused("g line 1: no board yet\n"),
@@ -50,7 +50,7 @@ const LOGS: [Line; 22] = [
         "BOARD\n1\n2\n",
         Ending::Refused("g line 1: board not allowed\n"),
     ),
-    // The second block has no rows.
+    // The log of the second block has no rows.
     (
         "BOARD A\n1\n2\nBOARD B\n",
         Ending::Refused("g board 2: 0 rows of 2\n"),
@@ -171,7 +171,7 @@ const ROWS: [Row; 11] = [
         line: "batch 2 g c",
         ending: Ending::Usage,
     },
-    // The test of a board without a pass has no row in its logs.
+    // If a board has no pass, the logs of its test have no rows.
     Row {
         texts: &[
             ("c", Plain("DEVICE U2 RCV -\n")),

@@ -33,7 +33,7 @@ const LOGS: [Line; 20] = [
     ("1\n\nG\n", Ending::Refused("g line 3: digit not allowed\n")),
     ("1\n2\n2\n", Ending::Refused("g line 3: row too many\n")),
     ("1\n2\nz z\n", Ending::Refused("g line 3: row too many\n")),
-    // The fault of a wrong row is reported before a later row too many.
+    // The fault of a wrong row is reported before the fault of an extra row.
     (
         "G\n2\n2\n",
         Ending::Refused("g line 1: digit not allowed\n"),
@@ -161,7 +161,7 @@ const BUS_LOGS: [Line; 7] = [
         "01\n20\n01\n00\n",
         Ending::Refused("g line 2: digit not allowed\n"),
     ),
-    // Only one driver is open, and the pass of this driver shows it.
+    // If only one driver is open, the pass of this driver shows the fault.
     ("00\n00\n01\n00\n", Ending::Puts("FAIL 1\nopen U1.1 0\n")),
     ("01\n00\n01\n01\n", Ending::Puts("FAIL 1\nopen U2.1 1\n")),
     (
@@ -186,7 +186,7 @@ const APART_LOGS: [Line; 4] = [
         "000\n000\n000\n001\n009\n000\n",
         Ending::Puts("FAIL 1\nshort AND A X\n"),
     ),
-    // A and B are wrong, but no single fault affects A and B, since they are not paired.
+    // The nets A and B are wrong, but no single fault affects both, since they are not paired.
     ("000\n008\n000\n000\n008\n000\n", Ending::Puts("FAIL 0\n")),
 ];
 

@@ -1,4 +1,4 @@
-// Gates that watch how the work on a log is divided.
+// Tests with gates that watch how the work on a log is divided.
 use bt_base::Gate;
 use run_bench::{Bench, CHAIN, Ending, NETS, RowFault, expect};
 use std::alloc::{AllocError, Global};
@@ -6,7 +6,7 @@ use std::sync::atomic::Ordering::SeqCst;
 use std::sync::atomic::{AtomicBool, AtomicU64};
 use std::thread::Threads;
 
-// The number of times that an entry checks the other pieces before it gives up.
+// The number of times that an entry checks the other pieces before it stops waiting.
 const TURNS: u32 = 100_000_000;
 
 // The largest number of pieces that a gate watches. A command has at most this many workers.
@@ -21,12 +21,12 @@ fn counters(alloc: Global, count: u64) -> Result<Vec<AtomicU64>, AllocError> {
     Ok(counters)
 }
 
-// A gate that holds the first entries of each piece. Entry `i` of a piece waits until every other piece has made entry `i`.
+// A gate that holds back the first entries of each piece. Entry `i` of a piece waits until every other piece has made its entry `i`.
 #[derive(Drop)]
 struct InStep {
     entries: Vec<AtomicU64>,
     held: u64,
-    // True once an entry waited in vain. From then on no entry waits.
+    // True after an entry has waited in vain. From then on, no entry waits.
     late: AtomicBool,
 }
 
@@ -45,7 +45,7 @@ impl InStep {
         self.entries.iter().all(|own| entries <= own.load(SeqCst))
     }
 
-    // Returns whether each piece made all entries that are held, and no entry waited in vain.
+    // Returns whether each piece made all entries that the gate holds back, and no entry waited in vain.
     fn has_met(&self) -> bool {
         !self.late.load(SeqCst) && self.have_made(self.held)
     }
@@ -80,7 +80,7 @@ type Entry = (u64, u64);
 #[derive(Drop)]
 struct Entries {
     counts: Vec<AtomicU64>,
-    // Entry `i` of piece `p` is in `p * ENTRIES + i`.
+    // Entry `i` of piece `p` is item `p * ENTRIES + i` of the list.
     items: Vec<AtomicU64>,
     others: AtomicU64,
 }
@@ -120,7 +120,7 @@ impl Entries {
         Ok(all)
     }
 
-    // Returns whether the entries are these items in order, each made by the piece at the same place of `pieces`.
+    // Returns whether the entries have these items in order, and each entry was made by the piece at the same place of `pieces`.
     fn are_of(&self, alloc: Global, pieces: &[u64], items: &[u64]) -> Result<bool, AllocError> {
         let all = self.all(alloc)?;
         let are_equal = all.len() == items.len()
@@ -139,7 +139,7 @@ impl Gate for Entries {
     }
 }
 
-// Returns a bench with the texts of a board of a driver and a receiver, and with this log of the board.
+// Returns a bench with the texts of a board that has a driver and a receiver, and with this log of the board.
 fn bench_of(alloc: Global, log: &str) -> Result<Bench, AllocError> {
     let mut bench = Bench::with_board(alloc, CHAIN, NETS)?;
     bench.store.add("g", log.as_bytes())?;
@@ -155,10 +155,11 @@ const TWO_BOARDS: &str = "BOARD A\n1\n2\nBOARD B\n0\n2\n";
 
 const TWO_VERDICTS: &str = "BOARD A\nPASS\nBOARD B\nFAIL 3\nstuck N1 0\nopen U1.1 0\nopen U2.1 0\n";
 
-// A command line, the number of its workers, a log, the text that is written, and the number of entries that are held for each piece.
+// A command line, the number of its workers, a log, the text that is written, and the number of entries of each piece that the gate holds
+// back.
 type Step = (&'static str, u64, &'static str, &'static str, u64);
 
-// The pieces try their candidates or take their boards in step: no piece goes on before all pieces are at work.
+// The pieces try their candidates or take their blocks in step: no piece goes on before all pieces are at work.
 const STEPS: [Step; 4] = [
     ("diagnose 2 g c n drv rcv", 2, STUCK, STUCK_TEXT, 5),
     ("batch 2 g c n drv rcv", 2, TWO_BOARDS, TWO_VERDICTS, 1),
@@ -201,7 +202,7 @@ const NUMBERS: [u64; 10] = [0, 1, 2, 3, 4, 5, 6, 7, 8, 9];
 // The number of workers as a word, and for each of ten items the piece that has the item.
 type Share = (&'static str, [u64; 10]);
 
-// Piece `p` of `w` has the items from `10 p / w` to before `10 (p + 1) / w`, with both quotients rounded down.
+// Piece `p` of `w` pieces has the items from `10 p / w` up to but not including `10 (p + 1) / w`. Both quotients are rounded down.
 const SHARES: [Share; 5] = [
     ("1", [0, 0, 0, 0, 0, 0, 0, 0, 0, 0]),
     ("2", [0, 0, 0, 0, 0, 1, 1, 1, 1, 1]),
@@ -210,7 +211,7 @@ const SHARES: [Share; 5] = [
     ("64", [6, 12, 19, 25, 31, 38, 44, 51, 57, 63]),
 ];
 
-// A command with a number of workers, its log, the text that is written, the items of all entries, and the piece that made each entry.
+// A command with a number of workers, its log, the text that it writes, the items of all entries, and the piece that made each entry.
 #[derive(Drop)]
 struct Shared {
     command: &'static str,
@@ -273,10 +274,10 @@ fn boards_are_shared(rt: HostRuntime) -> Result<(), RowFault> {
     Ok(())
 }
 
-// A log, the text that is written, the items with which the pieces of two workers enter, and the piece of each entry.
+// A log, the text that is written for it, the items with which the pieces of two workers enter, and the piece of each entry.
 type Try = (&'static str, &'static str, &'static [u64], &'static [u64]);
 
-// For a log that passes, the pieces try nothing. If two nets differ, the pieces try the shorts of these nets.
+// If a log passes, the pieces try nothing. If two nets differ, the pieces try the shorts of these nets.
 const TRIES: [Try; 2] = [
     ("1\n2\n", "PASS\n", &[], &[]),
     (

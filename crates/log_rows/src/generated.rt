@@ -1,4 +1,4 @@
-// Logs of a generated board of 60 devices, in which some nets read 0 in every row.
+// Tests with logs of a generated board of 60 devices, in which some nets read 0 in every row.
 use run_bench::{Ending, RowFault, sixty_devices_hold};
 use std::alloc::{AllocError, Global};
 
@@ -11,7 +11,7 @@ const DIGITS: [char; 16] = [
     '0', '1', '2', '3', '4', '5', '6', '7', '8', '9', 'A', 'B', 'C', 'D', 'E', 'F',
 ];
 
-// Returns the code of the net that a cell of a device reads, or 0 for a cell that reads no net. Cells 37 to 68 read the outputs of the
+// Returns the code of the net that a cell of a device reads, or 0 if the cell reads no net. Cells 37 to 68 read the outputs of the
 // previous device. The device before the first is the last. Cells 69 to 76 read the bus. The nets of the bus come after all other nets.
 fn code_at(device: u32, cell: u32) -> u32 {
     let before = if device == 1 {
@@ -29,7 +29,7 @@ fn code_at(device: u32, cell: u32) -> u32 {
     }
 }
 
-// Returns the bit that a cell reads in a row of a pass. The nets with a code of at most `silent` read 0.
+// Returns the bit that a cell reads in a row of a pass. Each net whose code is at most `silent` reads 0.
 fn bit_at(device: u32, cell: u32, row: u32, silent: u32) -> u32 {
     let code = code_at(device, cell);
     if code <= silent {
@@ -62,7 +62,7 @@ fn row(alloc: Global, row: u32, silent: u32) -> Result<String, AllocError> {
 }
 
 // Returns the log. In every pass all nets carry their codes: a pass enables all outputs, and the bus pins of one device. The bus cells of
-// this device are not compared, so the log may give them the bits of the bus, and the rows of all passes are the same.
+// this device are not compared, so the log may have the bits of the bus for them. So the rows of all passes are the same.
 fn log(alloc: Global, silent: u32) -> Result<String, AllocError> {
     let mut rows = String::new(alloc);
     for number in 0..WIDTH {
@@ -71,7 +71,7 @@ fn log(alloc: Global, silent: u32) -> Result<String, AllocError> {
     rows.repeat(alloc, DEVICES as usize)
 }
 
-// The number of nets that read 0, counted from the first net on, and the diagnosis.
+// The number of nets that read 0, counted from the first net, and the diagnosis.
 const SILENT: [(u32, &str); 5] = [
     (0, "PASS\n"),
     (1, "FAIL 3\nstuck R1_0 0\nopen U1.1 0\nopen U2.33 0\n"),

@@ -2,29 +2,30 @@
 use run_bench::Text::Plain;
 use run_bench::{Ending, Line, Named, Row, RowFault, Rows, Table, tables_hold};
 
-/// Two drivers and two receivers.
+/// The chain file of a board with two drivers and two receivers.
 pub const WALK: &str = "DEVICE U1 DRV -\nDEVICE U2 DRV -\nDEVICE U3 RCV -\nDEVICE U4 RCV -\n";
 
-/// Three nets of these parts.
+/// The net file of this board, with three nets.
 pub const WALK_NETS: &str = "NET N1 U1.1 U3.1\nNET N2 U1.2 U3.2\nNET N3 U2.1 U4.1\n";
 
-/// A driver that its own cell turns off, on a net with a pull. Two more nets have drivers and receivers.
+/// The chain file of a board with a driver that its own cell turns off, on a net with a pull. Two more nets have
+/// drivers and receivers.
 pub const MIXED: &str =
     "DEVICE U1 OD -\nDEVICE U2 RCV1 -\nDEVICE U3 DRV -\nDEVICE U4 RCV -\nPULL N 1\n";
 
-/// The net with the pull, and the other two nets.
+/// The net file of this board, with the net that has a pull and the other two nets.
 pub const MIXED_NETS: &str = "NET N U1.1 U2.1\nNET N1 U3.1 U4.1\nNET N2 U3.2 U4.2\n";
 
-/// Only the driver that its own cell turns off, and its net.
+/// The chain file of a board with only the driver that its own cell turns off, and its receiver.
 pub const PULLED: &str = "DEVICE U1 OD -\nDEVICE U2 RCV1 -\nPULL N 1\n";
 
-/// The net with the pull.
+/// The net file of this board, with the net that has a pull.
 pub const PULLED_NETS: &str = "NET N U1.1 U2.1\n";
 
-/// A driver and a receiver, and a resistor that joins two nets.
+/// The chain file of a board with a driver, a receiver, and a resistor that joins two nets.
 pub const LINKED: &str = "DEVICE U1 DRV -\nDEVICE U2 RCV -\nLINK R1 1 2\n";
 
-/// The two joined nets, and another net.
+/// The net file of this board, with the two joined nets and one more net.
 pub const LINKED_NETS: &str = "NET N1A U1.1 R1.1\nNET N1B R1.2 U2.1\nNET N2 U1.2 U2.2\n";
 
 const LINE: &str = "groups g c n drv rcv od rcv1";
@@ -44,7 +45,7 @@ const THREE_NETS: [Line; 18] = [
         "# bits that are not compared\n\nf5\nf8\nf5\n",
         Ending::Puts("GROUPS 1\nGROUP 2\nNET N1\nNET N3\n"),
     ),
-    // Nets that never read 1 are no group. Two nets are no group if each reads only the other's 1.
+    // Nets that never read 1 are not a group. Neither are two nets that each read only the 1 of the other.
     ("00\n00\n00\n", Ending::Puts("GROUPS none\n")),
     ("01\n08\n04\n", Ending::Puts("GROUPS none\n")),
     ("05\n0D\n0D\n", Ending::Puts("GROUPS none\n")),
@@ -66,7 +67,8 @@ const THREE_NETS: [Line; 18] = [
         "04\n08\n01\n01\n",
         Ending::Refused("g line 4: row too many\n"),
     ),
-    // Within a line, a wrong length is reported before a wrong digit. A wrong line is reported before a row too many.
+    // Within a line, a wrong length is reported before a wrong digit. The fault of a wrong line is reported before
+    // the fault of an extra row.
     ("G\n08\n01\n", Ending::Refused("g line 1: wrong length\n")),
     (
         "04\n0G\n01\n01\n",
@@ -78,7 +80,7 @@ const THREE_NETS: [Line; 18] = [
     ),
 ];
 
-// The net with the pull is no walk net, and the bit that reads it is not compared.
+// The net with the pull is not a walk net, and the bit of the cell that reads it is not compared.
 const MIXED_LOGS: [Line; 4] = [
     (
         "03\n03\n",
@@ -142,7 +144,7 @@ const ROWS: [Row; 10] = [
         line: LINE,
         ending: Ending::Puts("GROUPS none\n"),
     },
-    // A group names joined nets by the first of their names.
+    // In a group, joined nets have the first of their names.
     Row {
         texts: &[
             ("c", Plain(LINKED)),
@@ -161,7 +163,7 @@ const ROWS: [Row; 10] = [
         line: LINE,
         ending: Ending::Puts("GROUPS 0\n"),
     },
-    // A log has no row if the board has no walk net or no pass.
+    // If a board has no walk net or no pass, the log has no rows.
     Row {
         texts: &[
             ("c", Plain(PULLED)),

@@ -1,4 +1,5 @@
-//! Tests of whole runs of the commands `walk`, `diagnose`, `batch` and `groups`.
+//! Tests of whole runs of the commands that make or read logs: `walk`, `diagnose`, `batch` and
+//! `groups`.
 #![tactic(auto)]
 
 #[cfg(test)]

@@ -15,7 +15,7 @@ const ROWS: [Row; 7] = [
              SDR 8 TDI (00) TDO (01) MASK (0D);\n",
         ),
     },
-    // A net with a switching driver is no walk net.
+    // A net with a switching driver is not a walk net.
     Row {
         texts: &[("c", Plain(MIXED)), ("n", Plain(MIXED_NETS))],
         line: LINE,
@@ -24,13 +24,14 @@ const ROWS: [Row; 7] = [
              SDR 6 TDI (24);\nSDR 6 TDI (28) TDO (01) MASK (03);\nSDR 6 TDI (20) TDO (02) MASK (03);\n",
         ),
     },
-    // Joined nets walk as one net. With two nets each code has a single 1, so these are also the scans of `svf`.
+    // In the walking test, joined nets are one net. With two nets each code has a single 1, so these scans are
+    // also the scans of `svf`.
     Row {
         texts: &[("c", Plain(LINKED)), ("n", Plain(LINKED_NETS))],
         line: LINE,
         ending: Ending::Scans(SCANS),
     },
-    // If there is a pass but no walk net, there is one quiet row. Without a pass there is no row.
+    // If there is a pass but no walk net, there is one quiet row. If there is no pass, there is no row.
     Row {
         texts: &[("c", Plain(PULLED)), ("n", Plain(PULLED_NETS))],
         line: LINE,

@@ -1,11 +1,12 @@
-// A board of 4,096 nets, each with a driver and a receiver.
+// Tests on a board of 4,096 nets, each with a driver and a receiver.
 use run_bench::{Bench, Ending, RowFault, Text};
 use std::alloc::{AllocError, Global};
 
-// The number of driving parts, of receiving parts, and of the pins of each part.
+// The number of driving parts, which is also the number of receiving parts and the number of pins of each part.
 const PARTS: u32 = 64;
 
-// The number of digits in a row for the cells of the drivers. These digits are left of the digits for the cells of the receivers.
+// The number of digits in a row that belong to the cells of the drivers. These digits are left of the digits that belong to the cells of
+// the receivers.
 const DRIVER_DIGITS: usize = 1024;
 
 const RECEIVER_DIGITS: usize = 1024;
@@ -19,7 +20,7 @@ use STD_1149_1_1994.all;
 attribute PIN_MAP of ^ : entity is PHYSICAL_PIN_MAP;
 constant P : PIN_MAP_STRING := "TDI:T1, TDO:T2, TMS:T3, TCK:T4, B:(1"#;
 
-// The text from the end of the pin numbers to the first cell.
+// The text between the pin numbers and the first cell.
 const MIDDLE: &str = r#")";
 attribute TAP_SCAN_IN of TDI : signal is true;
 attribute TAP_SCAN_OUT of TDO : signal is true;
@@ -125,8 +126,8 @@ fn all_nets_may_be_one_group(rt: HostRuntime) -> Result<(), RowFault> {
     bench.ends(&rt, "4,096 nets", 0, LINE, Ending::PutsAll(ONE_GROUP))
 }
 
-// Returns the row in which two consecutive nets of a receiver read 1, and all other nets read 0. `pin` is the first of the two pins, and is
-// even. The last receiver is rightmost in the row, and within a receiver the first pin is rightmost.
+// Returns the row in which two consecutive nets of a receiver read 1, and all other nets read 0. `pin` is the first of the two pins and is
+// even. The last receiver is rightmost in the row. Within a receiver, the first pin is rightmost.
 fn pair_row(alloc: Global, part: u32, pin: u32) -> Result<String, AllocError> {
     let behind = PARTS.saturating_sub(part.saturating_add(1)) as usize * 16 + (pin / 4) as usize;
     let mut row = "0".repeat(
