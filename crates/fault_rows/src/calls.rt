@@ -1,4 +1,4 @@
-// A run of each command, on a board of a driver and a receiver.
+// A successful run of each command, on a board of a driver and a receiver.
 use run_bench::Text::Plain;
 use run_bench::{Bench, CHAIN, NETS, Named};
 use std::alloc::{AllocError, Global};
@@ -14,7 +14,8 @@ pub struct Command {
     pub text: &'static str,
 }
 
-// The test of the board. With two nets each code has a single 1, so this is also the walking test.
+// The text of the board's test. With two nets each code has a single 1, so this is also the walking
+// test.
 const BOARD_TEST: &str = "TRST OFF;\nENDIR IDLE;\nENDDR IDLE;\nSTATE RESET;\nSTATE IDLE;\n\
      SIR 4 TDI (A) TDO (5) MASK (F);\nSDR 4 TDI (0);\nSIR 4 TDI (0) TDO (5) MASK (F);\n\
      SDR 4 TDI (4);\nSDR 4 TDI (8) TDO (1) MASK (3);\nSDR 4 TDI (0) TDO (2) MASK (3);\nSTATE RESET;\n";
@@ -77,7 +78,7 @@ pub const COMMANDS: [Command; 10] = [
     },
 ];
 
-/// Logs for the board: a log of its test, a log of its walking test, and a batch.
+/// Texts of logs for the board: a log of its test, a log of its walking test, and a batch.
 pub const LOGS: [Named; 3] = [
     ("g", Plain("0\n2\n")),
     ("w", Plain("3\n3\n")),

@@ -1,4 +1,4 @@
-// Texts that are too long, and texts that are as long as the limit.
+// Tests of texts that are too long, and of texts that are as long as the limit.
 use crate::calls::{COMMANDS, Command, LOGS, bench_of};
 use bt_base::Store;
 use run_bench::Text::Repeated;
@@ -101,7 +101,7 @@ const BLANKS: [Row; 2] = [
         line: "groups w c n drv rcv",
         ending: Ending::Refused("w: 0 rows of 2\n"),
     },
-    // A batch of only blanks has no block.
+    // A batch of only blanks has no blocks.
     Row {
         texts: &[("b", Repeated(" ", MOST + 1))],
         line: "batch 2 b c n drv rcv",

@@ -1,4 +1,4 @@
-// The fault of each text is reported with the name of this text.
+// Tests that the fault of each text is reported with the name of this text.
 use run_bench::Text::Plain;
 use run_bench::{Ending, Named, Row, RowFault, Rows, Table, tables_hold};
 

@@ -1,11 +1,11 @@
-// Reads that fail.
+// Tests of reads that fail.
 use crate::calls::{COMMANDS, Command, bench_of};
 use run_bench::{Ending, RowFault};
 use std::alloc::Global;
 use std::thread::Threads;
 
-// Checks a run in which read number `call`, counted from 1, fails. This is the read of the text `name`. The first write would fail too,
-// but the run must end before that write.
+// Checks a run in which read number `call`, counted from 1, fails. This is the read of the text `name`. The first write would fail,
+// too, but the run must end before that write.
 fn ends_at(
     rt: &(impl Threads + Sync),
     alloc: Global,
@@ -20,7 +20,7 @@ fn ends_at(
     bench.ends(rt, name, call as usize, line, Ending::NotRead(&note))
 }
 
-// Checks for each read of a command a run in which this read fails.
+// For each read of a command, checks a run in which this read fails.
 fn ends_at_each(
     rt: &(impl Threads + Sync),
     alloc: Global,

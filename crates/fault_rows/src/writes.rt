@@ -1,4 +1,4 @@
-// Writes that fail.
+// Tests of writes that fail.
 use crate::calls::{COMMANDS, Command, LOGS, bench_of};
 use bt_base::MemSink;
 use run_bench::Text::Plain;
@@ -28,7 +28,7 @@ fn is_cut(
     bench.ends(rt, command.line, call as usize, command.line, ending)
 }
 
-// Checks for each line of a command's text a run in which the put of the line fails once it took `taken` bytes.
+// For each line of a command's text, checks a run in which the put of the line fails after it took `taken` bytes.
 fn is_cut_at_each(
     rt: &(impl Threads + Sync),
     alloc: Global,
@@ -89,7 +89,7 @@ fn every_command_puts_its_text_or_keeps_its_status(rt: HostRuntime) -> Result<()
     Ok(())
 }
 
-// A batch without a block has an empty text. The empty text is put to the sink, too.
+// A batch without blocks has an empty text. The command puts this text to the sink, too.
 const EMPTY: [(Trouble, Row); 1] = [(
     Trouble::Put(1, 0),
     Row {
