@@ -1,4 +1,4 @@
-// Rows for texts that denote no board, with the first fault of each.
+// Rows for texts that denote no board, with the first fault of the texts.
 use run_bench::Text::{Edited, Numbered, Plain};
 use run_bench::{CHAIN, Case, Ending, NETS, Named, RCV1, RowFault, Rows, Run, Table, tables_hold};
 
@@ -125,7 +125,7 @@ const NET_FILES: [Case; 14] = [
     ),
 ];
 
-// A resistor between the driver and the receiver of the first net.
+// The net file with a resistor between the driver and the receiver of the first net.
 const LINK_NETS: &str = "NET N1A U1.1 R1.1\nNET N1B R1.2 U2.1\nNET N2 U1.2 U2.2";
 
 const LINKS_AND_PULLS: [Case; 7] = [
@@ -135,7 +135,8 @@ const LINKS_AND_PULLS: [Case; 7] = [
         "drv rcv",
         "c line 3 word 4: link pin not in a net\n",
     ),
-    // Joined nets are one net. It may not be pulled twice. If one of them is a supply, so is the joined net.
+    // Joined nets are one net. This net may not be pulled twice. If one of its parts is a supply, so is the
+    // whole net.
     (
         "DEVICE U1 DRV -\nDEVICE U2 RCV -\nLINK R1 1 2\nPULL N1A 1\nPULL N1B 1",
         LINK_NETS,
@@ -155,7 +156,7 @@ const LINKS_AND_PULLS: [Case; 7] = [
         "drv rcv",
         "c line 4: supply net not there\n",
     ),
-    // Without a LINK line no pin may be in both nets.
+    // If there is no LINK line, no pin may be in both nets.
     (
         CHAIN,
         "NET N1A U1.1 R1.1\nNET N1B R1.2 U2.1 U1.1\nNET N2 U1.2 U2.2",

@@ -39,7 +39,8 @@ const CHAINS: [Row; 7] = [
             "SIR 2 TDI (3) TDO (1) MASK (3);\nSDR 9 TDI (0A5) TDO (14A) MASK (1FF);\n",
         ),
     },
-    // Names that differ in case belong to two parts. This command does not try the rules of a board, so an INERT line may name a part.
+    // Names that differ in case belong to two parts. This command does not apply the rules of a board, so an INERT line may name a
+    // part of the chain.
     Row {
         texts: &[(
             "c",
@@ -48,13 +49,13 @@ const CHAINS: [Row; 7] = [
         line: "chain c",
         ending: Ending::Scans(TWO_PARTS_SCANS),
     },
-    // An instruction register of 255 bits. The name consists of the first and the last visible character.
+    // An instruction register of 255 bits. The part's name consists of the first and the last visible character.
     Row {
         texts: &[("c", Plain("BYPASS !~ 255"))],
         line: "chain c",
         ending: Ending::Scans(LONGEST_REGISTER),
     },
-    // A name may be any word.
+    // The name of a file may be any word.
     Row {
         texts: &[("help", Plain(TWO_PARTS))],
         line: "chain help",
@@ -95,7 +96,7 @@ const DESCRIBED: [Line; 4] = [
     ),
 ];
 
-// Statements that have a word too few or too many, and statement names that are not in upper case.
+// Statements with a word too few or too many, and statement names that are not in upper case.
 const NO_STATEMENTS: [Run; 17] = [
     (Plain("BYPASS U1"), NO_STATEMENT),
     (Plain("DEVICE U1 DRV - -"), NO_STATEMENT),
@@ -119,7 +120,7 @@ const NO_STATEMENTS: [Run; 17] = [
 
 const NO_STATEMENT: Ending<'static> = Ending::Refused("c line 1: no statement\n");
 
-// Words with a byte that is not allowed in them. The last rows have numbers that are not allowed, and names that are.
+// Words with a byte that is not allowed in them. The last rows have numbers that are not allowed, and names that are allowed.
 const WORDS: [Run; 11] = [
     (Plain("BYPASS U\x7f 2"), NO_WORD),
     (Plain("BYPASS U\u{e9} 2"), NO_WORD),
@@ -218,7 +219,7 @@ const FILES: [Run; 22] = [
         Plain("DEVICE U1 DRV -\nBYPASS U9 1"),
         Ending::Refused("c line 2: number not allowed\n"),
     ),
-    // A byte that is no character.
+    // A byte that is not a valid character.
     (
         Bytes(b"BYPASS U1 \xff"),
         Ending::Refused("c line 1: word not allowed\n"),
@@ -282,7 +283,7 @@ const NO_COMMANDS: [&str; 28] = [
 ];
 
 const FAILING: [(Trouble, Row); 3] = [
-    // A failed read is not repeated, although the text's name is twice among the words.
+    // A failed read is not repeated, even if the words name the text twice.
     (
         Trouble::Read(1),
         Row {
@@ -315,7 +316,7 @@ const MANY_WORDS: [(usize, Ending<'static>); 2] = [
     (256, Ending::Usage),
 ];
 
-// How a run ends whose words name an empty text as often as a command allows, and once more often.
+// The result of a run whose words name an empty text this many times. The limit is 255.
 const MANY_TEXTS: [(usize, Ending<'static>); 2] = [
     (255, Ending::Refused("x line 1: not in the grammar\n")),
     (256, Ending::Usage),

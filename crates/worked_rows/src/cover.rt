@@ -2,7 +2,7 @@
 use run_bench::Text::{Edited, Numbered, Plain};
 use run_bench::{CHAIN, Ending, NETS, Named, RCV1, Row, RowFault, Rows, Run, Table, tables_hold};
 
-// The reason for a net that is not covered is the first reason that holds.
+// Of several reasons why a net is not covered, the first is reported.
 const REASONS: [Row; 6] = [
     Row {
         texts: &[
@@ -43,7 +43,7 @@ const REASONS: [Row; 6] = [
         line: "cover c n od rcv1",
         ending: Ending::Puts("NETS 1 COVERED 0\nNET N BLOCKED\n"),
     },
-    // SUPPLY comes before TESTPORT, and TESTPORT comes before DARK.
+    // The reason SUPPLY comes before TESTPORT, and TESTPORT comes before DARK.
     Row {
         texts: &[
             ("c", Plain("DEVICE U1 TS -\nDEVICE U2 RCV1 -\nSUPPLY N")),
@@ -52,7 +52,7 @@ const REASONS: [Row; 6] = [
         line: "cover c n ts rcv1",
         ending: Ending::Puts("NETS 2 COVERED 0\nNET N SUPPLY\nNET M TESTPORT\n"),
     },
-    // A net that is joined with a supply is a supply.
+    // If one of two joined nets is a supply, the joined net is a supply.
     Row {
         texts: &[
             (
@@ -71,7 +71,7 @@ const REASONS: [Row; 6] = [
     },
 ];
 
-// A name of up to 24 bytes is stored in its value. A longer name has memory of its own.
+// A name of up to 24 bytes is stored in its value. A longer name is stored in memory of its own.
 const LONG_NAMES: [Row; 1] = [Row {
     texts: &[
         (
@@ -98,7 +98,7 @@ const LONG_NAMES: [Row; 1] = [Row {
 
 const WITH_RAM: Named = ("n", Plain("NET N1 U1.1 U2.1 RAM.7\nNET N2 U1.2 U2.2"));
 
-// A net with a pin of a part without a description is dark.
+// If a net has a pin of a part without a description, the net is dark.
 const DARKENED: [Row; 5] = [
     // The chain file gives only the length of U3, so U3 may drive the net.
     Row {
@@ -178,7 +178,7 @@ const UNTESTED: [Row; 5] = [
         line: "cover c n bi ts",
         ending: Ending::Puts("NETS 1 COVERED 1\nDRIVER U1.1\n"),
     },
-    // The only driver of the net is at the receiver's own pin.
+    // The only driver of the net is on the receiver's own pin.
     Row {
         texts: &[
             ("c", Plain("DEVICE U1 BI -\nDEVICE U2 RCV1 -")),
@@ -187,7 +187,7 @@ const UNTESTED: [Row; 5] = [
         line: "cover c n bi rcv1",
         ending: Ending::Puts("NETS 1 COVERED 1\nRECEIVER U1.1\n"),
     },
-    // Only a pull would make it safe to enable a driver that its own cell turns off.
+    // A driver that its own cell turns off can be enabled safely only if its net has a pull.
     Row {
         texts: &[
             (
@@ -222,7 +222,7 @@ const LINKED_NETS: Named = (
     Plain("NET N1A U1.1 R1.1\nNET N1B R1.2 U2.1\nNET N2 U1.2 U2.2"),
 );
 
-// A LINK line joins two nets.
+// Rows in which a LINK line joins two nets.
 const LINKS: [Row; 3] = [
     Row {
         texts: &[
@@ -251,7 +251,7 @@ const LINKS: [Row; 3] = [
     },
 ];
 
-// The nets of a driver and a receiver are covered.
+// Rows in which the nets of a driver and a receiver are covered.
 const COVERED: [Row; 5] = [
     Row {
         texts: &[("c", Plain(CHAIN)), ("n", Plain(NETS))],
@@ -345,7 +345,7 @@ const TWO_PINS: (&str, &str) = ("D:1", "D:1, E:2");
 
 const READ_TWICE: (&str, &str) = ("D, input, X)\"", "D, input, X), 1 (BC_1, E, input, X)\"");
 
-// A linkage pin, an input without an entry, and pins of modes out, inout and buffer without a driving entry.
+// A linkage pin, an input pin without an entry, and pins of modes out, inout and buffer without a driving entry.
 const UNRULED: [Run; 5] = [
     (
         Edited(

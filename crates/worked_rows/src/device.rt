@@ -1,4 +1,4 @@
-// Rows for the command `device`: the listing of a device, or the reason why a text describes none.
+// Rows for the command `device`: the listing of a device, or the reason why a text describes no device.
 use run_bench::Text::{Edited, Filled, Front, Plain, Repeated};
 use run_bench::{
     BUF2, BUF2_LISTING, Change, DRV, DRV1, Ending, RCV, RCV1, RowFault, Rows, Run, Table,
@@ -17,7 +17,7 @@ const EDITION: [(&str, &str); 2] = [
 
 const DRV1_LISTING: Ending<'static> = Ending::PutsAll(Edited(DRV_LISTING, &EDITION));
 
-// The generic may follow the ports, in any case of letters.
+// The generic may follow the ports, and its letters may be in any case.
 const EXCHANGED: [(&str, &str); 1] = [(
     "generic (PHYSICAL_PIN_MAP : string := \"P\");\nport (TDI, TMS, TCK : in bit; TDO : out bit; Q : out bit_vector(1 to 2));\n",
     "port (tdi, tms, tck : in bit; tdo : out bit; q : out bit_vector(1 to 2));\ngeneric (physical_pin_map : string := \"p\");\n",
@@ -40,7 +40,7 @@ const LISTED: [Run; 7] = [
         },
         Ending::Puts(DRV_LISTING),
     ),
-    // The `use` statement alone or COMPONENT_CONFORMANCE alone says 2001, which is enough.
+    // Either the `use` statement or COMPONENT_CONFORMANCE alone is enough to say 2001.
     (
         Edited(
             DRV1,
@@ -76,7 +76,7 @@ const OUTSIDE: [Change; 5] = [
     (LAST, "end DRV;\npackage X is\n", " line 19: package text"),
 ];
 
-// Texts of which a part is missing, and texts that are no entity.
+// Texts in which a part is missing, and texts that are not an entity.
 const PARTS: [Run; 6] = [
     (
         Front(DRV, 10, ""),
@@ -217,7 +217,7 @@ const ATTRIBUTES: [Change; 24] = [
         "constant P : PIN_MAP_STRING := \"\";\nend DRV;\n",
         ": rule V1 item 15",
     ),
-    // The lowest item number is reported. Rule V1 comes before the strings.
+    // The lowest item of rule V1 is reported. It is reported before a fault of a string.
     (
         "attribute INSTRUCTION_CAPTURE of DRV : entity is \"01\";\nattribute BOUNDARY_LENGTH of DRV : entity is 2;\n",
         "",
@@ -264,7 +264,8 @@ const STRINGS: [Change; 11] = [
         "Q(2), outputx",
         ": BOUNDARY_REGISTER entry 2",
     ),
-    // The pin map is the first string, and the boundary register is the last. All strings come before the other rules.
+    // The pin map is the first string, and the boundary register is the last. A fault of a string is reported before a fault of the rules
+    // V2 to V14.
     ("(1,2)\"", "(1,2\"", ": PIN_MAP_STRING entry 5"),
     ("(1 to 2)", "(2 to 1)", ": rule V2 item 5"),
 ];

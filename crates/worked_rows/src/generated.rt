@@ -1,4 +1,4 @@
-// A test that every generated board is a board.
+// A test which shows that the texts of every generated board denote a board.
 ghost use Rattle.std.specs.Prelude.{◌≤◌};
 
 use board_gen::make;

@@ -3,7 +3,7 @@ use run_bench::Text::{Edited, Numbered, Plain};
 use run_bench::{Bench, DRV, Ending, Named, Row, RowFault, Rows, Table, Text, tables_hold};
 use std::alloc::{AllocError, Global};
 
-// The driver with an identification code. The four highest bits of the code, the version, are free.
+// A driver with an identification code. The four highest bits of the code, which are the version, are free.
 const CODED: Text = Edited(
     DRV,
     &[
@@ -15,7 +15,7 @@ const CODED: Text = Edited(
     ],
 );
 
-// The driver with a code in which all bits are free. The driver below this one has a code that is too short.
+// A driver with a code in which all bits are free. The driver below has a code that is too short.
 const FREE: Text = Edited(
     DRV,
     &[
@@ -73,7 +73,7 @@ const CODES: [Row; 9] = [
         line: "ident c idc rcv",
         ending: Ending::Scans("SDR 32 TDI (00000000);\n"),
     },
-    // Every part must be described.
+    // Every part must have a description.
     Row {
         texts: &[
             ("c", Plain("DEVICE U1 IDC -\nBYPASS U2 4\n")),

@@ -1,4 +1,4 @@
-//! Tests of whole runs, through the top call: of words, chains, devices and boards.
+//! Tests of whole runs through the top call, for words, chains, devices and boards.
 #![tactic(auto)]
 
 #[cfg(test)]

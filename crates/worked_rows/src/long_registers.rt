@@ -1,9 +1,11 @@
-// A device with the longest instruction register, and a device whose register has one bit more.
+// Tests with a device that has the longest instruction register, and with a device whose register
+// has one bit more.
 use crate::chain::LONGEST_REGISTER;
 use run_bench::{Bench, DRV, Ending, NETS, RowFault};
 use std::alloc::{AllocError, Global};
 
-// Returns the text of the driver with an instruction register of `length` bits, which is at least 2.
+// Returns the text of the driver with an instruction register of `length` bits. `length` must be at
+// least 2.
 fn driver_of(alloc: Global, length: usize) -> Result<String, AllocError> {
     let ones = "1".repeat(alloc, length)?;
     let zeros = "0".repeat(alloc, length.saturating_sub(2))?;

@@ -1,11 +1,11 @@
-// Words of a chain file and of a net file, which have at most 255 bytes.
+// Tests of the limit on the words of a chain file and of a net file, which is 255 bytes.
 use run_bench::Text::Filled;
 use run_bench::{Bench, CHAIN, Ending, NETS, RowFault, Text};
 use std::alloc::Global;
 use std::thread::Threads;
 
-// A file: the name of the table of its words, the name of its text, the command line that reads the text, and the line of refusal for a
-// word that is too long.
+// A file: the name of the table for its words, the name of its text, the command line that reads the text, and the line of refusal for
+// a word that is too long.
 #[derive(Drop)]
 struct File {
     table: &'static str,
@@ -57,7 +57,7 @@ static CHAINS: [Long; 12] = [
     ("LINK R1 1 ", 255, "", NO_PART),
 ];
 
-// The name of a net, and the name of a pin. The word of a pin also has the part and a dot.
+// The name of a net, and the word of a pin, which has the part, a dot and the name of the pin.
 static NET_FILES: [Long; 2] = [
     (
         "NET ",
@@ -103,7 +103,7 @@ fn ends_with(
     bench.ends(rt, file.table, row, file.line, ending)
 }
 
-// For each word, runs the command line of the file with the largest number of letters and with one letter more.
+// For each word, runs the command line of the file with the largest number of letters, and then with one letter more.
 fn words_have_a_limit(
     rt: &(impl Threads + Sync),
     alloc: Global,

@@ -1,4 +1,4 @@
-// Rows for the command `device`, with texts that makers write and that are refused.
+// Rows for the command `device`, with kinds of texts that makers write and btest refuses.
 use run_bench::Text::Edited;
 use run_bench::{Change, DRV, DRV1, Ending, RowFault, Rows, Run, Table, tables_hold};
 
@@ -34,7 +34,7 @@ const AROUND_THE_ENTITY: [Change; 8] = [
         "use STD_1149_1_1994.all;\nentity DRV is\n",
         " line 1: not in the grammar",
     ),
-    // A second entity.
+    // A text with a second entity.
     (
         LAST,
         "end DRV;\nentity DRV is\nend DRV;\n",
@@ -93,12 +93,12 @@ const CODES_AND_PINS: [Change; 3] = [
          \"XXXX0001001000110101000000000111\";\nend DRV;\n",
         ": IDCODE_REGISTER entry 33",
     ),
-    // An old text lists PRELOAD and not SAMPLE. Then one port bit has two pins.
+    // A text of an older edition that lists PRELOAD and not SAMPLE, and a port bit with two pins.
     ("SAMPLE (10)", "PRELOAD (10)", ": rule V6 item 1"),
     ("TDI:T1", "TDI:(T1,T9)", ": rule V4 item 1"),
 ];
 
-// The code of EXTEST is not all zeros, and the text says 2013 and not 2001.
+// A device whose EXTEST code is not all zeros, although its text says 2013 and not 2001.
 const OF_2013: [Run; 1] = [(
     Edited(
         DRV1,

@@ -1,10 +1,11 @@
-// Rows for texts with two faults. The second fault comes right after the first in the order of refusals, and the first is reported.
+// Rows for texts with two faults. In the order of refusals, the second fault comes right after the first. The first fault is
+// reported.
 use run_bench::Text::{Cells, Numbered, Plain};
 use run_bench::{
     CHAIN, Case, Ending, Line, NETS, Row, RowFault, Rows, Run, SCANS, Table, Text, tables_hold,
 };
 
-// Faults of the files, of the BSDL texts and of the chain's parts.
+// Faults of the files, of the BSDL texts, and of the parts of the chain.
 const FILES: [Case; 7] = [
     // The chain file comes first, then the net file, and then the BSDL texts in the order of the words.
     ("NONE", "NETS N1", "bad", "c line 1: no statement\n"),
@@ -82,7 +83,7 @@ const BOARDS: [Case; 10] = [
         "drv",
         "n line 2 word 3: driver on a guarded net\n",
     ),
-    // Each rule is tried on all lines before the next rule.
+    // Each rule is applied to all lines before the next rule.
     (
         "SUPPLY N2\nDEVICE U1 DRV -\nDEVICE U2 DRV -",
         "NET N1 U1.1 U2.1\nNET N2 U1.2 U2.9",
@@ -130,7 +131,7 @@ const FAULTY_PART: [Run; 1] = [(
     Ending::Refused("limit: chain parts\n"),
 )];
 
-// More nets than a board may have, with more pins than a board may have.
+// More nets than a board may have, and at the same time more pins than a board may have.
 const MANY_NETS: Text = Numbered {
     head: "",
     piece: "NET N# X.# Y.# Z.# W.#\n",
@@ -179,7 +180,7 @@ const LIMITS: [Row; 4] = [
     },
 ];
 
-// A board that breaks a rule, or a log that is not a log of the board.
+// A board that breaks a rule, and a log that is not a log of the board.
 const LOGS: [Row; 2] = [
     Row {
         texts: &[

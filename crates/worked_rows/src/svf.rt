@@ -35,7 +35,7 @@ const CODES: [Row; 5] = [
              SDR 5 TDI (01);\nSDR 5 TDI (02) TDO (08) MASK (18);\nSDR 5 TDI (00) TDO (10) MASK (18);\n",
         ),
     },
-    // The pass of the driver that is always on starts without a control, and then takes the control of the other driver.
+    // The pass of the driver that is always on begins without a control, and then takes the control of the other driver.
     Row {
         texts: &[
             (
@@ -159,7 +159,8 @@ const LINKED: [Row; 2] = [
     },
 ];
 
-// Passes that test two nets. The first board has a pass for A with D, and then a pass for B with C. On the second board, A and C have a pass.
+// Boards whose passes test two nets. The first board has a pass for A with D, and then a pass for B with C. On the second board, A and C
+// have one pass. The driver of A fits both drivers of C, and the pass takes the first of these.
 // The driver of A fits the two drivers of C, and the pass takes the first of these.
 const TOGETHER: [Row; 2] = [
     Row {
@@ -214,7 +215,8 @@ const TOGETHER: [Row; 2] = [
     },
 ];
 
-// The first board enables the controls of cells 8 and 9, then 10 and 11, then 9 and 10. The second board enables the control of cell 4, and
+// Boards with controls that exclude each other. The first board enables the controls of cells 8 and 9, then 10 and 11, then 9 and 10. The
+// second board enables the control of cell 4, and then the control of cell 5.
 // then the control of cell 5.
 const APART: [Row; 2] = [
     Row {
@@ -290,7 +292,7 @@ const NOT_HELD: [Row; 1] = [Row {
     ending: Ending::NotRead("cannot read none\n"),
 }];
 
-// A third cell for a device with two.
+// A third cell for a device with two cells.
 const THREE_CELLS: (&str, &str) = (
     "entity is 2;\nattribute BOUNDARY_REGISTER",
     "entity is 3;\nattribute BOUNDARY_REGISTER",
@@ -314,7 +316,7 @@ const SAFE: [Row; 4] = [
          SDR 4 TDI (A);\nSDR 4 TDI (8) TDO (1) MASK (1);\nSDR 4 TDI (C) TDO (0) MASK (1);\n",
         ),
     },
-    // A pin is a driver even if no net has it, so its control holds the disable value and not the safe value.
+    // A pin can be a driver even if no net has it. So its control holds the disable value and not the safe value.
     Row {
         texts: &[
             ("c", Plain("DEVICE U1 TS -")),
@@ -326,7 +328,7 @@ const SAFE: [Row; 4] = [
             "SIR 2 TDI (2) TDO (1) MASK (3);\nSDR 2 TDI (2);\nSIR 2 TDI (0) TDO (1) MASK (3);\n",
         ),
     },
-    // A port without a pin is no driver, so its control holds the safe value.
+    // A port bit without a pin is not a driver. So its control holds the safe value.
     Row {
         texts: &[
             ("c", Plain("DEVICE U1 TS -")),
@@ -355,7 +357,7 @@ const SAFE: [Row; 4] = [
 // A control whose safe value enables its driver.
 const UNSAFE_CONTROL: (&str, &str) = ("*, control, 1)", "*, control, 0)");
 
-// An output whose own cell turns it off with a 1, and has the safe value 0.
+// An output whose own cell turns it off by a 1 and has the safe value 0.
 const OWN_CONTROL: [(&str, &str); 3] = [
     ("RCV1", "OWN"),
     ("D : in bit", "D : out bit"),
@@ -395,7 +397,8 @@ const SELF_READING: [(&str, &str); 2] = [
     ("control, 1)\"", "control, 1), 2 (BC_1, Q, input, X)\""),
 ];
 
-// A cell of function CLOCK reads the net. A cell of function OBSERVE_ONLY does not, and an INPUT cell of an output pin does not.
+// A cell with the function CLOCK reads the net. A cell with the function OBSERVE_ONLY does not, and neither does an INPUT cell of an output
+// pin.
 const READERS: [Row; 3] = [
     Row {
         texts: &[
@@ -434,7 +437,7 @@ const READERS: [Row; 3] = [
     },
 ];
 
-// Two devices with only internal cells. A scan has at most 65,535 bits.
+// Two devices with only internal cells. The limit on the bits of a scan is 65,535.
 const WIDE: [Row; 2] = [
     Row {
         texts: &[
