@@ -1,4 +1,4 @@
-// Cases that don't hold. Each function of the bench must report such a case, whatever differs.
+// Tests with cases that do not hold. Each function of the device bench must report such a case, whatever differs.
 use board_defs::Symbol;
 use bsdl_lexer::LexFault::{self, Byte};
 use bsdl_parser::ParseFault::Expected;
@@ -82,7 +82,8 @@ const OTHER_ENTITY: &str =
      3 port TDO\n4 port TMS\n5 port TCK\n6 number 2\n7 text BYPASS (11), EXTEST (00), SAMPLE (10)\n8 text 01\n\
      9 number 3\n10 text 0 (BC_1, Q(1), OUTPUT2, X),1 (BC_1, Q(2), OUTPUT2, X)\n";
 
-// The compared part of the meaning, a case that holds, a case that doesn't, and the result of the second case.
+// The part of the meaning that is compared, a case that holds, a case that does not hold, and the result of the second
+// case.
 type Texts = (Shown, &'static [(Source, &'static str)], &'static str);
 
 static TEXTS: [Texts; 6] = [
@@ -138,7 +139,7 @@ fn wrong_texts_are_noticed(rt: HostRuntime) -> Result<(), CaseFault> {
 
 type Lexed = (Source, Result<(), LexFault>, usize);
 
-// In each pair only the first case is right. The second has another number of tokens, another line, or no fault.
+// In each pair, only the first case is right. The second expects another number of tokens, another line, or no fault.
 static LEXINGS: [[Lexed; 2]; 3] = [
     [
         (Bytes(b"a;\xff"), Err(Byte(1)), 2),
@@ -163,7 +164,7 @@ fn wrong_lexings_are_noticed(rt: HostRuntime) -> Result<(), CaseFault> {
     Ok(())
 }
 
-// Two readings, and how the second reading ends. Only the first holds.
+// Two readings, of which only the first holds, and the result of the second reading.
 type Readings = (&'static [(Source, Reading)], &'static str);
 
 static READINGS: [Readings; 3] = [
@@ -193,7 +194,7 @@ fn wrong_readings_are_noticed(rt: HostRuntime) -> Result<(), CaseFault> {
     Ok(())
 }
 
-// Two strings, and how the second string ends. Only the first holds.
+// Two strings, of which only the first holds, and the result of the second string.
 type Strings = (
     Grammar,
     &'static [(&'static str, Result<&'static str, u32>)],
@@ -289,8 +290,8 @@ fn wrong_packages_are_noticed(rt: HostRuntime) -> Result<(), CaseFault> {
     )
 }
 
-// Two changes with the rule and the item that each is expected to break, and the rule that the second change breaks.
-// Only the first expectation is right.
+// Two changes with the rule and the item that each is expected to break, and the rule that the second change really
+// breaks. Only the first expectation is right.
 type Rules = (&'static [(Change, (u32, u32))], &'static str);
 
 static RULES: [Rules; 3] = [
@@ -331,7 +332,8 @@ fn wrong_orders_are_noticed(rt: HostRuntime) -> Result<(), CaseFault> {
     expect(rt.alloc(), 0, names(&answer, 1, "V2 item 5"))
 }
 
-// The number of the failing put, the number of bytes that are taken, and their end. In each pair only the first holds.
+// The number of the failing put, the number of bytes that the sink takes, and the last of these bytes. In each pair,
+// only the first holds.
 static CUTS: [[(u32, usize, &str); 2]; 2] = [
     [(4, 45, ""), (5, 1068, "")],
     [(4, 45, ""), (6, 2055, " 598\n")],

@@ -1,4 +1,4 @@
-//! Tests of the benches: `run_bench` and `device_bench` must report each kind of wrong answer.
+//! Tests of the benches. `run_bench` and `device_bench` must report each kind of wrong answer.
 #![tactic(auto)]
 
 #[cfg(test)]

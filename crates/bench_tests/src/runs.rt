@@ -1,4 +1,4 @@
-// Rows that don't hold. The bench of whole runs must report each such row, whatever differs.
+// Tests with rows that do not hold. The bench of whole runs must report each such row, whatever differs.
 use btest_cli::Status;
 use run_bench::Text::Plain;
 use run_bench::{
@@ -33,7 +33,7 @@ const FEW_SCANS: &str =
 type Wrong = (&'static str, Ending<'static>, Status, Ending<'static>);
 
 static WRONG: [Wrong; 21] = [
-    // Another byte, a line too many, and a line too few.
+    // Another byte, an extra line, and a missing line.
     (COVER, COVERED, Status::Done, UNCOVERED),
     (
         COVER,
@@ -100,7 +100,7 @@ static WRONG: [Wrong; 21] = [
     ("cover c", Ending::Usage, Status::Usage, Ending::Done),
 ];
 
-// Runs a line as the row with this number, and compares the end of the run with an ending.
+// Runs a line as the row with this number, and compares the result with an ending.
 fn ends(
     rt: &(impl Threads + Sync),
     alloc: Global,
@@ -150,7 +150,7 @@ fn each_wrong_ending_is_noticed(rt: HostRuntime) -> Result<(), RowFault> {
     Ok(())
 }
 
-// A table, the number of its row that doesn't hold, and the status of that row's run.
+// A table, the number of the row that does not hold, and the status of that row's run.
 type Failing = (Table, usize, Status);
 
 fn is_named(rt: &(impl Threads + Sync), alloc: Global, failing: &Failing) -> bool {
