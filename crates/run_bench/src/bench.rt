@@ -1,4 +1,4 @@
-// One run with texts and sinks in memory, and the bytes that it leaves.
+// A run with texts and sinks in memory, and the bytes that the run writes.
 use crate::board::{HEAD, TAIL};
 use crate::devices::DEVICES;
 use crate::row::{Ending, Named, RowFault};
@@ -12,7 +12,7 @@ use std::thread::Threads;
 const USAGE: &str =
     "usage: btest chain, device, cover, svf, diagnose, make, ident, walk, groups or batch\n";
 
-/// The texts that a run reads, and the sinks that it writes to.
+/// The texts that a run reads, and the sinks to which it writes.
 #[derive(Drop)]
 pub struct Bench {
     alloc: Global,
@@ -25,7 +25,7 @@ pub struct Bench {
 }
 
 impl Bench {
-    /// Returns a bench with an empty store, and sinks with ample room.
+    /// Returns a bench with an empty store, whose sinks have room for the output of small boards.
     pub fn empty(alloc: Global) -> Result<Bench, AllocError> {
         Ok(Bench {
             alloc,

@@ -1,4 +1,4 @@
-// A board of a driver and a receiver, and the test of the board.
+// A board of a driver and a receiver, with the scans of its test.
 
 /// The lines before the scans of an SVF text.
 pub const HEAD: &str = "TRST OFF;\nENDIR IDLE;\nENDDR IDLE;\nSTATE RESET;\nSTATE IDLE;\n";

@@ -1,6 +1,6 @@
 // The BSDL texts of the worked devices.
 
-/// A driver of two outputs that are always on.
+/// A driver with two outputs that are always on.
 pub const DRV: &str = r#"entity DRV is
 generic (PHYSICAL_PIN_MAP : string := "P");
 port (TDI, TMS, TCK : in bit; TDO : out bit; Q : out bit_vector(1 to 2));
@@ -21,7 +21,7 @@ attribute BOUNDARY_REGISTER of DRV : entity is
 end DRV;
 "#;
 
-/// A receiver of two inputs.
+/// A receiver with two inputs.
 pub const RCV: &str = r#"entity RCV is
 generic (PHYSICAL_PIN_MAP : string := "P");
 port (TDI, TMS, TCK : in bit; TDO : out bit; D : in bit_vector(1 to 2));
@@ -42,7 +42,7 @@ attribute BOUNDARY_REGISTER of RCV : entity is
 end RCV;
 "#;
 
-/// A receiver of one input.
+/// A receiver with one input.
 pub const RCV1: &str = r#"entity RCV1 is
 generic (PHYSICAL_PIN_MAP : string := "P");
 port (TDI, TMS, TCK : in bit; TDO : out bit; D : in bit);
@@ -62,7 +62,7 @@ attribute BOUNDARY_REGISTER of RCV1 : entity is
 end RCV1;
 "#;
 
-/// A three-state driver of one output.
+/// A three-state driver with one output.
 pub const TS: &str = r#"entity TS is
 generic (PHYSICAL_PIN_MAP : string := "P");
 port (TDI, TMS, TCK : in bit; TDO : out bit; Q : out bit);
@@ -83,7 +83,7 @@ attribute BOUNDARY_REGISTER of TS : entity is
 end TS;
 "#;
 
-/// A part of one bidirectional pin.
+/// A part with one bidirectional pin.
 pub const BI: &str = r#"entity BI is
 generic (PHYSICAL_PIN_MAP : string := "P");
 port (TDI, TMS, TCK : in bit; TDO : out bit; B : inout bit);
@@ -104,7 +104,7 @@ attribute BOUNDARY_REGISTER of BI : entity is
 end BI;
 "#;
 
-/// A driver of four outputs with two controls.
+/// A driver with four outputs and two controls.
 pub const TWO: &str = r#"entity TWO is
 generic (PHYSICAL_PIN_MAP : string := "P");
 port (TDI, TMS, TCK : in bit; TDO : out bit; Q : out bit_vector(1 to 4));
@@ -129,7 +129,7 @@ attribute BOUNDARY_REGISTER of TWO : entity is
 end TWO;
 "#;
 
-/// A driver of eight outputs with one control.
+/// A driver with eight outputs and one control.
 pub const OCT: &str = r#"entity OCT is
 generic (PHYSICAL_PIN_MAP : string := "P");
 port (TDI, TMS, TCK : in bit; TDO : out bit; Q : out bit_vector(1 to 8));
@@ -157,7 +157,7 @@ attribute BOUNDARY_REGISTER of OCT : entity is
 end OCT;
 "#;
 
-/// A driver of eight outputs with four controls.
+/// A driver with eight outputs and four controls.
 pub const FOUR: &str = r#"entity FOUR is
 generic (PHYSICAL_PIN_MAP : string := "P");
 port (TDI, TMS, TCK : in bit; TDO : out bit; Q : out bit_vector(1 to 8));

@@ -1,5 +1,5 @@
 //! Runs with texts and sinks in memory, for the crates that test whole runs. A run is proved here once, and no contract says how it ends.
-//! So a test that compares the ending of a run has little to prove.
+//! So a test that compares how a run ends has little to prove.
 #![tactic(auto)]
 
 mod bench;

@@ -1,4 +1,4 @@
-// Tables of runs, and of how the runs end.
+// Tables of runs, with the result of each run.
 use crate::bench::Bench;
 use crate::board::{CHAIN, NETS};
 use crate::text::Text;
@@ -8,7 +8,8 @@ use std::alloc::{AllocError, Global};
 use std::thread::Threads;
 use thiserror::Error;
 
-/// How a run ends: its status, the text that it writes, and its line of refusal. A text or line that is not named is empty.
+/// The result of a run: its status, the text that it writes, and its line of refusal. If a variant does not name a text or a line, it is
+/// empty.
 #[derive(Clone, Copy)]
 pub enum Ending<'a> {
     /// This text was written.
@@ -19,9 +20,9 @@ pub enum Ending<'a> {
     Scans(&'a str),
     /// A text of this many bytes was written.
     Long(usize),
-    /// The run is done. The text that it wrote is not compared.
+    /// The status is `Done`. The text that the run wrote is not compared.
     Done,
-    /// The texts are refused with this line.
+    /// The texts were refused with this line.
     Refused(&'a str),
     /// A text was not read. The line of refusal is this line.
     NotRead(&'a str),
@@ -34,34 +35,34 @@ pub enum Ending<'a> {
 /// The name of a text, and the text.
 pub type Named = (&'static str, Text);
 
-/// A run and how it ends.
+/// A run, with the result that it should have.
 #[derive(Clone, Copy)]
 pub struct Row {
     /// Texts that are added to the store. A text replaces another text of the same name.
     pub texts: &'static [Named],
     /// The words, separated by spaces.
     pub line: &'static str,
-    /// How the run ends.
+    /// The result of the run.
     pub ending: Ending<'static>,
 }
 
 /// A failure in a run.
 #[derive(Clone, Copy)]
 pub enum Trouble {
-    /// The read with this number fails, counted from 1.
+    /// The read with this number, counted from 1, fails.
     Read(u32),
-    /// The put with this number fails, counted from 1. It takes this many bytes.
+    /// The put with this number, counted from 1, fails after it took this many bytes.
     Put(u32, u32),
-    /// Writes to standard output fail once this many bytes were taken.
+    /// Writes to standard output fail after this many bytes were taken.
     Out(u32),
-    /// Writes to standard error fail once this many bytes were taken.
+    /// Writes to standard error fail after this many bytes were taken.
     Notes(u32),
 }
 
-/// A text, and how a run with it ends.
+/// A text, and the result of a run with it.
 pub type Run = (Text, Ending<'static>);
 
-/// A command line or a log, and how the run with it ends.
+/// A command line or a log, and the result of a run with it.
 pub type Line = (&'static str, Ending<'static>);
 
 /// A piece of a text, the text that replaces the piece, and the line of refusal without the text's name before it.
@@ -79,9 +80,9 @@ pub enum Rows {
     Failing(&'static [(Trouble, Row)]),
     /// Command lines that are run one by one.
     Lines(&'static [Line]),
-    /// A command line, and logs. The line is run with each log as the text `g`.
+    /// A command line, and logs. The line is run once for each log, which is the text `g`.
     Logs(&'static str, &'static [Line]),
-    /// A command line, the name of a text, and texts. The line is run with each text under this name.
+    /// A command line, the name of a text, and texts. The line is run once for each text, under this name.
     Texts(&'static str, &'static str, &'static [Run]),
     /// The text of a device, and changes of this text. `device` refuses the text with each of the changes.
     Devices(&'static str, &'static [Change]),
@@ -89,7 +90,8 @@ pub enum Rows {
     Boards(&'static [Case]),
     /// Command lines that are no command. The first read would fail, so the rows show that nothing is read.
     NoCommands(&'static [&'static str]),
-    /// A command line, a word with a space before it, and numbers. The line is run with the word appended as often as each number says.
+    /// A command line, a word with a space before it, and numbers. For each number, the line is run with the word appended this many
+    /// times.
     Words(&'static str, &'static str, &'static [(usize, Ending<'static>)]),
 }
 
@@ -98,8 +100,8 @@ pub enum Rows {
 pub struct Table {
     /// The name of the table, which says what the rows show.
     pub name: &'static str,
-    /// Texts for the store. Before these texts, the store gets the files of a board of a driver and a receiver, and the worked devices. A
-    /// text replaces another text of the same name.
+    /// Texts for the store. First the store gets the files of a board of a driver and a receiver, and the worked devices. Then it gets
+    /// these texts. A text replaces an earlier text of the same name.
     pub texts: &'static [Named],
     /// The rows.
     pub rows: Rows,
@@ -278,8 +280,8 @@ fn devices_hold(
     Ok(())
 }
 
-// The commands on a board, with the names of its files. The log `g` is wrong, but a fault of the log would come after the faults of the
-// board.
+// The commands on a board, with the names of the board's files. The log `g` is wrong, but a fault of the log would come after the faults
+// of the board.
 const COMMANDS: [&str; 6] = [
     "cover c n",
     "svf c n",

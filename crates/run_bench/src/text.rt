@@ -1,4 +1,4 @@
-// The texts of rows. A large text is described by the way to build it.
+// The texts of rows. A large text is stored as the way to build it.
 use bt_base::MemStore;
 use std::alloc::{AllocError, Global};
 
@@ -13,9 +13,9 @@ pub enum Text {
     Edited(&'static str, &'static [(&'static str, &'static str)]),
     /// A piece that is repeated this many times.
     Repeated(&'static str, usize),
-    /// The first lines of a text, as many as the number says, and then another text.
+    /// The first lines of a text, as many as the number says, followed by another text.
     Front(&'static str, usize, &'static str),
-    /// The first lines of a text, then a head, a piece that is repeated, and a tail.
+    /// The first lines of a text, followed by a head, a piece that is repeated, and a tail.
     Filled {
         /// The text.
         of: &'static str,
@@ -30,7 +30,8 @@ pub enum Text {
         /// The text after the pieces.
         tail: &'static str,
     },
-    /// A head, and then a piece for each number of `first..end`. The number replaces each `#` of the piece.
+    /// A head, followed by a piece for each number of `first..end`. The number replaces each `#` of the
+    /// piece.
     Numbered {
         /// The text before the pieces.
         head: &'static str,
@@ -126,7 +127,7 @@ fn numbered(
     Ok(text.into_bytes())
 }
 
-// The lines of a BSDL text up to its first cell. `#` stands for the name, and `@` for the number of cells.
+// The lines of a BSDL text before its first cell. `#` stands for the name, and `@` for the number of cells.
 const FRONT: &str = r#"entity # is
 generic (PHYSICAL_PIN_MAP : string := "P");
 port (TDI, TMS, TCK : in bit; TDO : out bit);
