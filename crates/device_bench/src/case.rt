@@ -1,4 +1,4 @@
-// Cases that do not hold.
+// The reasons why a table of cases does not hold.
 use bsdl_strings::StringFault;
 use std::alloc::{AllocError, AllocFailed};
 use thiserror::Error;
@@ -42,7 +42,7 @@ impl From<StringFault> for CaseFault {
     }
 }
 
-/// Compares how a case ended with how the case should end.
+/// Compares the result of a case with the expected result.
 pub fn compare(case: usize, found: String, wanted: &str) -> Result<(), CaseFault> {
     if found.as_str() == wanted {
         Ok(())

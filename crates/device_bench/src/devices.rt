@@ -1,4 +1,4 @@
-// The devices that texts describe.
+// Checks of the devices that texts describe.
 ghost use Rattle.std.specs.Prelude.{◌<◌, ◌^◌, length};
 
 use crate::case::{CaseFault, compare};
@@ -60,7 +60,7 @@ pub fn device_of(alloc: Global, text: &[u8], package: Option<&[u8]>) -> Result<D
     }
 }
 
-/// Returns the line of a fault.
+/// Returns a fault as text.
 pub fn shown_fault(alloc: Global, fault: &TextFault) -> Result<String, AllocError> {
     match fault {
         TextFault::Lex(fault) => format!(in alloc; "{fault}"),

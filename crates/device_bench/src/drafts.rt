@@ -1,4 +1,4 @@
-// Texts that break a rule of devices, and the devices of texts that break none.
+// Checks of texts that break a rule of devices, and of the devices of texts that break no rule.
 ghost use Rattle.std.specs.Prelude.{◌≡◌, true};
 ghost use Rattle.device_rules.specs.Rules.{HasShortLists};
 
@@ -12,7 +12,7 @@ use bsdl_strings::{
 use device_rules::{Draft, TapPorts, first_rule, raw_device};
 use std::alloc::{AllocError, Global};
 
-/// The contents of a BSDL text, mostly as strings.
+/// The contents of a BSDL text. Most of them are strings.
 #[derive(Drop)]
 struct Texts {
     edition: Edition,
@@ -58,7 +58,7 @@ pub enum Change {
     Entries(u32, &'static str),
 }
 
-/// Checks that each change breaks this rule at this item. Zeros stand for no broken rule.
+/// Checks that each change breaks this rule at this item. Zeros mean that no rule is broken.
 pub fn rules_hold(alloc: Global, cases: &[(Change, (u32, u32))]) -> Result<(), CaseFault> {
     for (case, (change, (rule, item))) in cases.iter().enumerate() {
         expect_rule(alloc, case, &changed(&[*change]), *rule, *item)?;
@@ -93,9 +93,9 @@ fn expect_rule(
     Ok(())
 }
 
-/// Makes these changes together, and checks the device, written as a text. The text has each port bit with its index, its pin, whether the
-/// port bit belongs to the TAP, and whether the compliance patterns name it. Then come each cell with its port bit, and the number of
-/// ones in the preload code.
+/// Makes these changes together, and checks the device, which is written as a text. The text has each port bit with its index, its pin,
+/// whether the port bit belongs to the TAP, and whether the compliance patterns name it. After these it has each cell with its port bit,
+/// and the number of ones in the preload code.
 pub fn draft_holds(alloc: Global, changes: &[Change], wanted: &str) -> Result<(), CaseFault> {
     let shown = shown_device(alloc, &changed(changes))?;
     compare(0, shown, wanted)
@@ -285,7 +285,7 @@ fn broken(alloc: Global, texts: &Texts) -> Result<(u32, u32), CaseFault> {
     filled_broken(alloc, texts, &mut draft)
 }
 
-/// Fills an empty draft, and returns the number of the rule that it breaks and the item, or zeros.
+/// Fills an empty draft. Returns the number of the rule that the draft breaks and the item, or zeros if it breaks no rule.
 fn filled_broken(alloc: Global, texts: &Texts, draft: &mut Draft) -> Result<(u32, u32), CaseFault> {
     fill(alloc, texts, draft)?;
     if !is_short(draft) {

@@ -1,4 +1,4 @@
-// The tokens of texts.
+// Checks of the tokens of texts.
 use crate::case::{CaseFault, compare};
 use crate::shown::add_bytes;
 use crate::source::Source;
@@ -22,7 +22,8 @@ pub fn lexings_hold(
     Ok(())
 }
 
-/// Checks that each text has these tokens. A line has the kind, the bytes and the line number of one token.
+/// Checks that each text has these tokens. Each line has the kind, the bytes and the line number of one
+/// token.
 pub fn tokens_hold(alloc: Global, cases: &[(Source, &'static str)]) -> Result<(), CaseFault> {
     for (case, (source, wanted)) in cases.iter().enumerate() {
         let text = source.bytes(alloc)?;

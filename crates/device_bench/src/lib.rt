@@ -1,5 +1,5 @@
-//! Checks of what BSDL texts denote, for the crate that tests BSDL texts. Each check is proved here once, and its contract says nothing of
-//! its result. So a test is a table and one call, and there is little to prove about it.
+//! Checks of what BSDL texts denote, for the crate that tests BSDL texts. Each check is proved here once, and its contract says nothing
+//! about its result. So a test is a table and one call, and has little to prove.
 #![tactic(auto)]
 
 mod case;

@@ -1,4 +1,4 @@
-// The listings of the devices that texts describe.
+// Checks of the listings of the devices that texts describe.
 use crate::case::CaseFault;
 use crate::devices::{device_of, shown_fault};
 use crate::shown::add_bytes;
@@ -16,7 +16,7 @@ enum Wanted<'a> {
     Whole(&'a str),
     /// The listing ends with this text.
     End(&'a str),
-    /// The put with this number fails. The sink has taken this many bytes, and their end is this text.
+    /// The put with this number fails. The sink has then taken this many bytes, which end with this text.
     Cut(u32, usize, &'a str),
 }
 
@@ -47,7 +47,8 @@ pub fn listing_ends(alloc: Global, source: Source, end: &str) -> Result<(), Case
     try_source(alloc, 0, &source, Wanted::End(end), &mut line)
 }
 
-/// Lets each of these puts fail while the listing is written. Checks that the sink takes this many bytes, and that they end with this text.
+/// For each of these puts, writes the listing while this put fails. Checks that the sink takes this many bytes, and that they end with this
+/// text.
 pub fn cuts_hold(
     alloc: Global,
     source: Source,
@@ -85,7 +86,7 @@ fn try_source(
     }
 }
 
-/// Checks that the listing of a device is as expected. The line may still hold a part of an earlier listing.
+/// Checks that the listing of a device is as expected. `line` may still hold a part of an earlier listing.
 fn try_device(
     alloc: Global,
     case: usize,

@@ -1,4 +1,4 @@
-// The entities that texts describe.
+// Checks of the entities that texts describe.
 ghost use Rattle.std.specs.Prelude.{◌<◌, ◌^◌, length};
 
 use crate::case::{CaseFault, compare};
@@ -8,7 +8,7 @@ use bsdl_lexer::{LexFault, lex};
 use bsdl_parser::{Attr, AttrValue, Entity, ParseFault, Port, parse};
 use std::alloc::{AllocError, Global};
 
-/// How the reading of a text ends.
+/// The result of reading a text.
 #[derive(Clone, Copy, Debug, PartialEq, Eq)]
 pub enum Reading {
     /// The text describes an entity.
@@ -35,7 +35,7 @@ pub fn readings_hold(alloc: Global, cases: &[(Source, Reading)]) -> Result<(), C
     Ok(())
 }
 
-/// Checks that each text has this entity. There is one item of the entity on each line.
+/// Checks that each text has this entity, which is written with one item on each line.
 pub fn entities_hold(alloc: Global, cases: &[(Source, &'static str)]) -> Result<(), CaseFault> {
     for (case, (source, wanted)) in cases.iter().enumerate() {
         let text = source.bytes(alloc)?;
@@ -48,7 +48,7 @@ pub fn entities_hold(alloc: Global, cases: &[(Source, &'static str)]) -> Result<
     Ok(())
 }
 
-/// Returns the entity of a text, or how the reading of the text ends.
+/// Returns the entity of a text, or the reason why the text has none.
 fn entity_of(alloc: Global, text: &[u8]) -> Result<Entity, Reading>
     requires { length text.now < 2 ^ 32 }
 {

@@ -4,7 +4,7 @@ ghost use Rattle.std.specs.Prelude.{◌<◌, ◌^◌, length, IfOk};
 use crate::case::CaseFault;
 use std::alloc::{AllocError, Global};
 
-/// A driver of two outputs. The first entry of its boundary register is in line 16.
+/// A driver with two outputs. The first entry of its boundary register is on line 16.
 pub const DRV: &str = "entity DRV is
 generic (PHYSICAL_PIN_MAP : string := \"P\");
 port (TDI, TMS, TCK : in bit; TDO : out bit; Q : out bit_vector(1 to 2));
@@ -72,9 +72,9 @@ pub enum Source {
     Buffer,
     /// The driver `DRV`, with these lines replaced.
     Driver(&'static [Line]),
-    /// The first lines of the driver, as many as the number says, and then this text.
+    /// The first lines of the driver, as many as the number says, followed by this text.
     Front(usize, &'static str),
-    /// The first lines of the driver, and then a text in which one byte is repeated.
+    /// The first lines of the driver, followed by a text in which one byte is repeated.
     Filled {
         /// The number of lines of the driver.
         lines: usize,
@@ -82,7 +82,7 @@ pub enum Source {
         head: &'static str,
         /// The repeated byte.
         byte: u8,
-        /// How often the byte is repeated.
+        /// The number of times that the byte is repeated.
         count: usize,
         /// The text after the repeated byte.
         tail: &'static str,

@@ -1,4 +1,4 @@
-// The values of strings in texts.
+// Checks of the values of strings in texts.
 ghost use Rattle.std.specs.Prelude.{◌<◌, ◌^◌, length};
 
 use crate::case::CaseFault;
@@ -23,7 +23,7 @@ pub enum Grammar {
     Boundary,
 }
 
-/// Checks that each string has this value, or leaves its grammar at this entry.
+/// Checks that each string has this value, or that it leaves its grammar at this entry.
 pub fn strings_hold(
     alloc: Global,
     grammar: Grammar,
