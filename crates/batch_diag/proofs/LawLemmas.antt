@@ -88,7 +88,7 @@ module _ (rows len : ℕ) where
       ∙ ap (λ (log : LogAnswer). block_then block.id n log (logs_from rows len (n + 1) (blocks_of later))) is.log
       ∙ ap (onto block) (said (n + 1) later blocks more)
 
-  -- The converse: the lines are the lines before the first title, followed by the lines of these blocks.
+  -- The lines are some lines that are not titles, followed by the lines of these blocks. This record is for the converse.
   record Split (lines : List NumberedLine) (blocks : List Block) : Type 0 where
     own : List NumberedLine
     later : List NumberedLine

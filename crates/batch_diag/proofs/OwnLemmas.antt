@@ -140,7 +140,7 @@ blocks_placed n front (text ∷ texts) none titles below =
     ∙ ap (λ (ls : List NumberedLine). record { id = id_of (words_of text.title); lines = ls } ∷ blocks_of (rows_at (m + 1) (text.below ++ lines_in texts))) (below_title m text texts later own)
     ∙ ap (λ (bs : List BlockLines). record { id = id_of (words_of text.title); lines = rows_at (m + 1) text.below } ∷ bs) (blocks_placed (m + 1) text.below texts own later (All-tail HasRows text texts below))
 
--- if lines are not titles, they do not change the first fault of a title
+-- putting a line that is not a title in front of other lines does not change the first fault of a title
 title_front : (n : ℕ) (words : List Word) (rows later : List NumberedLine) → is_title words ≡ false → title_fault (rows ++ later) ≡ title_fault later → title_fault (with_line n words rows ++ later) ≡ title_fault later
 title_front n [] rows later title below = below
 title_front n (word ∷ words) rows later title below =

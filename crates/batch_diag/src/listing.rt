@@ -1,4 +1,4 @@
-// The text of the diagnoses of a batch.
+// Writes the text of the diagnoses of a batch.
 ghost use Rattle.std.specs.Prelude.{◌≡◌, [], length, All};
 ghost use Rattle.bt_base.specs.Puts.{Puts};
 ghost use Rattle.line_printer.specs.Prints.{Prints};
