@@ -1,4 +1,4 @@
--- Definitions for texts that are read in turn.
+-- Reads of several texts in turn.
 use Rattle.std.specs.Prelude.{◌≡◌, ℕ, ◌≤◌, List, [], ◌∷◌, ◌++◌, Some, Result, Ok, Err}
 use Rattle.bt_base.specs.Counts.{Rose}
 use Rattle.command_line.specs.Words.{Text, Command, most_made, most_workers}
