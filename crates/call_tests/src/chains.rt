@@ -10,7 +10,7 @@ use std::alloc::{AllocError, Global};
 
 const HEAD: &[u8] = b"TRST OFF;\nENDIR IDLE;\nENDDR IDLE;\nSTATE RESET;\nSTATE IDLE;\n";
 
-// Returns whether a pattern has 32 symbols.
+// Returns whether the part has no pattern or a pattern of 32 symbols.
 fn is_whole(part: &Option<Code>) -> bool
     ensures { IsTrue result → IfSome part.now (λ code. length code ≡ 32) }
 {
