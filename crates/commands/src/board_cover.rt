@@ -1,4 +1,4 @@
-// The command `cover`.
+// The command `cover`, which writes the coverage list of a board.
 ghost use Rattle.net_classes.specs.Kept.{AreClasses};
 ghost use Rattle.coverage_list.specs.CoverText.{cover_text};
 ghost use Rattle.commands.specs.Answers.{BoardAnswers};

@@ -1,4 +1,4 @@
-// The command `make`.
+// The command `make`, which summarizes a generated board.
 ghost use Rattle.std.specs.Prelude.{◌≡◌, ◌≤◌, [], ◌∷◌, length, min, IfOk};
 ghost use Rattle.bt_base.specs.Counts.{last_count};
 ghost use Rattle.line_printer.specs.Prints.{Prints};

@@ -1,4 +1,4 @@
-// The command `svf`.
+// The command `svf`, which writes the test of a board.
 ghost use Rattle.std.specs.Prelude.{◌≡◌, ◌-◌, ◌<◌, Bool, IfOk, IfSome, List, slice_get};
 ghost use Rattle.bt_base.specs.Puts.{Puts};
 ghost use Rattle.board_defs.specs.BoardRules.{IsBoard};

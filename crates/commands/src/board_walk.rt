@@ -1,4 +1,4 @@
-// The command `walk`.
+// The command `walk`, which writes the walking test of a board.
 ghost use Rattle.std.specs.Prelude.{◌≡◌, ◌<◌, Bool, List, length, Ok, slice_get, IfErr, IfOk, IfSome};
 ghost use Rattle.bt_base.specs.Puts.{Puts};
 ghost use Rattle.board_defs.specs.Pins.{data_bits};

@@ -1,4 +1,4 @@
-// The command `chain`.
+// The command `chain`, which writes the test of a chain's length.
 ghost use Rattle.std.specs.Prelude.{◌≡◌, ◌<◌, ◌^◌, sum};
 ghost use Rattle.bt_base.specs.Puts.{Puts};
 ghost use Rattle.tap_defs.specs.chain.ChainScans.{chain_text};

@@ -1,4 +1,4 @@
-// The command `device`.
+// The command `device`, which lists a device.
 ghost use Rattle.device_check.specs.DeviceText.{device_text};
 ghost use Rattle.btest_core.specs.DevicesRead.{IsDeviceText};
 ghost use Rattle.commands.specs.Answers.{Answers};

@@ -1,4 +1,4 @@
-// The command `ident`.
+// The command `ident`, which writes the test of a chain's identification codes.
 ghost use Rattle.std.specs.Prelude.{◌*◌, ◌≤◌, length};
 ghost use Rattle.board_defs.specs.Limits.{most_parts};
 ghost use Rattle.bt_base.specs.Puts.{Puts};

@@ -1,4 +1,4 @@
-// The command `batch`.
+// The command `batch`, which diagnoses each log of a batch.
 ghost use Rattle.std.specs.Prelude.{◌≡◌, ◌≤◌, All, Ok, length};
 ghost use Rattle.diagnoser.specs.Diagnosis.{IsNamed};
 ghost use Rattle.board_defs.specs.Pins.{data_bits};

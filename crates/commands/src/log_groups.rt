@@ -1,4 +1,4 @@
-// The command `groups`.
+// The command `groups`, which finds the groups of shorted nets in a log of a board's walking test.
 ghost use Rattle.std.specs.Prelude.{◌≡◌, Ok, option_map};
 ghost use Rattle.board_defs.specs.Pins.{data_bits};
 ghost use Rattle.response_log.specs.LogRows.{HasSize};
