@@ -23,7 +23,7 @@ pub fn width(n: u32) -> u32
     width
 }
 
-/// Returns bit `j` of a code. Bit 0 is the lowest.
+/// Returns bit `j` of a code. Bit 0 is the least significant.
 pub fn bit(code: u32, j: u32) -> bool
     requires { j < 32 }
     ensures { result ≡ (bit_at code j == 1) }
