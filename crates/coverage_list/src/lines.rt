@@ -1,4 +1,4 @@
-// The lines of the coverage list.
+// Writes the lines of the coverage list.
 ghost use Rattle.std.specs.Prelude.{◌≡◌, [], ◌∷◌, Some, codes, decimal};
 ghost use Rattle.line_printer.specs.Prints.{Prints, line_of};
 ghost use Rattle.coverage_list.specs.CoverText.{reason_word, use_word, reason_line, pin_line, pair_line};

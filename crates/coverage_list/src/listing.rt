@@ -122,8 +122,8 @@ fn has_bit(word: u64, place: u32) -> bool
     word >> place & 1 == 1
 }
 
-/// Returns whether net `high` is covered and not paired with net `low`. `unpaired` is the word with the bit of net `high`. In this word,
-/// the bit of each such net is set.
+/// Returns whether net `high` is covered and not paired with net `low`. `unpaired` is the word that contains the bit of net `high`. A bit
+/// in it is set if its net is covered and not paired with net `low`.
 fn is_unpaired(board: &BoardClasses<'_>, unpaired: u64, low: u32, high: u32) -> bool
     requires { AreBitsOf (unpaired_with board.now low) (high / 64) unpaired }
     ensures { OfNet board.now low (λ one. OfNet board.now high (λ two. result ≡ is_unpaired board.now one two)) }
