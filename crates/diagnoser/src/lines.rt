@@ -1,4 +1,4 @@
-// The lines of a diagnosis.
+// Writes the lines of a diagnosis.
 ghost use Rattle.std.specs.Prelude.{◌≡◌, [], ◌∷◌, Some, codes, decimal};
 ghost use Rattle.line_printer.specs.Prints.{Prints, line_of};
 ghost use Rattle.diagnoser.specs.DiagText.{bit_word, stuck_line, open_line, pair_line, short_line, fail_line};

@@ -1,4 +1,4 @@
-// The text of a diagnosis.
+// Writes the text of a diagnosis.
 ghost use Rattle.std.specs.Prelude.{◌≡◌, ◌++◌, ◌<◌, [], length, All, Some};
 ghost use Rattle.std.specs.List.{flat_map};
 ghost use Rattle.bt_base.specs.Puts.{Puts};
