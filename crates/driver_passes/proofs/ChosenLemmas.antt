@@ -38,7 +38,7 @@ chosen_same p q place (c ∷ controls) same =
     ap (λ t. cond t (c ∷ chosen q (suc place) controls) (chosen q (suc place) controls)) (same place (omega arith)) ∙
     ap (λ v. cond (p place) (c ∷ v) v) (chosen_same p q (suc place) controls (λ n least. same n (omega (arith, least))))
 
--- if one more place passes, its control is inserted
+-- if the places that pass are those that passed before and one more, the control of this place is inserted
 pub chosen_set : (p q : ℕ → Bool) (first i place : ℕ) (controls : List Ctl) (c : Ctl) → IsInControlOrder controls → place ≡ first + i → ((n : ℕ) → q n ≡ (n == place || p n)) → slice_get controls i ≡ Some c → chosen q first controls ≡ inserted c (chosen p first controls)
 chosen_set p q first i place [] c order at more e = cc e
 chosen_set p q first zero place (d ∷ controls) c order at more e =

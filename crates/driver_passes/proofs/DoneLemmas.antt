@@ -70,7 +70,8 @@ done_next board passes a are done m less = by_net (cases_eq m a)
     by_net (inl same) = let P : ℕ → Type 0 = λ k. IsDoneTo board passes k (length board.nets) in subst P (sym same) done
     by_net (inr other) = are m (omega (arith, other, less))
 
--- if the nets from `b` on below `c` need no pass with net `a`, and net `c` needs none either, the nets up to `c` need none
+-- if net `a` needs no pass with any net from `b` up to but not including `c`, and none with net `c`, it needs none with any net from `b` up
+-- to and including `c`
 pub with_last : (board : RawBoard) (before after : List (List Ctl)) (a b c : ℕ) → StaysDone board before after → ((n : ℕ) → b ≤ n → n < c → IsDone board before a n) → IsDone board after a c → (n : ℕ) → b ≤ n → n < c + 1 → IsDone board after a n
 with_last board before after a b c stays earlier last n least below = by_net (cases_eq n c)
   where

@@ -12,7 +12,7 @@ use Rattle.net_classes.specs.Pairs.{drivers_at}
 use Rattle.driver_passes.specs.inner.Progress.{drivers_from}
 use Rattle.driver_passes.proofs.ProgressLemmas.{drop_drivers}
 
--- the tested drivers from net `n` on begin with those of net `n`
+-- the tested drivers from net `n` on are the tested drivers of net `n`, followed by those from net `n + 1` on
 from_more : (board : RawBoard) (n : ℕ) → n < length board.nets → drivers_from board n ≡ drivers_at board n ++ drivers_from board (n + 1)
 from_more board n less =
     let next : suc n ≡ n + 1 = omega arith in
@@ -74,7 +74,7 @@ first_is board d at = sym (first_stays (add_for_nets board useful) pass (by_nets
     of_drivers [] e = absurd (omega (arith, slice_get_within [] 0 d (sym e)))
     of_drivers (head ∷ drivers) e = first_stays (add_for_driver board useful) pass (by_driver board useful pass) drivers (driver_pass board useful [] head ∷ []) (ap (λ o. driver_pass board useful [] (unwrap_or o head) ∷ []) (sym e))
 
--- if no net has a tested driver, no pass is added for any two nets
+-- if a net has no tested drivers, no pass is added for this net with any other net
 alone : (board : RawBoard) (useful : List Ctl) (others : List (List Drive)) → fold (add_for_nets board useful) [] (map (λ drivers. ([], drivers)) others) ≡ []
 alone board useful [] = refl
 alone board useful (drivers ∷ others) = alone board useful others

@@ -51,7 +51,7 @@ impl Column {
         Ok(())
     }
 
-    /// Adds the word of one more row.
+    /// Adds the word of a row that is appended to the rows.
     pub fn add(&mut self, row: &NumberSet) -> Result<(), AllocError>
         ensures { OnOk result ((rows : List (List ℕ)) → IsColumn rows self.old →
             IsColumn (rows ++ row.now ∷ []) self.new) }

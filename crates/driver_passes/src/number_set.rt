@@ -1,4 +1,4 @@
-// Sets of numbers. The numbers are those of nets or of places, and each has a bit.
+// Sets of numbers. The numbers are the numbers of nets or the places of controls, and each number has a bit.
 ghost use Rattle.std.specs.Prelude.{◌≡◌, ◌≤◌, ◌<◌, ◌+◌, ◌*◌, ◌/◌, ◌==◌, ◌&&◌, ◌||◌, ℕ, Bool, not, false, true, length, replicate, slice_index_or, All, MatchOption, IfOk};
 ghost use Rattle.net_classes.specs.Pairs.{AreBitsOf};
 ghost use Rattle.driver_passes.specs.inner.Drafts.{has_number};

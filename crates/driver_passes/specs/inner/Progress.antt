@@ -1,4 +1,4 @@
--- The passes so far.
+-- The passes that are made so far, with the controls that they hold and the nets that they show.
 use Rattle.std.specs.Prelude.{◌≡◌, ◌<◌, ◌+◌, ◌/◌, ℕ, Bool, true, List, drop, length, Some, slice_get, Contains}
 use Rattle.std.specs.List.{flat_map, list_any}
 use Rattle.board_defs.specs.declared.board.Ctl.{Ctl}
