@@ -36,7 +36,8 @@ both h k = (h.0 && k.0, Decides-and h.0 k.0 h.1 k.1)
 same : {P Q : Type 0} → (P → Q) → (Q → P) → IsDecided P → IsDecided Q
 same to back h = (h.0, Decides-like h.0 to back h.1)
 
--- A list picks the items for which P holds. There is such a list if P is decided for each item, and it is the only one. A filter gives it.
+-- The list of the items for which P holds, in order. If P is decided for each item, there is such a list. It is the only one, and a filter
+-- gives it.
 module _ {A : Type 0} (P : A → Type 0) where
   some_picked : (xs : List A) → ((x : A) → Has xs x → IsDecided (P x)) → (picked : List A) × Picks P xs picked
   some_picked [] each = ([], refl)

@@ -218,7 +218,7 @@ module _ (board : RawBoard) (plan : PlanTables) (lists : FaultLists) (starts : A
     (listed : listed_places plan lists ≡ places_of board)
     (singles : (i : ℕ) (single : Single) → slice_get (places_of board) i ≡ Some (Some single) → IsSingle board single) where
   module _ (nets : List ℕ) (differ : AreDiffering board plan log nets) where
-    -- the list of covered nets has each net that differs at its `covered_place`
+    -- each net that differs is in the list of covered nets, at its `covered_place`
     stands : (n : ℕ) → Contains nets n → slice_get lists.nets (covered_place plan n) ≡ Some n
     stands n h = let e = (differ.exactly n).0 h in there n e.0 e.1
 

@@ -178,7 +178,7 @@ module _ (board : RawBoard) (rules : IsBoard board) (plan : PlanTables) (p : IsP
                 ap (λ (o : Option ℕ). unwrap_or (data_observed (row.carried n) d.place o) (steady_bit board (holds pass) at.part t.device entry.num)) e
                 ∙ steady_is
 
-        -- a driver that its own cell controls is off at the bit that the net is pulled to
+        -- if the driver's own cell controls it, the net is pulled to the driver's disable value
         pull_is : (control : Control) → entry.ctl ≡ Some control → control.cell ≡ entry.num → net.pull ≡ Some control.disable
         pull_is control e same = by_rules (((board_rules board rules).nets n net is_net).pins d.place on.pin on.is_pin)
           where

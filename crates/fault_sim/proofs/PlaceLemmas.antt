@@ -215,7 +215,7 @@ start_few nets starts are few a = by_side (cases_lt a (length starts))
     by_side (inl less) = omega (arith, are.each a (omega (arith, less, are.count)), before_few nets a few)
     by_side (inr past) = omega (arith, get_or_past starts a 0 past)
 
--- with one more item, `starts` has the right numbers up to net a + 1
+-- if `starts` has the right numbers up to net a, and the number for net a + 1 is appended, it has the right numbers up to net a + 1
 pub starts_more : (nets a : ℕ) (starts : List ℕ) (next : ℕ) → a < nets → length starts ≡ a + 1 → ((k : ℕ) → k ≤ a → get_or starts k 0 ≡ pairs_before nets k) → next ≡ pairs_before nets (a + 1) →
     (k : ℕ) → k ≤ a + 1 → get_or (starts ++ next ∷ []) k 0 ≡ pairs_before nets k
 starts_more nets a starts next less long each is k le = by_side (cases_lt k (a + 1))

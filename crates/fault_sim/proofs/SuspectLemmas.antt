@@ -15,7 +15,7 @@ use Rattle.fault_sim.specs.Starts.{pairs_before, AreStarts}
 use Rattle.fault_sim.specs.inner.Suspects.{two_from, four_from, first_open, first_short, pair_number, pair_suspects, pin_net, is_net, pin_suspects, net_suspects}
 use Rattle.fault_sim.proofs.PlaceLemmas.{before_more}
 
--- each place in `two_from` is at least its first place and less than two places after it
+-- each place in `two_from first` is `first` or the next place
 two_has : (first i : ℕ) → Has (two_from first) i → (first ≤ i) × (i < first + 2)
 two_has first i (inl e) = (omega (arith, e), omega (arith, e))
 two_has first i (inr (inl e)) = (omega (arith, e), omega (arith, e))

@@ -1,4 +1,4 @@
-// The nets that differ in a log.
+// Finds the nets that differ in a log.
 ghost use Rattle.std.specs.Prelude.{◌≡◌, ◌↔◌, ◌*◌, length, All, IsTrue, IfOk};
 ghost use Rattle.board_defs.specs.Passes.{passes_of};
 ghost use Rattle.board_defs.specs.Pins.{data_bits};

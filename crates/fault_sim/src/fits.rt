@@ -140,7 +140,7 @@ impl<'a> LoggedPass<'a> {
 
 impl<'a> LoggedTest<'a> {
     /// Returns whether every pass of the log shows the effect of a fault on the fault's own nets. Checks both nets in one pass before the
-    /// next pass, since a fault that does not explain the log mostly fails in an early pass.
+    /// next pass, since a fault that does not explain the log usually fails in an early pass.
     pub(crate) fn shows_own(&self, fault: Single) -> bool
         ensures { IsTrue result ↔ ShowsOwn self.now.test.board self.now.test.plan fault self.now.log }
     {

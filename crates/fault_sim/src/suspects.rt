@@ -1,4 +1,4 @@
-// The places whose faults may explain a log.
+// Finds the places whose faults may explain a log.
 ghost use Rattle.std.specs.Prelude.{◌≡◌, ◌+◌, ◌-◌, ◌*◌, ◌<◌, ◌^◌, ◌++◌, suc, length, All, IfOk, OnOk, slice_get, Some};
 ghost use Rattle.std.specs.List.{flat_map, range_with_len};
 ghost use Rattle.board_defs.specs.Passes.{passes_of};
@@ -209,7 +209,7 @@ impl Suspects {
         self.places.len() as u64
     }
 
-    /// Returns the place of suspect `i` in the universe. `i` must be below the number of suspects. The places rise with `i`.
+    /// Returns the place of suspect `i` in the universe. `i` must be below the number of suspects. The places are in ascending order.
     pub fn place(&self, i: u64) -> u64
         requires { i < length self.now }
         ensures { slice_get self.now i ≡ Some result }

@@ -93,7 +93,7 @@ fn are_set(flags: &[bool]) -> bool
     flags.iter().all(|flag| *flag)
 }
 
-// Sets the flags of a net's pins that some pass tests. Stops once all flags are set, since one pass mostly tests all pins of a net.
+// Sets the flags of a net's pins that some pass tests. Stops after all flags are set, since one pass usually tests all pins of a net.
 fn mark_passes(flags: &mut [bool], plan: &Plan, net: u32)
     ensures { flags.new ≡ fold (marked_in plan.now net) flags.old plan.now.passes }
 {

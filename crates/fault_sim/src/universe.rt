@@ -289,8 +289,8 @@ impl Universe {
 
     /// Returns the fault at place `i`. For a place of a pair of covered nets, returns a short even if no pass observes both nets. `near`
     /// only speeds up the look-up of a pair. Pass a variable that is 0 at first, and pass it again to later look-ups. Each look-up of a
-    /// pair sets this variable to the place of the pair's first net among the covered nets. If the places rise, nearly every look-up then
-    /// needs no search. Allocates nothing.
+    /// pair sets this variable to the place of the pair's first net among the covered nets. If the places are looked up in ascending order,
+    /// nearly every look-up then needs no search. Allocates nothing.
     pub fn candidate(&self, i: u64, near: &mut usize) -> Option<Single>
         ensures { (plan : PlanTables) → listed_at (listed_places plan self.now) i ≡ where_observed plan result }
     {

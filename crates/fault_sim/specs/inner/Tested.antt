@@ -51,11 +51,11 @@ tested_flags plan count n = fold (marked_in plan n) (replicate count false) plan
 abbrev pub pin_where : Bool → ℕ → ℕ → List PinRef
 pin_where is_tested n place = cond is_tested (record { net = n; place = place } ∷ []) []
 
--- the pins among the first `count` pins of a net whose flags are true
+-- the pins whose flags are true, among the first `count` pins of a net
 abbrev pub flagged_before : ℕ → List Bool → ℕ → List PinRef
 flagged_before n flags count = map (λ place. record { net = n; place = place }) (filter (λ place. slice_index_or flags place false) (range_with_len 0 count))
 
--- the pins of a net whose flags are true
+-- the pins of a net, if their flags are true
 abbrev pub flagged_pins : ℕ → List Bool → List PinRef
 flagged_pins n flags = flagged_before n flags (length flags)
 
@@ -71,6 +71,6 @@ pin_count board n = pins_of_net (slice_get board.nets n)
 abbrev pub net_pins : RawBoard → PlanTables → ℕ → List PinRef
 net_pins board plan n = flagged_pins n (tested_flags plan (pin_count board n) n)
 
--- the pins of the first `count` nets that some pass tests
+-- the pins that some pass tests, among the pins of the first `count` nets
 abbrev pub all_pins : RawBoard → PlanTables → ℕ → List PinRef
 all_pins board plan count = flat_map (net_pins board plan) (range_with_len 0 count)
