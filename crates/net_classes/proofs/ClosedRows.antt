@@ -27,7 +27,7 @@ use Rattle.net_classes.proofs.ContendedLemmas.{has_shares, share_has}
 use Rattle.net_classes.proofs.PairRowLemmas.{covered_bit}
 use Rattle.net_classes.proofs.WordLemmas.{same_row}
 
--- another control has a driver on one of the nets that a control shares if and only if the two share a net
+-- two different controls share a net if and only if the second has a driver on one of the nets that the first shares
 shares : (board : RawBoard) (c d : Ctl) → same_ctl c d ≡ false → drives_some board (shared_nets board c) d ≡ share_net board c d
 shares board c d differ = same_truth (drives_some board (shared_nets board c) d) (share_net board c d) there back
   where

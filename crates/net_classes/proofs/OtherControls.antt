@@ -30,7 +30,7 @@ use Rattle.net_classes.proofs.ClosedLemmas.{all_on, cells_there, pins_drive, tes
 use Rattle.net_classes.proofs.ControlSetLemmas.{same_set}
 use Rattle.net_classes.proofs.SharedLemmas.{driven_has}
 
--- `t` says whether the set has control `c`, so it may stand for the set's answer about any control that equals `c`
+-- if `t` says whether the set has control `c`, it also says whether the set has a control that equals `c`
 same_outside : (set : ControlSet) (c d : Ctl) (t : Bool) → has_control set c ≡ t → (same_ctl c d && not t) ≡ (same_ctl c d && not (has_control set d))
 same_outside set c d t e = by (same_ctl c d) refl
   where

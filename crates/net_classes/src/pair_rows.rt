@@ -194,7 +194,7 @@ fn add_control(
     put_row(pairs, known, c, row)
 }
 
-/// Returns a table that has the number of the first row for each cell of the board.
+/// Returns a table with a row number for each cell of the board. Each number is 0, the number of the first row.
 fn first_numbers(alloc: Global, known: &Known<'_>) -> Result<Vec<Vec<usize>>, AllocError>
     ensures { IfOk result (λ numbers. (c : Ctl) → IsCell known.now.board c →
         is_some (item_of (table numbers.items) c) ≡ true) }

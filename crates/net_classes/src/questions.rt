@@ -56,7 +56,7 @@ impl<'a> BoardClasses<'a> {
         BoardClasses { board, classes }
     }
 
-    /// Returns the record of the board, which keeps the rules of a board.
+    /// Returns the record of the board. The record keeps the rules of a board.
     pub fn raw(&self) -> &'a RawBoard
         ensures value { result.now ≡ self.now }
         ensures rules { IsBoard self.now }

@@ -1,4 +1,4 @@
--- Sets of controls.
+-- Sets of controls, which are kept as marks and as lists.
 use Rattle.std.specs.Prelude.{◌≡◌, Bool, true, Some, List, Contains, fold}
 use Rattle.board_defs.specs.declared.board.Ctl.{Ctl}
 use Rattle.board_defs.specs.declared.board.RawBoard.{RawBoard}

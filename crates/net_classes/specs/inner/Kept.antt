@@ -1,4 +1,4 @@
--- Facts about a net that its number gives.
+-- A fact about the net that has a given number.
 use Rattle.std.specs.Prelude.{◌≡◌, ℕ, Some, slice_get}
 use Rattle.board_defs.specs.declared.board.Net.{Net}
 use Rattle.board_defs.specs.declared.board.RawBoard.{RawBoard}
