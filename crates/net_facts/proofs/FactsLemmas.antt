@@ -41,7 +41,8 @@ any_either f g (x ∷ xs) = turn (f x) (g x) (list_any f xs) (list_any g xs) ∙
     turn false true false d = refl
     turn false false c d = refl
 
--- if a net is not guarded, none of its pins guards it
+-- If some item passes `f`, then `s` is true or some item passes `f` or `g`. So testing this condition first does not change the answer for
+-- `f`, nor for `g`.
 any_guarded : {X : Type 0} (s : Bool) (f g : X → Bool) (xs : List X) → ((s || list_any (λ x. f x || g x) xs) && list_any f xs ≡ list_any f xs) × ((s || list_any (λ x. f x || g x) xs) && list_any g xs ≡ list_any g xs)
 any_guarded true f g xs = (refl, refl)
 any_guarded false f g xs =

@@ -78,7 +78,7 @@ impl<'a, 'b> PulledBoard<'a, 'b> {
         Ok(PulledBoard { board, low, high })
     }
 
-    /// Returns the record of the board, which keeps the rules of boards.
+    /// Returns the record of the board. The record keeps the rules of a board.
     pub fn raw(&self) -> &'b RawBoard
         ensures value { result.now ≡ self.now }
         ensures rules { IsBoard self.now }

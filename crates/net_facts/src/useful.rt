@@ -1,4 +1,4 @@
-// The useful controls.
+// Finds the useful controls.
 ghost use Rattle.std.specs.Prelude.{◌≡◌, ◌++◌, ◌∷◌, [], if◌then◌else◌, filter, IfOk, OnOk};
 ghost use Rattle.board_defs.specs.Passes.{all_cells, cells_of};
 ghost use Rattle.net_facts.specs.Cells.{table};
