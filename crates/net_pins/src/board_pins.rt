@@ -42,7 +42,7 @@ impl<'a> BoardPins<'a> {
         BoardPins { board, tables }
     }
 
-    /// Returns the record of the board, which keeps the rules of boards.
+    /// Returns the record of the board. The record keeps the rules of a board.
     pub fn raw(&self) -> &'a RawBoard
         ensures value { result.now ≡ self.now }
         ensures rules { IsBoard self.now }

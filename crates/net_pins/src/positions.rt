@@ -1,4 +1,4 @@
-// Positions in data scans.
+// Finds the positions of parts and cells in data scans.
 ghost use Rattle.std.specs.Prelude.{◌≡◌, ◌+◌, ◌<◌, sum_by, IfOk};
 ghost use Rattle.board_defs.specs.Pins.{data_length, device_at, cell_count};
 ghost use Rattle.net_pins.specs.Positions.{first_position, AreFirsts};

@@ -1,4 +1,4 @@
-// The compared cells of all nets.
+// Collects the compared cells of all nets.
 ghost use Rattle.std.specs.Prelude.{◌≡◌, ◌≤◌, length, map, IfOk, All};
 ghost use Rattle.board_defs.specs.Limits.{most_pins};
 ghost use Rattle.net_pins.specs.NetCells.{all_readers, readers_of};
