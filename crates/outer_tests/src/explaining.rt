@@ -166,7 +166,7 @@ const GROUPS_PLACES: [&str; 32] = [
     "second 1 2",
 ];
 
-// The places of the shorts of nets 0 and 1, and of the faults of each of these nets.
+// The places of the shorts of nets 0 and 1. The next constants have the places of all faults of each of these nets.
 const GROUPS_SHORTS: &[u64] = &[20, 21, 22, 23];
 
 const OF_NET_0: &[u64] = &[0, 1, 6, 7, 8, 9, 20, 21, 22, 23, 24, 25, 26, 27];

@@ -44,11 +44,11 @@ fn is_scan(shape: Shape, [tdi, tdo, mask]: [u64; 3], scan: Scan) -> bool {
 // The way in which a plan is made.
 #[derive(Clone, Copy)]
 enum Making {
-    // From the passes of the board.
+    // The plan is made from the passes of the board.
     Passes,
-    // From the passes of the board and the pins of its nets.
+    // The plan is made from the passes of the board and the pins of its nets.
     Pins,
-    // From an empty list of passes.
+    // The plan is made from an empty list of passes.
     Nothing,
 }
 
