@@ -20,7 +20,7 @@ pub record Noted (observers : List Observer) (control : ℕ) (cell : DriverCell)
   pub control_is : observer.control ≡ Some control
   pub cell_is : observer.cell ≡ cell
 
--- the items of a row after one cell was added
+-- after a cell is added to row `q`, each item of row `p` was there before, or it is the added cell and `p` is `q`
 row_has : (rows : List (List DriverCell)) (q : ℕ) (cell : DriverCell) (p : ℕ) (d : DriverCell) → Has (get_or (noted rows (Some q) cell) p []) d → Has (get_or rows p []) d ⊎ ((q ≡ p) × (cell ≡ d))
 row_has rows q cell p d h = by_there (cases_lt p (length rows))
   where

@@ -63,7 +63,7 @@ length-parts_laid g part (p ∷ parts) =
 pub length-laid : (g : CellBits) (board : RawBoard) → length (laid g board) ≡ data_bits board
 length-laid g board = length-parts_laid g 0 board.chain
 
--- the bit of a cell is at the cell's position
+-- if part `n` is described, the bits of the parts have the bit of each of its cells at the cell's position
 part_at : (g : CellBits) (k : ℕ) (parts : List Part) (n : ℕ) (p : Part) (device : RawDevice) (cell : ℕ) → slice_get parts n ≡ Some p → p.kind ≡ Described device → cell < device.boundary →
     (bits_of (drop (suc n) parts) + cell < bits_of parts) × (get_or (joined (parts_laid g k parts)) (bits_of (drop (suc n) parts) + cell) false ≡ g (k + n) device cell)
 part_at g k [] n p device cell e kind below = cc e

@@ -1,4 +1,4 @@
-// The codes of nets.
+// Gives codes to the nets that some pass observes.
 ghost use Rattle.std.specs.Prelude.{◌≡◌, ◌≤◌, ◌<◌, ℕ, false, true, suc, cond, length, fold, take, count_by, slice_index_or, IfOk, All};
 ghost use Rattle.board_defs.specs.Limits.{most_nets};
 ghost use Rattle.board_defs.specs.declared.board.Ctl.{Ctl as ControlRecord};

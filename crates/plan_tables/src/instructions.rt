@@ -1,4 +1,4 @@
-// The rows of the two instruction scans.
+// Makes the rows of the two instruction scans.
 ghost use Rattle.std.specs.Prelude.{◌≡◌, ◌+◌, ◌<◌, ◌≤◌, ◌++◌, List, Bool, map, length, replicate, drop, IfOk, OnOk};
 ghost use Rattle.board_defs.specs.Limits.{most_bits};
 ghost use Rattle.board_defs.specs.declared.board.PartKind.TheVariants.{Described};

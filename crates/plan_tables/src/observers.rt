@@ -1,4 +1,4 @@
-// The drivers by which nets can be observed.
+// Finds the drivers by which nets can be observed.
 ghost use Rattle.std.specs.Prelude.{◌≡◌, ◌≤◌, ◌++◌, [], not, ◌==◌, length, map, option_map, slice_index_or, IfOk, OnOk, All};
 ghost use Rattle.std.specs.List.{list_any};
 ghost use Rattle.board_defs.specs.Limits.{most_nets};

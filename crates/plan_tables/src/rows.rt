@@ -1,4 +1,4 @@
-// Making rows of bits.
+// Makes rows of bits.
 ghost use Rattle.std.specs.Prelude.{◌≡◌, ◌≤◌, length, IfOk};
 ghost use Rattle.board_defs.specs.Limits.{most_bits};
 
