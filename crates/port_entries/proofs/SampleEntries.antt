@@ -55,7 +55,7 @@ reads = cell 0 Input (Some 0) ∷ []
 abbrev drives : List Cell
 drives = cell 1 Output3 (Some 0) ∷ []
 
--- port bits that are dark, and port bits that are not
+-- whether a port bit is dark depends on its mode and its entries
 read_input : dark_by (Some (port_bit Inward false)) reads ≡ false
 read_input = refl
 
