@@ -86,7 +86,7 @@ pub read_holds : (held : Held) → Tells held → (files : List Wanted) (texts :
 read_holds None (of_name, tells) files texts read = absurd cc
 read_holds (Some held) tells files texts read = holds_read held files texts read
 
--- if the first file is short enough, the first file that is too long is among the other files
+-- if the first file is short enough, the first file that is too long among the others is also the first among all files
 after_first : (held : Text → Option Text) (first : Wanted) (text : Text) (files : List Wanted) (file : Wanted) → held first.name ≡ Some text → length text ≤ first.limit → IsTooLong (Some held) files file → IsTooLong (Some held) (first ∷ files) file
 after_first held first text files file is short long = record {
   before = first ∷ long.before;
@@ -126,7 +126,7 @@ pub read_long : (held : Held) → Tells held → (files : List Wanted) (file : W
 read_long None (of_name, tells) files file read = absurd cc
 read_long (Some held) tells files file read = long_held held files file read
 
--- two places of the first file that is too long are the same place
+-- the first file that is too long has only one place among the files
 same_cut : (held : Text → Option Text) (before others after behind : List Wanted) (file : Wanted) (texts found : List Text) (text : Text) → held file.name ≡ Some text → file.limit < length text → HoldsEach (Some held) before texts → HoldsEach (Some held) others found
     → before ++ file ∷ after ≡ others ++ file ∷ behind → others ≡ before
 same_cut held [] [] after behind file texts found text is long each also e = refl

@@ -64,13 +64,13 @@ calm : Rose 0 0 → ⊥
 calm (inl less) = omega (arith, less)
 calm (inr last) = omega (arith, last)
 
--- two different texts are not equal
+-- if `bytes_eq` says that two texts differ, they are not equal
 apart : (one other : Text) → bytes_eq one one ≡ true → bytes_eq one other ≡ false → one ≡ other → ⊥
 apart one other same differ is =
     let z : true ≡ false = sym same ∙ ap (bytes_eq one) is ∙ differ in
     cc z
 
--- the first text is not a beginning of the second
+-- if `bytes_eq` says that no beginning of the line is this text, the line does not begin with the text
 no_front : (one line : Text) → bytes_eq one one ≡ true → bytes_eq one [] ≡ false → ((count : ℕ) → bytes_eq one (take (suc count) line) ≡ false) → (count : ℕ) → one ≡ take count line → ⊥
 no_front one line same some differ zero is = apart one [] same some is
 no_front one line same some differ (suc count) is = apart one (take (suc count) line) same (differ count) is
@@ -80,7 +80,7 @@ none_noted : (words : List Text) (held : Held) (status : Status) (asked : List T
 none_noted words held status asked out line some (inl is) = apart [] line refl some is
 none_noted words held status asked out line some (inr (rose, cut)) = calm rose
 
--- the run ended with neither of two statuses
+-- a status that differs from two statuses is neither of them
 neither : (status one other : Status) → (status ≡ one → ⊥) → (status ≡ other → ⊥) → (status ≡ one) ⊎ (status ≡ other) → ⊥
 neither status one other first second (inl is) = first is
 neither status one other first second (inr is) = second is
