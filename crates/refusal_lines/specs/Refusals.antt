@@ -92,7 +92,7 @@ board_fault_line names (board.NoPullNet spot) = at_line names.chain spot.line (c
 board_fault_line names (board.PullTwice spot) = at_line names.chain spot.line (codes ": net pulled twice\n")
 board_fault_line names (board.Memory e) = memory_line
 
--- the line for the first bad place of a BSDL text
+-- the line for the first fault of a BSDL text's tokens
 abbrev pub lex_fault_line : Text → LexFault → Text
 lex_fault_line name (lex.Byte n) = at_line name n (codes ": byte not allowed\n")
 lex_fault_line name (lex.OpenString n) = at_line name n (codes ": string not closed\n")
@@ -126,7 +126,7 @@ device_fault_line name (device.Rule number item) = rule_line name number item
 device_fault_line name (device.Text attribute entry) = string_line name attribute entry
 device_fault_line name (device.Memory e) = memory_line
 
--- the line for the first pin of a LINK line that is in no net
+-- the line for the first LINK pin that is in no net
 abbrev pub link_fault_line : Text → LinkFault → Text
 link_fault_line name (link.NoLinkPin spot) = at_spot name spot (codes ": link pin not in a net\n")
 link_fault_line name (link.Memory e) = memory_line

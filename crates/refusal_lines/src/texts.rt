@@ -80,7 +80,7 @@ fn put_board_fault<N: Sink>(names: Names, fault: &BoardFault, notes: &mut N) -> 
     }
 }
 
-// Writes the line for the first bad place of a BSDL text.
+// Writes the line for the first fault of a BSDL text's tokens.
 fn put_lex_fault<N: Sink>(name: &str, fault: &LexFault, notes: &mut N) -> Result<(), PutFault>
     ensures { Puts (N.shown notes.old) (N.shown notes.new) (lex_fault_line name.now fault.now) result }
 {
