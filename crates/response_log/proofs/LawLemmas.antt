@@ -1,4 +1,4 @@
--- Lemmas which say that a text gives a log if and only if each of its lines with words is a row, and there are as many as expected.
+-- Lemmas which say that a text gives a log if and only if each of its lines with words is a row, and it has the expected number of rows.
 use Rattle.std.proofs.Common.{◌≡◌, ◌↔◌, ℕ, ◌≤◌, ◌==◌, Bool, true, false, cond, nat_lt, Option, Some, None, is_some, option_and_then, Ok, Err, List, [], ◌∷◌, ◌++◌, length, map, take, drop, refl, sym, ap, ◌∙◌, arith, length-drop}
 use Rattle.std.specs.Prelude.{filter_map}
 use Rattle.std.specs.List.{cons_option}
