@@ -81,7 +81,7 @@ impl StackedRows {
     }
 }
 
-/// The rows of one pass at a time, which are kept from call to call.
+/// The rows of one pass, which are kept from call to call. If a call needs another pass, the rows of that pass replace them.
 #[derive(Drop)]
 pub struct PassRows {
     // The number of the pass, counted from 0, or `None` before the first pass.
