@@ -131,7 +131,7 @@ one_list (g ∷ gs) (h ∷ hs) p q to from =
     let same : g ≡ h = rising_same g h (p.rise g (inl refl)) (q.rise h (inl refl)) (first_within g gs h hs p q to least) (first_within h hs g gs q p from (sym least)) in
     cons_path same (one_list gs hs (tail_ordered g gs p) (tail_ordered h hs q) (rest_within g gs h hs p q to same) (rest_within h hs g gs q p from (sym same)))
 
--- a group has net `n` if and only if a test over the group's nets finds it
+-- If a group has net `n`, a test over the group's nets finds `n`. The next lemma is the converse.
 any_in : (group : List ℕ) (n : ℕ) → Has group n → list_any (λ m. m == n) group ≡ true
 any_in group n has = has_any (λ m. m == n) group n has (eq-eqb n n refl)
 

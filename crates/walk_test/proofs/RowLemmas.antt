@@ -343,7 +343,7 @@ module _ (board : RawBoard) (rules : IsBoard board) (walk : List Ctl) (n : ℕ) 
       ∙ (laid_here (λ part device cell. unwrap_or (expect_bit board (pass_row walk (λ m. Some (f m))) part device cell) false)).1
       ∙ ap (λ (o : Option Bool). unwrap_or o false) (expects board (pass_row walk (λ m. Some (f m))) n net c)
 
--- the cells of a walk net, as the definitions give them
+-- each position in `positions_beside` is the position of a cell that reads a pin other than the pin at this place
 beside_positions : (place : ℕ) (readers : List ReaderCell) (position : ℕ) → Has (positions_beside place readers) position → (r : ReaderCell) × Has readers r × ((r.place == place) ≡ false) × (r.position ≡ position)
 beside_positions place readers position h =
     let m = map_has (λ (r : ReaderCell). r.position) (filter (λ r. not (r.place == place)) readers) position h in

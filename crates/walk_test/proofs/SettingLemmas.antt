@@ -149,7 +149,7 @@ left_order p pass order =
     let R : Ctl → Ctl → Type 0 = λ a b. Rattle.std.specs.Prelude.IsTrue (precedes a b) in
     order_pairs R (filter p pass) (order_filter R p pass (pairs_order R pass order))
 
--- a filtered pass holds a control if and only if the pass holds it and it passes the test
+-- a filtered pass holds a control if and only if the pass holds the control and the control passes the test
 held_left : (p : Ctl → Bool) (pass : List Ctl) (c : Ctl) → holds (filter p pass) c ≡ (holds pass c && p c)
 held_left p [] c = refl
 held_left p (d ∷ pass) c = by_tests (p d) (same_ctl c d) refl refl (held_left p pass c)

@@ -1,4 +1,4 @@
-// A group of nets.
+// A group of walk nets that are shorted together.
 ghost use Rattle.std.specs.Prelude.{◌≡◌};
 ghost use Rattle.walk_test.specs.Groups.{Rise};
 

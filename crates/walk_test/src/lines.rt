@@ -1,4 +1,4 @@
-// The lines of a set of groups.
+// Writes the lines of a set of groups.
 ghost use Rattle.std.specs.Prelude.{◌≡◌, [], ◌∷◌, codes};
 ghost use Rattle.line_printer.specs.Prints.{Prints, line_of};
 ghost use Rattle.walk_test.specs.GroupText.{size_line, count_line};

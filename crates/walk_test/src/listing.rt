@@ -1,4 +1,4 @@
-// The text of a set of groups.
+// Writes the text of a set of groups.
 ghost use Rattle.std.specs.Prelude.{◌≡◌, ◌++◌, [], length, option_map};
 ghost use Rattle.std.specs.List.{flat_map};
 ghost use Rattle.bt_base.specs.Puts.{Puts};
