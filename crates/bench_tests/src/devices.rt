@@ -82,8 +82,8 @@ const OTHER_ENTITY: &str =
      3 port TDO\n4 port TMS\n5 port TCK\n6 number 2\n7 text BYPASS (11), EXTEST (00), SAMPLE (10)\n8 text 01\n\
      9 number 3\n10 text 0 (BC_1, Q(1), OUTPUT2, X),1 (BC_1, Q(2), OUTPUT2, X)\n";
 
-// The part of the meaning that is compared, a case that holds, a case that does not hold, and the result of the second
-// case.
+// The part of the meaning that is compared, and two texts with expected results, of which only the first is right. The last text is the
+// actual result of the second text.
 type Texts = (Shown, &'static [(Source, &'static str)], &'static str);
 
 static TEXTS: [Texts; 6] = [
@@ -164,7 +164,7 @@ fn wrong_lexings_are_noticed(rt: HostRuntime) -> Result<(), CaseFault> {
     Ok(())
 }
 
-// Two readings, of which only the first holds, and the result of the second reading.
+// Two texts with expected readings, of which only the first is right. The last text is the actual reading of the second text.
 type Readings = (&'static [(Source, Reading)], &'static str);
 
 static READINGS: [Readings; 3] = [
@@ -194,7 +194,8 @@ fn wrong_readings_are_noticed(rt: HostRuntime) -> Result<(), CaseFault> {
     Ok(())
 }
 
-// Two strings, of which only the first holds, and the result of the second string.
+// A grammar, and two strings with expected results, of which only the first is right. The last text is the actual result of the second
+// string.
 type Strings = (
     Grammar,
     &'static [(&'static str, Result<&'static str, u32>)],
@@ -333,7 +334,7 @@ fn wrong_orders_are_noticed(rt: HostRuntime) -> Result<(), CaseFault> {
 }
 
 // The number of the failing put, the number of bytes that the sink takes, and the last of these bytes. In each pair,
-// only the first holds.
+// only the first case is right.
 static CUTS: [[(u32, usize, &str); 2]; 2] = [
     [(4, 45, ""), (5, 1068, "")],
     [(4, 45, ""), (6, 2055, " 598\n")],
