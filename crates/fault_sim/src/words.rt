@@ -129,8 +129,8 @@ fn undriven_word(pull: Option<bool>, code: u32) -> u32
     }
 }
 
-/// Returns the common bits of two shorted nets in the rows of a pass. In a row in which neither net is driven, it is the bit to which the
-/// nets are pulled. If neither net has a pull, it is the expected bit, that is, the bit of `code`.
+/// Returns the common bits of two shorted nets in the rows of a pass. In a row in which neither net is driven, the bit is the one to which
+/// the nets are pulled. If neither net has a pull, it is the expected bit, that is, the bit of `code`.
 #[inline]
 pub fn short_word(kind: Kind, first: FedWords, second: FedWords, code: u32) -> u32
     ensures { (j : ℕ) → j < 32 → word_bit result j ≡ short_word_bit kind first second code j }
