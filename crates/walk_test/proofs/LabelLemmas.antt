@@ -78,7 +78,7 @@ module _ (log : List (List Bool)) (cells : List NetCells) (long : length cells �
   abbrev log_labels : List ℕ
   log_labels = map (label_of log) cells
 
-  -- each compared cell reads what the labels say, in each row; this is `ShowsAll` without its other definitions
+  -- in each row, each compared cell reads 1 if and only if its net has the same label as the net of the row; this is the same as `ShowsAll`
   abbrev EachShows : Type 0
   EachShows = (j i p : ℕ) (c : NetCells) → j < length cells → slice_get cells i ≡ Some c → Has c.compared p → bit_in log j p ≡ (get_or log_labels i 0 == get_or log_labels j 0)
 

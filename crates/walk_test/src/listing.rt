@@ -46,7 +46,7 @@ fn put_nets<K: Sink>(
     Ok(())
 }
 
-// Writes a group of these nets.
+// Writes the lines of a group of these nets.
 fn put_members<K: Sink>(
     board: &Board,
     nets: &[u32],
