@@ -6,7 +6,7 @@ use std::alloc::{AllocError, Global};
 /// A run that writes a text.
 #[derive(Clone, Copy)]
 pub struct Command {
-    /// The words.
+    /// The words of the command line.
     pub line: &'static str,
     /// The names of the texts that the run reads, in order.
     pub names: &'static [&'static str],
