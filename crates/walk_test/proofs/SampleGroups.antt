@@ -1,6 +1,5 @@
 -- Samples of sets of groups of small boards: lists that are sets of groups and lists that are not, the rows that a board captures under the
 -- shorts of a set, the logs that a set explains, and the texts of sets.
--- they explain, and their texts.
 use Rattle.std.proofs.Common.{◌≡◌, inl, inr, ℕ, zero, suc, ◌+◌, ◌<◌, ◌≤◌, Bool, List, [], ◌∷◌, length, map, Some, refl, subst, arith}
 use Rattle.std.specs.Prelude.{codes, Contains, All}
 use Rattle.std.specs.Fmt.{digits}

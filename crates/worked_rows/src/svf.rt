@@ -161,7 +161,6 @@ const LINKED: [Row; 2] = [
 
 // Boards whose passes test two nets. The first board has a pass for A with D, and then a pass for B with C. On the second board, A and C
 // have one pass. The driver of A fits both drivers of C, and the pass takes the first of these.
-// The driver of A fits the two drivers of C, and the pass takes the first of these.
 const TOGETHER: [Row; 2] = [
     Row {
         texts: &[
@@ -217,7 +216,6 @@ const TOGETHER: [Row; 2] = [
 
 // Boards with controls that exclude each other. The first board enables the controls of cells 8 and 9, then 10 and 11, then 9 and 10. The
 // second board enables the control of cell 4, and then the control of cell 5.
-// then the control of cell 5.
 const APART: [Row; 2] = [
     Row {
         texts: &[
