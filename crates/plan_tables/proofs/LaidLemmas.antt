@@ -22,8 +22,8 @@ use Rattle.plan_tables.specs.inner.Laid.{CellBits, part_laid, parts_laid, laid}
 use Rattle.plan_tables.specs.Assigned.{assigned}
 use Rattle.plan_tables.proofs.AssignLemmas.{assigned_is}
 
--- If `f` returns false for a bit with TDI 0 that is not compared, mapping `f` over the bits of a data scan gives the row that has the mapped
--- bit of each cell at the cell's position.
+-- If `f` returns false for a bit with TDI 0 that is not compared, mapping `f` over the bits of a data scan gives the row that has the
+-- mapped bit of each cell at the cell's position.
 map_laid : (f : ScanBit → Bool) → f (record { tdi = false; expect = None }) ≡ false → (board : RawBoard) (scan : RowScan) (part : ℕ) (parts : List Part) →
     map f (joined (bits_by_part board scan part parts))
     ≡ joined (parts_laid (λ part device cell. f (record { tdi = row_bit board scan.now part device cell; expect = expect_bit board scan.before part device cell })) part parts)

@@ -1,4 +1,4 @@
--- The drivers by which a pass observes nets are the observers that it enables.
+-- Lemmas which say that the drivers by which a pass observes nets are the observers that it enables.
 use Rattle.std.proofs.Common.{◌≡◌, ℕ, ◌+◌, ◌<◌, Bool, true, false, cond, List, [], length, map, get_or, Option, Some, None, refl, sym, ap, ◌∙◌, subst, arith, ◌⊎◌, inl, inr}
 use Rattle.std.specs.Prelude.{slice_get, option_map, option_and_then, filter, find, All}
 use Rattle.std.proofs.lemmas.Option.{slice_get-get_or, slice_get_within}

@@ -1,4 +1,4 @@
--- The driver cells of a pass, collected control by control.
+-- A lemma about a fold over the driver cells of a pass, which are collected control by control.
 use Rattle.std.proofs.Common.{◌≡◌, Bool, List, [], ◌++◌, fold, get_or, sym, ap, ◌∙◌}
 use Rattle.std.specs.List.{flat_map}
 use Rattle.std.proofs.lemmas.List.Folds.{flat_map-map}
