@@ -1,4 +1,4 @@
--- The laws of diagnoses, proved from the definitions of diagnoses.
+-- Lemmas which say that the laws of diagnoses follow from the definitions of diagnoses.
 use Rattle.std.proofs.Common.{◌≡◌, Bool, List, [], sym, ap, ◌∙◌}
 use Rattle.std.specs.Bool.{one_answer}
 use Rattle.board_defs.specs.declared.board.RawBoard.{RawBoard}
