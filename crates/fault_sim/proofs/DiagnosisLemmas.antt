@@ -1,5 +1,5 @@
--- Lemmas about diagnoses. A log of a board's test has one diagnosis. Each single fault explains some log, and a comparison with that log
--- decides whether the fault explains the given log.
+-- Lemmas about diagnoses. A log of a board's test has exactly one diagnosis. Each single fault explains some log, and a comparison with
+-- that log decides whether the fault explains the given log.
 use Rattle.std.proofs.Common.{◌≡◌, ℕ, zero, suc, ◌==◌, Bool, true, false, cond, ◌&&◌, inl, inr, List, [], ◌∷◌, length, Option, Some, None, Decides, refl, sym, ap, ◌∙◌, subst, arith}
 use Rattle.std.specs.Prelude.{slice_get, filter, count_by}
 use Rattle.std.specs.Bool.{beq}
@@ -36,8 +36,8 @@ both h k = (h.0 && k.0, Decides-and h.0 k.0 h.1 k.1)
 same : {P Q : Type 0} → (P → Q) → (Q → P) → IsDecided P → IsDecided Q
 same to back h = (h.0, Decides-like h.0 to back h.1)
 
--- The list of the items for which P holds, in order. If P is decided for each item, there is such a list. It is the only one, and a filter
--- gives it.
+-- Lemmas about the list of the items for which P holds, in order. If P is decided for each item, there is exactly one such list, and
+-- filtering the items by a test that decides P gives this list.
 module _ {A : Type 0} (P : A → Type 0) where
   some_picked : (xs : List A) → ((x : A) → Has xs x → IsDecided (P x)) → (picked : List A) × Picks P xs picked
   some_picked [] each = ([], refl)
@@ -62,7 +62,7 @@ module _ {A : Type 0} (P : A → Type 0) where
       by_test true d picks = inl (filter test xs, d.0 refl, refl, picks)
       by_test false d picks = inr (not_from_Decides false d refl, picks)
 
--- some test decides whether two bits agree; if a bit is expected, they agree only if they are equal
+-- some test decides whether bits x and y agree; if a bit is expected, x and y agree only if they are equal
 agree_at : (o : Option Bool) (x y : Bool) → IsDecided (AgreeAt o x y)
 agree_at None x y = (true, (λ e. tt, λ h. refl))
 agree_at (Some v) x y = (beq x y, booleans_Decides x y)
@@ -124,7 +124,8 @@ module _ (board : RawBoard) where
         same (λ h. record { shape = h.0; bits = h.1 }) (λ e. (e.shape, e.bits))
         (both shape_decided (are_expected (filter is_compared (board_scans board scans)) log, (λ e. e, λ e. e)))
 
-    -- a log of the right shape is explained if its compared bits agree with those of an explained log
+    -- if the faults explain the log `other`, and `log` has the right shape and agrees with `other` on the compared bits, the faults explain
+    -- `log`
     module _ (rules : IsBoard board) (faults : FaultSet) (turn : AreInTurn board scans) (other : List (List Bool)) (explained : ExplainedBy board faults scans other) where
       explained_with : HasShape board scans log × AgreeOn board scans log other → ExplainedBy board faults scans log
       explained_with (shape, agree) = (explained_by_rows board rules faults scans turn.follow log).1 (shape, captures)
@@ -162,7 +163,8 @@ module _ (board : RawBoard) (log : List (List Bool)) (rules : IsBoard board) whe
       let picked = some_picked Explaining (singles board) (λ single has. single_decided single (listed single has)) in
       (passes.0, picked.0, record { passes = passes.1; list = picked.1 })
 
-  -- if a test decides for each single fault whether it explains the log, the faults that pass the test are those of the diagnosis
+  -- if a test decides for each single fault whether it explains the log, filtering the board's single faults by the test gives the faults
+  -- that explain the log
   pub explaining_picked : (test : Single → Bool) → ((single : Single) → IsSingle board single → Decides (test single) (Explains board single log)) → Picks Explaining (singles board) (filter test (singles board))
   explaining_picked test decides = filter_picks Explaining test (singles board) (λ single has. decides single (listed single has))
 

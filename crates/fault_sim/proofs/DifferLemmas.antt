@@ -45,7 +45,8 @@ module _ (board : RawBoard) (plan : PlanTables) (log : List (List Bool)) where
   pub differ_none : DifferBelow 0 []
   differ_none = record { rising = tt; each = λ n has. absurd has; others = λ n less. absurd (omega (arith, less)) }
 
-  -- if net `count` differs, appending it to the differing nets below `count` gives the differing nets below `count + 1`
+  -- If `nets` are the differing nets below `count`, and net `count` is appended to them if it differs, the result is the list of the
+  -- differing nets below `count + 1`. `shown` is false if net `count` differs.
   pub differ_more : (count : ℕ) (nets : List ℕ) (shown : Bool) → Decides shown (Expected count) → DifferBelow count nets → DifferBelow (count + 1) (nets ++ cond (not shown) (count ∷ []) [])
   differ_more count nets true decides below = subst (λ (l : List ℕ). DifferBelow (count + 1) l) (sym (append-nil nets)) (record {
     rising = below.rising;
@@ -113,7 +114,7 @@ not_among n [] e (inl has) = absurd (contains_has [] n has)
 not_among n [] e (inr p) = p
 not_among n (m ∷ nets) e s = absurd (omega (arith, e))
 
--- the list of differing nets is empty exactly if all nets show the expected bits
+-- if P is equivalent to the statement that all nets show the expected bits, P holds exactly if the list of differing nets is empty
 pub none_decides : (board : RawBoard) (plan : PlanTables) (log : List (List Bool)) (nets : List ℕ) → AreDiffering board plan log nets → (P : Type 0) → (P → ShowsAll board plan None log) → (ShowsAll board plan None log → P) → (r : Bool) → r ≡ (length nets == 0) → Decides r P
 none_decides board plan log [] differ P to back r is = (λ e. back (λ x less n within. not_among n [] refl (differ.others n within) x less), λ p. is)
 none_decides board plan log (n ∷ nets) differ P to back r is =

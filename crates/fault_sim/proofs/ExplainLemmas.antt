@@ -151,7 +151,7 @@ stands_once (z ∷ xs) order zero (suc b) x y ea eb same = let first : z ≡ x =
 stands_once (z ∷ xs) order (suc a) zero x y ea eb same = let first : z ≡ y = cc eb in absurd (omega (arith, first, same, order.0 x (has_at xs a x ea)))
 stands_once (z ∷ xs) order (suc a) (suc b) x y ea eb same = ap suc (stands_once xs order.1 a b x y ea eb same)
 
--- of two numbers in a list of ascending numbers, the number at the lower place is lower
+-- in a list of ascending numbers, the number at a lower place is lower
 places_order : (xs : List ℕ) → InOrder (λ (x y : ℕ). x < y) xs → (a b x y : ℕ) → slice_get xs a ≡ Some x → slice_get xs b ≡ Some y → a < b → x < y
 places_order [] order a b x y ea eb less = cc ea
 places_order (z ∷ xs) order zero zero x y ea eb less = absurd (omega (arith, less))

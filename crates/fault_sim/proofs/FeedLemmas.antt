@@ -1,4 +1,4 @@
--- Lemmas about the bit to which a pass drives a net, which follows from the tables of a plan.
+-- Lemmas which say that the tables of a plan determine the bit to which a pass drives a net.
 use Rattle.std.proofs.Common.{◌≡◌, ℕ, ◌+◌, ◌==◌, Bool, true, false, cond, not, ◌&&◌, List, [], map, get_or, Option, Some, None, is_some, unwrap_or, refl, sym, ap, ◌∙◌, subst}
 use Rattle.std.specs.Prelude.{slice_get, option_map, option_and_then}
 use Rattle.std.specs.List.{list_any}
@@ -105,7 +105,7 @@ module _ (board : RawBoard) (rules : IsBoard board) (plan : PlanTables) (p : IsP
       ctl_is : d.ctl ≡ option_map (λ (control : Control). let c : Ctl = record { part = at.part; cell = control.cell } in c) entry.ctl
       ctl_is = sym (ap (λ (y : NetDriver). y.ctl) on.driver_is)
 
-      -- the pass observes the net exactly if some cell reads a pin of the net other than the driver's
+      -- the pass observes the net exactly if some cell reads a pin of the net other than the driver's pin
       pub observing_is : observing_driver board (holds pass) net ≡ cond (is_read_beside (readers_in plan n) d) (Some d.place) None
       observing_is =
           ap (λ (b : Bool). cond b None (observing_driver_by board net (first_enabled board (holds pass) 0 net.pins))) unguarded
@@ -128,7 +128,8 @@ module _ (board : RawBoard) (rules : IsBoard board) (plan : PlanTables) (p : IsP
         abbrev safe_value : Bool
         safe_value = unwrap_or (safe_bit t.device entry.num) false
 
-        -- in the quiet row, the driver's cell has its disable value if it controls a driver, and otherwise its safe value
+        -- in the quiet row, the driver's cell has the disable value of a driver that it controls, or the cell's safe value if it controls
+        -- no driver
         quiet_is : get_or plan.quiet.bits d.position false ≡ cond controls off safe_value
         quiet_is =
             ap (λ (l : List Bool). get_or l d.position false)
@@ -157,7 +158,7 @@ module _ (board : RawBoard) (rules : IsBoard board) (plan : PlanTables) (p : IsP
                 ap (λ (b : Bool). cond controls (cond b (not off) off) safe_value) (held_own ∙ e)
                 ∙ sym quiet_is
 
-        -- the driver's cell carries the net's bit exactly if the pass observes the net by this driver
+        -- the driver's cell carries the net's code exactly if the pass observes the net through this driver
         data_is : data_bit board row at.part t.device entry.num ≡ data_observed (row.carried n) d.place (observing_driver board (holds pass) net)
         data_is =
             ap (λ (o : Option Cell). option_and_then (λ e. data_pin board row at.part e.bit) o) (driving_cell_is t.device t.wired at.bit entry drives)
@@ -178,7 +179,7 @@ module _ (board : RawBoard) (rules : IsBoard board) (plan : PlanTables) (p : IsP
                 ap (λ (o : Option ℕ). unwrap_or (data_observed (row.carried n) d.place o) (steady_bit board (holds pass) at.part t.device entry.num)) e
                 ∙ steady_is
 
-        -- if the driver's own cell controls it, the net is pulled to the driver's disable value
+        -- if the driver's own cell controls the driver, the net is pulled to the driver's disable value
         pull_is : (control : Control) → entry.ctl ≡ Some control → control.cell ≡ entry.num → net.pull ≡ Some control.disable
         pull_is control e same = by_rules (((board_rules board rules).nets n net is_net).pins d.place on.pin on.is_pin)
           where
@@ -233,7 +234,7 @@ module _ (board : RawBoard) (rules : IsBoard board) (plan : PlanTables) (p : IsP
             ∙ feeds_is
             ∙ ap (λ (b : Bool). unless_off (cond (is_own d.own d.ctl) net.pull None) b) bit_is
 
-    -- the pass drives the net to the bit of the net's feed
+    -- in row j, the pass drives the net to the bit that the net's feed has in this row
     pub driven_is : (j : ℕ) → driven_to board (code_row board plan.passes pass j) (Some net) ≡ feed_bit (net_feed board plan pass n) j
     driven_is j =
         by_driver (driver_in plan pass n) refl first_is

@@ -32,7 +32,7 @@ rows_kept board plan kept keep x j row = by_pass (slice_get kept x) refl
     by_pass (Some pass) at e = keep x pass at j row e
 
 module _ (plan : PlanTables) (pass : List Ctl) (n : ℕ) where
-  -- the enabled driver's place is the place of the driver that the pass enables on the net
+  -- `enabled_driver` has the place of the driver that the pass enables on the net
   pub place_is : option_map (λ d. d.place) (enabled_driver plan pass n) ≡ place_of_driver (driver_in plan pass n)
   place_is = by_driver (driver_in plan pass n)
     where
@@ -47,7 +47,7 @@ module _ (plan : PlanTables) (pass : List Ctl) (n : ℕ) where
       by_driver None = refl
       by_driver (Some d) = refl
 
-  -- the driver's cell has the net's code exactly if the pass observes the net
+  -- the cell of the driver that the pass enables on the net carries the net's code exactly if the pass observes the net
   pub observes_is : observes_coded (enabled_driver plan pass n) ≡ observes_in plan pass n
   observes_is = by_driver (driver_in plan pass n)
     where

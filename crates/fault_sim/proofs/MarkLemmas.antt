@@ -52,7 +52,8 @@ or_zeros a b none = (same_from_bits a 0 (λ i. omega (arith, union i, bit_at-zer
     union : (i : ℕ) → max (bit_at a i) (bit_at b i) ≡ 0
     union i = sym (bit_at_or a b i) ∙ ap (λ (n : ℕ). bit_at n i) none ∙ bit_at-zero i
 
--- If a loop has checked digits 0 to k, each unmarked digit among them was unmarked at the start and has no wrong bit.
+-- A loop over the digits has checked the first k digits and now checks digit k. Then each unmarked digit among the first k + 1 digits was
+-- unmarked at the start and has no wrong bit.
 module _ (start marks : List ℕ) (wrong : ℕ → ℕ) (k : ℕ) (left : (i : ℕ) → k ≤ i → get_or marks i 0 ≡ get_or start i 0) where
   pub marked_more : k < length marks → ((i : ℕ) → i < k → get_or marks i 0 ≡ 0 → (get_or start i 0 ≡ 0) × (wrong i ≡ 0)) → (i : ℕ) → i < k + 1 → get_or (set marks k (bit_or (get_or marks k 0) (wrong k))) i 0 ≡ 0 →
       (get_or start i 0 ≡ 0) × (wrong i ≡ 0)
@@ -71,7 +72,7 @@ module _ (start marks : List ℕ) (wrong : ℕ → ℕ) (k : ℕ) (left : (i : �
   pub unmarked_left : (mark i : ℕ) → k + 1 ≤ i → get_or (set marks k mark) i 0 ≡ get_or start i 0
   unmarked_left mark i le = get_or-set_other marks k i mark 0 (λ same. omega (arith, le, same)) ∙ left i (omega (arith, le))
 
--- if a log has a row for each row of each pass, it has row j of pass x
+-- if a log has `width` rows for each of `passes` passes, the index of row `j` of pass `x`, `x * width + j`, is less than the number of rows
 pub row_there : (passes width x j rows : ℕ) → rows ≡ passes * width → x < passes → j < width → x * width + j < rows
 row_there passes width x j rows count x_less j_less = omega (arith, mul-add-lt x width j passes x_less j_less, commute width passes, count)
   where
@@ -86,7 +87,8 @@ module _ (board : RawBoard) (plan : PlanTables) where
   pub length-compared : (x j : ℕ) → length (compared_in board plan x j) ≡ data_bits board
   length-compared x j = ap length (mask_laid board (scan_of_pass board plan x (suc j))) ∙ length-laid _ board
 
-  -- if a digit has no wrong compared bit, the log has the expected bit at each compared position of this digit
+  -- If the digit of position `at` has no wrong compared bit in row j of pass x, and the test compares this row at the position, the log has
+  -- the expected bit there.
   pub digit_expected : (log : List (List Bool)) (x j at : ℕ) (tdo mask : List Bool) (digits : List ℕ) → tdo ≡ expected_in board plan x j → mask ≡ compared_in board plan x j → AreRowDigits (get_or log (x * plan.width + j) []) digits → at < data_bits board →
       length (get_or log (x * plan.width + j) []) ≡ data_bits board →
       bit_and (bit_xor (get_or digits (at / 4) 0) (get_or (digits_of tdo) (at / 4) 0)) (get_or (digits_of mask) (at / 4) 0) ≡ 0 → HasExpected board plan log x j at
@@ -98,7 +100,7 @@ module _ (board : RawBoard) (plan : PlanTables) where
       ∙ ap (λ (l : List Bool). get_or l at false) tdo_is
 
 module _ (board : RawBoard) (rules : IsBoard board) (plan : PlanTables) (p : IsPlanOf board plan) (log : List (List Bool)) (marks : List ℕ) (are : AreMarks board plan log (length plan.passes) marks) where
-  -- if a net is unmarked, each of its cells that row j of pass x compares has the bit of the net's code
+  -- if none of the digits of net n's cells is marked, each cell of the net that row j of pass x compares has bit j of the net's code
   module _ (n : ℕ) (unmarked : are_marked marks (readers_in plan n) ≡ false) (x : ℕ) (less : x < length plan.passes) (net : Net) (is_net : slice_get board.nets n ≡ Some net) (pass : List Ctl) (stands : slice_get plan.passes x ≡ Some pass) (d : NetDriver) (enabled : driver_in plan pass n ≡ Some d) (j : ℕ) (j_less : j < plan.width) where
     module _ (reader : ReaderCell) (has : Has (readers_in plan n) reader) (differs : (reader.place == d.place) ≡ false) where
       c : ComparedCell board plan pass j n net reader
@@ -146,7 +148,7 @@ module _ (board : RawBoard) (rules : IsBoard board) (plan : PlanTables) (p : IsP
         by_place y has true e = refl
         by_place y has false e = is_same_of_same (bit_in log (x * plan.width + j) y.position) (code_bit (code_in plan n) j) (bit_is y has e)
 
-  -- a net shows the expected bits if none of the digits of its cells is marked
+  -- if net n is on the board and none of the digits of its cells is marked, the net shows the expected bits
   unmarked_within : (n : ℕ) → n < length board.nets → are_marked marks (readers_in plan n) ≡ false → ShowsOn board plan None log n
   unmarked_within n within unmarked x less =
       let net = item_there board.nets n within in
@@ -159,7 +161,7 @@ module _ (board : RawBoard) (rules : IsBoard board) (plan : PlanTables) (p : IsP
       by_driver net is_net pass stands None e = tt
       by_driver net is_net pass stands (Some d) e = λ j j_less. cells_expected n unmarked x less net is_net pass stands d e j j_less
 
-  -- this also holds for a number that no net has
+  -- like `unmarked_within`, but n may also be a number that no net of the board has
   pub unmarked_shows : (n : ℕ) → are_marked marks (readers_in plan n) ≡ false → ShowsOn board plan None log n
   unmarked_shows n unmarked = by_side (cases_lt n (length board.nets))
     where
@@ -173,7 +175,8 @@ module _ (board : RawBoard) (rules : IsBoard board) (plan : PlanTables) (p : IsP
           by_driver x None = tt
           by_driver x (Some d) = λ j less. refl
 
--- if the marks are right for the first x passes, they are right for the first x + 1 passes after pass x is checked
+-- if `old` has the right marks for the first x passes, and checking pass x changes the marks from `old` to `new`, then `new` has the right
+-- marks for the first x + 1 passes
 pub pass_more : (board : RawBoard) (plan : PlanTables) (log : List (List Bool)) (x : ℕ) (old new : List ℕ) → AreMarks board plan log x old → MarkRows board plan log x plan.width old new → AreMarks board plan log (x + 1) new
 pass_more board plan log x old new are more at within unmarked pass less = by_pass (cases_eq pass x)
   where

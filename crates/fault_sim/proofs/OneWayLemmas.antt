@@ -12,7 +12,6 @@ pub suspects_are_places : SuspectsArePlaces
 suspects_are_places board plan lists log suspects universe are =
     subst (λ (n : ℕ). All (λ i. i < n) suspects) (sym (places_counted board lists universe)) are.below
 
--- if a first bit is 0 and a second bit is 1, the second bit is not 0
 bits_one_way : (v w : Bool) → v ≡ false → w ≡ true → w ≡ false → ⊥
 bits_one_way v w zero one other = cc
 

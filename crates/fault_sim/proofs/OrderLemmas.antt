@@ -1,5 +1,5 @@
--- Lemmas about places in ascending order. If they include every fault that passes a test, filtering the faults at these places gives all
--- faults that pass.
+-- Lemmas about lists of places in ascending order. If such a list has the place of every fault that satisfies a test, filtering the faults
+-- at the listed places by the test gives all faults that satisfy it.
 use Rattle.std.proofs.Common.{◌≡◌, ◌⊎◌, inl, inr, ℕ, zero, suc, ◌+◌, ◌-◌, ◌<◌, ◌≤◌, Bool, true, false, cond, List, [], ◌∷◌, ◌++◌, length, Option, Some, None, refl, sym, ap, ◌∙◌, subst, arith, length-append}
 use Rattle.std.specs.Prelude.{slice_get, filter, filter_map, option_and_then}
 use Rattle.std.specs.List.{flat_map, cons_option}
@@ -57,7 +57,7 @@ pub place_single : (board : RawBoard) → IsBoard board → (i : ℕ) (single : 
 place_single board rules i single e =
     single_is board rules single (has_contains (singles board) single (subst (λ (l : List Single). Has l single) (places_are board) (fault_listed (places_of board) i single e)))
 
--- the faults at the places `numbers`, if the first item of the list is at place `first`
+-- the faults at the places `numbers`; `places` are the places from place `first` on
 abbrev pub faults_from : List (Option Single) → ℕ → List ℕ → List Single
 faults_from places first numbers = filter_map (λ i. option_and_then (λ place. place) (slice_get places (i - first))) numbers
 
@@ -152,7 +152,8 @@ from_first board (i ∷ numbers) =
     ap (λ (k : ℕ). cons_option (fault_at board k) (faults_from (places_of board) 0 numbers)) same
     ∙ ap (λ (l : List Single). cons_option (fault_at board i) l) (from_first board numbers)
 
--- if a test passes only faults that explain the log, the suspects' faults that pass it are all single faults that pass it
+-- if a test is true only of faults that explain the log, filtering the suspects' faults by the test gives the same list as filtering all
+-- single faults
 pub suffice : SuspectsSuffice
 suffice board plan lists log suspects rules are test only =
     sym (ap (λ (l : List Single). filter test l) (places_are board))

@@ -17,6 +17,6 @@ passes_more P x before here k less = by_pass (cases_eq k x)
         lower : (k ≡ x → ⊥) → k < x
         lower ne = grind arith
 
--- if a log has the rows of the test, it has all rows of pass x
+-- if a log has the rows of the test, and x is less than the number of passes, the log has all rows of pass x
 pub rows_within : (test : PlannedBoard) (log : List (List Bool)) (x : ℕ) → IsLogOf test log → x < length test.plan.passes → x * test.plan.width + test.plan.width ≤ length log
 rows_within test log x is less = omega (arith, is.rows, suc-mul x test.plan.width, mul-le (suc x) test.plan.width (length test.plan.passes) test.plan.width less (omega arith))

@@ -40,7 +40,8 @@ flat_places g (x ∷ xs) =
     filter_map-append (λ place. place) (g x) (flat_map g xs)
     ∙ ap (λ (l : List Single). filter_map (λ place. place) (g x) ++ l) (flat_places g xs)
 
--- if g gives the faults of f for each item that passes a test, and no faults for the others, g gives the faults of f for the filtered list
+-- if `g x` is `f x` for each item x that satisfies test q, and empty for any other item, joining the lists of g for all items gives the
+-- same list as joining the lists of f for the items that satisfy q
 flat_filter : {X : Type 0} (q : X → Bool) (f g : X → List Single) → ((x : X) → g x ≡ cond (q x) (f x) []) → (xs : List X) → flat_map g xs ≡ flat_map f (filter q xs)
 flat_filter q f g same [] = refl
 flat_filter {X} q f g same (x ∷ xs) = ap (λ (l : List Single). l ++ flat_map g xs) (same x) ∙ by_test (q x) (flat_filter q f g same xs)
@@ -246,7 +247,7 @@ pair_within nets starts s same are low k start within above below is =
     let moved : pairs_before nets (suc low) ≡ pairs_before nets (low + 1) = ap (λ (i : ℕ). pairs_before nets i) step in
     (omega (arith, above, below, is, first, next, more, moved, within, rows), omega (arith, above, below, is, first, next, more, moved))
 
--- fault r of a stuck net is stuck at r
+-- the list of a net's stuck faults has the fault stuck at 0 as item 0, and the fault stuck at 1 as item 1
 pub stuck_fault : (net r : ℕ) → r < 2 → slice_get (stuck_faults net) r ≡ Some (StuckNet net (r == 1))
 stuck_fault net zero less = refl
 stuck_fault net (suc zero) less = refl
@@ -302,7 +303,7 @@ open_observed plan (pin ∷ pins) zero = refl
 open_observed plan (pin ∷ pins) (suc zero) = refl
 open_observed plan (pin ∷ pins) (suc (suc i)) = open_observed plan pins i
 
--- if some pass observes both nets, the places of the two nets have the faults of their shorts
+-- place r of the four places of nets a and b has the short of the kind with rank r if some pass observes both nets, and otherwise no fault
 pub short_there : (plan : PlanTables) (a b r : ℕ) (kind : Kind) → r < 4 → kind_rank kind ≡ r → at_once (slice_get (number_places plan (a, b)) r) ≡ where_observed plan (Some (Short a b kind))
 short_there plan a b r kind less rank = by_test (paired_in plan a b)
   where
@@ -310,11 +311,11 @@ short_there plan a b r kind less rank = by_test (paired_in plan a b)
     by_test true = ap at_once (slice_get-map (λ f. Some f) (short_faults a b) r ∙ ap (λ (o : Option Single). option_map (λ f. Some f) o) (short_fault a b r kind rank))
     by_test false = ap at_once (no_fault r less)
 
--- if a place is below the length of the list, the item at this place is the result of `listed_at`
+-- if place i is in the list, the item at this place is the result of `listed_at`
 pub listed_there : (places : List (Option Single)) (i : ℕ) (fault : Option Single) → i < length places → fault ≡ listed_at places i → slice_get places i ≡ Some fault
 listed_there places i fault less e = let place = item_there places i less in place.1 ∙ ap Some (sym (e ∙ ap at_once place.1))
 
--- the fault at each place that follows from the lists of covered nets and tested pins
+-- the fault at each of the places that the lists of covered nets and tested pins give
 module _ (plan : PlanTables) (lists : FaultLists) where
   abbrev stuck : List (Option Single)
   stuck = placed (flat_map stuck_faults lists.nets)

@@ -24,10 +24,11 @@ short_bit first second pull kind = effect_bit (Shorted kind first second pull) 0
 both_driven : map (short_bit (Some driven) (Some high) None) (And ∷ Or ∷ First ∷ Second ∷ []) ≡ false ∷ true ∷ false ∷ true ∷ []
 both_driven = refl
 
--- if one net is driven, its bit is read; if neither net is driven, the pull is read
+-- if only one net is driven, the cell reads the bit of this net
 one_driven : short_bit (Some driven) None (Some true) Second ≡ false
 one_driven = refl
 
+-- if neither net is driven, the cell reads the pull
 none_driven : short_bit None None (Some false) First ≡ false
 none_driven = refl
 

@@ -48,7 +48,7 @@ use Rattle.fault_sim.specs.Fits.{bit_in, cell_shows, ShowBy, NetShows, Shows, Sh
 use Rattle.fault_sim.proofs.FeedLemmas.{drivers_are, readers_are, code_is, first_is, observing_is}
 use Rattle.fault_sim.proofs.EffectLemmas.{IsFault, effect_is}
 
--- the pass of a row of the log, and the number of the row in this pass
+-- row y of the log is row `bit` of pass `pass`
 pub record RowOf (passes width y : ℕ) : Type 0 where
   pub pass : ℕ
   pub bit : ℕ

@@ -13,7 +13,7 @@ use Rattle.fault_sim.specs.Fits.{bit_in}
 use Rattle.fault_sim.specs.inner.Words.{AgreesWith, word_bit}
 use Rattle.fault_sim.proofs.WordLemmas.{and_word, not_word, or_word}
 
--- the rows in which some cell shows another bit than the word has
+-- the word of the rows in which some cell shows a bit other than the bit of `word`
 abbrev pub clashes : ShownWords → ℕ → ℕ
 clashes shown word = bit_or (bit_and shown.ones (4294967295 - word)) (bit_and shown.zeros word)
 
@@ -101,7 +101,7 @@ bit_is log row at bit is = by_row (slice_get log row) refl is
     by_row None e found = let bad : None ≡ Some bit = found in cc bad
     by_row (Some bits) e found = ap (λ (l : List Bool). get_or l at false) (get_or_from_slice_get log row bits [] e) ∙ get_or_from_slice_get bits at bit false found
 
--- if a cell does not read the driver's own pin, it shows 1 in the rows of its word, and 0 in the other rows of the pass
+-- if the net's only cell does not read the driver's pin, the cell shows 1 in a row of the pass exactly if its bit in this row is 1
 pub one_shown : (within same bit : Bool) → same ≡ false → (within && bit) ≡ (within && ((not same && is_same bit true) || false))
 one_shown false same bit p = refl
 one_shown true true bit p = absurd (both_ways true p refl)

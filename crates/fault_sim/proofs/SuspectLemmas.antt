@@ -127,7 +127,8 @@ module _ (lists : FaultLists) (starts : AreStarts (length lists.nets) lists.star
   abbrev nets : ℕ
   nets = length lists.nets
 
-  -- the number of a pair of net a is below the numbers of the pairs of later nets
+  -- if a is less than b, the number of pair a and b is at least the number of pairs before net a, and less than the number of pairs before
+  -- net a + 1
   module _ (a b : ℕ) (order : a < b) (within : b < nets) where
     number_is : pair_number lists a b ≡ pairs_before nets a + (b - suc a)
     number_is = ap (λ (n : ℕ). n + (b - suc a)) (starts.each a (omega (arith, order, within)))
@@ -298,7 +299,7 @@ module _ (lists : FaultLists) (starts : AreStarts (length lists.nets) lists.star
         (has_flat_map (λ c. pair_suspects lists k c) (range_with_len (suc k) (nets - suc k)) b i (has_range (suc k) (nets - suc k) b (omega (arith, above)) (omega (arith, within, above)))
         (has_four (place_of k b) r i less (omega (arith, e))))))
 
-  -- if two nets differ, their suspects are in ascending order
+  -- the suspects of two nets that differ are in ascending order
   pub pair_order : (a b : ℕ) → InOrder Rises (pair_suspects lists a b)
   pair_order a b = four_order (first_short lists + 4 * pair_number lists a b)
 

@@ -1,4 +1,4 @@
--- Lemmas which say that, if a fault explains a log, each pass of the log shows the bits that the fault gives its nets.
+-- Lemmas which say that, if a fault explains a log, each pass of the log shows the bits that the fault gives the fault's nets.
 use Rattle.std.proofs.Common.{◌≡◌, ◌⊎◌, inl, inr, ℕ, ◌+◌, ◌<◌, ◌==◌, ltb, Bool, true, false, not, ◌&&◌, ◌||◌, List, [], ◌∷◌, length, Option, Some, None, refl, sym, ◌∙◌, arith}
 use Rattle.std.specs.List.{list_all, list_any}
 use Rattle.std.proofs.lemmas.Bool.{and_parts, both_ways, ltb-true}
@@ -18,7 +18,8 @@ use Rattle.fault_sim.specs.inner.Telling.{IsTellingNet, IsWordOn}
 use Rattle.fault_sim.specs.inner.Words.{AgreesWith, AreRowsOf, AreShown, shows_beside, some_shows, word_bit}
 use Rattle.fault_sim.proofs.MatchLemmas.{nets_there}
 
--- If a word has the rows in which some cell has a bit, then each row of the word is a row of the pass, and some cell has the bit in it.
+-- Let the word have the rows of the pass in which some cell has the bit `bit`. If bit j of the word is 1, the pass has a row j, and some
+-- cell has this bit in the row.
 row_there : (rows : RowsOfNet) (bit : Bool) (driver : Option ℕ) (word : ℕ) → AreRowsOf rows bit driver word → (j : ℕ) → j < 32 → word_bit word j ≡ true →
     (j < rows.width) × (some_shows rows.log (rows.first + j) bit rows.readers driver ≡ true)
 row_there rows bit driver word are j less on =

@@ -125,13 +125,14 @@ module _ (board : RawBoard) (rules : IsBoard board) (plan : PlanTables) (p : IsP
         by_driver (Some d) e f =
             by_test d e (is_read_beside (readers_in plan n) d) refl (sym (observing_here board rules plan p n net is_net x pass stands o.open_net d e) ∙ observing)
 
-    -- `observes_in` is true exactly if the pass observes the net
+    -- if `observes_in` is true, the pass observes the net
     pub observes_is : observes_in plan pass n ≡ true → ObservesNet board (holds pass) n
     observes_is e = by_driver (driver_in plan pass n) refl e
       where
         by_driver : (o : Option NetDriver) → driver_in plan pass n ≡ o → observes_by o (readers_in plan n) ≡ true → ObservesNet board (holds pass) n
         by_driver None q e = cc e
         by_driver (Some d) q e = (net, is_net, (d.place, observed_place d q e))
+-- if the pass observes the net, `observes_in` is true
 
     pub is_observing : (place : ℕ) → ObservesBy board (holds pass) net place → observes_in plan pass n ≡ true
     is_observing place o = let d = driver_there place o in ap (λ (w : Option NetDriver). observes_by w (readers_in plan n)) d.enabled ∙ d.beside
@@ -301,7 +302,8 @@ filter_range p q a (suc n) same =
     ap (λ (b : Bool). cond b (a ∷ filter p (range_with_len (a + 1) n)) (filter p (range_with_len (a + 1) n))) (same a (omega arith) (omega arith))
     ∙ ap (λ (l : List ℕ). cond (q a) (a ∷ l) l) (filter_range p q (a + 1) n (λ k low high. same k (omega (arith, low)) (omega (arith, high))))
 
--- If f gives for the number of each net the list that g gives for the numbered net, both give the same joined lists for all nets.
+-- if, for the number of each net, f gives the list that g gives for the numbered net, joining the lists of f gives the same list as joining
+-- the lists of g
 flat_numbers : {Y : Type 0} (f : ℕ → List Y) (g : Numbered → List Y) (a : ℕ) (nets : List Net) → ((k : ℕ) (net : Net) → slice_get nets k ≡ Some net → f (a + k) ≡ g (a + k, net)) →
     flat_map f (range_with_len a (length nets)) ≡ flat_map g (enumerate_from a nets)
 flat_numbers f g a [] same = refl

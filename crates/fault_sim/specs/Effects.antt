@@ -38,8 +38,8 @@ abbrev pub source_bit : Source → ℕ → Bool
 source_bit (Code code) j = code_bit code j
 source_bit (Fixed bit) j = bit
 
--- The bit that a driver gives its net, or `None` if the driver is off. If one bit of the driver's own cell switches the driver off, `off`
--- has this bit.
+-- The bit that a driver gives its net if the driver's cell has the bit `bit`, or `None` if the driver is off then. `off` is the bit of the
+-- driver's own cell that switches the driver off, or `None` if neither bit does.
 abbrev pub unless_off : Option Bool → Bool → Option Bool
 unless_off None bit = Some bit
 unless_off (Some off) bit = cond (is_same bit off) None (Some bit)
@@ -74,21 +74,22 @@ driver_in plan pass n = enabled_in (holds pass) (drivers_in plan n)
 abbrev pub place_of_driver : Option NetDriver → Option ℕ
 place_of_driver driver = option_map (λ d. d.place) driver
 
--- The bit of a driver's cell that carries no net's code. It is the bit of the quiet row, inverted if the pass holds the cell as a control.
+-- The bit of a driver's cell in a pass, if the cell does not carry the code of a net. It is the cell's bit in the quiet row, inverted if
+-- the pass holds the cell as a control.
 abbrev pub steady_in : PlanTables → List Ctl → NetDriver → Bool
 steady_in plan pass d = cond (holds pass d.own) (not (slice_index_or plan.quiet.bits d.position false)) (slice_index_or plan.quiet.bits d.position false)
 
--- The bits of an enabled driver's cell. If some cell reads another pin of the net, the pass observes the net, and the bits are the bits of
--- the net's code.
+-- The bits of the cell of driver d, which a pass enables on net n. If some cell reads another pin of the net, the pass observes the net,
+-- and the driver's cell carries the net's code. Otherwise the driver's cell has the same bit in all rows.
 abbrev pub source_in : PlanTables → List Ctl → ℕ → NetDriver → Source
 source_in plan pass n d = cond (is_read_beside (readers_in plan n) d) (Code (code_in plan n)) (Fixed (steady_in plan pass d))
 
--- The feed that an enabled driver gives its net. If the driver's own cell controls the driver, the driver is off at the bit to which the
--- net is pulled.
+-- The feed that enabled driver d gives net n, which has the pull `pull`. If d's own cell controls d, the driver is off whenever the cell
+-- has the bit to which the net is pulled.
 abbrev pub feed_by : PlanTables → List Ctl → ℕ → Option Bool → NetDriver → Feed
 feed_by plan pass n pull d = record { source = source_in plan pass n d; off = cond (is_own d.own d.ctl) pull None }
 
--- the feed that a pass gives net n, which has this pull, if the pass enables a driver on the net
+-- the feed that a pass gives net n, or `None` if the pass enables no driver on the net; `pull` is the net's pull
 abbrev pub feed_in : PlanTables → List Ctl → ℕ → Option Bool → Option Feed
 feed_in plan pass n pull = option_map (feed_by plan pass n pull) (driver_in plan pass n)
 
@@ -96,16 +97,16 @@ feed_in plan pass n pull = option_map (feed_by plan pass n pull) (driver_in plan
 abbrev pub pull_in : RawBoard → ℕ → Option Bool
 pull_in board n = pulled_to (slice_get board.nets n)
 
--- the feed that a pass gives a net of the board, if the pass enables a driver on the net
+-- the feed that a pass gives net n of the board, or `None` if the pass enables no driver on the net
 abbrev pub net_feed : RawBoard → PlanTables → List Ctl → ℕ → Option Feed
 net_feed board plan pass n = feed_in plan pass n (pull_in board n)
 
--- a net in a pass of the board: its feed and its pull
+-- net n in a pass of the board: its feed and its pull
 abbrev pub fed_net : RawBoard → PlanTables → List Ctl → ℕ → FedNet
 fed_net board plan pass n = record { feed = net_feed board plan pass n; pull = pull_in board n }
 
--- The effect of an open pin on its net. If the enabled driver is on this pin, all cells of the net have one bit. Otherwise the effect
--- changes only the cells of this pin.
+-- The effect of an open pin on its net. If the pass enables the driver of this pin, all compared cells of the net have the bit to which the
+-- net is pulled, or `value` if the net has no pull. Otherwise only the cells that read this pin are affected. They have the bit `value`.
 abbrev pub open_effect : Option ℕ → ℕ → Bool → Option Bool → Effect
 open_effect None place value pull = AtPin place value
 open_effect (Some driver) place value pull = cond (driver == place) (Constant (unwrap_or pull value)) (AtPin place value)
@@ -129,7 +130,7 @@ abbrev pub effect_in : RawBoard → PlanTables → List Ctl → Option Single �
 effect_in board plan pass None n = Plain
 effect_in board plan pass (Some single) n = effect_of board plan pass single n
 
--- the bit that the effect gives the compared cells of the pin at this place in row j
+-- the bit that, in row j, the effect gives the compared cells of the pin at this place; `expected` is the bit that the test expects
 abbrev pub effect_bit : Effect → ℕ → ℕ → Bool → Bool
 effect_bit Plain j place expected = expected
 effect_bit (Constant bit) j place expected = bit

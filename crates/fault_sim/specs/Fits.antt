@@ -16,15 +16,16 @@ abbrev pub bit_in : List (List Bool) → ℕ → ℕ → Bool
 bit_in log row at = slice_index_or (slice_index_or log row []) at false
 
 -- In row j of a pass, a cell of a net has the bit that the effect gives it. `row` is the number of this row in the log. A cell that reads
--- the driver's own pin is not checked.
+-- the enabled driver's pin is not checked.
 abbrev pub cell_shows : List (List Bool) → ℕ → ℕ → Effect → ℕ → Bool → ReaderCell → Bool
 cell_shows log row driver effect j expected r = (r.place == driver) || is_same (bit_in log row r.position) (effect_bit effect j r.place expected)
 
--- In every row of a pass, these cells have the bits that the effect gives them. The rows of the pass begin at row `first` of the log.
+-- In every row of a pass, each of these cells has the bit that the effect gives it. The rows of the pass begin at row `first` of the log.
+-- Cells that read the enabled driver's pin are not checked.
 abbrev pub ShowRows : List (List Bool) → ℕ → ℕ → ℕ → List ReaderCell → Effect → ℕ → Type 0
 ShowRows log first width code readers effect driver = (j : ℕ) → j < width → list_all (cell_shows log (first + j) driver effect j (code_bit code j)) readers ≡ true
 
--- Like `ShowRows`, but takes the place of the enabled driver's pin, if there is one. If no driver is enabled, nothing is required.
+-- Like `ShowRows`, but `driver` is `None` if the pass enables no driver on the net. Then nothing is required.
 abbrev pub ShowBy : List (List Bool) → ℕ → ℕ → ℕ → List ReaderCell → Effect → Option ℕ → Type 0
 ShowBy log first width code readers effect None = Unit {0}
 ShowBy log first width code readers effect (Some driver) = ShowRows log first width code readers effect driver

@@ -37,35 +37,35 @@ enabled_by plan pass n d = record { place = d.place; source = source_in plan pas
 abbrev pub enabled_driver : PlanTables → List Ctl → ℕ → Option EnabledDriver
 enabled_driver plan pass n = option_map (enabled_by plan pass n) (driver_in plan pass n)
 
--- `rows` are the first rows of pass x, with their expected bits
+-- item j of `rows` has the expected bits of row j of pass x, and the flags of the bits that the test compares there
 abbrev pub AreRows : RawBoard → PlanTables → ℕ → List ComparedRow → Type 0
 AreRows board plan x rows = (j : ℕ) (row : ComparedRow) → slice_get rows j ≡ Some row → IsRow board plan x j row
 
--- `drivers` has, for each of the first nets, the driver that the pass enables on the net
+-- item n of `drivers` is the driver that the pass enables on net n, or `None` if it enables no driver on this net
 abbrev pub AreDrivers : PlanTables → List Ctl → List (Option EnabledDriver) → Type 0
 AreDrivers plan pass drivers = (n : ℕ) (driver : Option EnabledDriver) → slice_get drivers n ≡ Some driver → driver ≡ enabled_driver plan pass n
 
--- the kept passes are the first passes of the plan, in order, and the kept rows are the rows of these passes
+-- the rows of kept pass x are the first rows of the plan's pass x
 abbrev pub KeepRows : RawBoard → PlanTables → List KeptPass → Type 0
 KeepRows board plan kept = (x : ℕ) (pass : KeptPass) → slice_get kept x ≡ Some pass → AreRows board plan x pass.rows
 
--- the kept passes are the first passes of the plan, in order, and the kept drivers are the drivers of these passes
+-- the drivers of kept pass x are the drivers that the plan's pass x enables on the first nets
 abbrev pub KeepDrivers : PlanTables → List KeptPass → Type 0
 KeepDrivers plan kept = (x : ℕ) (pass : KeptPass) → slice_get kept x ≡ Some pass → AreDrivers plan (slice_index_or plan.passes x []) pass.drivers
 
--- the plan is built from the board's passes, and the kept passes are those of the plan
+-- the plan is built from the board's passes, and each kept pass x has rows and drivers of the plan's pass x
 pub record IsBoardTest (board : RawBoard) (plan : PlanTables) (kept : List KeptPass) : Type 0 where
   pub planned : IsPlanned (planned_board board plan)
   pub rows : KeepRows board plan kept
   pub drivers : KeepDrivers plan kept
 
--- pass x of a board's test, with the kept drivers and the kept rows of the pass
+-- pass x of a board's test: `drivers` is this pass of the plan, and `rows` are the first rows of the pass
 pub record IsTestPass (board : RawBoard) (plan : PlanTables) (x : ℕ) (drivers : PlanPass) (rows : List ComparedRow) : Type 0 where
   pub within : x < length plan.passes
   pub planned : IsPlanned (planned_board board plan)
   pub drivers_are : drivers ≡ plan_pass plan (slice_index_or plan.passes x [])
   pub rows_are : AreRows board plan x rows
 
--- the log has the rows of the test, each as long as a data scan
+-- the log has `width` rows for each pass of the test, and each row is as long as a data scan
 abbrev pub IsLogOf : PlannedBoard → List (List Bool) → Type 0
 IsLogOf test log = HasSize (length test.plan.passes * test.plan.width) (data_bits test.board) log

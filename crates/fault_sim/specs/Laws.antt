@@ -14,12 +14,12 @@ use Rattle.fault_sim.specs.Suspects.{AreSuspects}
 abbrev pub PlacesAre : Type 0
 PlacesAre = (board : RawBoard) → filter_map (λ place. place) (places_of board) ≡ singles board
 
--- `place_count` returns the number of a board's places
+-- if `lists` are the lists of the board's universe, `place_count lists` is the number of the board's places
 abbrev pub PlacesCounted : Type 0
 PlacesCounted = (board : RawBoard) (lists : FaultLists) → IsUniverse board lists → length (places_of board) ≡ place_count lists
 
--- if a test passes only faults that explain the log, filtering all single faults by the test gives the same list as filtering the faults at
--- the suspects' places
+-- Let `suspects` be the suspects of a log, and let `test` be true only of faults that explain the log. Then filtering the faults at the
+-- suspects' places by `test` gives the same list as filtering all single faults of the board.
 abbrev pub SuspectsSuffice : Type 0
 SuspectsSuffice =
     (board : RawBoard) (plan : PlanTables) (lists : FaultLists) (log : List (List Bool)) (suspects : List ℕ) → IsBoard board → AreSuspects board plan lists log suspects →

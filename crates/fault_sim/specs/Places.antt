@@ -1,5 +1,4 @@
--- The places of a board. Each place has a single fault, unless it belongs to a pair of covered nets that are not paired. Such a place has
--- no fault.
+-- The places of a board. Each place has one single fault, but the four places of two covered nets that are not paired have no fault.
 use Rattle.std.specs.Prelude.{◌≡◌, ℕ, ◌+◌, ◌*◌, Bool, true, List, [], ◌∷◌, ◌++◌, map, cond, length, slice_get, Option, Some, None, option_and_then}
 use Rattle.std.specs.List.{flat_map}
 use Rattle.board_defs.specs.declared.board.RawBoard.{RawBoard}
@@ -13,11 +12,11 @@ use Rattle.fault_sim.specs.declared.fault_lists.FaultLists.{FaultLists}
 use Rattle.fault_sim.specs.Starts.{pairs_before}
 use Rattle.fault_sim.specs.inner.Tested.{paired_in}
 
--- one place for each of these faults
+-- the places of a list of faults: one place for each fault, in the order of the list
 abbrev pub placed : List Single → List (Option Single)
 placed faults = map (λ fault. Some fault) faults
 
--- the four places of a pair of covered nets
+-- the four places of two covered nets, which have the shorts of the nets if the nets are paired, and otherwise no fault
 abbrev pub pair_places : RawBoard → Numbered × Numbered → List (Option Single)
 pair_places board pair = cond (are_paired board pair.0.1 pair.1.1) (placed (short_faults pair.0.0 pair.1.0)) (None ∷ None ∷ None ∷ None ∷ [])
 
@@ -50,7 +49,7 @@ pub record IsUniverse (board : RawBoard) (lists : FaultLists) : Type 0 where
   pub nets : lists.nets ≡ map (λ net. net.0) (covered_nets board)
   pub pins : lists.pins ≡ tested_pins board
 
--- The four places of two nets. They have faults exactly if some pass of the plan observes both nets.
+-- The four places of two nets. They have the shorts of the nets if some pass of the plan observes both nets, and otherwise no fault.
 abbrev pub number_places : PlanTables → ℕ × ℕ → List (Option Single)
 number_places plan pair = cond (paired_in plan pair.0 pair.1) (placed (short_faults pair.0 pair.1)) (None ∷ None ∷ None ∷ None ∷ [])
 
@@ -59,8 +58,8 @@ abbrev pub listed_places : PlanTables → FaultLists → List (Option Single)
 listed_places plan lists =
     placed (flat_map stuck_faults lists.nets) ++ (placed (flat_map open_faults lists.pins) ++ flat_map (number_places plan) (pairs_within lists.nets))
 
--- True if some pass observes all nets of a fault at a place. For a short, one pass must observe both nets. Any other fault at a place has
--- one net, which is always observed.
+-- True if some pass observes all nets of a fault at a place. For a short, one pass must observe both nets. Any other fault at a place is on
+-- one covered net, and some pass observes each covered net.
 abbrev pub observes_fault : PlanTables → Single → Bool
 observes_fault plan (StuckNet net value) = true
 observes_fault plan (OpenPin pin value) = true

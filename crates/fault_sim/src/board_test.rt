@@ -122,8 +122,8 @@ impl<'a> BoardTest<'a> {
 }
 
 impl<'a> LoggedTest<'a> {
-    /// Returns a log with the test of `board` that `plan` describes. The plan must be built from the board's passes. The log must have the
-    /// plan's rows, each as long as a data scan. The test has no kept passes.
+    /// Returns a log with its test: the test of `board` that `plan` describes, with no kept passes. The plan must be built from the board's
+    /// passes. The log must have the plan's rows, each as long as a data scan.
     pub fn of(board: &'a Board, plan: &'a Plan, log: &'a Log) -> LoggedTest<'a>
         requires plan { IsPlanOf board.now plan.now }
         requires passes { plan.now.passes ≡ passes_of board.now }

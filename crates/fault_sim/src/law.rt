@@ -13,12 +13,12 @@ pub fn places_are_the_singles()
     ensures { PlacesAre }
 {}
 
-/// The universe of a board counts as many places as the board has.
+/// If `lists` are the lists of a board's universe, `place_count` of these lists is the number of the board's places.
 pub fn places_counted()
     ensures { PlacesCounted }
 {}
 
-/// If a test passes only faults that explain a log, filtering the faults at the suspects' places by the test gives the same list as
+/// If a test is true only of faults that explain a log, filtering the faults at the suspects' places by the test gives the same list as
 /// filtering all single faults of the board.
 pub fn suspects_suffice()
     ensures { SuspectsSuffice }
@@ -40,8 +40,8 @@ pub fn logs_have_one_diagnosis()
     ensures one { (board : RawBoard) (log : List (List Bool)) (pass other_pass : Bool) (faults others : List Single) → IsDiagnosis board log pass faults → IsDiagnosis board log other_pass others → (pass ≡ other_pass) × (faults ≡ others) }
 {}
 
-/// If a test decides for each single fault of a board whether the fault explains a log, the single faults that pass the test are those of
-/// the log's diagnosis, in order.
+/// If a test decides for each single fault of a board whether the fault explains a log, filtering the board's single faults by the test
+/// gives the faults of the log's diagnosis, in order.
 pub fn filters_pick()
     ensures { (board : RawBoard) (log : List (List Bool)) (test : Single → Bool) → IsBoard board → ((single : Single) → IsSingle board single → (IsTrue (test single) ↔ Explains board single log)) → Picks (λ single. Explains board single log) (singles board) (filter test (singles board)) }
 {}

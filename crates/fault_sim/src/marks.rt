@@ -12,7 +12,7 @@ use crate::passes::LoggedPass;
 use scan_planner::ReaderCell;
 use std::alloc::{AllocError, Global};
 
-// Marks each digit in which a compared bit of a row is not the expected bit.
+// Marks each digit in which some bit of `log` differs from the bit of `expected` although the bit of `compared` is 1. Clears no mark.
 fn mark_digits(marks: &mut [u8], log: &[u8], expected: &[u8], compared: &[u8])
     requires log { length log.now ≡ length marks.old }
     requires expected { length expected.now ≡ length marks.old }

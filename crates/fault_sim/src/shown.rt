@@ -20,7 +20,7 @@ pub struct ShownWords {
 }
 
 impl ShownWords {
-    /// Returns whether, in every row, all counted cells show the bit of this word.
+    /// Returns whether, in every row, each bit that a counted cell shows is the bit of `word` for this row.
     #[inline]
     pub fn agree_with(&self, word: u32) -> bool
         ensures { IsTrue result ↔ AgreesWith self.now word }

@@ -181,8 +181,9 @@ fn suspects_of(
 
 impl Suspects {
     /// Returns the places of a universe whose faults may explain a log. If one net differs in the log, these are the places of all faults
-    /// of this net. If two nets differ, these are the places of the shorts of both nets. Otherwise there are none. The plan must be built
-    /// from the board's passes, and the universe must be that of the board. The log must have the plan's rows, each as long as a data scan.
+    /// of this net. If two nets differ, these are the places of the shorts of the two nets. Otherwise there are none. The plan must be
+    /// built from the board's passes, and the universe must be built for this board. The log must have the plan's rows, each as long as a
+    /// data scan.
     pub fn new(
         alloc: Global,
         board: &Board,
@@ -226,8 +227,8 @@ fn place_at(places: &[u64], i: usize) -> u64
 }
 
 impl<'a> LoggedTest<'a> {
-    /// Like `Suspects::new`, for this test and log. `nets` must be the nets that differ in the log, and the universe must be that of the
-    /// board.
+    /// Like `Suspects::new`, for this test and log. `nets` must be the nets that differ in the log, and the universe must be built for the
+    /// board of the test.
     pub fn suspects(
         &self,
         alloc: Global,

@@ -36,7 +36,8 @@ impl Model for Universe {
     ghost view = { λ a. a.lists };
 }
 
-// Returns, for each of `nets` nets, the number of its first pair with a later net. The last item of the result is the number of all pairs.
+// Returns, for each net below `nets`, the number of the net's first pair with a later net. The last item of the result is the number of all
+// pairs.
 fn pair_starts(alloc: Global, nets: u32) -> Result<Vec<u64>, AllocError>
     requires { nets ≤ most_nets }
     ensures { IfOk result (λ starts. AreStarts nets starts.items) }
@@ -168,7 +169,7 @@ fn open_at(pins: &[PinRef], i: u64) -> Option<Single>
 }
 
 // Returns pair `k` of the covered nets, with the lower net first. On entry `near` is the place of the first net of the pair that the last
-// look-up found. This look-up sets `near` to the place of its own pair's first net.
+// look-up found. This look-up sets `near` to the place of the first net of pair `k`.
 fn pair_at(lists: &FaultLists, k: u64, near: &mut usize) -> Option<(u32, u32)>
     ensures { result ≡ slice_get (pairs_within lists.now.nets) k }
 {
@@ -300,7 +301,7 @@ impl Universe {
 
 impl<'a> BoardTest<'a> {
     /// Returns whether some pass observes all nets of a fault at a place. For a short, one pass must observe both nets. Returns true for
-    /// any other fault, since the net of a stuck net or open pin at a place is always observed.
+    /// any other fault at a place: it is on one covered net, and some pass observes each covered net.
     pub fn observes(&self, fault: Single) -> bool
         ensures { result ≡ observes_fault self.now.plan fault }
     {

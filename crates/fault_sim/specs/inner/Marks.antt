@@ -9,7 +9,7 @@ use Rattle.fault_sim.specs.declared.kept.ComparedRow.{ComparedRow}
 use Rattle.fault_sim.specs.Fits.{bit_in}
 use Rattle.fault_sim.specs.Kept.{compared_in, expected_in}
 
--- both parts of the row have room for a data scan
+-- the TDO bits and the MASK bits of the row each have room for the bits of a data scan
 pub record HaveRoom (board : RawBoard) (row : ComparedRow) : Type 0 where
   pub tdo : data_bits board ≤ row.tdo.room
   pub mask : data_bits board ≤ row.mask.room

@@ -18,7 +18,8 @@ rows_of_net log first width readers = record { log = log; first = first; width =
 abbrev pub net_rows_in : PassOfLog → ℕ → RowsOfNet
 net_rows_in pass net = rows_of_net pass.logged.log (pass.number * pass.logged.test.plan.width) pass.logged.test.plan.width (readers_in pass.logged.test.plan net)
 
--- The log has these rows. The rows are fewer than the bits of a word, and every row of the log has a bit for each of the cells.
+-- The log has `width` rows from row `first` on, and `width` is less than 32. Every row of the log has a bit at the position of each cell in
+-- `readers`.
 pub record AreNetRows (rows : RowsOfNet) : Type 0 where
   pub within : rows.first + rows.width ≤ length rows.log
   pub fits : rows.first + rows.width < 2 ^ 64

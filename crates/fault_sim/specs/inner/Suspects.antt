@@ -6,11 +6,11 @@ use Rattle.plan_tables.specs.declared.tables.PlanTables.{PlanTables}
 use Rattle.fault_sim.specs.declared.fault_lists.FaultLists.{FaultLists}
 use Rattle.fault_sim.specs.Effects.{code_in}
 
--- the two places of a stuck net or of an open pin, if `place` is the first of them
+-- the two places of the faults of a stuck net or of an open pin; `place` is the lower place
 abbrev pub two_from : ℕ → List ℕ
 two_from place = place ∷ (place + 1) ∷ []
 
--- the four places of the shorts of two nets, if `place` is the first of them
+-- the four places of the shorts of two nets; `place` is the lowest place
 abbrev pub four_from : ℕ → List ℕ
 four_from place = place ∷ (place + 1) ∷ (place + 2) ∷ (place + 3) ∷ []
 
@@ -22,11 +22,11 @@ first_open lists = 2 * length lists.nets
 abbrev pub first_short : FaultLists → ℕ
 first_short lists = 2 * length lists.nets + 2 * length lists.pins
 
--- the number of the pair of the covered nets at places a and b, if a is below b
+-- the number of the pair of covered nets that are items a and b of `lists.nets`, if a is less than b
 abbrev pub pair_number : FaultLists → ℕ → ℕ → ℕ
 pair_number lists a b = slice_index_or lists.starts a 0 + (b - suc a)
 
--- the places of the shorts of the covered nets at places a and b
+-- the places of the shorts of the covered nets that are items a and b of `lists.nets`
 abbrev pub pair_suspects : FaultLists → ℕ → ℕ → List ℕ
 pair_suspects lists a b = four_from (first_short lists + 4 * pair_number lists a b)
 

@@ -9,21 +9,22 @@ use Rattle.fault_sim.specs.Planned.{NetInPass, PassOfLog, controls_in}
 use Rattle.fault_sim.specs.inner.NetRows.{net_rows_in}
 use Rattle.fault_sim.specs.inner.Words.{AreShown, AreWordsOf, word_bit}
 
--- `shown` has the rows of the pass in which the net's cells show 1, and the rows in which they show 0
+-- `shown` has the rows of the pass in which some compared cell of the net shows 1, and the rows in which some compared cell shows 0
 abbrev pub IsShownIn : NetInPass → ShownWords → Type 0
 IsShownIn n shown = AreShown (net_rows_in n.pass n.net) (place_of_driver (driver_in n.pass.logged.test.plan (controls_in n.pass) n.net)) shown
 
--- `words` are the words of the net in the pass
+-- `words` has, for each row of the pass, the bit to which the net is driven, and it has the pull of the net
 abbrev pub AreWordsIn : PassOfLog → ℕ → FedWords → Type 0
 AreWordsIn pass net words = AreWordsOf (fed_net pass.logged.test.board pass.logged.test.plan (controls_in pass) net) words
 
--- `code` is the code of the net, `fed` has its words in the pass, and `shown` has the rows in which its cells show 1 or 0
+-- `code` is the code of the net, `fed` has the bits to which the net is driven in the pass, and `shown` has the rows in which the net's
+-- cells show 1 or 0
 pub record IsTellingNet (n : NetInPass) (code : ℕ) (fed : FedWords) (shown : ShownWords) : Type 0 where
   pub code_is : code ≡ code_in n.pass.logged.test.plan n.net
   pub fed_is : AreWordsIn n.pass n.net fed
   pub shown_is : IsShownIn n shown
 
--- the net is one of the fault's own nets, and the fault gives each compared cell of this net the bits of this word
+-- the net is one of the fault's own nets, and bit j of `word` is the bit that the fault gives each compared cell of the net in row j
 pub record IsWordOn (n : NetInPass) (fault : Single) (word : ℕ) : Type 0 where
   pub is_own : (n.net ≡ first_net fault) ⊎ (n.net ≡ second_net fault)
   pub bits : (j : ℕ) → j < 32 → (place : ℕ) →

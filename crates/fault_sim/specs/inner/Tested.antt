@@ -47,7 +47,7 @@ marked_in plan n flags pass = marked_by (driver_in plan pass n) (readers_in plan
 abbrev pub tested_flags : PlanTables → ℕ → ℕ → List Bool
 tested_flags plan count n = fold (marked_in plan n) (replicate count false) plan.passes
 
--- the pin at this place if it is tested, and otherwise no pin
+-- the list of pin `place` of net n if the pin is tested, and otherwise the empty list
 abbrev pub pin_where : Bool → ℕ → ℕ → List PinRef
 pin_where is_tested n place = cond is_tested (record { net = n; place = place } ∷ []) []
 
@@ -55,7 +55,7 @@ pin_where is_tested n place = cond is_tested (record { net = n; place = place } 
 abbrev pub flagged_before : ℕ → List Bool → ℕ → List PinRef
 flagged_before n flags count = map (λ place. record { net = n; place = place }) (filter (λ place. slice_index_or flags place false) (range_with_len 0 count))
 
--- the pins of a net, if their flags are true
+-- the pins of net n whose flags are true
 abbrev pub flagged_pins : ℕ → List Bool → List PinRef
 flagged_pins n flags = flagged_before n flags (length flags)
 

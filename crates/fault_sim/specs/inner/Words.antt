@@ -23,12 +23,13 @@ word_bit word j = bit_at word j == 1
 abbrev pub driven_bit : FeedWords → ℕ → Option Bool
 driven_bit words j = if word_bit words.driven j then Some (word_bit words.value j) else None
 
--- the common bit of two shorted nets in row j, if `code` has the expected bits
+-- The bit of two shorted nets in row j. If neither net is driven and neither has a pull, it is bit j of `code`, the code of the net whose
+-- cells are compared.
 abbrev pub short_word_bit : Kind → FedWords → FedWords → ℕ → ℕ → Bool
 short_word_bit kind first second code j =
     unwrap_or (or_else (shorted kind (driven_bit first.feed j) (driven_bit second.feed j)) (shorted kind first.pull second.pull)) (word_bit code j)
 
--- `words` has the bits of a net in a pass
+-- in each row j, `words` has the bit to which the net `fed` is driven; `words` also has the pull of the net
 pub record AreWordsOf (fed : FedNet) (words : FedWords) : Type 0 where
   pub feed_is : (j : ℕ) → j < 32 → driven_bit words.feed j ≡ feed_bit fed.feed j
   pub pull_is : words.pull ≡ fed.pull
@@ -42,8 +43,8 @@ abbrev pub some_shows : List (List Bool) → ℕ → Bool → List ReaderCell �
 some_shows log row bit readers None = false
 some_shows log row bit readers (Some driver) = list_any (shows_beside log row bit driver) readers
 
--- Bit j of the word is 1 exactly if, in row j of the pass, some cell has this bit and does not read the driver's pin. If there is no
--- driver, every bit of the word is 0.
+-- Bit j of the word is 1 exactly if the pass has a row j, and in this row some cell that does not read the driver's pin has the bit `bit`.
+-- If there is no driver, every bit of the word is 0.
 abbrev pub AreRowsOf : RowsOfNet → Bool → Option ℕ → ℕ → Type 0
 AreRowsOf rows bit driver word = (j : ℕ) → j < 32 → word_bit word j ≡ (nat_lt j rows.width && some_shows rows.log (rows.first + j) bit rows.readers driver)
 
@@ -53,6 +54,6 @@ pub record AreShown (rows : RowsOfNet) (driver : Option ℕ) (shown : ShownWords
   pub ones : AreRowsOf rows true driver shown.ones
   pub zeros : AreRowsOf rows false driver shown.zeros
 
--- every bit that the cells show is the bit that the word has for the row
+-- if some cell shows a bit in row j, bit j of `word` is this bit
 abbrev pub AgreesWith : ShownWords → ℕ → Type 0
 AgreesWith shown word = (j : ℕ) → j < 32 → (word_bit shown.ones j ≡ true → word_bit word j ≡ true) × (word_bit shown.zeros j ≡ true → word_bit word j ≡ false)
