@@ -121,7 +121,7 @@ pub captured_is : (board : RawBoard) (faults : FaultSet) (row : TestRow) (choice
 captured_is board faults row choice =
     captured_laid board faults row choice ∙ ap (λ (rs : List (List Bool)). joined rs) (parts_same (captured_cell board faults (row_states board row) choice) 0 board.chain)
 
--- `x` is one of the nets that short `k` joins, and has its number
+-- `x` is a net of `nets` with its number, and short `k` joins this net; `n` is the number of the first net of `nets`
 record InShort (faults : FaultSet) (k n : ℕ) (nets : List Net) (x : OfNet Net) : Type 0 where
   place : ℕ
   number_is : x.0 ≡ n + place
@@ -208,7 +208,7 @@ module _ (board : RawBoard) (rules : IsBoard board) (walk : List Ctl) (setting :
   abbrev places : BoardRules board
   places = board_rules board rules
 
-  -- a driver that its own cell controls is a switching driver, and the setting holds no control of a switching driver
+  -- if the setting holds a driver's control, the control cell is not the driver's own cell, since such a driver is a switching driver
   not_own : (n : ℕ) (net : Net) (d : ℕ) (pin : NetPin) (at : PinAt) (entry : Cell) → slice_get board.nets n ≡ Some net → slice_get net.pins d ≡ Some pin → pin.at ≡ Some at →
       entry_at board at ≡ Some entry → (control : Control) → entry.ctl ≡ Some control → holds walk (record { part = at.part; cell = control.cell }) ≡ true → (control.cell == entry.num) ≡ false
   not_own n net d pin at entry en ep a e control k held = false_from_ne_true (control.cell == entry.num) (λ own. by_rules own (((board_rules board rules).nets n net en).pins d pin ep))

@@ -20,7 +20,8 @@ clear_bit x m k none = by_test (bit_at m k == 1) (bit_at x k == 1) refl refl
     by_test true false e f = refl
     by_test false c e f = refl
 
--- if the union of all numbers so far and of one more number is 0, all of these numbers are 0
+-- Let `union` be 0 only if f is 0 for each number from `from` to k - 1. If the bitwise or of `union` and `f k` is 0, f is 0 for each number
+-- from `from` to k.
 pub zeros_more : (f : ℕ → ℕ) (from union k : ℕ) → (union ≡ 0 → (i : ℕ) → from ≤ i → i < k → f i ≡ 0) → bit_or union (f k) ≡ 0 → (i : ℕ) → from ≤ i → i < k + 1 → f i ≡ 0
 zeros_more f from union k zeros none i low less = by_side (cases_lt i k)
   where

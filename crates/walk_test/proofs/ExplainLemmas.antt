@@ -1,5 +1,5 @@
--- Lemmas which say when a set of groups explains a log: if and only if, in each row, each compared cell of a walk net reads whether its net
--- is joined with the net that carries 1.
+-- Lemmas which say when a set of groups explains a log: if and only if, in each row, each compared cell of a walk net reads 1 if its net is
+-- joined with the net that carries 1, and otherwise 0.
 use Rattle.std.proofs.Common.{◌≡◌, ◌≢◌, ◌⊎◌, inl, inr, ℕ, zero, suc, ◌+◌, ◌*◌, ◌<◌, ◌≤◌, ◌==◌, Bool, true, false, List, [], ◌∷◌, length, take, get_or, Option, Some, None, is_some, refl, sym, ◌∙◌, ap, subst, arith}
 use Rattle.std.specs.Prelude.{◌↔◌, slice_get, count_by, All, Contains}
 use Rattle.std.proofs.lemmas.Bool.{cases_eq}
@@ -81,7 +81,7 @@ shorts_are_faults board groups safe are = by_setting (walk_setting board) refl
         faults_of board groups (groups_ordered board groups are)
         (λ n k g. walked_covered board walk n (safe walk e) (walk_has board walk e n (group_nets board groups are n k g)))
 
--- each bit that a scan's mask marks has an expected value
+-- if a scan's mask has a 1 at position i, the bit of the scan at this position has an expected value
 mask_bit : (bits : List ScanBit) (i : ℕ) → get_or (mask_bits bits) i false ≡ true → (b : ScanBit) × (v : Bool) × (slice_get bits i ≡ Some b) × (b.expect ≡ Some v)
 mask_bit [] i e = cc e
 mask_bit (b ∷ bits) zero e = by_expect b.expect refl e

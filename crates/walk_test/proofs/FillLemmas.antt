@@ -58,7 +58,8 @@ some_width board plan p = by_width plan.width p.width_is
         absurd (omega (arith, enough, none))
     by_width (suc w) e = omega arith
 
--- if the settings are the walk setting, or none if there is no walk setting, the first of them is the walk setting
+-- if the list `settings` has only the value of an option, or is empty if the option is `None`, then the option is the result of looking up
+-- the first item of the list
 pub first_setting : {X : Type 0} (settings : List X) (o : Option X) → settings ≡ option_to_list o → slice_get settings 0 ≡ o
 first_setting settings o are = ap (λ l. slice_get l 0) are ∙ by_setting o
   where
@@ -177,7 +178,7 @@ module _ (board : RawBoard) (rules : IsBoard board) (plan : PlanTables) (p : IsP
     walk_cells : CellsOf board walk
     walk_cells = cells_of_plan board plan walk p one_pass
 
-    -- the net at place `i` is a walk net, and the cells at place `i` are its cells
+    -- the net at place `i` is a walk net, and the cells at place `i` are the cells of this net
     at_place : (i n : ℕ) → slice_get t.nets i ≡ Some n → WalkedBy board walk n
     at_place i n e = (walk_at board walk is i n (sym (ap (λ (l : List ℕ). slice_get l i) walk_nets_are) ∙ e)).by
 
@@ -253,7 +254,7 @@ early_same board ts us (suc zero) less = refl
 early_same board ts us (suc (suc zero)) less = refl
 early_same board ts us (suc (suc (suc k))) less = absurd (omega (arith, less))
 
--- the first three scans are the first three scans of any plan
+-- if rows are one of the first three scans of a plan's test, they are also the scan with this number of the walking test
 pub early_filled : (board : RawBoard) (passes : List (List Ctl)) (width k : ℕ) (shape : Shape) (tdi tdo mask : List Bool) → k < 3 → FillsScan board passes width k shape tdi tdo mask → FillsWalk board k shape tdi tdo mask
 early_filled board passes width k shape tdi tdo mask less f = record {
   scan = early_same board (walk_row_list board) (row_scans (code_row board passes) width passes) k less ∙ f.scan;
@@ -442,7 +443,7 @@ module _ (board : RawBoard) (rules : IsBoard board) (t : WalkTables) (w : IsWalk
   pub row_has_one : list_any (λ bit. bit) (mask_of board (before_of board (suc j))) ≡ true
   row_has_one = ap (λ (r : TestRow). list_any (λ bit. bit) (mask_of board r)) row_of_walk ∙ some_masked board rules t w walk is j (get_or t.nets j 0) net_is c at
 
--- a walk with a pass has the cells of each walk net
+-- if a walk's plan has a pass, the walk has cells for as many nets as it has walk nets
 pub cells_count : (board : RawBoard) (rules : IsBoard board) (t : WalkTables) (w : IsWalkOf board t) → 0 < length t.plan.passes → length t.cells ≡ length t.nets
 cells_count board rules t w some = let s = setting_there board rules t w some in (w.tables s.0 s.1).count
 
@@ -455,10 +456,11 @@ mask_length board rules t w some =
 pub still_length : (board : RawBoard) (rules : IsBoard board) (t : WalkTables) (w : IsWalkOf board t) → 0 < length t.plan.passes → length t.rows.still.bits ≡ data_bits board
 still_length board rules t w some = let s = setting_there board rules t w some in length-still board rules t w s.0 s.1
 
--- the quiet row expects nothing and compares nothing
+-- for the quiet row, the next scan expects no bit
 pub first_tdo : (board : RawBoard) → replicate (data_bits board) false ≡ tdo_of board quiet_row
 first_tdo board = quiet_tdo board (record { now = quiet_row; before = quiet_row }) refl
 
+-- for the quiet row, the next scan compares no bit
 pub first_mask : (board : RawBoard) → replicate (data_bits board) false ≡ mask_of board quiet_row
 first_mask board = quiet_mask board (record { now = quiet_row; before = quiet_row }) refl
 
@@ -472,7 +474,7 @@ compare_is board rules t w some (suc j) le mask is =
     let less : nat_lt 0 (suc j) ≡ true = lt-ltb 0 (suc j) (omega arith) in
     less ∙ sym (ap (λ (l : List Bool). list_any (λ bit. bit) l) is ∙ row_has_one board rules t w some j (omega (arith, le)) c.0 c.1)
 
--- if scan k comes after the EXTEST codes, the board has a pass
+-- if the number of a scan of a walk is at least 3, the walk's plan has a pass, and the number is at most 3 plus the number of walk nets
 pub past_codes : (t : WalkTables) (k : ℕ) → 3 ≤ k → k < Rattle.walk_test.specs.Tables.scan_count t → (0 < length t.plan.passes) × (k ≤ 3 + length t.nets)
 past_codes t k past less = by_passes t.plan.passes less
   where

@@ -1,4 +1,5 @@
--- Lemmas about lists of groups. Two lists are equal if they put the same nets together.
+-- Lemmas about lists of groups. Two lists of groups are equal if any two nets that are in one group of either list are also in one group of
+-- the other list.
 use Rattle.std.proofs.Common.{◌≡◌, ◌⊎◌, inl, inr, ℕ, zero, suc, ◌+◌, ◌<◌, ◌≤◌, ◌==◌, Bool, true, false, cond, List, [], ◌∷◌, length, Option, Some, None, refl, sym, ◌∙◌, ap, subst, arith}
 use Rattle.std.specs.Prelude.{slice_get, Contains}
 use Rattle.std.specs.List.{list_any}
@@ -117,7 +118,7 @@ module _ (g : List ℕ) (gs : List (List ℕ)) (h : List ℕ) (hs : List (List �
       by_place (l, inl first, la, lb) = absurd (p.apart.0 k has a (subst (λ (s : List ℕ). Has s a) (sym (same ∙ first)) la) in_a)
       by_place (l, inr later, la, lb) = (l, later, la, lb)
 
--- if two lists of groups put the same nets together, the lists are equal
+-- if any two nets that are in one group of either list are also in one group of the other list, the lists are equal
 pub one_list : (groups others : List (List ℕ)) → AreOrdered groups → AreOrdered others → ((a b : ℕ) → Together groups a b → Together others a b) → ((a b : ℕ) → Together others a b → Together groups a b) → groups ≡ others
 one_list [] [] p q to from = refl
 one_list [] (h ∷ hs) p q to from =
@@ -131,10 +132,11 @@ one_list (g ∷ gs) (h ∷ hs) p q to from =
     let same : g ≡ h = rising_same g h (p.rise g (inl refl)) (q.rise h (inl refl)) (first_within g gs h hs p q to least) (first_within h hs g gs q p from (sym least)) in
     cons_path same (one_list gs hs (tail_ordered g gs p) (tail_ordered h hs q) (rest_within g gs h hs p q to same) (rest_within h hs g gs q p from (sym same)))
 
--- If a group has net `n`, a test over the group's nets finds `n`. The next lemma is the converse.
+-- if a group has net `n`, comparing the group's nets with `n` finds an equal net
 any_in : (group : List ℕ) (n : ℕ) → Has group n → list_any (λ m. m == n) group ≡ true
 any_in group n has = has_any (λ m. m == n) group n has (eq-eqb n n refl)
 
+-- if comparing a group's nets with `n` finds an equal net, the group has net `n`
 in_any : (group : List ℕ) (n : ℕ) → list_any (λ m. m == n) group ≡ true → Has group n
 in_any group n e = let r = any_has (λ m. m == n) group e in subst (λ (m : ℕ). Has group m) (eqb-true r.0 n r.2) r.1
 
@@ -239,7 +241,7 @@ module _ (groups : List (List ℕ)) (ordered : AreOrdered groups) where
           let one : g ≡ h = one_of g h b has also in_b of_b in
           joined_in a c (g, has, in_a, subst (λ (l : List ℕ). Has l c) (sym one) of_c)
 
-  -- if two nets are joined, each is joined with the same nets as the other
+  -- if nets `a` and `b` are joined, `a` is joined with net `c` if and only if `b` is
   pub joined_same : (a b c : ℕ) → are_joined groups a b ≡ true → are_joined groups a c ≡ are_joined groups b c
   joined_same a b c e = same_answer (are_joined groups a c) (are_joined groups b c) (λ f. joined_across b a c (joined_swap a b e) f) (λ f. joined_across a b c e f)
 

@@ -21,7 +21,7 @@ use Rattle.walk_test.specs.Groups.{Rise, least_of, AreGroups}
 use Rattle.walk_test.specs.inner.Reading.{are_joined, bit_in, first_one, label_of, net_shows, ShowsIn, ShowsAll, members, group_at, groups_by}
 use Rattle.walk_test.proofs.GroupLemmas.{Rises, least_has, least_le, Before, AreOrdered, Together, joined_cases, joined_self, joined_in}
 
--- the first row that reads 1 at a position is not after any row that reads 1 there
+-- if row `j` reads 1 at a position, the first row that reads 1 there is row `j` or an earlier row
 pub first_low : (log : List (List Bool)) (at j : ℕ) → bit_in log j at ≡ true → first_one log at ≤ j
 first_low [] at j e = cc e
 first_low (row ∷ log) at zero e =
@@ -73,7 +73,7 @@ label_is log cells i c e = slice_get-map (label_of log) cells i ∙ ap (λ (o : 
 pub first_compared : (c : NetCells) → 0 < length c.compared → Has c.compared (get_or c.compared 0 0)
 first_compared c some = has_at c.compared 0 (get_or c.compared 0 0) (slice_get-get_or c.compared 0 0 some)
 
--- a log with at least one row for each net, if each net has a compared cell
+-- A log with at least one row for each net. Each net has a compared cell.
 module _ (log : List (List Bool)) (cells : List NetCells) (long : length cells ≤ length log) (some : (i : ℕ) (c : NetCells) → slice_get cells i ≡ Some c → 0 < length c.compared) where
   abbrev log_labels : List ℕ
   log_labels = map (label_of log) cells
@@ -147,7 +147,7 @@ shows_decided log labels cells = decided_below (ShowsIn log labels cells) in_row
         let all = decided_below (Shows j) (λ i. by_net j i (slice_get cells i) refl) (length cells) in
         (all.0, Decides-like all.0 (λ h i c e. h i (slice_get_within cells i c e) c e) (λ h i less c e. h i c e) all.1)
 
--- of two numbers in an ascending list, the number at the lower place is lower
+-- in an ascending list, the number at a lower place is lower
 pub place_order : (xs : List ℕ) → Rises xs → (i j a b : ℕ) → slice_get xs i ≡ Some a → slice_get xs j ≡ Some b → i < j → a < b
 place_order [] rise i j a b e f less = cc e
 place_order (x ∷ xs) rise zero zero a b e f less = absurd (omega (arith, less))
@@ -200,7 +200,8 @@ members_rise (x ∷ nets) (l ∷ labels) k rise = by_test (l == k) (members_rise
     by_test true r = (λ y h. let m = members_has nets labels k y h in rise.0 y (has_at nets m.0 y m.1), r)
     by_test false r = r
 
--- the nets with label `k` among the first `i + 1` nets are those among the first `i` nets, and net `i` if it has label `k`
+-- the nets with label `k` among the first `i + 1` nets are the nets with label `k` among the first `i` nets, followed by net `i` if its
+-- label is `k`
 pub members_more : (nets labels : List ℕ) (k i n l : ℕ) → slice_get nets i ≡ Some n → slice_get labels i ≡ Some l →
     members (take (i + 1) nets) (take (i + 1) labels) k ≡ members (take i nets) (take i labels) k ++ cond (l == k) (n ∷ []) []
 members_more [] labels k i n l e f = cc e
@@ -241,7 +242,7 @@ two_items (x ∷ []) a b (inl p) (inr k) ne = absurd k
 two_items (x ∷ []) a b (inr h) k ne = absurd h
 two_items (x ∷ y ∷ xs) a b h k ne = omega arith
 
--- The groups of nets in ascending order, if each label is the place of a net with this label.
+-- Lemmas about the groups of nets in ascending order. Each label is the place of a net with this label.
 module _ (nets labels : List ℕ) (rise : Rises nets) (count : length labels ≡ length nets) (own : (i k : ℕ) → slice_get labels i ≡ Some k → (k ≤ i) × (slice_get labels k ≡ Some k)) where
   abbrev groups : List (List ℕ)
   groups = groups_by nets labels
@@ -249,7 +250,7 @@ module _ (nets labels : List ℕ) (rise : Rises nets) (count : length labels ≡
   abbrev group : ℕ → List ℕ
   group k = members nets labels k
 
-  -- the group of label `k` has all nets with this label, and there are two or more of these nets
+  -- `g` has all nets with label `k`, and there are two or more of these nets
   record IsGroupAt (k : ℕ) (g : List ℕ) : Type 0 where
     nets_are : group k ≡ g
     several : 2 ≤ length g

@@ -38,7 +38,7 @@ walk_harmless safe walks passes board rules = by_setting (walk_setting board) re
     by_setting None e = subst (λ (o : Option (List Ctl)). IsHarmless board (svf_text (board_scans board (scans_by board o)))) (sym e) (passes board [] 0 rules (λ x pass at. cc at))
     by_setting (Some walk) e = subst (λ (o : Option (List Ctl)). IsHarmless board (svf_text (board_scans board (scans_by board o)))) (sym e) (walks board walk rules (safe board walk rules e))
 
--- a walk counts as many scans as the walking test has
+-- `scan_count` of a board's walk is the number of scans of the board's walking test
 pub scans_counted : ScansCounted
 scans_counted board t is = by_setting (walk_setting board) refl
   where
@@ -84,7 +84,8 @@ no_groups board (group ∷ groups) none are =
 module _ (safe : WalkSafe) (by_rows : (board : RawBoard) (faults : FaultSet) (scans : List RowScan) (log : List (List Bool)) → IsBoard board → AreInTurn board scans → ExplainedBy board faults scans log ↔ (HasShape board scans log × IsCapturedBy board faults scans log))
     (compare : (board : RawBoard) (walk : List Ctl) → IsBoard board → CompareRows (walk_row board) (count_by (is_walked board walk) board.nets) (walk ∷ []) (compared_scans board (walk_row_scans board walk)))
     (turns : (board : RawBoard) (walk : List Ctl) → IsSafe board (holds walk) → AreInTurn board (walk_row_scans board walk)) where
-  -- if a set of groups explains a log, the compared cells read what the set says
+  -- if a set of groups explains a log, the log has a row for each walk net, and each compared cell reads 1 exactly if the set joins the
+  -- cell's net with the net that carries 1 in the row
   pub shown_by : (board : RawBoard) (walk : List Ctl) (log : List (List Bool)) (groups : List (List ℕ)) → IsBoard board → walk_setting board ≡ Some walk → Explain board log groups →
       ShowJoined board walk log groups × (length log ≡ length (walk_nets board))
   shown_by board walk log groups rules is explain =

@@ -1,4 +1,4 @@
--- Lemmas which read the rows of a log from their digits, at the compared positions.
+-- Lemmas which say that the digits of a log's rows have the bits that the rows read at the compared positions.
 use Rattle.std.proofs.Common.{◌≡◌, ◌⊎◌, inl, inr, ℕ, zero, suc, ◌+◌, ◌*◌, ◌/◌, ◌%◌, ◌<◌, ◌≤◌, ◌==◌, ◌^◌, Bool, true, false, ◌&&◌, List, [], ◌∷◌, length, get_or, min, Decides, refl, sym, ap, ◌∙◌, arith}
 use Rattle.std.specs.Int.{bit_at}
 use Rattle.std.specs.Int.Bits.{bit_and, bit_xor}
@@ -102,7 +102,7 @@ module _ (log : List (List Bool)) (mask : List Bool) (marks : List ℕ) (are : m
   pub not_started : (own none : ℕ) (old : List ℕ) (t : Bool) → t ≡ is_one row marks own → t ≡ false → Decides t (StartsGroup log mask j own none old)
   not_started own none old t is off = (λ e. let bad : true ≡ false = sym e ∙ off in cc bad, λ s. is ∙ one_read own ∙ s.is_read)
 
-  -- If position `own` reads 1, a group starts if and only if no position that reads 1 has an earlier row.
+  -- If position `own` reads 1 in row j, a group starts if and only if no compared position that reads 1 in this row has a row yet.
   module _ (none : ℕ) (old : List ℕ) (count : length old ≡ length mask) where
     pub starts : (own : ℕ) → is_one row marks own ≡ true → (t : Bool) → Decides t (IsFresh row marks none old (length old)) → Decides t (StartsGroup log mask j own none old)
     starts own one t d = (

@@ -14,7 +14,7 @@ use Rattle.walk_test.proofs.LabelLemmas.{members_more, rise_members}
 abbrev with_item : (ℕ → List ℕ) → ℕ → ℕ → ℕ → List ℕ
 with_item f l x k = f k ++ cond (l == k) (x ∷ []) []
 
--- the lists with numbers above `l` do not change
+-- if net `x` is appended to list `l`, the lists with numbers above `l` do not change
 others_kept : (f : ℕ → List ℕ) (a n l x : ℕ) → l < a → map f (range_with_len a n) ≡ map (with_item f l x) (range_with_len a n)
 others_kept f a zero l x less = refl
 others_kept f a (suc n) l x less =
@@ -34,7 +34,8 @@ same_over : (f g : ℕ → List ℕ) → ((k : ℕ) → f k ≡ g k) → (ks : L
 same_over f g same [] = refl
 same_over f g same (k ∷ ks) = cons_path (same k) (same_over f g same ks)
 
--- if the lists are right for the first `i` nets, they are right for the first `i + 1` nets after net `i` is added to the list of its label
+-- if the list of each label has the nets with this label among the first `i` nets, then after net `i` is added to the list of its label,
+-- the lists have the nets with their labels among the first `i + 1` nets
 pub all_members_more : (nets labels : List ℕ) (count i n l : ℕ) (now new : List (List ℕ)) → slice_get nets i ≡ Some n → slice_get labels i ≡ Some l →
     now ≡ map (members (take i nets) (take i labels)) (range_with_len 0 count) → new ≡ noted now (Some l) n →
     new ≡ map (members (take (i + 1) nets) (take (i + 1) labels)) (range_with_len 0 count)
@@ -50,7 +51,7 @@ pub no_members : (a n : ℕ) → replicate n [] ≡ map (members [] []) (range_w
 no_members a zero = refl
 no_members a (suc n) = ap (λ (l : List (List ℕ)). [] ∷ l) (no_members (a + 1) n)
 
--- the lists of two or more nets are the groups
+-- the groups of labels are the lists of nets with a label, without the lists that have fewer than two nets
 several_over : (nets labels : List ℕ) (ks : List ℕ) → flat_map where_several (map (members nets labels) ks) ≡ flat_map (group_at nets labels) ks
 several_over nets labels [] = refl
 several_over nets labels (k ∷ ks) = ap (λ (l : List (List ℕ)). group_at nets labels k ++ l) (several_over nets labels ks)

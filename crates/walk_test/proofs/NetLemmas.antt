@@ -20,7 +20,7 @@ use Rattle.walk_test.proofs.CellLemmas.{WalkedBy}
 count_cons : {X : Type 0} (p : X → Bool) (x : X) (xs : List X) → count_by p (x ∷ xs) ≡ cond (p x) 1 0 + count_by p xs
 count_cons p x xs = sum_by-cons (λ y. cond (p y) 1 0) x xs
 
--- numbers from `k` on, kept if their items pass a test
+-- A list whose items have numbers from `k` on. The number of an item is kept if the item satisfies the test.
 module _ {X : Type 0} (p : X → Bool) (q : ℕ → Bool) where
   abbrev Tests : ℕ → List X → Type 0
   Tests k xs = (i : ℕ) (x : X) → slice_get xs i ≡ Some x → q (k + i) ≡ p x
@@ -42,7 +42,7 @@ module _ {X : Type 0} (p : X → Bool) (q : ℕ → Bool) where
       by_test true e rest = ap (λ (b : Bool). length (cond b (k ∷ kept (k + 1) xs) (kept (k + 1) xs))) e ∙ omega (arith, rest)
       by_test false e rest = ap (λ (b : Bool). length (cond b (k ∷ kept (k + 1) xs) (kept (k + 1) xs))) e ∙ omega (arith, rest)
 
-  -- the number at place `i` of the kept numbers is `n`, and item `n` passes
+  -- the number at place `i` of the kept numbers is `n`, and the item with this number satisfies the test
   pub record KeptAt (k : ℕ) (xs : List X) (i n : ℕ) : Type 0 where
     pub place : ℕ
     pub item : X

@@ -40,8 +40,8 @@ use Rattle.walk_test.specs.Tables.{tdi_of, mask_of, still_row, AreNetCells}
 use Rattle.walk_test.specs.inner.Tables.{tdo_of, positions_beside}
 use Rattle.walk_test.proofs.CellLemmas.{WalkedBy, compared_of, compared_device, compared_position}
 
--- Two tests give each item one bit in each of two rows. If the rows differ at place `i`, they differed there before, or an item with this
--- place has two different bits.
+-- Functions f and g give each item a bit. The bits of f are set in row s at the places of the items, and the bits of g in row t. If the
+-- rows agree at place `i` before that, they agree there afterwards, or f and g give an item with this place two different bits.
 apart_at : {X : Type 0} (place : X → ℕ) (f g : X → Bool) (xs : List X) (s t : List Bool) (i : ℕ) → length s ≡ length t →
     (get_or s i false ≡ get_or t i false) ⊎ ((x : X) × Has xs x × (place x ≡ i) × (f x ≡ g x → ⊥)) →
     (get_or (assigned place f s xs) i false ≡ get_or (assigned place g t xs) i false) ⊎ ((x : X) × Has xs x × (place x ≡ i) × (f x ≡ g x → ⊥))
@@ -117,7 +117,7 @@ pub record CellsOf (board : RawBoard) (walk : List Ctl) : Type 0 where
   pub readers : List (List ReaderCell)
   pub are : ReadersOf board readers
 
--- a plan with one pass has these cells for its pass
+-- if a plan has the setting as its only pass, the plan gives the driver cells of this setting and the cells that read each net
 pub cells_of_plan : (board : RawBoard) (plan : PlanTables) (walk : List Ctl) → IsPlanOf board plan → plan.passes ≡ walk ∷ [] → CellsOf board walk
 cells_of_plan board plan walk p is =
     let t = p.tables.cells 0 walk (ap (λ (l : List (List Ctl)). slice_get l 0) is) in

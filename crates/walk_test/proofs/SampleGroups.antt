@@ -93,8 +93,8 @@ one_short_is = record {
     above n (inl e) = omega (arith, e)
     above n (inr has) = absurd has
 
--- Lists that are not sets of groups: a group of one net, nets that are not in ascending order, a net in two groups, and groups whose lowest
--- nets are not in ascending order.
+-- The list is not a set of groups. The samples have a group of one net, nets that are not in ascending order, a net in two groups, and
+-- groups whose lowest nets are not in ascending order.
 abbrev NoGroups : List (List ℕ) → Type 0
 NoGroups groups = AreGroups four_wires groups → ⊥
 
@@ -142,8 +142,8 @@ rows_pass : (log : List (List Bool)) → Explain four_wires log one_short →
     CapturesPass four_wires (or_shorts one_short) quiet_row (walk_row_list four_wires) (scans_by_log (map (scan_of_row four_wires) (walk_row_list four_wires)) log)
 rows_pass log h = (log_captured four_wires four_wires_rules (or_shorts one_short) (walk_row_list four_wires) log).0 h.explained.passes
 
--- The group does not explain the log. The samples are a log of the And of the two nets, and a log in which only the first net reads the
--- third.
+-- The group does not explain the log. The samples are a log of the And of the two nets, and a log in which the first net reads the 1 of the
+-- third net but the third net does not read the 1 of the first net.
 abbrev IsUnexplained : List (List Bool) → Type 0
 IsUnexplained log = Explain four_wires log one_short → ⊥
 

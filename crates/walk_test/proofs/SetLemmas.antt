@@ -119,7 +119,7 @@ some_cells board walk (n ∷ nets) walked = by_rest (cells_there board walk n (w
             subst (λ (k : ℕ). AreNetCells board walk k x) net (subst (λ (y : NetCells). AreNetCells board walk n y) same is_c)
         are (suc i) m x e f = rest.are i m x e f
 
--- this is the position of a compared cell of net `n`
+-- `position` is the position of a compared cell of net `n`
 record ComparedCell (board : RawBoard) (walk : List Ctl) (n position : ℕ) : Type 0 where
   driver : DriverCell
   is_driver : IsDriverCell board walk driver
@@ -351,7 +351,7 @@ module _ (safe : WalkSafe) (by_rows : (board : RawBoard) (faults : FaultSet) (sc
       first_reads : (i j a b : ℕ) (c : NetCells) → slice_get nets i ≡ Some a → slice_get cells i ≡ Some c → slice_get nets j ≡ Some b → bit_in log j (first_cell c) ≡ are_joined groups a b
       first_reads i j a b c ni ci nj = joined_cells i j a b (first_cell c) c ni ci nj (first_compared c (some i c ci))
 
-      -- so the label of a net is the place of the first net that is joined with this net
+      -- the label of a net is the place of the first net that is joined with this net
       label_joined : (i a : ℕ) (c : NetCells) → slice_get nets i ≡ Some a → slice_get cells i ≡ Some c → (n : ℕ) × (slice_get nets (label_of log c) ≡ Some n) × (are_joined groups a n ≡ true)
       label_joined i a c ni ci =
           let on : bit_in log i (first_cell c) ≡ true = first_reads i i a a c ni ci ni ∙ joined_self groups a a refl in

@@ -64,7 +64,7 @@ pins_held board pull s (pin ∷ pins) c =
     ∙ ap (λ (b : Bool). rest || b) (some_held s (pin_switch board pull pin.at) c)
     ∙ regroup (is_ctl (pin_switch board pull pin.at) c) rest (holds s c)
 
--- if the net is not guarded, the code finds the control that the definition finds for a pin
+-- if the net is not guarded, `pin_switch` finds the control `c` for a pin if and only if the pin is a switching driver with this control
 pin_switched : (board : RawBoard) (net : Net) (pin : NetPin) (c : Ctl) → guarded board net ≡ false → is_ctl (pin_switch board net.pull pin.at) c ≡ is_switched_by board c net pin
 pin_switched board net pin c open_net = by_at pin.at
   where
@@ -128,7 +128,8 @@ nets_held board s (net ∷ nets) c =
 pub switching_is : (board : RawBoard) (c : Ctl) → holds (all_switching board board.nets) c ≡ switches_some board c
 switching_is board c = nets_held board [] board.nets c ∙ or-false (switches_some board c)
 
--- if `old` has the controls of the switching drivers of the first `n` nets, `new` has those of the first `n + 1` nets
+-- if `old` has the controls of the switching drivers of the first `n` nets, `new` has the controls of the switching drivers of the first `n
+-- + 1` nets
 pub net_more : (board : RawBoard) (nets : List Net) (n : ℕ) (net : Net) (old new : List Ctl) → nets ≡ board.nets → n < length nets → net ≡ get_or nets n net → old ≡ all_switching board (take n nets) →
     new ≡ cond (guarded_at board n) old (with_pins board net.pull old net.pins) → new ≡ all_switching board (take (n + 1) nets)
 net_more board nets n net old new are less net_is old_is new_is =
@@ -139,7 +140,8 @@ net_more board nets n net old new are less net_is old_is new_is =
     ∙ ap (λ (x : Net). with_net board (all_switching board (take n nets)) x) net_is
     ∙ sym (ap (λ (l : List Net). all_switching board l) (take_more nets n net less) ∙ fold-append (with_net board) [] (take n nets) (get_or nets n net ∷ []))
 
--- a pass without the controls in `set` is the pass without the controls of switching drivers
+-- if `set` has the controls of all switching drivers, a pass without the controls in `set` is the pass without the controls of switching
+-- drivers
 pub left_is : (board : RawBoard) (set pass : List Ctl) → set ≡ all_switching board board.nets → filter (λ c. not (holds set c)) pass ≡ without_switching board pass
 left_is board set pass is =
     filter_agree (λ c. not (holds set c)) (λ c. not (switches_some board c)) (λ c. ap (λ (s : List Ctl). not (holds s c)) is ∙ ap not (switching_is board c)) pass
@@ -149,7 +151,7 @@ left_order p pass order =
     let R : Ctl → Ctl → Type 0 = λ a b. Rattle.std.specs.Prelude.IsTrue (precedes a b) in
     order_pairs R (filter p pass) (order_filter R p pass (pairs_order R pass order))
 
--- a filtered pass holds a control if and only if the pass holds the control and the control passes the test
+-- a filtered pass holds a control if and only if the pass holds the control and the control satisfies the test
 held_left : (p : Ctl → Bool) (pass : List Ctl) (c : Ctl) → holds (filter p pass) c ≡ (holds pass c && p c)
 held_left p [] c = refl
 held_left p (d ∷ pass) c = by_tests (p d) (same_ctl c d) refl refl (held_left p pass c)
@@ -162,13 +164,13 @@ held_left p (d ∷ pass) c = by_tests (p d) (same_ctl c d) refl refl (held_left 
         rest ∙ ap (λ (b : Bool). holds pass c && b) off ∙ and-false (holds pass c) ∙ sym off
     by_tests false false e f rest = rest
 
--- if the setting holds a control, the pass holds it, and it is not the control of a switching driver
+-- if the setting holds a control, the pass holds the control, and no switching driver has this control
 pub setting_held : (board : RawBoard) (pass : List Ctl) (c : Ctl) → holds (without_switching board pass) c ≡ true → (holds pass c ≡ true) × (switches_some board c ≡ false)
 setting_held board pass c h =
     let r = and_parts (holds pass c) (not (switches_some board c)) (sym (held_left (λ d. not (switches_some board d)) pass c) ∙ h) in
     (r.0, not-true (switches_some board c) r.1)
 
--- the setting holds a control if and only if the first pass holds it and it is not the control of a switching driver
+-- the setting holds a control if and only if the first pass holds the control and no switching driver has this control
 pub setting_kept : (board : RawBoard) (pass setting : List Ctl) (c : Ctl) → slice_get (passes_of board) 0 ≡ Some pass → walk_setting board ≡ Some setting → holds setting c ≡ (holds pass c && not (switches_some board c))
 setting_kept board pass setting c first is =
     let made : Some (without_switching board pass) ≡ Some setting = ap (λ (o : Option (List Ctl)). option_map (without_switching board) o) (sym first) ∙ is in
@@ -318,7 +320,7 @@ passes_useful board =
     (λ d h. let r = flat_map_has (λ (drivers : List Drive). drivers) (drivers_by_net board) d h in by_net_tested board r.0 r.1 d r.2)
     (λ pass none. absurd none))
 
--- the walk setting alone can be planned
+-- a plan can be made with the walk setting as its only pass
 pub setting_plannable : (board : RawBoard) (setting : List Ctl) → walk_setting board ≡ Some setting → ArePasses board (passes_of board) → PlansUseful board → ArePlannable board (setting ∷ [])
 setting_plannable board setting is kept plans =
     plans.passes (setting ∷ [])
@@ -334,7 +336,7 @@ setting_plannable board setting is kept plans =
 pub nothing_plannable : (board : RawBoard) → ArePlannable board []
 nothing_plannable board = record { safe = λ x pass e. cc e; controls = λ x pass c e. cc e }
 
--- if a result is the list of only the walk setting, the list can be planned
+-- if the value of an `Ok` result is the list of only the walk setting, and this list can be planned, the value can be planned
 pub only_plannable : {V E : Type 0} (view : V → List (List Ctl)) (result : Result V E) (board : RawBoard) (setting : List Ctl) → IfOk result (λ v. view v ≡ setting ∷ []) → ArePlannable board (setting ∷ []) → IfOk result (λ v. ArePlannable board (view v))
 only_plannable view (Err e) board setting is plans = tt
 only_plannable view (Ok v) board setting is plans = subst (λ (l : List (List Ctl)). ArePlannable board l) (sym is) plans

@@ -17,7 +17,7 @@ use Rattle.walk_test.specs.Tables.{IsWalkOf, scan_count}
 abbrev pub WalkSafe : Type 0
 WalkSafe = (board : RawBoard) (walk : List Ctl) → IsBoard board → walk_setting board ≡ Some walk → IsSafe board (holds walk)
 
--- the walk setting holds a control if and only if the first pass holds it and it is not the control of a switching driver
+-- the walk setting holds a control if and only if the first pass holds the control and the control belongs to no switching driver
 abbrev pub WalkKept : Type 0
 WalkKept = (board : RawBoard) (pass walk : List Ctl) (c : Ctl) → slice_get (passes_of board) 0 ≡ Some pass → walk_setting board ≡ Some walk → holds walk c ≡ (holds pass c && not (switches_some board c))
 
@@ -41,6 +41,6 @@ OneResponse = (board : RawBoard) (groups : List (List ℕ)) (log other : List (L
 abbrev pub OneSet : Type 0
 OneSet = (board : RawBoard) (log : List (List Bool)) (groups others : List (List ℕ)) → IsBoard board → Explain board log groups → Explain board log others → groups ≡ others
 
--- the tables of a walk count as many scans as the board's walking test has
+-- `scan_count` of a board's walk is the number of scans of the board's walking test
 abbrev pub ScansCounted : Type 0
 ScansCounted = (board : RawBoard) (walk : WalkTables) → IsWalkOf board walk → scan_count walk ≡ length (walk_scans board)

@@ -62,12 +62,12 @@ fn groups_by(alloc: Global, nets: &[u32], labels: &[u32]) -> Result<Vec<Group>, 
 }
 
 /// Returns the set of groups of walk nets that explains a log of the walking test, or `None` if and only if no set does. There is at most
-/// one such set. Its groups are in the order of their lowest nets. The walk must be that of the board. The log must have a row for each
+/// one such set. Its groups are in the order of their lowest nets. The walk must be made for the board. The log must have a row for each
 /// walk net, and each row must be as long as a data scan. The nets of the groups are nets of the board.
 ///
-/// A set of groups explains the log if every run of the test, with the Or shorts of these groups and no other fault, gives each
-/// compared bit of the log. The log is read once, row by row, many bits at a time. Forming the groups takes time in proportion to
-/// the number of nets.
+/// A set of groups explains the log if every run of the test, with the Or shorts of these groups and no other fault, gives each compared
+/// bit of the log. The log is read once, row by row, many bits at a time. Forming the groups takes time in proportion to the number of
+/// nets.
 pub fn groups(
     alloc: Global,
     board: &Board,

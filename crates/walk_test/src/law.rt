@@ -17,8 +17,7 @@ pub fn walk_safe()
     board_law::passes_kept();
 }
 
-/// The walk setting holds a control if and only if the first pass holds it and it is not the control of a switching
-/// driver.
+/// The walk setting holds a control if and only if the first pass holds the control and no switching driver has this control.
 pub fn walk_kept()
     ensures { WalkKept }
 {}
@@ -32,7 +31,7 @@ pub fn walk_harmless()
     passes_harmless();
 }
 
-/// The scan count that the tables of a walk give is the number of scans in the board's walking test.
+/// `scan_count` of a board's walk is the number of scans of the board's walking test.
 pub fn scans_counted()
     ensures { ScansCounted }
 {}

@@ -98,9 +98,10 @@ fn put_all<K: Sink>(
 }
 
 /// Writes the groups that explain a log: their number, and for each group its size and its nets in net order. If `groups` is `None`, writes
-/// that no set of groups explains the log. If the board has no net of a number, writes an empty name. Each line goes to the sink as one
-/// piece, but a line of more than `MAX_LINE` bytes goes out in pieces of `MAX_LINE` bytes and the rest. Allocates nothing. `line` is used
-/// as a buffer, and its content afterwards is unspecified. Fails only if the sink fails. In this case the sink took a prefix of the text.
+/// that no set of groups explains the log. For a number that no net of the board has, writes an empty name. Each line goes to the sink as
+/// one piece, but a line of more than `MAX_LINE` bytes goes out in pieces of `MAX_LINE` bytes and the rest. Allocates nothing. `line` is
+/// used as a buffer, and its content afterwards is unspecified. Fails only if the sink fails. In this case the sink took a prefix of the
+/// text.
 pub fn write_groups<K: Sink>(
     board: &Board,
     groups: Option<&[Group]>,

@@ -260,7 +260,8 @@ fn blank_rows(alloc: Global, board: &Board) -> Result<WalkRows, AllocError>
 }
 
 /// Returns the parts of a walk, made from the pins of its board's nets and the first pass of its test. The rows have room, but are still
-/// empty: `fill_rows` fills them from the plan. Nothing fails after the plan is made, so no exit drops a plan.
+/// empty: `fill_rows` fills them from the plan. All memory other than the plan's is allocated here, so nothing fails after `Walk::of` has
+/// made the plan, and no exit drops a plan.
 pub fn walk_parts(
     alloc: Global,
     board: &Board,

@@ -97,7 +97,7 @@ impl Walk {
         }
     }
 
-    /// Fills the rows with scan `k` of the walking test, counted from 0, and returns the scan's shape. The board must be that of the walk,
+    /// Fills the rows with scan `k` of the walking test, counted from 0, and returns the scan's shape. The walk must be made for `board`,
     /// `k` must be below the number of scans, and each row must have room for the longer register. Allocates nothing.
     pub fn fill(&self, board: &Board, k: u64, tdi: &mut Row, tdo: &mut Row, mask: &mut Row) -> Shape
         requires walk { IsWalkOf board.now self.now }

@@ -19,11 +19,11 @@ AreClear row mask from to = (k : ℕ) → from ≤ k → k < to → bit_and (sli
 abbrev pub differing : List ℕ → List ℕ → List ℕ → ℕ → ℕ
 differing row other mask k = bit_and (bit_xor (slice_index_or row k 0) (slice_index_or other k 0)) (slice_index_or mask k 0)
 
--- the positions below `end` that are compared and read 1 have no row yet
+-- if a position below `end` is compared and reads 1, it has no row in `firsts` yet
 abbrev pub IsFresh : List ℕ → List ℕ → ℕ → List ℕ → ℕ → Type 0
 IsFresh row mask none firsts end = (at : ℕ) → at < end → at < length firsts → is_one row mask at ≡ true → slice_index_or firsts at none ≡ none
 
--- the positions below `end` that are compared and read 1 have row j, and the other positions below `end` are unchanged
+-- if a position below `end` is compared and reads 1, its item in `new` is j; the items of the other positions below `end` are unchanged
 pub record IsMarked (row mask : List ℕ) (j none : ℕ) (old new : List ℕ) (end : ℕ) : Type 0 where
   pub marked : (at : ℕ) → at < end → at < length old → is_one row mask at ≡ true → slice_index_or new at none ≡ j
   pub kept : (at : ℕ) → at < end → is_one row mask at ≡ false → slice_index_or new at none ≡ slice_index_or old at none

@@ -69,7 +69,7 @@ pub record LoggedNets : Type 0 where
 abbrev pub logged_nets : List (List Bool) → List NetCells → List Bool → LoggedNets
 logged_nets log nets mask = record { log = log; nets = nets; mask = mask }
 
--- each net has a row, and the mask has the compared positions of the nets
+-- the log has one row for each net, each row is as long as the mask, and the mask has a 1 at each compared position of the nets
 pub record AreLoggedNets (it : LoggedNets) : Type 0 where
   pub few : length it.log < 2 ^ 32
   pub rows : length it.log ≡ length it.nets
@@ -80,18 +80,18 @@ pub record AreLoggedNets (it : LoggedNets) : Type 0 where
 abbrev pub AreSameRows : List (List Bool) → List Bool → ℕ → ℕ → Type 0
 AreSameRows log mask j other = (at : ℕ) → slice_index_or mask at false ≡ true → bit_in log j at ≡ bit_in log other at
 
--- A group starts in row j with the net of position `own`. The position is compared and reads 1. No compared position that reads 1 has an
--- earlier row.
+-- A group starts in row j with the net whose first compared position is `own`: this position is compared and reads 1 in row j, and no
+-- compared position that reads 1 in row j has a row in `firsts` yet.
 pub record StartsGroup (log : List (List Bool)) (mask : List Bool) (j own none : ℕ) (firsts : List ℕ) : Type 0 where
   pub is_read : (slice_index_or mask own false && bit_in log j own) ≡ true
   pub fresh : (at : ℕ) → slice_index_or mask at false ≡ true → bit_in log j at ≡ true → slice_index_or firsts at none ≡ none
 
--- the compared positions that read 1 in row j have row j, and the other compared positions are unchanged
+-- if a compared position reads 1 in row j, its item in `new` is j; the items of the other compared positions are unchanged
 pub record AreStarted (log : List (List Bool)) (mask : List Bool) (j none : ℕ) (old new : List ℕ) : Type 0 where
   pub marked : (at : ℕ) → slice_index_or mask at false ≡ true → bit_in log j at ≡ true → slice_index_or new at none ≡ j
   pub kept : (at : ℕ) → slice_index_or mask at false ≡ true → bit_in log j at ≡ false → slice_index_or new at none ≡ slice_index_or old at none
 
--- the row if it comes before row j, and otherwise `none`
+-- `row` if it is less than j, and otherwise `none`
 abbrev pub below : ℕ → ℕ → ℕ → ℕ
 below j none row = if nat_lt row j then row else none
 
@@ -110,7 +110,7 @@ pub record AreRead (log : List (List Bool)) (mask : List Bool) (nets : List NetC
 abbrev pub net_shows : List (List Bool) → List ℕ → ℕ → ℕ → NetCells → Bool
 net_shows log labels j i cells = list_all (λ at. is_same (bit_in log j at) (slice_index_or labels i 0 == slice_index_or labels j 0)) cells.compared
 
--- row j shows the labels: the cells of each net read what the labels say
+-- in row j, each compared cell of each net i reads 1 if nets i and j have the same label, and otherwise 0
 abbrev pub ShowsIn : List (List Bool) → List ℕ → List NetCells → ℕ → Type 0
 ShowsIn log labels cells j = (i : ℕ) (net : NetCells) → slice_get cells i ≡ Some net → net_shows log labels j i net ≡ true
 

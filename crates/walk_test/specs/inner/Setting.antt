@@ -37,6 +37,6 @@ with_pins board pull setting pins = fold (λ s pin. with_some s (pin_switch boar
 abbrev pub with_net : RawBoard → List Ctl → Net → List Ctl
 with_net board setting net = if guarded board net then setting else with_pins board net.pull setting net.pins
 
--- the controls of all switching drivers
+-- the controls of all switching drivers of these nets
 abbrev pub all_switching : RawBoard → List Net → List Ctl
 all_switching board nets = fold (with_net board) [] nets

@@ -40,7 +40,7 @@ observer_in pins walk n =
 abbrev pub positions_beside : ℕ → List ReaderCell → List ℕ
 positions_beside place readers = map (λ r. r.position) (filter (λ r. not (r.place == place)) readers)
 
--- the cells of a net that the setting observes by this driver
+-- the cells of net n, if the setting observes the net by driver d; no cells if the setting does not observe the net
 abbrev pub cells_by : NetPins → ℕ → Option NetDriver → NetCells
 cells_by pins n None = record { driver = 0; compared = [] }
 cells_by pins n (Some d) = record { driver = d.position; compared = positions_beside d.place (slice_index_or pins.readers n []) }
@@ -62,7 +62,8 @@ abbrev pub cells_of : NetPins → Option (List Ctl) → List ℕ → List NetCel
 cells_of pins None nets = []
 cells_of pins (Some walk) nets = map (cells_in pins walk) nets
 
--- the rows of a walk are those that follow from the first row of the plan and the cells of the walk nets
+-- If the plan has a pass, `rows.still` has the bits of the plan's first row, with 0 at the driver cells of the walk nets, and `rows.mask`
+-- has a 1 at each position that is compared for this row.
 pub record AreMade (board : RawBoard) (plan : PlanTables) (cells : List NetCells) (rows : WalkRows) : Type 0 where
   pub still : 0 < length plan.passes → rows.still.bits ≡ cleared (tdi_of board (first_row board plan)) cells
   pub mask : 0 < length plan.passes → rows.mask.bits ≡ mask_of board (first_row board plan)
@@ -81,10 +82,11 @@ walk_controls (Some walk) = walk
 abbrev pub walk_row_of : RawBoard → ℕ → TestRow
 walk_row_of board j = walk_row board (walk_controls (walk_setting board)) j
 
--- The row that scan j after the EXTEST codes shifts in. The next definition, `before_of`, is the row that this scan compares.
+-- the row that scan j after the EXTEST codes shifts in
 abbrev pub now_of : RawBoard → ℕ → ℕ → TestRow
 now_of board count j = row_now (walk_row_of board) count j
 
+-- the row that scan j after the EXTEST codes compares
 abbrev pub before_of : RawBoard → ℕ → TestRow
 before_of board j = row_before (walk_row_of board) j
 
@@ -96,18 +98,19 @@ pub record BoardWalk : Type 0 where
 abbrev pub board_walk : RawBoard → WalkTables → BoardWalk
 board_walk board tables = record { board = board; tables = tables }
 
--- The bits that scan j after the EXTEST codes shifts in. The next two definitions are the bits that the scan expects and the positions that
--- it compares.
+-- the bits that scan j after the EXTEST codes shifts in
 abbrev pub shifted_in : BoardWalk → ℕ → List Bool
 shifted_in it j = tdi_of it.board (now_of it.board (length it.tables.nets) j)
 
+-- the bits that scan j after the EXTEST codes expects, with 0 at each position that the scan does not compare
 abbrev pub expected_in : BoardWalk → ℕ → List Bool
 expected_in it j = tdo_of it.board (before_of it.board j)
 
+-- a 1 for each position that scan j after the EXTEST codes compares
 abbrev pub compared_in : BoardWalk → ℕ → List Bool
 compared_in it j = mask_of it.board (before_of it.board j)
 
--- the cells at the place before place j, or `None` for the first place
+-- the cells at place j - 1 of the list, or `None` if j is 0
 abbrev pub cells_before : List NetCells → ℕ → Option NetCells
 cells_before cells zero = None
 cells_before cells (suc j) = slice_get cells j
