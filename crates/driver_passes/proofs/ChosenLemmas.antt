@@ -1,4 +1,4 @@
--- Lemmas about the controls that `chosen` selects, which are those whose places pass a test.
+-- Lemmas about `chosen`, which selects the controls whose places satisfy a test.
 use Rattle.std.proofs.Common.{◌≡◌, ◌⊎◌, inl, inr, ℕ, zero, suc, ◌+◌, ◌-◌, ◌≤◌, ◌<◌, Bool, true, false, ◌||◌, List, [], ◌∷◌, length, get_or, drop, drop-cons, drop-drop, Some, refl, sym, ◌∙◌, ap, arith, cond}
 use Rattle.std.specs.Prelude.{◌==◌, slice_get, IsTrue}
 use Rattle.std.proofs.lemmas.Bool.{or_left, or_right, or_cases, eq-eqb, ne_eqb}
@@ -10,7 +10,7 @@ use Rattle.board_defs.proofs.ControlOrder.{same_refl}
 use Rattle.driver_passes.specs.inner.Drafts.{chosen}
 use Rattle.driver_passes.proofs.ControlLemmas.{after_is, ComeAfter, come_after, order_rest, order_with, insert_before, insert_front, insert_behind, none_holds}
 
--- if no place passes, no control is chosen
+-- if no place satisfies the test, no control is chosen
 pub chosen_none : (p : ℕ → Bool) (place : ℕ) (controls : List Ctl) → ((n : ℕ) → p n ≡ false) → chosen p place controls ≡ []
 chosen_none p place [] none = refl
 chosen_none p place (c ∷ controls) none = ap (λ t. cond t (c ∷ chosen p (suc place) controls) (chosen p (suc place) controls)) (none place) ∙ chosen_none p (suc place) controls none
@@ -38,7 +38,8 @@ chosen_same p q place (c ∷ controls) same =
     ap (λ t. cond t (c ∷ chosen q (suc place) controls) (chosen q (suc place) controls)) (same place (omega arith)) ∙
     ap (λ v. cond (p place) (c ∷ v) v) (chosen_same p q (suc place) controls (λ n least. same n (omega (arith, least))))
 
--- if the places that pass are those that passed before and one more, the control of this place is inserted
+-- if test q is true of `place` and of the places that satisfy test p, then q chooses the controls that p chooses, with the control at
+-- `place` inserted
 pub chosen_set : (p q : ℕ → Bool) (first i place : ℕ) (controls : List Ctl) (c : Ctl) → IsInControlOrder controls → place ≡ first + i → ((n : ℕ) → q n ≡ (n == place || p n)) → slice_get controls i ≡ Some c → chosen q first controls ≡ inserted c (chosen p first controls)
 chosen_set p q first i place [] c order at more e = cc e
 chosen_set p q first zero place (d ∷ controls) c order at more e =
@@ -73,7 +74,7 @@ chosen_set p q first (suc i) place (d ∷ controls) c order at more e =
     by_test true rest = ap (λ v. d ∷ v) rest ∙ sym (insert_behind c d (chosen p (suc first) controls) before)
     by_test false rest = rest
 
--- a control is chosen if and only if its place passes
+-- a control is chosen if and only if its place satisfies the test
 pub chosen_holds : (p : ℕ → Bool) (first i place : ℕ) (controls : List Ctl) (c : Ctl) → IsInControlOrder controls → place ≡ first + i → slice_get controls i ≡ Some c → holds (chosen p first controls) c ≡ p place
 chosen_holds p first i place [] c order at e = cc e
 chosen_holds p first zero place (d ∷ controls) c order at e = sym (ap (holds (cond (p first) (d ∷ rest) rest)) same) ∙ by_test (p first) ∙ ap p (omega (arith, at))
@@ -112,7 +113,7 @@ chosen_among p place (d ∷ controls) c h = by_test (p place) (chosen_among p (s
     by_test true more k = by_part more (or_cases (same_ctl c d) (holds rest c) k)
     by_test false more k = or_right (same_ctl c d) (holds controls c) (more k)
 
--- If no place from `place` up to `next` passes, the controls at these places can be left out.
+-- If no place from `place` to `next - 1` satisfies the test, the controls at these places can be left out.
 
 skip_some : (p : ℕ → Bool) (place next k : ℕ) (controls : List Ctl) → next ≡ place + k → ((n : ℕ) → place ≤ n → n < next → p n ≡ false) → chosen p place controls ≡ chosen p next (drop k controls)
 skip_some p place next zero controls e none = ap (λ m. chosen p m controls) (omega (arith, e))
@@ -126,7 +127,7 @@ chosen_skip p controls place next least none =
     let far : place + (next - place) ≡ next = omega (arith, least) in
     skip_some p place next (next - place) (drop place controls) (sym far) none ∙ ap (chosen p next) (drop-drop (next - place) place controls ∙ ap (λ m. drop m controls) far)
 
--- If `place` passes and no place between `place` and `next` passes, the first chosen control is the one at `place`. The
+-- If `place` satisfies the test and no place after `place` and before `next` does, the first chosen control is the one at `place`. The
 -- others are chosen from `next` on.
 pub chosen_next : (p : ℕ → Bool) (controls : List Ctl) (place next : ℕ) (d : Ctl) → place < length controls → p place ≡ true → place + 1 ≤ next → ((n : ℕ) → place + 1 ≤ n → n < next → p n ≡ false) →
     chosen p place (drop place controls) ≡ get_or controls place d ∷ chosen p next (drop next controls)

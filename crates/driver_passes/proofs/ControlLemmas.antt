@@ -53,7 +53,7 @@ none_holds c (d ∷ setting) after =
     let r : (precedes d c ≡ false) × (same_ctl c d ≡ false) × (same_ctl d c ≡ false) = after_is c d (after 0 d (omega arith)) in
     ap (λ t. t || holds setting c) r.1 ∙ none_holds c setting (λ k e less. after (suc k) e (omega arith))
 
--- a test passes all controls of a setting with `c` inserted if and only if it passes `c` and all controls of the setting
+-- a test is true of all controls of a setting with `c` inserted if and only if it is true of `c` and of all controls of the setting
 pub all_inserted : (p : Ctl → Bool) (c : Ctl) (setting : List Ctl) → list_all p (inserted c setting) ≡ (p c && list_all p setting)
 all_inserted p c [] = refl
 all_inserted p c (d ∷ setting) = by_order (all_inserted p c setting) (precedes d c) (same_ctl c d) refl

@@ -62,7 +62,8 @@ done_now board useful passes after a b first second e = let P : List (List Ctl) 
     by_test false shown None h = inr h
     by_test false shown (Some pair) h = inl (list_any_last p passes (pair_pass board useful pair) (made pair h))
 
--- if neither net `a` nor any net below `a` needs a pass with a later net, no net below `a + 1` does
+-- if no net before net `a` needs a pass with a later net, and net `a` needs none with a later net, then no net before net `a + 1` needs a
+-- pass with a later net
 pub done_next : (board : RawBoard) (passes : List (List Ctl)) (a : ℕ) → AreDone board passes a → IsDoneTo board passes a (length board.nets) → AreDone board passes (a + 1)
 done_next board passes a are done m less = by_net (cases_eq m a)
   where
@@ -70,8 +71,8 @@ done_next board passes a are done m less = by_net (cases_eq m a)
     by_net (inl same) = let P : ℕ → Type 0 = λ k. IsDoneTo board passes k (length board.nets) in subst P (sym same) done
     by_net (inr other) = are m (omega (arith, other, less))
 
--- if net `a` needs no pass with any net from `b` up to but not including `c`, and none with net `c`, it needs none with any net from `b` up
--- to and including `c`
+-- Net `a` needs no pass with any net in `b..c` after the passes `before`, and none with net `c` after the passes `after`. If nets that need
+-- no pass after `before` need none after `after`, net `a` needs no pass with any net in `b..c + 1` after `after`.
 pub with_last : (board : RawBoard) (before after : List (List Ctl)) (a b c : ℕ) → StaysDone board before after → ((n : ℕ) → b ≤ n → n < c → IsDone board before a n) → IsDone board after a c → (n : ℕ) → b ≤ n → n < c + 1 → IsDone board after a n
 with_last board before after a b c stays earlier last n least below = by_net (cases_eq n c)
   where
@@ -94,7 +95,8 @@ skipped_to board useful passes a b c least most done =
     let all : b + (c - b) ≡ c = omega (arith, least) in
     sym (ap (λ n. fold (add_for_nets board useful) passes (pairs_from board a n)) all) ∙ skipped board useful passes a b (c - b) (omega (arith, all, most)) (λ n from below. done n from (omega (arith, below, all)))
 
--- a net that is not wanted needs no pass: it is shown together with net `a`, or the two are not paired
+-- if no net in `from..b` is wanted, net `a` needs no pass with any of these nets: each is shown together with net `a`, or the two are not
+-- paired
 pub none_wanted : (board : RawBoard) (passes : List (List Ctl)) (left : List ℕ) (a from b : ℕ) → PairsHaveDrivers → AreLeft board passes a left → a < from → b ≤ length board.nets → ((n : ℕ) → from ≤ n → n < b → is_wanted board left a n ≡ false) → (n : ℕ) → from ≤ n → n < b → IsDone board passes a n
 none_wanted board passes left a from b law are later most none n least below = by_part (and_cases (is_in left n) (pairs_with board a n) (none n least below))
   where
@@ -106,7 +108,7 @@ none_wanted board passes left a from b law are later most none n least below = b
     by_part (inl shown) = inl (not-false (are_shown passes (drivers_at board a) (drivers_at board n)) (sym (are n (omega (arith, least, later)) (omega (arith, below, most))) ∙ shown))
     by_part (inr apart) = inr (by_found (first_pair board (drivers_at board a) (drivers_at board n)) (sym (law board a n) ∙ apart))
 
--- if `left` still has net `n`, no pass shows net `n` together with net `a`
+-- if net `n` is wanted, no pass shows net `n` together with net `a`
 pub unshown : (board : RawBoard) (passes : List (List Ctl)) (left : List ℕ) (a n : ℕ) → AreLeft board passes a left → a ≤ n → n < length board.nets → is_wanted board left a n ≡ true → are_shown passes (drivers_at board a) (drivers_at board n) ≡ false
 unshown board passes left a n are from within e = not-true (are_shown passes (drivers_at board a) (drivers_at board n)) (sym (are n from within) ∙ (and_parts (is_in left n) (pairs_with board a n) e).0)
 
@@ -127,7 +129,7 @@ no_others : (board : RawBoard) (drivers : List Drive) → first_pair board drive
 no_others board [] = refl
 no_others board (d ∷ drivers) = no_others board drivers
 
--- if all items pass a test, an item that passes another test passes both
+-- if all items satisfy test p and some item satisfies test q, some item satisfies both tests
 all_pass : {X : Type 0} (p q : X → Bool) (xs : List X) → list_all p xs ≡ true → list_any q xs ≡ true → list_any (λ x. p x && q x) xs ≡ true
 all_pass p q [] all h = h
 all_pass {X} p q (x ∷ xs) all h = by_part (and_parts (p x) (list_all p xs) all).0 (all_pass p q xs (and_parts (p x) (list_all p xs) all).1) (or_cases (q x) (list_any q xs) h)
@@ -136,7 +138,7 @@ all_pass {X} p q (x ∷ xs) all h = by_part (and_parts (p x) (list_all p xs) all
     by_part here rest (inl e) = or_left (p x && q x) (list_any (λ (y : X). p y && q y) xs) (and_from (p x) (q x) here e)
     by_part here rest (inr e) = or_right (p x && q x) (list_any (λ (y : X). p y && q y) xs) (rest e)
 
--- a net that every pass shows needs no other pass, since the passes enable every tested driver
+-- if every pass shows net `a`, and the passes enable every tested driver, net `a` needs no pass with any other net
 pub all_show : (board : RawBoard) (passes : List (List Ctl)) (a b : ℕ) → EnableTested board passes → list_all (shows (drivers_at board a)) passes ≡ true → b < length board.nets → IsDone board passes a b
 all_show board passes a b are all less = by_drivers (drivers_at board b) (λ d h. are b d less h)
   where

@@ -12,13 +12,14 @@ use Rattle.net_classes.specs.Pairs.{drivers_at}
 use Rattle.driver_passes.specs.inner.Progress.{drivers_from}
 use Rattle.driver_passes.proofs.ProgressLemmas.{drop_drivers}
 
--- the tested drivers from net `n` on are the tested drivers of net `n`, followed by those from net `n + 1` on
+-- the tested drivers from net `n` on are the tested drivers of net `n`, followed by the tested drivers from net `n + 1` on
 from_more : (board : RawBoard) (n : ℕ) → n < length board.nets → drivers_from board n ≡ drivers_at board n ++ drivers_from board (n + 1)
 from_more board n less =
     let next : suc n ≡ n + 1 = omega arith in
     ap (flat_map (λ (drivers : List Drive). drivers)) (drop_drivers board n less) ∙ ap (λ k. drivers_at board n ++ drivers_from board k) next
 
--- if no net before net `n` has a tested driver, the first tested driver of net `n` is the first of the board
+-- if no net before net `n` has a tested driver, and net `n` has one, the first tested driver of net `n` is the first tested driver of the
+-- board
 pub first_found : (board : RawBoard) (n : ℕ) (drivers : List Drive) (d : Drive) → n < length board.nets → drivers ≡ drivers_at board n → drivers_from board n ≡ drivers_from board 0 → slice_get drivers 0 ≡ Some d → Some d ≡ slice_get (drivers_from board 0) 0
 first_found board n drivers d less e same at =
     sym (by_list (drivers_at board n) (sym (ap (λ (v : List Drive). slice_get v 0) e) ∙ at)) ∙ ap (λ (v : List Drive). slice_get v 0) (sym (from_more board n less) ∙ same)
@@ -27,7 +28,7 @@ first_found board n drivers d less e same at =
     by_list [] h = cc h
     by_list (x ∷ own) h = h
 
--- if net `n` has no tested drivers, the tested drivers from net `n` on are those from net `n + 1` on
+-- if neither net `n` nor any net before it has a tested driver, the tested drivers from net `n + 1` on are all tested drivers of the board
 pub first_later : (board : RawBoard) (n : ℕ) (drivers : List Drive) → n < length board.nets → drivers ≡ drivers_at board n → drivers_from board n ≡ drivers_from board 0 → slice_get drivers 0 ≡ None → drivers_from board (n + 1) ≡ drivers_from board 0
 first_later board n drivers less e same at = ap (λ (v : List Drive). v ++ drivers_from board (n + 1)) (sym (empty drivers (sym at)) ∙ e) ∙ sym (from_more board n less) ∙ same
   where
@@ -60,7 +61,7 @@ by_nets board useful first passes nets e = by_test (are_shown passes nets.0 nets
     by_test false None = e
     by_test false (Some pair) = behind first passes (pair_pass board useful pair ∷ []) e
 
--- the first pass is the one for the first tested driver
+-- the first pass of the board is the pass that is made for the first tested driver
 pub first_is : (board : RawBoard) (d : Drive) → Some d ≡ slice_get (drivers_from board 0) 0 → driver_pass board (useful_controls board) [] d ∷ [] ≡ take 1 (passes_of board)
 first_is board d at = sym (first_stays (add_for_nets board useful) pass (by_nets board useful pass) (pairs_within (drivers_by_net board)) (driver_passes board useful (drivers_from board 0)) (of_drivers (drivers_from board 0) at))
   where

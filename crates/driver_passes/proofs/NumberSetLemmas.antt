@@ -62,7 +62,7 @@ pub all_ones : (words : List ℕ) (n : ℕ) → get_or words (n / 64) 0 ≡ 2 ^ 
 unfolding is_in
 all_ones words n e = ap (λ w. has_bit w (n % 64)) e ∙ ap (λ b. b == 1) (bit_at_ones 64 (n % 64) (omega arith))
 
--- the bits of a word are its numbers
+-- bit i of word `number` is 1 if and only if the set has the number `64 * number + i`
 pub word_bits : (words : List ℕ) (number word : ℕ) → word ≡ get_or words number 0 → AreBitsOf (is_in words) number word
 unfolding is_in
 word_bits words number word e i below =
@@ -90,7 +90,8 @@ words_by t before after others n none same each = by_place (cases_lt (n / 64) (l
     by_place (inl within) = each within
     by_place (inr past) = none_past after n (omega (arith, past, same)) ∙ sym (none past) ∙ sym (ap (λ b. t b (is_in others n)) (none_past before n past))
 
--- if an operation with `bits` changes word `number` of a set, the same operation with the numbers of `bits` in this word changes the set
+-- if an operation is applied to word `number` of a set and the word `bits`, the set changes as if the operation were applied to it and to
+-- the numbers of these bits
 pub word_changed : (t : Bool → Bool → Bool) → ((b : Bool) → t b false ≡ b) → (words : List ℕ) (number word bits n : ℕ) → number < length words →
     has_bit word (n % 64) ≡ t (has_bit (get_or words number 0) (n % 64)) (has_bit bits (n % 64)) → is_in (set words number word) n ≡ t (is_in words n) (is_of_word number bits n)
 unfolding is_in
@@ -173,7 +174,7 @@ lowest_is word place below fits some = (
     by_order (inl less) = let zero_one : 0 ≡ 1 = sym (low_bit word place low below less) ∙ bits.1 in absurd (omega (arith, zero_one))
     by_order (inr most) = most
 
--- if the bits of a word are the numbers that pass, bit `i` of the word says whether number `64 * number + i` passes
+-- if the bits of a word are set for the numbers that satisfy a test, bit `i` of the word says whether number `64 * number + i` satisfies it
 passes_bit : (passes : ℕ → Bool) (number word i : ℕ) → AreBitsOf passes number word → i < 64 → passes (64 * number + i) ≡ has_bit word i
 passes_bit passes number word i are below = sym (bit_is word i (passes (64 * number + i)) (are i below))
 
@@ -217,7 +218,7 @@ no_bits p q number word none are i below =
     let unset : p (64 * number + i) ≡ false = passes_bit p number word i are below ∙ ap (λ w. has_bit w i) none ∙ no_bit i in
     bit_at-zero i ∙ sym (ap (λ t. cond (t && q (64 * number + i)) 1 0) unset)
 
--- if no number from `from` to `number` passes, and none from there to `past`, then no number from `from` to `past` passes
+-- if no number in `from..number` satisfies the test, and no number in `number..past` does, then no number in `from..past` does
 pub passed_more : (p : ℕ → Bool) (from number past : ℕ) → ((n : ℕ) → from ≤ n → n < number → p n ≡ false) → ((n : ℕ) → number ≤ n → n < past → p n ≡ false) → (n : ℕ) → from ≤ n → n < past → p n ≡ false
 passed_more p from number past earlier later n least below = by_place (cases_lt n number)
   where

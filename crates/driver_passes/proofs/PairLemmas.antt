@@ -15,7 +15,7 @@ use Rattle.net_classes.specs.Pairs.{drivers_at, fit}
 use Rattle.driver_passes.specs.inner.Pairs.{pairs_from}
 use Rattle.driver_passes.proofs.ProgressLemmas.{drop_drivers}
 
--- the first pair with the first driver, if there is such a pair
+-- true if some safe setting enables both drivers of the pair
 abbrev is_fitting : RawBoard → Drive × Drive → Bool
 is_fitting board pair = are_compatible board (Some pair.0) (Some pair.1)
 
@@ -64,7 +64,7 @@ net_done board useful passes after a less e =
     fold-append (add_for_nets board useful) passes (pairs_from board a (suc a)) (later_pairs board (suc a)) ∙
     ap (λ k. fold (add_for_nets board useful) (fold (add_for_nets board useful) passes (pairs_from board a k)) (later_pairs board k)) next)
 
--- adding for two nets adds at most one pass
+-- `add_for_nets` adds at most one pass
 pub one_more : (board : RawBoard) (useful : List Ctl) (passes : List (List Ctl)) (nets : List Drive × List Drive) → length (add_for_nets board useful passes nets) ≤ length passes + 1
 one_more board useful passes nets = by_test (are_shown passes nets.0 nets.1) (first_pair board nets.0 nets.1)
   where

@@ -72,7 +72,8 @@ passes_whole board useful passes n most e =
     let all : length (drivers_by_net board) ≤ n = omega (arith, length-map board.nets (tested_drivers board)) in
     e ∙ ap (λ v. fold (add_for_driver board useful) [] (flat_map (λ (drivers : List Drive). drivers) v)) (take_all n (drivers_by_net board) all)
 
--- taking the steps for the drivers of net `n` after the steps for the earlier nets takes the steps for the first `n + 1` nets
+-- if `before` results from the steps for the drivers of the first `n` nets, the steps for the drivers of net `n` then give the result of
+-- the steps for the first `n + 1` nets
 pub drivers_more : (board : RawBoard) (step : List (List Ctl) → Drive → List (List Ctl)) (before after : List (List Ctl)) (drivers : List Drive) (n : ℕ) → n < length board.nets → drivers ≡ drivers_at board n → before ≡ fold step [] (flat_map (λ drivers. drivers) (take n (drivers_by_net board))) → after ≡ fold step before drivers →
     after ≡ fold step [] (flat_map (λ drivers. drivers) (take (n + 1) (drivers_by_net board)))
 drivers_more board step before after drivers n less e so_far more =
@@ -81,7 +82,7 @@ drivers_more board step before after drivers n less e so_far more =
     more ∙ ap (fold step before) e ∙ ap (λ v. fold step v own) so_far ∙ sym (fold-append step [] (flat_map (λ (v : List Drive). v) earlier) own) ∙ ap (λ v. fold step [] (flat_map (λ (v : List Drive). v) earlier ++ v)) (sym (append-nil own)) ∙
     sym (ap (fold step []) (ap (flat_map (λ (v : List Drive). v)) (take_drivers board n less) ∙ flat_map-append (λ (v : List Drive). v) earlier (own ∷ [])))
 
--- adding for a driver adds at most one pass
+-- `add_for_driver` adds at most one pass
 one_more : (board : RawBoard) (useful : List Ctl) (passes : List (List Ctl)) (d : Drive) → length (add_for_driver board useful passes d) ≤ length passes + 1
 one_more board useful passes d = by_test (list_any (λ pass. is_enabled pass d) passes)
   where

@@ -11,11 +11,11 @@ use Rattle.driver_passes.specs.inner.NumberSets.{is_in}
 use Rattle.driver_passes.specs.inner.Pairs.{AreLeft}
 use Rattle.driver_passes.specs.inner.Shown.{AreRows, AreShownBy, AreShownByAll, shows_both}
 
--- equal passes have the same row
+-- a row that belongs to a pass belongs to any equal pass
 pub shown_as : (board : RawBoard) (made pass : List Ctl) (row : List ℕ) → pass ≡ made → AreShownBy board made row → AreShownBy board pass row
 shown_as board made pass row e are = let P : List Ctl → Type 0 = λ v. AreShownBy board v row in subst P (sym e) are
 
--- if each pass has its row, and a pass is appended with its row, each pass still has its row
+-- if each row has the nets that its pass shows, this is still true after a pass and its row are appended
 
 rows_push : (board : RawBoard) (passes : List (List Ctl)) (rows : List (List ℕ)) (pass : List Ctl) (row : List ℕ) → AreRows board passes rows → AreShownBy board pass row → AreRows board (passes ++ pass ∷ []) (rows ++ row ∷ [])
 rows_push board [] [] pass row are shown = (shown, tt)
@@ -45,7 +45,7 @@ all_rows board [] (row ∷ rows) a are first = absurd are
 all_rows board (pass ∷ passes) [] a are first = absurd are
 all_rows board (pass ∷ passes) (row ∷ rows) a are first = ap (λ t. t && list_all (λ (v : List ℕ). is_in v a) rows) (are.0.row_are a first) ∙ ap (λ t. shows (drivers_at board a) pass && t) (all_rows board passes rows a are.1 first)
 
--- if a pass is added, and the nets that it shows with net `a` are removed from `left`, `AreLeft` still holds
+-- if a pass is added, and the nets that the pass shows together with net `a` are removed from `left`, `AreLeft` still holds
 pub left_more : (board : RawBoard) (passes after : List (List Ctl)) (pass : List Ctl) (row left left_after : List ℕ) (a : ℕ) → AreLeft board passes a left → AreShownBy board pass row → a < length board.nets → after ≡ passes ++ pass ∷ [] →
     ((n : ℕ) → a / 64 ≤ n / 64 → is_in left_after n ≡ (is_in left n && not (shows_both a n row))) → AreLeft board after a left_after
 left_more board passes after pass row left left_after a are shown first e less n from within =
@@ -65,7 +65,8 @@ always_whole board passes rows always size are room same each = record {
   always_are = λ n within. each n (omega (arith, within, room)) ∙ all_rows board passes rows n are within;
 }
 
--- if a set has the nets that every pass shows, and keeps only those in the row of one more pass, it has the nets that this pass shows, too
+-- if a set has the nets that every pass so far shows, and then keeps only the nets in the row of one more pass, it has the nets that every
+-- pass shows, the new pass included
 pub always_more : (board : RawBoard) (passes after : List (List Ctl)) (pass : List Ctl) (row always always_after : List ℕ) → AreShownByAll board passes always → AreShownBy board pass row → after ≡ passes ++ pass ∷ [] → length always_after ≡ length always →
     ((n : ℕ) → is_in always_after n ≡ (is_in always n && is_in row n)) → AreShownByAll board after always_after
 always_more board passes after pass row always always_after are shown e same kept = record {

@@ -29,10 +29,11 @@ past_the_words : is_in (1 ∷ 2 ^ 63 ∷ 0 ∷ []) 1000 ≡ false
 unfolding is_in
 past_the_words = refl
 
--- if nets 3 and 66 are removed from all nets from word 1 on, only net 66 is missing
+-- the word with all bits set
 abbrev all : ℕ
 all = 2 ^ 64 - 1
 
+-- if net 66 is removed from the set of all nets of three words, only net 66 is missing
 taken_out : filter (λ n. not (is_in (all ∷ (all - 4) ∷ all ∷ []) n)) (range_with_len 0 192) ≡ 66 ∷ []
 unfolding is_in
 taken_out = refl
@@ -70,7 +71,7 @@ second_words = refl
 of_column : (column : Column) → column.number ≡ 1 → column.words.items ≡ 6 ∷ 0 ∷ 9 ∷ [] → IsColumn some_rows column
 of_column column number words = words ∙ sym (ap (λ n. words_at n some_rows) number)
 
--- if a computed test shows that no number from `from` up to `end` passes, none of them passes
+-- if a computed test shows that no number in `from..end` passes, then none of these numbers passes
 none_by : (passes : ℕ → Bool) (from end : ℕ) → list_all (λ n. not (passes n)) (range_with_len from (end - from)) ≡ true → (n : ℕ) → from ≤ n → n < end → passes n ≡ false
 none_by passes from end none n least below = not-true _ (all_has (λ m. not (passes m)) (range_with_len from (end - from)) n none (has_range from (end - from) n least (omega (arith, least, below))))
 

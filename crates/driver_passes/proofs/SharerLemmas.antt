@@ -16,7 +16,7 @@ use Rattle.driver_passes.specs.inner.Blocks.{has_place}
 use Rattle.driver_passes.specs.inner.Sharers.{AreSharers, AreSharersBelow}
 use Rattle.driver_passes.proofs.BlockLemmas.{below_more}
 
--- the place was added to the lists of these nets, and nothing else changed
+-- the place is added to the lists of these nets, and nothing else changes
 abbrev pub AreMarked : ℕ → List ℕ → List (List ℕ) → List (List ℕ) → Type 0
 AreMarked place nets before after = (n q : ℕ) → has_number (get_or after n []) q ≡ ((q == place && has_number nets n) || has_number (get_or before n []) q)
 

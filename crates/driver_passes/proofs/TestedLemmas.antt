@@ -26,7 +26,7 @@ use Rattle.driver_passes.proofs.BlockLemmas.{below_more, same_place}
 use Rattle.driver_passes.proofs.ChosenLemmas.{chosen_next, chosen_skip}
 use Rattle.driver_passes.proofs.ControlLemmas.{other_place}
 
--- a setting with one more control enables a driver if this control controls it or the setting enables it
+-- a setting with control `c` in front enables a driver if and only if `c` is the driver's control or the setting enables the driver
 
 enabled_with : (c : Ctl) (setting : List Ctl) (d : Drive) → is_enabled (c ∷ setting) d ≡ (is_by c (Some d) || is_enabled setting d)
 enabled_with c setting AlwaysOn = refl
@@ -46,12 +46,12 @@ shows_with c setting (d ∷ drivers) =
     ap (λ t. t || shows drivers (c ∷ setting)) (enabled_with c setting d) ∙ ap (λ t. (is_by c (Some d) || is_enabled setting d) || t) (shows_with c setting drivers) ∙
     regroup (is_by c (Some d)) (is_enabled setting d) (drives c drivers) (shows drivers setting)
 
--- a setting shows a net by a driver that is always on, or by one of its controls
+-- a setting shows a net if and only if a tested driver of the net is always on or belongs to one of the setting's controls
 pub shows_split : (drivers : List Drive) (setting : List Ctl) → shows drivers setting ≡ (shows drivers [] || list_any (λ c. drives c drivers) setting)
 shows_split drivers [] = sym (or-false (shows drivers []))
 shows_split drivers (c ∷ setting) = shows_with c setting drivers ∙ ap (λ t. drives c drivers || t) (shows_split drivers setting) ∙ or_swap (drives c drivers) (shows drivers []) (list_any (λ e. drives e drivers) setting)
 
--- a list with `m` appended has `m` and the numbers of the list
+-- a list with `m` appended has `m` and the numbers of the list, and no other number
 
 number_end : (numbers : List ℕ) (m n : ℕ) → has_number (numbers ++ m ∷ []) n ≡ (n == m || has_number numbers n)
 number_end numbers m n =
@@ -70,7 +70,7 @@ not_held [] p c e none at = cc at
 not_held (d ∷ controls) zero c e none at = let same : d ≡ c = cc at in sym (ap (same_ctl e) same) ∙ (or_parts (same_ctl e d) (holds controls e) none).0
 not_held (d ∷ controls) (suc p) c e none at = not_held controls p c e (or_parts (same_ctl e d) (holds controls e) none).1 at
 
--- if none of the controls passes, noting the net changes none of the lists
+-- if no useful control satisfies the test, noting the net changes none of the lists
 
 pub not_noted : (board : RawBoard) (lists : List (List ℕ)) (net : ℕ) (by : Ctl → Bool) → ((place : ℕ) (c : Ctl) → slice_get (useful_controls board) place ≡ Some c → by c ≡ false) → AreNoted board net by lists lists
 not_noted board lists net by none place c at n = ap (λ t. t || has_number (get_or lists place []) n) (sym (and-false (n == net)) ∙ ap (λ t. n == net && t) (sym (none place c at)))
@@ -119,7 +119,7 @@ noted_next board drivers i net start before after less one two place c at n =
 
 -- The lemmas up to the end say which nets a row has after the nets of one more control are added.
 
--- the controls of the pass from this place on show the net
+-- some control of the pass, at this place or later, controls a tested driver of the net
 abbrev pub left_from : RawBoard → List ℕ → ℕ → ℕ → Bool
 left_from board held place n = list_any (λ c. drives c (drivers_at board n)) (chosen (is_in held) place (drop place (useful_controls board)))
 

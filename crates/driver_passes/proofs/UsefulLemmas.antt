@@ -1,4 +1,4 @@
--- Lemmas which say that the passes have useful controls only.
+-- Lemmas which say that the passes hold only useful controls.
 use Rattle.std.proofs.Common.{◌≡◌, ◌⊎◌, inl, inr, ℕ, zero, suc, true, List, [], ◌∷◌, ◌++◌, Some, sym, ◌∙◌, ap}
 use Rattle.std.specs.Prelude.{slice_get}
 use Rattle.board_defs.specs.declared.board.Ctl.{Ctl}
@@ -18,7 +18,7 @@ last_or_earlier [] last pass (suc x) h = cc h
 last_or_earlier (first ∷ passes) last pass zero h = inl h
 last_or_earlier (first ∷ passes) last pass (suc x) h = last_or_earlier passes last pass x h
 
--- if the passes so far and one more pass have useful controls only, all of them do
+-- if the passes so far and one more pass hold only useful controls, so do all of these passes
 pub useful_more : (board : RawBoard) (passes after : List (List Ctl)) (pass : List Ctl) → HoldUseful board passes → ((c : Ctl) → holds pass c ≡ true → IsUseful board c) → after ≡ passes ++ pass ∷ [] → HoldUseful board after
 useful_more board passes after last hold useful e x pass c h k = by_part (last_or_earlier passes last pass x (sym (ap (λ (v : List (List Ctl)). slice_get v x) e) ∙ h))
   where

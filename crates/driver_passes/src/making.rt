@@ -26,7 +26,7 @@ fn passes_by(alloc: Global, board: &BoardTables<'_>) -> Result<Vec<Setting>, All
 }
 
 /// Returns the passes of the board, in order. The first passes together enable every tested driver. Later passes are
-/// added until, for every two paired nets, some pass observes both. The classes must be those of the board.
+/// added until, for every two paired nets, some pass observes both. The classes must be made for this board.
 pub fn passes(alloc: Global, board: &Board, classes: &Classes) -> Result<Vec<Setting>, AllocError>
     requires { AreClasses board.now classes.now }
     ensures made { IfOk result (λ passes. passes.items ≡ passes_of board.now) }
@@ -38,8 +38,8 @@ pub fn passes(alloc: Global, board: &Board, classes: &Classes) -> Result<Vec<Set
     passes_by(alloc, &tables)
 }
 
-/// Returns a list that has only the first pass of the board, or an empty list if the board has no pass. Does not
-/// make the other passes. The classes must be those of the board.
+/// Returns a list that has only the first pass of the board, or an empty list if the board has no pass. Does not make
+/// the other passes. The classes must be made for this board.
 pub fn first_pass(
     alloc: Global,
     board: &Board,

@@ -94,7 +94,7 @@ fn clear_others(words: &mut [u64], others: &[u64])
     }
 }
 
-/// Sets the bit of the number if `holds`.
+/// Sets the bit of the number if `holds` is true.
 fn set_if(words: &mut [u64], number: usize, holds: bool)
     requires { number / 64 < length words.old }
     ensures { (n : ℕ) → is_in words.new n ≡ ((n == number && holds) || is_in words.old n) }
@@ -129,7 +129,7 @@ impl NumberSet {
         word_at(&self.words, number)
     }
 
-    /// Adds the number if `holds`.
+    /// Adds the number if `holds` is true.
     pub fn insert_if(&mut self, number: usize, holds: bool)
         requires { number / 64 < length self.old }
         ensures room { length self.new ≡ length self.old }

@@ -28,7 +28,7 @@ fn list_place(sharers: &mut [Places], nets: &[u32], place: usize) -> Result<(), 
     Ok(())
 }
 
-/// Returns, for each net, the list of the places of the useful controls that share it with another control.
+/// Returns, for each net, the list of the places of the useful controls that share the net with another control.
 fn lists_of(alloc: Global, board: &BoardClasses<'_>) -> Result<Vec<Places>, AllocError>
     ensures { IfOk result (λ lists.
         AreSharersBelow board.now (length (useful_controls board.now)) lists.items) }
@@ -52,7 +52,7 @@ fn sets_of(alloc: Global, lists: &[Places]) -> Result<Vec<Blocks>, AllocError>
     Ok(sets)
 }
 
-/// Returns, for each net, the places of the useful controls that share it with another control.
+/// Returns, for each net, the places of the useful controls that share the net with another control.
 pub fn sharers_of(alloc: Global, board: &BoardClasses<'_>) -> Result<Vec<Blocks>, AllocError>
     ensures { IfOk result (λ sharers. AreSharers board.now sharers.items) }
 {

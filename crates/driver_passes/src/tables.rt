@@ -23,7 +23,7 @@ use std::marker::Model;
 #[derive(Drop)]
 pub struct BoardTables<'a> {
     classes: BoardClasses<'a>,
-    /// For each net, the places of the useful controls that share it with another control.
+    /// For each net, the places of the useful controls that share the net with another control.
     sharers: Vec<Blocks>,
     tested_nets: TestedNets,
     /// For each net, an earlier net with the same tested drivers, or the net itself.

@@ -9,6 +9,6 @@ pub record AreAlikeBelow (board : RawBoard) (most : ℕ) (likes : List ℕ) : Ty
   pub likes_within : (n : ℕ) → n < most → slice_index_or likes n 0 ≤ n
   pub likes_are : (n : ℕ) → n < most → drivers_at board (slice_index_or likes n 0) ≡ drivers_at board n
 
--- the table has such a net for each net of the board
+-- for each net of the board, the table has an earlier net with the same tested drivers, or the net itself
 abbrev pub AreAlike : RawBoard → List ℕ → Type 0
 AreAlike board likes = AreAlikeBelow board (length board.nets) likes

@@ -20,7 +20,7 @@ drafted board setting = record { board = board; setting = setting }
 abbrev pub with_control : Drafted → Ctl → Drafted
 with_control draft c = drafted draft.board (inserted c draft.setting)
 
--- the controls whose places pass the test, if the first control has place `place`
+-- the controls whose places satisfy the test; `place` is the place of the first control in the list
 abbrev pub chosen : (ℕ → Bool) → ℕ → List Ctl → List Ctl
 chosen passes place [] = []
 chosen passes place (c ∷ controls) = cond (passes place) (c ∷ chosen passes (suc place) controls) (chosen passes (suc place) controls)

@@ -14,7 +14,7 @@ is_in words n = has_bit (slice_index_or words (n / 64) 0) (n % 64)
 abbrev pub is_of_word : ℕ → ℕ → ℕ → Bool
 is_of_word word bits n = n / 64 == word && has_bit bits (n % 64)
 
--- `first` is the first number from `from` on that passes
+-- `first` is the first number from `from` on that satisfies the test
 pub record IsFirst (passes : ℕ → Bool) (from first : ℕ) : Type 0 where
   pub least : from ≤ first
   pub found : passes first ≡ true

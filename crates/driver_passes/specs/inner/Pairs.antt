@@ -12,7 +12,7 @@ use Rattle.driver_passes.specs.inner.Progress.{EnableTested}
 use Rattle.driver_passes.specs.Useful.{HoldUseful}
 use Rattle.driver_passes.specs.inner.Shown.{AreRows, AreShownByAll, IsColumn}
 
--- The rows belong to the passes so far, which enable each tested driver and have useful controls only. The column belongs to the rows.
+-- The rows belong to the passes so far, which enable each tested driver and hold only useful controls. The column belongs to the rows.
 -- `always` has the nets that all passes show, and `left` has room for each net.
 pub record ArePairing (board : RawBoard) (pairing : Pairing) : Type 0 where
   pub rows : AreRows board pairing.passes.items pairing.rows.items
@@ -40,15 +40,15 @@ is_wanted board left a n = is_in left n && pairs_with board a n
 abbrev pub IsDone : RawBoard → List (List Ctl) → ℕ → ℕ → Type 0
 IsDone board passes a b = (are_shown passes (drivers_at board a) (drivers_at board b) ≡ true) ⊎ (first_pair board (drivers_at board a) (drivers_at board b) ≡ None)
 
--- no pass is needed for net `a` and any later net below `b`
+-- for each net n after net `a` and before net `b`, no pass is needed for nets `a` and n
 abbrev pub IsDoneTo : RawBoard → List (List Ctl) → ℕ → ℕ → Type 0
 IsDoneTo board passes a b = (n : ℕ) → a < n → n < b → IsDone board passes a n
 
--- no pass is needed for any net below `a` and any net after that net
+-- for each net m before net `a` and each net n after net m, no pass is needed for nets m and n
 abbrev pub AreDone : RawBoard → List (List Ctl) → ℕ → Type 0
 AreDone board passes a = (m : ℕ) → m < a → IsDoneTo board passes m (length board.nets)
 
--- two nets that need no pass with the earlier passes need no pass with the later ones
+-- if no pass is needed for two nets after the passes `before`, none is needed for them after the passes `after`
 abbrev pub StaysDone : RawBoard → List (List Ctl) → List (List Ctl) → Type 0
 StaysDone board before after = (m n : ℕ) → IsDone board before m n → IsDone board after m n
 

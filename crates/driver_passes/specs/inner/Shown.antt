@@ -13,7 +13,7 @@ pub record AreShownBy (board : RawBoard) (pass : List Ctl) (row : List ℕ) : Ty
   pub row_length : length row ≡ length board.nets / 64 + 1
   pub row_are : (n : ℕ) → n < length board.nets → is_in row n ≡ shows (drivers_at board n) pass
 
--- each pass has its row
+-- there is one row for each pass, and row x is the set of the nets that pass x shows
 abbrev pub AreRows : RawBoard → List (List Ctl) → List (List ℕ) → Type 0
 AreRows board passes rows = AllZip (AreShownBy board) passes rows
 
@@ -22,11 +22,11 @@ pub record AreShownByAll (board : RawBoard) (passes : List (List Ctl)) (always :
   pub always_length : length always ≡ length board.nets / 64 + 1
   pub always_are : (n : ℕ) → n < length board.nets → is_in always n ≡ list_all (shows (drivers_at board n)) passes
 
--- the word of each row that has this number
+-- word `number` of each row
 abbrev pub words_at : ℕ → List (List ℕ) → List ℕ
 words_at number rows = map (λ row. slice_index_or row number 0) rows
 
--- the column has the word of each row that has the column's number
+-- the column has word `column.number` of each row
 abbrev pub IsColumn : List (List ℕ) → Column → Type 0
 IsColumn rows column = column.words.items ≡ words_at column.number rows
 

@@ -11,11 +11,11 @@ use Rattle.driver_passes.specs.declared.tested.TestedNets.{TestedNets}
 use Rattle.driver_passes.specs.inner.Drafts.{has_number}
 use Rattle.driver_passes.specs.inner.Shown.{AreShownBy}
 
--- the control controls one of the drivers
+-- `c` is the control of one of the drivers
 abbrev pub drives : Ctl → List Drive → Bool
 drives c drivers = list_any (λ d. is_by c (Some d)) drivers
 
--- the net was added to the lists of the useful controls that pass, and nothing else changed
+-- net `net` is added to the list of each useful control that satisfies the test, and nothing else changes
 abbrev pub AreNoted : RawBoard → ℕ → (Ctl → Bool) → List (List ℕ) → List (List ℕ) → Type 0
 AreNoted board net passes before after =
     (place : ℕ) (c : Ctl) → slice_get (useful_controls board) place ≡ Some c → (n : ℕ) → has_number (slice_index_or after place []) n ≡ ((n == net && passes c) || has_number (slice_index_or before place []) n)
