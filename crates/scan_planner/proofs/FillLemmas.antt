@@ -73,7 +73,7 @@ row_sized board rules scan =
     sym (length-map (joined (row_bits board scan)) (λ b. b.tdi)) ∙ ap (λ (l : List Bool). length l) (tdi_laid board scan) ∙ length-laid (λ part device cell. row_bit board scan.now part device cell) board in
     record { some = row_scan_some board rules scan; most = omega (arith, size, rules.data_most); size_is = size }
 
--- the bits that a data scan shifts in are `data_bits board` bits
+-- a data scan shifts in `data_bits board` bits
 pub shifted_size : (board : RawBoard) (scan : RowScan) → length (tdi_bits (joined (row_bits board scan))) ≡ data_bits board
 shifted_size board scan = ap length (tdi_laid board scan) ∙ length-laid (λ part device cell. row_bit board scan.now part device cell) board
 

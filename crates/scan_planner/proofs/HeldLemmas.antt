@@ -1,4 +1,5 @@
--- A lemma about the quiet row after the cells of a pass's controls are set to the values that enable their drivers.
+-- A lemma about the row that results from the quiet row if the cell of each control of a pass gets the value that enables the control's
+-- drivers.
 use Rattle.std.proofs.Common.{◌≡◌, ℕ, ◌+◌, Bool, true, false, not, cond, List, unwrap_or, refl, sym, ap, ◌∙◌, ◌⊎◌, inl, inr}
 use Rattle.std.specs.List.{list_any}
 use Rattle.board_defs.specs.declared.device.RawDevice.{RawDevice}

@@ -34,7 +34,7 @@ use Rattle.plan_tables.proofs.SeenLemmas.{driver_cell}
 abbrev pub Pair : Type 0
 Pair = DriverCell × ReaderCell
 
--- the pairs of a driver and a cell that reads the driver's net on another pin
+-- driver cell `d`, paired in turn with each cell that reads a pin of the net other than the driver's pin
 abbrev pub pairs_of : DriverCell → List ReaderCell → List Pair
 pairs_of d [] = []
 pairs_of d (r ∷ readers) = cond (r.place == d.place) (pairs_of d readers) ((d, r) ∷ pairs_of d readers)
@@ -51,7 +51,7 @@ has_pair d (s ∷ readers) r (inr h) other = by_test (s.place == d.place) (has_p
     by_test true k = k
     by_test false k = inr k
 
--- the pair has this driver, and a cell that reads the driver's net on another pin
+-- the pair `x` has driver cell `d` and one of `readers`, which reads a pin other than the driver's pin
 pub record PairOf (d : DriverCell) (readers : List ReaderCell) (x : Pair) : Type 0 where
   pub driver_is : x.0 ≡ d
   pub reader_in : Has readers (x.1)
@@ -69,7 +69,7 @@ pair_has d (s ∷ readers) x h = by_test (pair_has d readers x) (s.place == d.pl
     by_test ih false e (inl same) = subst (λ (y : Pair). PairOf d (s ∷ readers) y) same (record { driver_is = refl; reader_in = inl refl; other = e })
     by_test ih false e (inr k) = later (ih k)
 
--- all pairs of a pass with these drivers
+-- the pairs of all these driver cells
 abbrev pub pairs : List (List ReaderCell) → List DriverCell → List Pair
 pairs readers drivers = flat_map (λ d. pairs_of d (get_or readers d.net [])) drivers
 

@@ -1,4 +1,4 @@
--- A board with a plan, and a pass of the plan, as contracts see them.
+-- A board with a plan, and a pass of the plan. These are the models that contracts use.
 use Rattle.std.specs.Prelude.{ℕ}
 use Rattle.board_defs.specs.declared.board.RawBoard.{RawBoard}
 use Rattle.plan_tables.specs.declared.tables.PlanTables.{PlanTables}

@@ -52,7 +52,7 @@ impl<'a> Model for PassOfPlan<'a> {
 }
 
 impl<'a> BoardPlan<'a> {
-    /// Returns the board with its plan. The tables must be those of a plan of the board, and `common` must be the
+    /// Returns the board with its plan. `tables` must be the tables of a plan of the board, and `common` must be the
     /// rows that all passes of the plan share.
     pub fn of(board: &'a Board, tables: &'a PlanTables, common: &'a CommonRows) -> BoardPlan<'a>
         requires { IsPlanned board.now tables.now common.now }
