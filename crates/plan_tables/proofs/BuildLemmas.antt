@@ -8,7 +8,7 @@ use Rattle.tap_defs.specs.chain.Scan.{joined}
 use Rattle.plan_tables.specs.inner.Laid.{CellBits, part_laid, parts_laid}
 use Rattle.plan_tables.proofs.CodeLemmas.{part_before}
 
--- a cell of a described part
+-- the part has a description, and `cell` is one of its boundary cells
 pub record CellThere (board : RawBoard) (part cell : ℕ) : Type 0 where
   pub device : RawDevice
   pub is_device : device_at board part ≡ Some device

@@ -13,7 +13,7 @@ use Rattle.plan_tables.specs.declared.observers.Observer.{Observer}
 use Rattle.plan_tables.specs.Tables.{cells_on}
 use Rattle.plan_tables.specs.inner.Building.{always_on, all_noted, table_of}
 
--- an observer with this control and this cell
+-- some observer in the list has this control and this cell
 pub record Noted (observers : List Observer) (control : ℕ) (cell : DriverCell) : Type 0 where
   pub observer : Observer
   pub is_in : Has observers observer
@@ -98,7 +98,7 @@ has_noted (x ∷ observers) rows p d less h = has_noted observers (noted rows x.
 abbrev pub IsOn : List HeldCell → Option ℕ → Type 0
 IsOn held control = (p : ℕ) → control ≡ Some p → (h : HeldCell) × Has held h × (h.position ≡ p)
 
--- an observer with this cell that is always on or has a control whose cell is held
+-- some observer in the list has this cell, and the observer is always on or has a control whose cell is held
 pub record OnBy (observers : List Observer) (held : List HeldCell) (cell : DriverCell) : Type 0 where
   pub observer : Observer
   pub is_in : Has observers observer

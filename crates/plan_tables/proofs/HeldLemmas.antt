@@ -44,7 +44,7 @@ pub quiet_steady : (board : RawBoard) (part : ℕ) (device : RawDevice) (cell : 
 quiet_steady board part device cell =
     ap (λ (o : Option Bool). unwrap_or o (steady_bit board (λ c. false) part device cell)) (quiet_data board part device cell)
 
--- the cell of a control that enables a driver is a cell of its device
+-- if a control controls a driver of its part's device, the control cell is a boundary cell of the device
 pub control_below : (board : RawBoard) → IsBoard board → (c : Ctl) (device : RawDevice) → device_at board c.part ≡ Some device →
     list_any (controls_driver board c.part c.cell) device.cells ≡ true → c.cell < device.boundary
 control_below board rules c device e any =
@@ -53,12 +53,12 @@ control_below board rules c device e any =
     let k = control_is c.cell x.1.ctl (and_parts (is_control_of c.cell x.1.ctl) (is_driving x.1.role) driver.0).0 in
     subst (λ (n : ℕ). n < device.boundary) k.2 ((wired_at board rules c.part device e).below x.0 x.1 k.0 x.2 k.1)
 
--- a control that enables some driver enables a driver of its part's device
+-- if a control controls a driver of the board, it controls a driver of its part's device
 pub controls_any : (board : RawBoard) (c : Ctl) (device : RawDevice) → device_at board c.part ≡ Some device → controls_some board c ≡ true →
     list_any (controls_driver board c.part c.cell) device.cells ≡ true
 controls_any board c device e controls = sym (ap (λ (o : Option RawDevice). controls_in board c o) e) ∙ controls
 
--- the cell of a control that enables a driver is a cell of its part
+-- if a control controls a driver of the board, the control cell is a cell of the control's part
 pub control_cells : (board : RawBoard) → IsBoard board → (c : Ctl) → controls_some board c ≡ true → c.cell < cell_count (device_at board c.part)
 control_cells board rules c controls = by_device (device_at board c.part) refl controls
   where

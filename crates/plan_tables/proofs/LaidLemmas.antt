@@ -38,7 +38,7 @@ map_laid f none board scan part (p ∷ parts) =
     by_kind (Described device) = map-filled f device.boundary (λ cell. record { tdi = row_bit board scan.now part device cell; expect = expect_bit board scan.before part device cell })
     by_kind (Bypass n) = cons_path none refl
 
--- each row of a data scan has the bit of each cell at the cell's position
+-- the bits that a data scan shifts in have the bit of each cell at the cell's position
 pub tdi_laid : (board : RawBoard) (scan : RowScan) → tdi_bits (joined (row_bits board scan)) ≡ laid (λ part device cell. row_bit board scan.now part device cell) board
 tdi_laid board scan = map_laid (λ b. b.tdi) refl board scan 0 board.chain
 
@@ -146,7 +146,7 @@ pub record CellOf (board : RawBoard) (part : ℕ) (device : RawDevice) (cell : �
   pub is_device : device_at board part ≡ Some device
   pub below : cell < device.boundary
 
--- the item sets the correct bit of some cell
+-- `place` is the position of some cell, and `bit` is the bit that `g` gives this cell
 pub record Sets (board : RawBoard) (g : CellBits) (place : ℕ) (bit : Bool) : Type 0 where
   pub part : ℕ
   pub device : RawDevice

@@ -34,7 +34,7 @@ use Rattle.plan_tables.proofs.PinLemmas.{wired_at, drives_by, entry_on}
 use Rattle.plan_tables.proofs.TableLemmas.{has_gathered, gathered_has, Observed, observed, observing_of, on_by}
 use Rattle.plan_tables.proofs.DriverTableLemmas.{IsOn, OnBy}
 
--- the driver is on this pin of the net, which is not guarded
+-- some pin of the net has driver `d`: its driving entry gives the driver's position and control
 pub record DriverOn (board : RawBoard) (net : Net) (d : NetDriver) : Type 0 where
   pub pin : NetPin
   pub is_pin : slice_get net.pins d.place ≡ Some pin
@@ -74,7 +74,7 @@ driver_on board net d h = by_guard (guarded board net) h
         let k = has_gathered (λ place (pin : NetPin). optional (driver_of board place pin.at)) 0 net.pins d h in
         by_at (k.0) (k.1) k.2 (k.1.at) refl k.3
 
--- the control of a driver is a cell of its part
+-- the control cell of a driver is a cell of the driver's part
 pub control_there : (board : RawBoard) → IsBoard board → (net : Net) (d : NetDriver) → Has (drivers_of board net) d → IsControlThere board d.ctl
 control_there board rules net d h c e = by_control s.entry.ctl refl
   where
@@ -152,7 +152,7 @@ one_driver board s safe n net is_net d e hd he on_d on_e = by_place (cases_eq d.
         ∙ b.driver_is
     by_place (inr differ) = absurd (safe.one n net d.place e.place a.pin b.pin is_net a.is_pin b.is_pin differ (pin_enabled board s net d a on_d) (pin_enabled board s net e b on_e))
 
--- if another pin has a compared cell, the setting observes the net by the driver that it enables
+-- if a safe setting enables driver `d`, and some cell reads another pin of the net, the setting observes the net by `d`
 observing_is : (board : RawBoard) (s : Enabling) → IsSafe board s → (n : ℕ) (net : Net) → slice_get board.nets n ≡ Some net → (d : NetDriver) → Has (drivers_of board net) d → is_on s d.ctl ≡ true →
     is_read_beside (readers_of board net.pins) d ≡ true → observing_of s (drivers_of board net) (readers_of board net.pins) ≡ Some d
 observing_is board s safe n net is_net d h on beside = by_found (find (λ x. is_on s x.ctl) (drivers_of board net)) refl
@@ -186,7 +186,7 @@ enabled_by s drivers readers d e = by_found (find (λ x. is_on s x.ctl) drivers)
         let k = find_has (λ (y : NetDriver). is_on s y.ctl) drivers x f in
         by_test x k.0 k.1 (is_read_beside readers x) refl e
 
--- the net and the driver of an observer of the board
+-- `x` is the observer that some driver of a net of the board gives; some cell reads a pin of the net other than the driver's pin
 pub record ObserverOf (board : RawBoard) (x : Observer) : Type 0 where
   pub number : ℕ
   pub net : Net
@@ -229,7 +229,7 @@ observer_below board rules x p h e = by_control s.driver.ctl refl
         let same : control_position board c ≡ p = cc two in
         subst (λ (n : ℕ). n < data_bits board) same (position_within board c.part c.cell (control_there board rules s.net s.driver s.is_in c k))
 
--- the net of an observer is a net of the board, and its cell has a position in data scans
+-- the net of an observer is a net of the board, and the observer's cell has a position in data scans
 pub observer_stands : (board : RawBoard) → IsBoard board → (x : Observer) → Has (observers board board.nets) x → (x.cell.net < length board.nets) × (x.cell.position < data_bits board)
 observer_stands board rules x h =
     let s = observer_of board x h in
@@ -240,14 +240,15 @@ observer_stands board rules x h =
       omega (arith, position_within board k.at.part k.entry.num (entry_below board rules k.at k.entry k.is_entry), position),
     )
 
--- a pass holds a control if and only if its list has the control
+-- if a pass holds a control, the list of the pass has the control
 pub holds_has : (pass : List Ctl) (c : Ctl) → holds pass c ≡ true → Has pass c
 holds_has pass c h = let f = any_place (same_ctl c) pass h in has_at pass f.place c (f.stands ∙ ap (λ (x : Ctl). Some x) (sym (same_equal c f.item f.passes)))
 
+-- if the list of a pass has a control, the pass holds the control
 pub has_holds : (pass : List Ctl) (c : Ctl) → Has pass c → holds pass c ≡ true
 has_holds pass c h = let p = has_place pass c h in any_at (same_ctl c) pass p.0 c p.1 (same_refl c)
 
--- two controls with the same position are equal
+-- if two controls are cells of their parts and have the same position, they are equal
 position_once : (board : RawBoard) (c e : Ctl) → c.cell < cell_count (device_at board c.part) → e.cell < cell_count (device_at board e.part) → control_position board e ≡ control_position board c → e ≡ c
 position_once board c e below_c below_e same =
     let g : ℕ → RawDevice → ℕ → Bool = λ part device cell. same_ctl (record { part = part; cell = cell }) c in
@@ -263,7 +264,7 @@ module _ (board : RawBoard) (rules : IsBoard board) (quiet : List Bool) (pass : 
   abbrev held : List HeldCell
   held = map (held_cell board quiet) pass
 
-  -- if a pass enables a driver, it holds the cell of the driver's control
+  -- if a pass enables a driver with a control, the cell of this control is one of the held cells
   control_on : (ctl : Option Ctl) → is_on (holds pass) ctl ≡ true → IsOn held (option_map (control_position board) ctl)
   control_on None on p e = let bad : None ≡ Some p = e in cc bad
   control_on (Some c) on p e =
@@ -280,7 +281,7 @@ module _ (board : RawBoard) (rules : IsBoard board) (quiet : List Bool) (pass : 
       let same : m.0 ≡ c = position_once board c (m.0) (below c refl) (there (m.0) has) (ap (λ (x : HeldCell). x.position) m.2 ∙ h.2) in
       subst (λ (x : Ctl). holds pass x ≡ true) same has
 
-  -- the driver cells of the pass are those of the observers that it enables
+  -- if a pass enables an observer, the observer's cell is a driver cell of the pass
   pub is_cell : (d : DriverCell) → OnBy (observers board board.nets) held d → IsDriverCell board pass d
   is_cell d o =
       let s = observer_of board o.observer o.is_in in

@@ -112,7 +112,7 @@ module _ (board : RawBoard) (rules : IsBoard board) where
           ap (λ (b : Bool). let x : HeldCell = record { position = first_position board s.control.part + s.control.cell; bit = b } in x) bit
           ∙ ap (λ (m : ℕ). let x : HeldCell = record { position = m; bit = h.bit } in x) (sym s.position_is)
 
--- the first n test results contain `true` once for each of the first n items that passes
+-- the number of `true` among the first n test results is the number of items among the first n items that satisfy the test
 count_map : {X : Type 0} (p : X → Bool) (xs : List X) (n : ℕ) → count_by (λ b. b) (take n (map p xs)) ≡ count_by p (take n xs)
 count_map p xs zero = refl
 count_map p [] (suc n) = refl

@@ -16,11 +16,11 @@ use Rattle.plan_tables.specs.inner.Steady.{steady_cells, moving}
 abbrev quiet : List Bool
 quiet = false ∷ false ∷ true ∷ false ∷ true ∷ []
 
--- the cell of the driver that a pass enables by 0 at position 4, the reader on the driver's own pin, and the reader on
--- another pin
+-- the cell of the driver that a pass enables by 0 at position 4
 abbrev enabled : DriverCell
 enabled = record { net = 0; place = 0; position = 3 }
 
+-- the cell that reads the driver's own pin, and the cell that reads another pin
 abbrev readers : List ReaderCell
 readers = record { place = 0; position = 3 } ∷ record { place = 2; position = 0 } ∷ []
 
@@ -28,7 +28,7 @@ readers = record { place = 0; position = 3 } ∷ record { place = 2; position = 
 driven : assigned (λ d. d.position) (driver_bit (1 ∷ []) 0) (slice_set quiet 4 false) (enabled ∷ []) ≡ false ∷ false ∷ true ∷ true ∷ false ∷ []
 driven = refl
 
--- the pin of the driver is not compared
+-- the expected bits or the mask: the cell that reads the driver's own pin is not compared
 abbrev compared : (DriverCell → Bool) → List Bool
 compared bit = set_compared bit (readers ∷ []) (replicate 5 false) (enabled ∷ [])
 

@@ -69,7 +69,7 @@ flagged board quiet passes uses are x pass e h own within =
     ∙ has_mark (λ (c : HeldCell). c.position) (flat_map cells passes) (replicate (length quiet) false) h (has_flat_map cells passes pass h (has_at passes x pass e) own)
     (omega (arith, within, length-replicate (length quiet) false))
 
--- the conditions for a steady observer
+-- observer `x` is steady: there is a pass, each pass enables the observer, and no pass has a control with the observer's cell
 pub record Steady (uses : Uses) (passes : ℕ) (x : Observer) : Type 0 where
   pub some : 0 < passes
   pub free : get_or uses.held x.cell.position false ≡ false
@@ -159,7 +159,7 @@ module _ (board : RawBoard) (rules : IsBoard board) (quiet : List Bool) (quiet_i
     on_all d (inl h) = steady_on d (steady_of uses (length passes) all d h)
     on_all d (inr h) = own_on d (cells_has others bits held d h)
 
-    -- the cell of each enabled driver is steady, or is among the cells of the pass
+    -- the cell of each driver that the pass enables is steady, or is among the pass's own driver cells
     all_on : (d : DriverCell) → OnBy all held d → Has (steady ++ own) d
     all_on d o = by_test (is_steady uses (length passes) o.observer) refl
       where

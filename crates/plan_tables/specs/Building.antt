@@ -7,11 +7,11 @@ use Rattle.net_pins.specs.declared.nets.NetDriver.{NetDriver}
 use Rattle.net_pins.specs.declared.nets.ReaderCell.{ReaderCell}
 pub use Rattle.net_pins.specs.NetCells.{gathered, optional, net_driver, driver_of, drivers_of_pins, drivers_of, reader_of, readers_in, readers_at, readers_of, all_drivers, all_readers}
 
--- a pin other than the driver's has a compared cell
+-- some compared cell reads a pin of the net other than the driver's pin
 abbrev pub is_read_beside : List ReaderCell → NetDriver → Bool
 is_read_beside readers d = list_any (λ r. not (r.place == d.place)) readers
 
--- a driver with this control is enabled in the setting
+-- a driver with this control is enabled in the setting; a driver without a control is always enabled
 abbrev pub is_on : Enabling → Option Ctl → Bool
 is_on setting None = true
 is_on setting (Some c) = setting c

@@ -13,16 +13,16 @@ use Rattle.plan_tables.specs.declared.tables.PlanTables.{PlanTables}
 use Rattle.plan_tables.specs.Tables.{ArePlanTables}
 use Rattle.plan_tables.specs.Building.{all_drivers, all_readers}
 
--- the device exists, and the control's cell controls one of its drivers
+-- the part of control `c` has a device, and the control controls a driver of this device
 abbrev pub controls_in : RawBoard → Ctl → Option RawDevice → Bool
 controls_in board c None = false
 controls_in board c (Some device) = list_any (controls_driver board c.part c.cell) device.cells
 
--- the control controls a driver of the board
+-- control `c` controls a driver of the board
 abbrev pub controls_some : RawBoard → Ctl → Bool
 controls_some board c = controls_in board c (device_at board c.part)
 
--- A plan can be made from these passes: each is safe, and each of their controls enables a driver of the board.
+-- A plan can be made from these passes: each pass is safe, and each control of a pass controls a driver of the board.
 pub record ArePlannable (board : RawBoard) (passes : List (List Ctl)) : Type 0 where
   pub safe : (x : ℕ) (pass : List Ctl) → slice_get passes x ≡ Some pass → IsSafe board (holds pass)
   pub controls : (x : ℕ) (pass : List Ctl) (c : Ctl) → slice_get passes x ≡ Some pass → holds pass c ≡ true → controls_some board c ≡ true
@@ -31,7 +31,7 @@ pub record ArePlannable (board : RawBoard) (passes : List (List Ctl)) : Type 0 w
 abbrev pub code_or_zero : RawBoard → List (List Ctl) → ℕ → Net → ℕ
 code_or_zero board passes n net = cond (is_observed board passes net) (code_of_net board passes n) 0
 
--- a plan for the board
+-- `plan` is a plan of the board for the passes that the plan has
 pub record IsPlanOf (board : RawBoard) (plan : PlanTables) : Type 0 where
   pub plannable : ArePlannable board plan.passes
   pub width_is : plan.width ≡ code_width (observed_count board plan.passes)

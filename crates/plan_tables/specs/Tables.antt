@@ -76,7 +76,7 @@ held_cell board quiet c = record { position = control_position board c; bit = no
 abbrev pub controlled : RawBoard → List (List DriverCell) → Ctl → List DriverCell
 controlled board rows c = slice_index_or rows (control_position board c) []
 
--- the driver cells in the table for a pass whose controls have these cells
+-- the driver cells that the table has for a pass; `held` has the cells of the controls of the pass
 abbrev pub cells_on : DriverTable → List HeldCell → List DriverCell
 cells_on table held = table.always ++ flat_map (λ h. slice_index_or table.rows h.position []) held
 

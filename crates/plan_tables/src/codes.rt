@@ -87,8 +87,8 @@ fn number_nets(alloc: Global, seen: &[bool]) -> Result<NetCodes, AllocError>
     })
 }
 
-/// Returns the codes of a board's nets, of which there are `nets`. The nets that some pass observes are numbered from 1
-/// in net order. Every other net has code 0.
+/// Returns the codes of a board's nets. `nets` is the number of nets. The nets that some pass observes are numbered
+/// from 1 in net order. Every other net has code 0.
 pub fn net_codes(
     alloc: Global,
     placed: &PlacedBoard,

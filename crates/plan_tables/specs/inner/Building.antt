@@ -17,7 +17,7 @@ use Rattle.plan_tables.specs.Building.{gathered, drivers_of, readers_of, is_read
 abbrev pub driver_cell : ℕ → NetDriver → DriverCell
 driver_cell net d = record { net = net; place = d.place; position = d.position }
 
--- if there is a control, its cell is a cell of its part
+-- if there is a control, the number of its cell is less than the number of cells of the control's part
 abbrev pub IsControlThere : RawBoard → Option Ctl → Type 0
 IsControlThere board ctl = (c : Ctl) → ctl ≡ Some c → c.cell < cell_count (device_at board c.part)
 

@@ -14,7 +14,7 @@ use Rattle.plan_tables.specs.Tables.{controlled}
 use Rattle.plan_tables.specs.declared.instructions.Instruction.{Instruction}
 use Rattle.plan_tables.specs.declared.instructions.Instruction.TheVariants.{Preload, Extest}
 
--- the code of the instruction for a part
+-- the code of the instruction in the instruction register of this part
 abbrev pub code_for : Instruction → PartKind → List Bool
 code_for Preload kind = preload_code kind
 code_for Extest kind = extest_code kind
@@ -27,11 +27,12 @@ pub record IsCoded (instruction : Instruction) (kind : PartKind) : Type 0 where
 abbrev pub AreCoded : Instruction → List Part → Type 0
 AreCoded instruction chain = All (λ part. IsCoded instruction part.kind) chain
 
--- the bits that an instruction register of this length captures, with 0 for bits that are not compared; `compared_bits` is the
--- mask
+-- the expected bits of an instruction register of this length: the bits nearest TDO are 1 and 0, in this order, and the bits that are not
+-- compared are 0
 abbrev pub captured_bits : ℕ → List Bool
 captured_bits length = true ∷ replicate (length - 1) false
 
+-- the mask of an instruction register of this length: only the two bits nearest TDO are compared
 abbrev pub compared_bits : ℕ → List Bool
 compared_bits length = true ∷ true ∷ replicate (length - 2) false
 

@@ -14,7 +14,7 @@ use Rattle.tap_defs.specs.board.TestRows.{steady_bit}
 abbrev pub CellBits : Type 0
 CellBits = ℕ → RawDevice → ℕ → Bool
 
--- the bits of a part: those of its cells, or a single 0 for a part without a description
+-- the bits of the cells of a described part, or a single 0 for a part without a description
 abbrev pub part_laid : CellBits → ℕ → PartKind → List Bool
 part_laid g part (Described device) = filled device.boundary (λ cell. g part device cell)
 part_laid g part (Bypass n) = false ∷ []
@@ -31,6 +31,6 @@ laid g board = joined (parts_laid g 0 board.chain)
 abbrev pub steady : RawBoard → (Ctl → Bool) → ℕ → RawDevice → ℕ → Bool
 steady board setting part device cell = steady_bit board setting part device cell
 
--- the bits of the quiet row
+-- the bit of a cell in the quiet row
 abbrev pub quiet_bits : RawBoard → ℕ → RawDevice → ℕ → Bool
 quiet_bits board part device cell = steady_bit board (λ c. false) part device cell
