@@ -90,7 +90,7 @@ whole-get len (suc rows) digits (suc row) within whole =
     let there : drop (row * digit_count len) (drop (digit_count len) digits) ≡ drop (suc row * digit_count len) digits = drop-drop (row * digit_count len) (digit_count len) digits ∙ ap (λ n. drop n digits) place in
     subst (λ (ds : List ℕ). take (digit_count len) ds ≡ digits_of (row_bits len (take (digit_count len) ds))) there (whole-get len rows (drop (digit_count len) digits) row (omega arith) whole.1)
 
--- if a row is written at `at` and ends at `end`, the digits up to the end of the row are `end` digits
+-- if a row is written over a text at `at` and ends at `end`, the text before `at` and the row together have `end` digits
 put_length : (text row : List ℕ) (at end : ℕ) → end ≡ at + length row → end ≤ length text → length (take at text ++ row) ≡ end
 put_length text row at end ends within =
     omega (arith, length-append (take at text) row, length-take-le at text (omega arith))
@@ -148,7 +148,7 @@ digit_of len rows digits row at sized within in_row =
     let place : at / 4 < digit_count len = omega arith in
     omega (arith, place, row_within (digit_count len) rows digits row sized within)
 
--- bit `at` of a row is bit `at % 4` of one of the kept digits
+-- bit `at` of row `row` is bit `at % 4` of the kept digit at place `row * digit_count len + at / 4`
 pub kept_bit : (len rows : ℕ) (digits : List ℕ) (row at : ℕ) → length digits ≡ rows * digit_count len → row < rows → at < len → log_bit (kept_rows len rows digits) row at ≡ Some (digit_bit (get_or digits (row * digit_count len + at / 4) 0) (at % 4))
 kept_bit len rows digits row at sized within in_row =
     let place : at / 4 < digit_count len = omega arith in
@@ -157,7 +157,7 @@ kept_bit len rows digits row at sized within in_row =
     ∙ row_bits-get len (take (digit_count len) (drop (row * digit_count len) digits)) at (length-take-le (digit_count len) (drop (row * digit_count len) digits) (omega (arith, length-drop (row * digit_count len) digits, some))) in_row
     ∙ ap (λ x. Some (digit_bit x (at % 4))) (get_or-take (digit_count len) (drop (row * digit_count len) digits) (at / 4) 0 place ∙ get_or-drop (row * digit_count len) digits (at / 4) 0)
 
--- the row and the bit are within the log, and the digit of the bit is among the kept digits
+-- row `row` and its bit `at` are within the log, and the digit of this bit is among the kept digits
 pub record HasPlace (len rows : ℕ) (digits : List ℕ) (row at : ℕ) : Type 0 where
   pub row_within : row < rows
   pub bit_within : at < len

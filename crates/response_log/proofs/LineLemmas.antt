@@ -1,4 +1,4 @@
--- Lemmas that lead from the lines of a text to the rows of a log.
+-- Lemmas about the lines of a text: how many rows they give, and which line has the first offense.
 use Rattle.std.proofs.Common.{◌≡◌, ℕ, ◌+◌, ◌-◌, ◌<◌, ◌≤◌, zero, suc, Bool, cond, nat_lt, Option, Some, None, Ok, Err, List, [], ◌∷◌, ◌++◌, length, map, take, drop, refl, sym, ap, ◌∙◌, arith, append_assoc, length-drop}
 use Rattle.std.specs.Prelude.{IfSome, filter, filter_map}
 use Rattle.std.specs.List.{slice_split, cons_option}
@@ -11,7 +11,7 @@ use Rattle.response_log.specs.LogRows.{Answer, NumberedLine, line_of, log_told, 
 use Rattle.response_log.specs.Kept.{text_at}
 use Rattle.response_log.proofs.KeptLemmas.{put_behind}
 
--- The answer for `found` lines without an offense. Their rows are `log`.
+-- The answer for `found` lines without an offense, whose rows are `log`: the log, or `Missing` if there are fewer than `rows` lines.
 abbrev pub counted : ℕ → ℕ → List (List Bool) → Answer
 counted rows found log = cond (nat_lt found rows) (Err (Missing found)) (Ok log)
 
@@ -30,7 +30,7 @@ rows_after-nil rows len lines =
     sym (ap (λ n. first_or (counted rows n (filter_map (bits_of_line len) lines)) (offenses (rows - 0) len lines)) count
     ∙ ap (λ n. first_or (wanted_rows rows len lines) (offenses n len lines)) wanted)
 
--- if the first remaining line has no words, the lines with words are those of the later lines
+-- if the first remaining line has no words, the remaining lines with words are the later lines with words
 pub left_blank : (n : ℕ) (left : Option (List ℕ)) (text line : List ℕ) (more : List (List ℕ)) → left ≡ Some text → slice_split is_newline text ≡ line ∷ more → words_of line ≡ [] → lines_left n left ≡ filter has_words (numbered (n + 1) more)
 left_blank n left text line more is split none =
     ap (lines_left n) is ∙ ap (λ lines. filter has_words (numbered n lines)) split
@@ -43,7 +43,7 @@ left_words n left text line more word behind is split some =
     ap (lines_left n) is ∙ ap (λ lines. filter has_words (numbered n lines)) split
     ∙ ap (λ words. cond (holds_word words) (record { number = n; words = words } ∷ filter has_words (numbered (n + 1) more)) (filter has_words (numbered (n + 1) more))) some
 
--- if all expected rows were read, a line with words gives the fault `Extra`
+-- if all expected rows come before a line with words, this line has the fault `Extra`
 pub after_extra : (rows len : ℕ) (log : List (List Bool)) (line : NumberedLine) (lines : List NumberedLine) → rows ≤ length log → rows_after rows len log (line ∷ lines) ≡ Err (Extra line.number)
 after_extra rows len log line lines full =
     let none : rows - length log ≡ 0 = omega arith in
@@ -101,7 +101,7 @@ filled_line [] word words is =
     cc
 filled_line (b ∷ bs) word words is = omega arith
 
--- if the definition gives a fault, `log_told` of the fault is this fault, or `None` for a refusal of memory
+-- if the answer is a fault, and `log_told` of the fault has a value, the answer is an error with this value
 pub fails_by : (fault : LogFault) (said : Answer) → said ≡ Err fault → IfSome (log_told fault) (λ f. said ≡ Err f)
 fails_by (Digit n) said is = is
 fails_by (Length n) said is = is

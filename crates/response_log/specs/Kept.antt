@@ -13,7 +13,7 @@ abbrev pub AreWhole : ℕ → ℕ → List ℕ → Type 0
 AreWhole len zero digits = Unit {0}
 AreWhole len (suc rows) digits = (take (digit_count len) digits ≡ digits_of (row_bits len (take (digit_count len) digits))) × AreWhole len rows (drop (digit_count len) digits)
 
--- the values of the digits of a row, with four bits to a digit
+-- `digits` are the values of the hexadecimal digits of the row, and bit `at` of the row is bit `at % 4` of digit `at / 4`
 pub record AreRowDigits (row : List Bool) (digits : List ℕ) : Type 0 where
   pub values : digits ≡ digits_of row
   pub count : length digits ≡ digit_count (length row)

@@ -59,7 +59,7 @@ offenses rows len lines = filter_map (row_fault len) (take rows lines) ++ map (�
 abbrev pub Answer : Type 0
 Answer = Result (List (List Bool)) LogFault
 
--- the rows of lines without an offense, or `Missing` if there are fewer than `rows`
+-- the rows of lines without an offense, or `Missing` if there are fewer than `rows` lines
 abbrev pub wanted_rows : ℕ → ℕ → List NumberedLine → Answer
 wanted_rows rows len lines = if nat_lt (length lines) rows then Err (Missing (length lines)) else Ok (filter_map (bits_of_line len) lines)
 
@@ -80,12 +80,12 @@ pub record IsLogOf (text : List ℕ) (rows len : ℕ) (log : List (List Bool)) :
   pub lines : map (bits_of_line len) (row_lines text) ≡ map Some log
   pub count : length log ≡ rows
 
--- the fault, or `None` for a refusal of memory, which no definition describes
+-- the fault, or `None` for lack of memory, which no definition describes
 abbrev pub log_told : LogFault → Option LogFault
 log_told (Memory e) = None
 log_told fault = Some fault
 
--- a log of `count` rows with `len` bits each
+-- the log has `count` rows, and each row has `len` bits
 pub record HasSize (count len : ℕ) (log : List (List Bool)) : Type 0 where
   pub rows : length log ≡ count
   pub bits : All (λ row. length row ≡ len) log

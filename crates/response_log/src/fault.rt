@@ -5,7 +5,7 @@ ghost use Rattle.response_log.specs.declared.fault.LogFault.TheVariants.{Memory}
 use std::alloc::AllocError;
 use thiserror::Error;
 
-/// The reason why a text is not a log, or a refusal of memory. Lines are numbered from 1.
+/// The reason why a text is not a log, or lack of memory. Lines are numbered from 1.
 #[derive(Debug, Drop, Error)]
 pub enum LogFault {
     /// A byte of the row is not a hexadecimal digit, or a bit above the bits of the row is 1.
