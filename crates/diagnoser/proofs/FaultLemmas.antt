@@ -1,4 +1,5 @@
--- Lemmas which say that the faults at the suspects' places that explain a log are all single faults that explain the log.
+-- Lemmas which say that every single fault that explains a log is the fault at some suspect's place. So the search among the suspects finds
+-- all single faults that explain the log.
 use Rattle.std.proofs.Common.{◌≡◌, ℕ, zero, suc, Bool, true, false, ◌==◌, ◌&&◌, List, length, Result, Ok, Err, Some, ◌⊎◌, inl, inr, get_or, ◌<◌, refl, sym, ap, ◌∙◌, subst}
 use Rattle.std.specs.Prelude.{filter, filter_map, slice_get, All, IfOk}
 use Rattle.std.specs.List.{list_any}
@@ -96,7 +97,7 @@ module _ (board : RawBoard) (rules : IsBoard board) (plan : PlanTables) (lists :
       let kept = suffice board plan lists log suspects rules are test (λ other is on. subst (λ (s : Single). Explains board s log) (sym (same_one other single on)) explains) in
       (filter_has test candidates single (subst (λ (l : List Single). Has l single) kept (has_filter test (singles board) single listed (one_same single)))).0
 
-  -- the candidates' faults that explain the log are the single faults that explain it
+  -- the candidates that explain the log are all single faults of the board that explain the log
   pub candidates_explain : (faults : List Single) → Picks (λ single. Explains board single log) candidates faults → AreExplaining board log faults
   candidates_explain faults those =
       subst (λ (l : List Single). AreExplaining board log l) whole
@@ -118,7 +119,7 @@ module _ (board : RawBoard) (rules : IsBoard board) (plan : PlanTables) (lists :
           suffice board plan lists log suspects rules are test (λ single is on. only single on)
           ∙ those_filter (λ single. Explains board single log) test candidates faults (λ single candidate on. only single on) (λ single candidate explains. all single candidate explains) those
 
-  -- if a search finds the explaining faults among all candidates, they are the single faults that explain the log
+  -- if a search returns the candidates that explain the log, it returns all single faults of the board that explain the log
   pub all_found : {V E : Type 0} (view : V → List Single) (result : Result V E) → IfOk result (λ v. Picks (λ single. Explains board single log) (filter_map (fault_at board) (items_between suspects 0 (length suspects))) (view v)) → IfOk result (λ v. AreExplaining board log (view v))
   all_found view (Err e) found = tt
   all_found view (Ok v) found = candidates_explain (view v) (subst (λ (l : List ℕ). Picks (λ single. Explains board single log) (filter_map (fault_at board) l) (view v)) (range_whole suspects) found)

@@ -11,7 +11,7 @@ module _ {X : Type 0} (P : X → Type 0) where
   those_append (x ∷ xs) ys a b (inl (rest, holds, is, first)) second = inl (rest ++ b, holds, ap (λ (l : List X). l ++ b) is, those_append xs ys rest b first second)
   those_append (x ∷ xs) ys a b (inr (not, first)) second = inr (not, those_append xs ys a b first second)
 
-  -- each item of this list is an item of the whole list for which the property holds
+  -- each item of `those` is an item of `xs` for which the property holds
   pub those_hold : (xs those : List X) (y : X) → Picks P xs those → Has those y → Has xs y × P y
   those_hold [] those y none has = absurd (subst (λ (l : List X). Has l y) none has)
   those_hold (x ∷ xs) those y (inl (rest, holds, is, more)) has = by_place (those_hold xs rest y more) (subst (λ (l : List X). Has l y) is has)
@@ -21,7 +21,7 @@ module _ {X : Type 0} (P : X → Type 0) where
       by_place below (inr later) = let r = below later in (inr r.0, r.1)
   those_hold (x ∷ xs) those y (inr (not, more)) has = let r = those_hold xs those y more has in (inr r.0, r.1)
 
-  -- each item of the whole list for which the property holds is in this list
+  -- each item of `xs` for which the property holds is an item of `those`
   pub hold_those : (xs those : List X) (y : X) → Picks P xs those → Has xs y → P y → Has those y
   hold_those [] those y none has holds = absurd has
   hold_those (x ∷ xs) those y (inl (rest, first, is, more)) has holds = subst (λ (l : List X). Has l y) (sym is) (by_place (λ later. hold_those xs rest y more later holds) has)
@@ -54,7 +54,7 @@ module _ {X : Type 0} (P : X → Type 0) where
   those_none (x ∷ xs) those not (inl (rest, holds, is, more)) = absurd (not x (inl refl) holds)
   those_none (x ∷ xs) those not (inr (not_first, more)) = those_none xs those (λ y has. not y (inr has)) more
 
-  -- if a test decides the property for each item, filtering by the test gives this list
+  -- if a test decides the property for each item of `xs`, filtering `xs` by the test gives the list `those`
   pub those_filter : (test : X → Bool) (xs those : List X) → ((x : X) → Has xs x → test x ≡ true → P x) → ((x : X) → Has xs x → P x → test x ≡ true) → Picks P xs those → filter test xs ≡ those
   those_filter test [] those only all none = sym none
   those_filter test (x ∷ xs) those only all (inl (rest, holds, is, more)) =

@@ -21,10 +21,10 @@ use std::thread::Threads;
 /// changes the result. The plan must be built from the board's passes. The log must have the plan's rows, each as long as a data scan.
 /// There must be 1 to 64 workers.
 ///
-/// The candidates are the places of the suspects. They are cut into as many pieces as there are workers, and the sizes of the pieces
-/// differ by at most one candidate. Directly before a piece tries a candidate, it enters the gate with two numbers: the number of the
-/// piece, counted from 0, and the candidate's place in the universe. The first half of the pieces runs side by side with the second half.
-/// Each half is halved again in the same way, down to single pieces. If memory is refused in any piece, the call returns the error.
+/// The candidates are the places of the suspects. They are cut into as many pieces as there are workers, and the sizes of the pieces differ
+/// by at most one candidate. Directly before a piece tries a candidate, it enters the gate with two numbers: the number of the piece,
+/// counted from 0, and the candidate's place in the universe. The first half of the pieces runs side by side with the second half. Each
+/// half is halved again in the same way, down to single pieces. If memory runs out in any piece, the call returns the error.
 pub fn diagnose<R: Threads + Sync, G: Gate>(
     rt: &R,
     alloc: Global,
