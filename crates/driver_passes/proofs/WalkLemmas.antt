@@ -73,7 +73,7 @@ first_passes board held free passes earlier from next are is known least closed 
         let old : not (is_held passes c) ≡ false = ap not (sym (known.held_are n c at)) ∙ sym (ap (λ t. t && not (is_in earlier n)) o) ∙ shut in
         sym (ap (λ t. cond t (inserted c s) s) (ap (λ t. t && fits board s c) old))
 
--- a control that can be added and is in no earlier pass is accepted
+-- the first walk accepts a control that can be added and is in no earlier pass
 pub new_fits : (board : RawBoard) (held free : List ℕ) (passes : List (List Ctl)) (earlier : List ℕ) (place : ℕ) (c : Ctl) → IsDraft board held free → AreHeld board passes earlier → slice_get (useful_controls board) place ≡ Some c → (is_in free place && not (is_in earlier place)) ≡ true → (is_new passes c && fits board (setting_of board held) c) ≡ true
 new_fits board held free passes earlier place c is known at h =
     let both : (is_in free place ≡ true) × (not (is_in earlier place) ≡ true) = and_parts (is_in free place) (not (is_in earlier place)) h in

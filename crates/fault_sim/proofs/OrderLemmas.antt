@@ -19,7 +19,7 @@ use Rattle.fault_sim.specs.Starts.{pairs_before}
 use Rattle.fault_sim.specs.Laws.{PlacesCounted, SuspectsSuffice}
 use Rattle.fault_sim.proofs.PlaceLemmas.{length-flat, length-pairs, places_are}
 
--- a board has as many places as `place_count` computes from its lists
+-- if `lists` are the lists of a board's universe, `place_count lists` is the number of the board's places
 pub places_counted : PlacesCounted
 places_counted board lists universe =
     let nets : length lists.nets ≡ length (covered_nets board) = ap (λ (l : List ℕ). length l) universe.nets ∙ length-map (covered_nets board) (λ (net : Numbered). net.0) in

@@ -49,7 +49,7 @@ after_extra rows len log line lines full =
     let none : rows - length log ≡ 0 = omega arith in
     ap (λ n. first_or (counted rows (length log + length (line ∷ lines)) (log ++ filter_map (bits_of_line len) (line ∷ lines))) (offenses n len (line ∷ lines))) none
 
--- if a line must be a row and has a fault, this fault comes before the faults of the later lines
+-- if fewer than `rows` rows come before a line, the fault of this line, if it has one, comes before the faults of the later lines
 after_wanted : (rows len : ℕ) (log : List (List Bool)) (line : NumberedLine) (lines : List NumberedLine) (fault : Option LogFault) → length log < rows → row_fault len line ≡ fault
     → rows_after rows len log (line ∷ lines) ≡ first_or (counted rows (length log + length (line ∷ lines)) (log ++ filter_map (bits_of_line len) (line ∷ lines))) (cons_option fault (filter_map (row_fault len) (take (rows - (length log + 1)) lines)) ++ map (λ l. Extra l.number) (drop (rows - (length log + 1)) lines))
 after_wanted rows len log line lines fault wanted is =

@@ -24,8 +24,8 @@ pub fn pass_at(passes: &[Setting], x: usize) -> &Setting
     &passes[x]
 }
 
-// The setting of a pass, with the board and the tables that locate its cells. Each control of the setting is a cell of
-// its part.
+// The setting of a pass, with the board and the tables that locate the cells of the pass. The cell of each control in the setting is a cell
+// of the control's part.
 #[derive(Drop)]
 struct PassControls<'a> {
     board: &'a Board,

@@ -81,7 +81,7 @@ apart_at {X} place f g (x ∷ xs) s t i long h = by_rest (apart_at place f g xs 
     lift : Differ xs → Differ (x ∷ xs)
     lift (y, has, at, ne) = (y, inr has, at, ne)
 
-    -- the rows agree at the place after the remaining items, or one of these items has this place and two different bits
+    -- if the lemma holds for the remaining items, it also holds for `x` followed by the remaining items
     by_rest : (after ⊎ Differ xs → (get_or (assigned place f (set s (place x) (f x)) xs) i false ≡ get_or (assigned place g (set t (place x) (g x)) xs) i false) ⊎ Differ xs) →
         after ⊎ Differ (x ∷ xs) → (get_or (assigned place f (set s (place x) (f x)) xs) i false ≡ get_or (assigned place g (set t (place x) (g x)) xs) i false) ⊎ Differ (x ∷ xs)
     by_rest ih (inr d) = inr d

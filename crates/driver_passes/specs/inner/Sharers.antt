@@ -25,7 +25,7 @@ AreSharers board sharers = (place : ℕ) (c : Ctl) → slice_get (useful_control
 abbrev pub is_listed : List (List Block) → List ℕ → ℕ → Bool
 is_listed sharers nets place = list_any (λ n. has_place (slice_index_or sharers n []) place) nets
 
--- the set loses the places of the useful controls other than `c` that are not together with `c`, and keeps the places of the other useful
--- controls that are
+-- The set loses the places of those useful controls that are not together with `c`, and no other place. The definition does not say whether
+-- the place of `c` itself stays.
 abbrev pub LosesApart : RawBoard → Ctl → List ℕ → List ℕ → Type 0
 LosesApart board c before after = (q : ℕ) (e : Ctl) → slice_get (useful_controls board) q ≡ Some e → same_ctl e c ≡ false → is_in after q ≡ (is_in before q && are_together board e c)

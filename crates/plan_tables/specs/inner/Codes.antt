@@ -14,7 +14,7 @@ use Rattle.plan_tables.specs.Tables.{controlled}
 use Rattle.plan_tables.specs.declared.instructions.Instruction.{Instruction}
 use Rattle.plan_tables.specs.declared.instructions.Instruction.TheVariants.{Preload, Extest}
 
--- the code of the instruction in the instruction register of this part
+-- the code that loads the instruction into a part of this kind
 abbrev pub code_for : Instruction → PartKind → List Bool
 code_for Preload kind = preload_code kind
 code_for Extest kind = extest_code kind
