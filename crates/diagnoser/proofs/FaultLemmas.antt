@@ -90,7 +90,7 @@ module _ (board : RawBoard) (rules : IsBoard board) (plan : PlanTables) (lists :
   abbrev candidates : List Single
   candidates = filter_map (fault_at board) suspects
 
-  -- if a single fault of the board explains the log, it is at the place of some suspect
+  -- if a single fault of the board explains the log, it is one of the candidates
   has_candidate : (single : Single) → Has (singles board) single → Explains board single log → Has candidates single
   has_candidate single listed explains =
       let test : Single → Bool = λ other. same_single other single in

@@ -90,8 +90,8 @@ words_by t before after others n none same each = by_place (cases_lt (n / 64) (l
     by_place (inl within) = each within
     by_place (inr past) = none_past after n (omega (arith, past, same)) ∙ sym (none past) ∙ sym (ap (λ b. t b (is_in others n)) (none_past before n past))
 
--- if an operation is applied to word `number` of a set and the word `bits`, the set changes as if the operation were applied to it and to
--- the numbers of these bits
+-- Word `number` of a set is replaced by `word`, whose bits are t of the old bits and the bits of `bits`. Then the new set has number n if
+-- and only if t is true of whether the old set has n and whether n is one of the numbers of these bits in word `number`.
 pub word_changed : (t : Bool → Bool → Bool) → ((b : Bool) → t b false ≡ b) → (words : List ℕ) (number word bits n : ℕ) → number < length words →
     has_bit word (n % 64) ≡ t (has_bit (get_or words number 0) (n % 64)) (has_bit bits (n % 64)) → is_in (set words number word) n ≡ t (is_in words n) (is_of_word number bits n)
 unfolding is_in

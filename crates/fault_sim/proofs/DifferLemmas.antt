@@ -120,7 +120,7 @@ none_decides board plan log [] differ P to back r is = (λ e. back (λ x less n 
 none_decides board plan log (n ∷ nets) differ P to back r is =
     (λ e. absurd (both_ways r (is ∙ ne_eqb (length (n ∷ nets)) 0 (λ z. omega (arith, z))) e), λ p. let d = (differ.exactly n).0 (has_contains (n ∷ nets) n (inl refl)) in absurd (d.1 (λ x less. to p x less n d.0)))
 
--- the place of a net among the nets that pass a test is the number of earlier nets that pass it
+-- the place of a net among the nets that satisfy a test is the number of earlier nets that satisfy it
 place_in_filter : (g : Net → Bool) (a : ℕ) (nets : List Net) (n : ℕ) (net : Net) → slice_get nets n ≡ Some net → g net ≡ true →
     slice_get (map (λ (m : Numbered). m.0) (filter (λ (m : Numbered). g m.1) (enumerate_from a nets))) (count_by g (take n nets)) ≡ Some (a + n)
 place_in_filter g a [] n net e on = cc e

@@ -290,13 +290,14 @@ placed_there faults i = ap at_once (slice_get-map (λ f. Some f) faults i) ∙ b
     by_fault None = refl
     by_fault (Some fault) = refl
 
--- the net of a stuck net or an open pin is always observed, so each such place keeps its fault
+-- `where_observed` keeps every stuck fault, since `observes_fault` is true of it
 stuck_observed : (plan : PlanTables) (nets : List ℕ) (i : ℕ) → where_observed plan (slice_get (flat_map stuck_faults nets) i) ≡ slice_get (flat_map stuck_faults nets) i
 stuck_observed plan [] i = refl
 stuck_observed plan (n ∷ nets) zero = refl
 stuck_observed plan (n ∷ nets) (suc zero) = refl
 stuck_observed plan (n ∷ nets) (suc (suc i)) = stuck_observed plan nets i
 
+-- `where_observed` keeps every fault of an open pin, since `observes_fault` is true of it
 open_observed : (plan : PlanTables) (pins : List PinRef) (i : ℕ) → where_observed plan (slice_get (flat_map open_faults pins) i) ≡ slice_get (flat_map open_faults pins) i
 open_observed plan [] i = refl
 open_observed plan (pin ∷ pins) zero = refl

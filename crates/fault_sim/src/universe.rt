@@ -278,7 +278,7 @@ impl Universe {
     }
 
     /// Returns the single fault at place `i`. `i` must be below the number of places. Returns `None` exactly if the place belongs to a pair
-    /// of covered nets and no pass observes both. The plan must be the one that the universe was built with. Allocates nothing.
+    /// of covered nets and no pass observes both. The universe must be built with this plan. Allocates nothing.
     pub fn at(&self, plan: &Plan, i: u64) -> Option<Single>
         requires { i < place_count self.now }
         ensures { (board : RawBoard) → IsBoard board → IsPlanOf board plan.now → plan.now.passes ≡ passes_of board → IsUniverse board self.now → slice_get (places_of board) i ≡ Some result }

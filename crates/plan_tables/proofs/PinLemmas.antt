@@ -95,7 +95,7 @@ driving_entry_is device wired cell entry bit e b =
     let same : y.0 ≡ entry = wired.one_driver f.1.0 g.1.0 entry y.0 bit f.1.1 here g.1.1 g.0 in
     (y.1 ∙ ap (λ (c : Cell). Some c) same, eqb-true entry.num cell p.0)
 
--- the entry that makes a pin a receiver is the reading entry of its cell
+-- an entry whose function makes a pin a receiver is the reading entry of its cell
 pub reading_entry_is : (device : RawDevice) → IsRead device → (index : ℕ) (entry : Cell) → slice_get device.cells index ≡ Some entry → is_receiving entry.role ≡ true →
     reading_entry device entry.num ≡ Some entry
 reading_entry_is device read index entry stands receiving =

@@ -92,7 +92,7 @@ module _ (board : RawBoard) (quiet : List Bool) (passes : List (List Ctl)) (stea
   is_marked : seen ≡ assigned (λ d. d.net) (λ d. true) (replicate (length board.nets) false) all
   is_marked = marked_all board quiet (length board.nets) passes steady table
 
-  -- a driver cell that belongs to some pass
+  -- `d` is a driver cell of some pass
   pub record InPass (d : DriverCell) : Type 0 where
     pub number : ℕ
     pub pass : List Ctl

@@ -15,7 +15,7 @@ use Rattle.response_log.proofs.KeptLemmas.{put_behind}
 abbrev pub counted : ℕ → ℕ → List (List Bool) → Answer
 counted rows found log = cond (nat_lt found rows) (Err (Missing found)) (Ok log)
 
--- the answer for these lines, if the rows of `log` were read before them
+-- the answer for these lines, if the rows of `log` come before them
 abbrev pub rows_after : ℕ → ℕ → List (List Bool) → List NumberedLine → Answer
 rows_after rows len log lines = first_or (counted rows (length log + length lines) (log ++ filter_map (bits_of_line len) lines)) (offenses (rows - length log) len lines)
 

@@ -97,7 +97,7 @@ module _ (len : ℕ) (line : NumberedLine) where
   told_digit (Some (Extra n)) says long no_row = absurd says
   told_digit (Some (Memory e)) says long no_row = absurd says
 
--- if `rows` rows are expected, the reported fault is the first offense, also after some rows were read
+-- if `rows` rows are expected, the fault that is reported for lines after some rows is the first offense of the rows and these lines
 module _ (rows len : ℕ) where
   abbrev IsFirst : List NumberedLine → LogFault → Type 0
   IsFirst lines fault = IsFirstOffense rows len lines fault

@@ -72,7 +72,7 @@ setting_is safe board rules walk is = record { safe = safe board walk rules is; 
 pub faults_are : WalkSafe → ShortsAreFaults
 faults_are safe board groups rules are = shorts_are_faults board groups (λ walk is. safe board walk rules is) are
 
--- if a board has no walk setting, it has no groups
+-- if a board has no walk setting, its only set of groups is the empty set
 no_groups : (board : RawBoard) (groups : List (List ℕ)) → walk_setting board ≡ None → AreGroups board groups → groups ≡ []
 no_groups board [] none are = refl
 no_groups board (group ∷ groups) none are =

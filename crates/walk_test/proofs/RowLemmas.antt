@@ -280,7 +280,7 @@ module _ (board : RawBoard) (rules : IsBoard board) (walk : List Ctl) (cells : C
       tdo_laid board (record { now = quiet_row; before = mark_row f })
       ∙ sym (tdo_compared board rules walk (λ n. Some (f n)) (bit f) cells.drivers cells.only cells.every (λ d has. refl) cells.readers cells.are)
 
-  -- the position of a compared cell: a cell that reads a net on a pin other than the observing driver's pin
+  -- `position` is the position of a compared cell, that is, of a cell that reads a net on a pin other than the observing driver's pin
   pub record ComparedAt (position : ℕ) : Type 0 where
     pub driver : DriverCell
     pub is_driver : IsDriverCell board walk driver

@@ -197,7 +197,7 @@ no_pass_text : board_walk_text no_nets ≡ whole (codes "SIR 4 TDI (A) TDO (5) M
 unfolding svf_text digits
 no_pass_text = refl
 
--- nets of one group have the same short, and a net of no group has none
+-- the nets of a group have the number of the group, and a net of no group has no number
 in_groups : map (group_of ((0 ∷ 2 ∷ []) ∷ (3 ∷ 4 ∷ 5 ∷ []) ∷ [])) (0 ∷ 1 ∷ 2 ∷ 5 ∷ []) ≡ Some 0 ∷ None ∷ Some 0 ∷ Some 1 ∷ []
 in_groups = refl
 

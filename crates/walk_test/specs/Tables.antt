@@ -20,7 +20,7 @@ use Rattle.walk_test.specs.WalkTest.{walk_setting, walk_nets}
 abbrev pub tdi_of : RawBoard → TestRow → List Bool
 tdi_of board row = tdi_bits (joined (row_bits board (record { now = row; before = quiet_row })))
 
--- a 1 for each position that the next scan compares; the next scan is the scan after the one that shifts in the row
+-- a 1 for each position that is compared by the scan after the scan that shifts in the row
 abbrev pub mask_of : RawBoard → TestRow → List Bool
 mask_of board row = mask_bits (joined (row_bits board (record { now = quiet_row; before = row })))
 

@@ -36,8 +36,7 @@ pub fn scans_counted()
     ensures { ScansCounted }
 {}
 
-/// Each set of groups is a set of faults of the board. A set of groups explains a log, and any two logs that it explains agree at every
-/// compared bit.
+/// Each set of groups is a set of faults of the board. It explains some log, and any two logs that it explains agree at every compared bit.
 pub fn groups_respond()
     ensures faults { ShortsAreFaults }
     ensures some { GroupsRespond }

@@ -34,7 +34,7 @@ feed_of pull d = record { source = d.source; off = cond d.own pull None }
 abbrev pub net_fed_by : Option EnabledDriver → Option Bool → FedNet
 net_fed_by driver pull = record { feed = option_map (feed_of pull) driver; pull = pull }
 
--- true if the bits are those of a net's code
+-- true if the source has the bits of a net's code
 abbrev pub is_code : Source → Bool
 is_code (Code code) = true
 is_code (Fixed bit) = false
