@@ -72,8 +72,8 @@ row_of (suc passes) width y less = by_side (cases_lt y (passes * width)) (row_of
       row_is = omega (arith, above);
     }
 
--- A cell that reads the net on a pin other than the enabled driver's pin. Row j of the pass compares this cell with the bit of the net's
--- code.
+-- `reader` is a cell that reads the net on a pin other than the enabled driver's pin. Row j of the pass compares this cell with the bit of
+-- the net's code.
 pub record ComparedCell (board : RawBoard) (plan : PlanTables) (pass : List Ctl) (j n : ℕ) (net : Net) (reader : ReaderCell) : Type 0 where
   pub part : ℕ
   pub device : RawDevice

@@ -25,7 +25,7 @@ length-behind width rows digits sized = omega (arith, length-drop width digits, 
 has_first : (width rows : ℕ) (digits : List ℕ) → length digits ≡ suc rows * width → width ≤ length digits
 has_first width rows digits sized = omega (arith, suc-mul rows width, sized)
 
--- each row has `len` bits
+-- each kept row has `len` bits
 pub kept_rows-lengths : (len rows : ℕ) (digits : List ℕ) → length digits ≡ rows * digit_count len → All (λ bits. length bits ≡ len) (kept_rows len rows digits)
 kept_rows-lengths len zero digits sized = All-nil (λ (bits : List Bool). length bits ≡ len)
 kept_rows-lengths len (suc rows) digits sized =

@@ -208,7 +208,8 @@ module _ (board : RawBoard) (rules : IsBoard board) (walk : List Ctl) (setting :
   abbrev places : BoardRules board
   places = board_rules board rules
 
-  -- if the setting holds a driver's control, the control cell is not the driver's own cell, since such a driver is a switching driver
+  -- if the setting holds a driver's control, the control cell is not the driver's own cell, since a driver that its own cell controls is a
+  -- switching driver
   not_own : (n : ℕ) (net : Net) (d : ℕ) (pin : NetPin) (at : PinAt) (entry : Cell) → slice_get board.nets n ≡ Some net → slice_get net.pins d ≡ Some pin → pin.at ≡ Some at →
       entry_at board at ≡ Some entry → (control : Control) → entry.ctl ≡ Some control → holds walk (record { part = at.part; cell = control.cell }) ≡ true → (control.cell == entry.num) ≡ false
   not_own n net d pin at entry en ep a e control k held = false_from_ne_true (control.cell == entry.num) (λ own. by_rules own (((board_rules board rules).nets n net en).pins d pin ep))

@@ -296,7 +296,7 @@ module _ (board : RawBoard) (rules : IsBoard board) (t : WalkTables) (w : IsWalk
           ∙ ap (λ (i : ℕ). set (tdi_of board (still_row walk)) i true) a.driver_is
           ∙ marked_row board rules walk cells (marks j) a.driver a.is_driver driver_marked (λ m x on. only_marked m x on ∙ sym a.of_net)
 
-      -- each compared cell of the net that carries 1 should read 1, and its position is within a data scan
+      -- each compared cell of the net that carries 1 should read 1, and the position of this cell is within a data scan
       reader_in : (position : ℕ) → Has c.compared position → (get_or (tdo_of board (walk_row board walk j)) position false ≡ true) × (position < data_bits board)
       reader_in position has =
           let r = (a.compared position).0 (has_contains c.compared position has) in
