@@ -40,7 +40,8 @@ pub added_setting : (board : RawBoard) (before after : List ℕ) (place : ℕ) (
 added_setting board before after place c order stands added =
     chosen_set (is_in before) (is_in after) 0 place place (useful_controls board) c order (omega arith) (λ n. added n ∙ ap (λ t. t || is_in before n) (and-true (n == place))) stands
 
--- if the set loses the places that are listed for the nets that `c` shares, it loses exactly the controls that are not together with `c`
+-- if the set loses the places that are listed for the nets that `c` shares, it loses the places of exactly those other useful controls that
+-- are not together with `c`
 pub loses_listed : (board : RawBoard) (sharers : List (List Block)) (nets : List ℕ) (c : Ctl) (before after : List ℕ) → PassesAre board → DecidesTerms board → NetsAreShared → AreSharers board sharers → nets ≡ shared_nets board c → holds (useful_controls board) c ≡ true →
     ((q : ℕ) → is_in after q ≡ (is_in before q && not (is_listed sharers nets q))) → LosesApart board c before after
 loses_listed board sharers nets c before after are decides shared listed is useful closed q e at other =

@@ -103,6 +103,6 @@ closed_nothing board held free place c t are is stands closed only = by_test (is
     by_test true e = held_nothing board held place c t are stands e
     by_test false e = sym (ap (λ u. cond u (inserted c s) s) (only (ap (λ h. not h && fits board s c) (sym e) ∙ sym (is.free_are place c stands) ∙ closed)))
 
--- a control that can be added fits
+-- if a control can be added to the draft, the control fits the draft's setting
 pub free_fits : (board : RawBoard) (held free : List ℕ) (place : ℕ) (c : Ctl) → IsDraft board held free → slice_get (useful_controls board) place ≡ Some c → is_in free place ≡ true → fits board (setting_of board held) c ≡ true
 free_fits board held free place c is stands can = (and_parts (not (is_in held place)) (fits board (setting_of board held) c) (sym (is.free_are place c stands) ∙ can)).1

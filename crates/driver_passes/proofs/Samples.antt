@@ -71,7 +71,7 @@ second_words = refl
 of_column : (column : Column) → column.number ≡ 1 → column.words.items ≡ 6 ∷ 0 ∷ 9 ∷ [] → IsColumn some_rows column
 of_column column number words = words ∙ sym (ap (λ n. words_at n some_rows) number)
 
--- if a computed test shows that no number in `from..end` passes, then none of these numbers passes
+-- if a computed check finds that no number in `from..end` satisfies the test, none of these numbers satisfies it
 none_by : (passes : ℕ → Bool) (from end : ℕ) → list_all (λ n. not (passes n)) (range_with_len from (end - from)) ≡ true → (n : ℕ) → from ≤ n → n < end → passes n ≡ false
 none_by passes from end none n least below = not-true _ (all_has (λ m. not (passes m)) (range_with_len from (end - from)) n none (has_range from (end - from) n least (omega (arith, least, below))))
 

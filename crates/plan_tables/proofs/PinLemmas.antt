@@ -21,7 +21,7 @@ use Rattle.tap_defs.proofs.board.NetRuleLemmas.{all_read, board_rules}
 use Rattle.tap_defs.proofs.board.QuietLemmas.{device_of}
 use Rattle.tap_defs.proofs.board.ReadingLemmas.{IsRead}
 
--- the device of a net's pin, and its only place in the nets
+-- the part of a pin of net `n` has a device, and the pin's place in the nets is place `place` of net `n`
 pub record Standing (board : RawBoard) (n : ℕ) (net : Net) (place : ℕ) (at : PinAt) : Type 0 where
   pub device : RawDevice
   pub is_device : device_at board at.part ≡ Some device

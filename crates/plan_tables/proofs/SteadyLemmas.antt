@@ -60,7 +60,7 @@ runs_go_on passes k (h ∷ held) runs of_pass are =
 pub held_at : (board : RawBoard) (quiet : List Bool) (passes : List (List Ctl)) (x : ℕ) (d : List Ctl) → x < length passes → get_or (held_by board quiet passes) x [] ≡ map (held_cell board quiet) (get_or passes x d)
 held_at board quiet passes x d less = get_or-map (λ (pass : List Ctl). map (held_cell board quiet) pass) passes x d [] less
 
--- each cell that a pass holds has a flag
+-- the flag at the cell of each control of a pass is true
 pub flagged : (board : RawBoard) (quiet : List Bool) (passes : List (List Ctl)) (uses : Uses) → AreUses board quiet passes uses → (x : ℕ) (pass : List Ctl) → slice_get passes x ≡ Some pass → (h : HeldCell) →
     Has (map (held_cell board quiet) pass) h → h.position < length quiet → get_or uses.held h.position false ≡ true
 flagged board quiet passes uses are x pass e h own within =
@@ -93,7 +93,7 @@ steady_of uses passes observers d h =
     let f = filter_has (is_steady uses passes) observers (m.0) m.1 in
     record { observer = m.0; is_in = f.0; steady = steady_parts uses passes (m.0) f.1; cell_is = m.2 }
 
--- if a control is common, each pass has a control with its cell at that position
+-- if a control is common to the first n passes, each of these passes holds the cell of this control
 common_on : (passes : List (List HeldCell)) (n : ℕ) (uses : Uses) → AreRuns passes uses.runs → (control : Option ℕ) → is_common uses n control ≡ true → (x : ℕ) → x < n → IsOn (get_or passes x []) control
 common_on passes n uses are None e x less p c = let bad : None ≡ Some p = c in cc bad
 common_on passes n uses are (Some q) e x less p c =

@@ -71,8 +71,7 @@ module _ (len : ℕ) (line : NumberedLine) where
   row_has_length : IsRow len line → HasLength len line
   row_has_length (bits, is) = row_words line.words bits refl is
 
-  -- The next three lemmas say which fault a line has: a row has none, a line of another length has `Length`, and any other line has
-  -- `Digit`.
+  -- a line that is a row has no fault
   told_row : (fault : Option LogFault) → Offends len line fault → IsRow len line → fault ≡ None
   told_row None says row = refl
   told_row (Some (Length n)) says row = absurd (says.1 (row_has_length row))
@@ -81,6 +80,7 @@ module _ (len : ℕ) (line : NumberedLine) where
   told_row (Some (Extra n)) says row = absurd says
   told_row (Some (Memory e)) says row = absurd says
 
+  -- a line of another length has the fault `Length`
   told_length : (fault : Option LogFault) → Offends len line fault → ¬ HasLength len line → fault ≡ Some (Length line.number)
   told_length None says other = absurd (other (row_has_length says))
   told_length (Some (Length n)) says other = ap (λ m. Some (Length m)) (sym says.0)
@@ -89,6 +89,7 @@ module _ (len : ℕ) (line : NumberedLine) where
   told_length (Some (Extra n)) says other = absurd says
   told_length (Some (Memory e)) says other = absurd says
 
+  -- a line that has the right length but is not a row has the fault `Digit`
   told_digit : (fault : Option LogFault) → Offends len line fault → HasLength len line → ¬ IsRow len line → fault ≡ Some (Digit line.number)
   told_digit None says long no_row = absurd (no_row says)
   told_digit (Some (Length n)) says long no_row = absurd (says.1 long)

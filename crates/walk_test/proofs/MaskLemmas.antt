@@ -12,7 +12,7 @@ use Rattle.response_log.specs.Kept.{AreRowDigits}
 use Rattle.walk_test.specs.inner.Digits.{bit_of, is_one, differing, IsFresh, IsMarked}
 use Rattle.walk_test.specs.inner.Reading.{bit_in, AreSameRows, StartsGroup, AreStarted}
 
--- if bit `k` of a number is 0, `digit_bit` returns false; the next lemmas use this for the bits past the end of a row
+-- if bit `k` of a number is 0, `digit_bit` returns false
 bit_off : (n k : ℕ) → n / 2 ^ k % 2 ≡ 0 → digit_bit n k ≡ false
 bit_off n k is = ap (λ (m : ℕ). m == 1) is
 

@@ -56,7 +56,7 @@ second_and_third_shown = refl
 all_shown : shown ((0 ∷ 1 ∷ 2 ∷ []) ∷ []) ≡ read_row on on on ∷ read_row on on on ∷ read_row on on on ∷ []
 all_shown = refl
 
--- a board with four nets from two drivers to two receivers, in which parts, pins and nets have names
+-- a described part with this name
 abbrev part_of : List ℕ → RawDevice → Part
 part_of name device = record { name = name; kind = Described device }
 
@@ -66,6 +66,7 @@ pin_of part bit = record (pin part bit) { part = 85 ∷ (49 + part) ∷ []; pin 
 abbrev wire : List ℕ → ℕ → ℕ → Net
 wire name part bit = record (net (pin_of part bit ∷ pin_of (part + 2) bit ∷ [])) { name = name }
 
+-- a board with four nets from parts U1 and U2 to parts U3 and U4
 abbrev four_wires : RawBoard
 four_wires = record {
   chain = part_of (codes "U1") drv ∷ part_of (codes "U2") drv ∷ part_of (codes "U3") rcv ∷ part_of (codes "U4") rcv ∷ [];

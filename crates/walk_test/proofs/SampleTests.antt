@@ -46,17 +46,19 @@ bus_text : board_walk_text bus ≡ whole (
 unfolding svf_text digits
 bus_text = refl
 
--- The setting leaves out the control of a switching driver. So the driver's net is not a walk net, and the test has only one data scan
--- after the EXTEST codes. This scan compares nothing.
+-- cell 0 of part 0 is the control of a switching driver
 pulled_switches : switches_some pulled_up (record { part = 0; cell = 0 }) ≡ true
 pulled_switches = refl
 
+-- so the walk setting leaves out this control
 pulled_setting : walk_setting pulled_up ≡ Some []
 pulled_setting = refl
 
+-- so the driver's net is not a walk net
 pulled_nets : walk_nets pulled_up ≡ []
 pulled_nets = refl
 
+-- the test has only one data scan after the EXTEST codes, and this scan compares nothing
 pulled_text : board_walk_text pulled_up ≡ whole (
     codes "SIR 4 TDI (A) TDO (5) MASK (F);" ∷ codes "SDR 2 TDI (2);" ∷ codes "SIR 4 TDI (0) TDO (5) MASK (F);" ∷ codes "SDR 2 TDI (2);" ∷ [])
 unfolding svf_text digits
@@ -83,17 +85,19 @@ mixed_text : board_walk_text mixed ≡ whole (
 unfolding svf_text digits
 mixed_text = refl
 
--- A switching driver takes no other control out of the setting: a three-state driver of another part keeps its control. This control is
--- cell 0, like the control of the switching driver, or cell 1.
+-- a device with a three-state driver whose control is cell 0
 abbrev ts0 : RawDevice
 ts0 = device (one_bit Outward) (entry 1 Output3 4 (by 0) ∷ control 0 ∷ []) 2
 
 abbrev beside_three_state : RawDevice → RawBoard
 beside_three_state driver = board (Described od ∷ Described rcv1 ∷ Described driver ∷ Described rcv1 ∷ []) (pulled (Some true) (pin 0 0 ∷ pin 1 0 ∷ []) ∷ net (pin 2 0 ∷ pin 3 0 ∷ []) ∷ [])
 
+-- A switching driver takes only its own control out of the setting. Here a three-state driver of another part keeps its control, although
+-- the control is cell 0, like the control of the switching driver.
 cell_0_stays : walk_setting (beside_three_state ts0) ≡ Some (record { part = 2; cell = 0 } ∷ [])
 cell_0_stays = refl
 
+-- here the three-state driver keeps its control, which is cell 1
 cell_1_stays : walk_setting (beside_three_state ts) ≡ Some (record { part = 2; cell = 1 } ∷ [])
 cell_1_stays = refl
 
@@ -107,7 +111,7 @@ beside_text : board_walk_text (beside_three_state ts0) ≡ whole (
 unfolding svf_text digits
 beside_text = refl
 
--- The setting also leaves out the control of a switching driver whose own cell switches it off by 0, on a net that is pulled to 0.
+-- an open-source driver: its own cell is its control, with the disable value 0
 abbrev os : RawDevice
 os = device (one_bit Outward) (record { num = 0; role = Output2; bit = Some 4; safe = Zero; ctl = Some (record { cell = 0; disable = false }) } ∷ []) 1
 
@@ -115,9 +119,11 @@ abbrev pulled_down : RawBoard
 pulled_down = board (Described os ∷ Described rcv1 ∷ Described drv ∷ Described rcv ∷ []) (
     pulled (Some false) (pin 0 0 ∷ pin 1 0 ∷ []) ∷ net (pin 2 0 ∷ pin 3 0 ∷ []) ∷ net (pin 2 1 ∷ pin 3 1 ∷ []) ∷ [])
 
+-- on a net that is pulled to 0, this driver has a pass
 down_pass : slice_get (passes_of pulled_down) 0 ≡ Some (record { part = 0; cell = 0 } ∷ [])
 down_pass = refl
 
+-- the driver is a switching driver, so the walk setting leaves out its control
 down_setting : walk_setting pulled_down ≡ Some []
 down_setting = refl
 
@@ -130,8 +136,8 @@ down_text : board_walk_text pulled_down ≡ whole (
 unfolding svf_text digits
 down_text = refl
 
--- A net has a three-state driver, an open drain and a receiver, and each of the two drivers has its own pass. If the pass of the
--- three-state driver is the first pass, the net is a walk net.
+-- A board with one net, which has a three-state driver, an open-drain driver and a receiver. Each of the two drivers has its own pass. The
+-- pass of the three-state driver is the first pass, so the net is a walk net.
 abbrev three_state_first : RawBoard
 three_state_first = board (Described ts ∷ Described od ∷ Described rcv1 ∷ []) (pulled (Some true) (pin 0 0 ∷ pin 1 0 ∷ pin 2 0 ∷ []) ∷ [])
 
@@ -150,7 +156,8 @@ three_state_text : board_walk_text three_state_first ≡ whole (
 unfolding svf_text digits
 three_state_text = refl
 
--- If the pass of the open drain is the first pass, the net is not a walk net, since the walking test ignores later passes.
+-- A board with one net, which has an open-drain driver, a three-state driver and a receiver. The pass of the open-drain driver is the first
+-- pass. So the net is not a walk net, since the walking test ignores later passes.
 abbrev open_drain_first : RawBoard
 open_drain_first = board (Described od ∷ Described ts ∷ Described rcv1 ∷ []) (pulled (Some true) (pin 0 0 ∷ pin 1 0 ∷ pin 2 0 ∷ []) ∷ [])
 
@@ -186,13 +193,14 @@ two_passes_text : board_walk_text two_passes ≡ whole (
 unfolding svf_text digits
 two_passes_text = refl
 
--- the test of a board without a pass has only the first three scans
+-- a board without nets, which has no pass
 abbrev no_nets : RawBoard
 no_nets = record wires { nets = [] }
 
 no_pass : walk_setting no_nets ≡ None
 no_pass = refl
 
+-- the test of a board without a pass has only the first three scans
 no_pass_text : board_walk_text no_nets ≡ whole (codes "SIR 4 TDI (A) TDO (5) MASK (F);" ∷ codes "SDR 4 TDI (0);" ∷ codes "SIR 4 TDI (0) TDO (5) MASK (F);" ∷ [])
 unfolding svf_text digits
 no_pass_text = refl
@@ -204,10 +212,11 @@ in_groups = refl
 joined_in_groups : map (are_joined ((0 ∷ 2 ∷ []) ∷ (3 ∷ 4 ∷ 5 ∷ []) ∷ []) 2) (0 ∷ 1 ∷ 2 ∷ 3 ∷ []) ≡ true ∷ false ∷ true ∷ false ∷ []
 joined_in_groups = refl
 
--- the cells of three nets, at positions 2, 3 and 0, and rows for logs of these nets
+-- the cells of three nets, whose compared cells are at positions 2, 3 and 0
 abbrev cells : List NetCells
 cells = record { driver = 6; compared = 2 ∷ [] } ∷ record { driver = 7; compared = 3 ∷ [] } ∷ record { driver = 4; compared = 0 ∷ [] } ∷ []
 
+-- The rows of logs of these nets. Each is named by the value of its bits, in hexadecimal.
 abbrev row_01 : List Bool
 row_01 = true ∷ false ∷ false ∷ false ∷ false ∷ false ∷ false ∷ false ∷ []
 

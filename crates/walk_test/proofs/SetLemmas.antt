@@ -208,7 +208,7 @@ pub ok_then : {T E : Type 0} (r : Result T E) {P Q : T → Type 0} → IfOk r P 
 ok_then (Ok x) h f = f x h
 ok_then (Err e) h f = tt
 
--- an empty list of scans is in turn
+-- `AreInTurn` is true of the empty list of scans
 no_scans : (board : RawBoard) → AreInTurn board []
 no_scans board = record { follow = tt; safe = λ x scan at. cc at }
 

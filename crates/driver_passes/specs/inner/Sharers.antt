@@ -17,7 +17,7 @@ pub record AreSharersBelow (board : RawBoard) (most : ℕ) (sharers : List (List
   pub sharers_length : length sharers ≡ length board.nets
   pub sharers_are : (place : ℕ) (c : Ctl) → slice_get (useful_controls board) place ≡ Some c → (n : ℕ) → has_number (slice_index_or sharers n []) place ≡ (ltb place most && has_number (shared_nets board c) n)
 
--- the set of each net has the places of the useful controls that share it with another control
+-- the set of each net has the places of the useful controls that share the net with another control
 abbrev pub AreSharers : RawBoard → List (List Block) → Type 0
 AreSharers board sharers = (place : ℕ) (c : Ctl) → slice_get (useful_controls board) place ≡ Some c → (n : ℕ) → has_place (slice_index_or sharers n []) place ≡ has_number (shared_nets board c) n
 

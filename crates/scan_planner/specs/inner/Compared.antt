@@ -9,7 +9,7 @@ pub record BothHaveRoom (bits : ℕ) (rows : ComparedRows) : Type 0 where
   pub tdo : bits ≤ rows.tdo.now.room
   pub mask : bits ≤ rows.mask.now.room
 
--- the rows hold the expected bits and the mask of a scan of these bits
+-- the rows hold the expected bits and the mask of a scan that has these bits
 pub record HoldCompared (bits : List ScanBit) (rows : ComparedRows) : Type 0 where
   pub tdo : rows.tdo.now.bits ≡ tdo_bits bits
   pub mask : rows.mask.now.bits ≡ mask_bits bits
