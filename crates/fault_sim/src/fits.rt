@@ -24,7 +24,7 @@ fn bit_in(log: &Log, row: u64, at: u32) -> bool
 }
 
 // Returns whether a cell of a net has the bit that `effect` gives it in row `j` of a pass. `row` is the number of this row in the log.
-// Returns true for a cell that reads the driver's own pin.
+// Returns true for a cell that reads the enabled driver's pin.
 #[inline]
 fn cell_shows(
     log: &Log,
@@ -83,7 +83,7 @@ impl<'a> NetRows<'a> {
         true
     }
 
-    // Like `show`, but takes the place of the enabled driver's pin, if there is one. Returns true without an enabled driver.
+    // Like `show`, but `driver` is `None` if the pass enables no driver on the net. In this case the result is true.
     fn show_by(&self, code: u32, effect: Effect, driver: Option<u32>) -> bool
         ensures { IsTrue result ↔ ShowBy self.now.log self.now.first self.now.width code self.now.readers effect driver }
     {

@@ -97,7 +97,7 @@ impl<'a> NetRows<'a> {
         shown
     }
 
-    // Like `shown_beside`, but takes the place of the enabled driver's pin, if there is one. If there is no driver, both words are 0.
+    // Like `shown_beside`, but `driver` is `None` if the pass enables no driver on the net. In this case both words are 0.
     fn shown(&self, driver: Option<u32>) -> ShownWords
         ensures { AreShown self.now driver result }
     {

@@ -52,7 +52,7 @@ fn is_read_beside(readers: &[ReaderCell], place: u32) -> bool
     readers.iter().any(|r| r.place != place)
 }
 
-// Appends the drivers of a net for which another pin has a compared cell.
+// Appends each driver of a net for which some compared cell reads another pin of this net.
 fn push_observers(
     placed: &PlacedBoard,
     net: u32,

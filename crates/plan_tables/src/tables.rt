@@ -5,7 +5,7 @@ use bt_bits::Row;
 use net_pins::{NetDriver, ReaderCell};
 use tap_defs::StoredRows;
 
-/// The cell of a control that a pass has: its position in data scans, and the bit that enables the control's drivers.
+/// The cell of a control that a pass holds: its position in data scans, and the bit that enables the control's drivers.
 #[derive(Clone, Copy)]
 pub struct HeldCell {
     pub position: u32,
