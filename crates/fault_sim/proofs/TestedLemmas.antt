@@ -132,8 +132,8 @@ module _ (board : RawBoard) (rules : IsBoard board) (plan : PlanTables) (p : IsP
         by_driver : (o : Option NetDriver) → driver_in plan pass n ≡ o → observes_by o (readers_in plan n) ≡ true → ObservesNet board (holds pass) n
         by_driver None q e = cc e
         by_driver (Some d) q e = (net, is_net, (d.place, observed_place d q e))
--- if the pass observes the net, `observes_in` is true
 
+    -- if the pass observes the net, `observes_in` is true
     pub is_observing : (place : ℕ) → ObservesBy board (holds pass) net place → observes_in plan pass n ≡ true
     is_observing place o = let d = driver_there place o in ap (λ (w : Option NetDriver). observes_by w (readers_in plan n)) d.enabled ∙ d.beside
 
