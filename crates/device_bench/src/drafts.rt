@@ -1,5 +1,5 @@
 // Checks of texts that break a rule of devices, and of the devices of texts that break no rule.
-ghost use Rattle.std.specs.Prelude.{◌≡◌, true};
+ghost use Rattle.std.specs.Prelude.{◌≡◌, true, OnOk};
 ghost use Rattle.device_rules.specs.Rules.{HasShortLists};
 
 use crate::case::{CaseFault, compare};
@@ -9,7 +9,7 @@ use bsdl_parser::{Port, Range};
 use bsdl_strings::{
     Compliance, Entry, MapEntry, Opcode, boundary, compliance, opcodes, pattern, pin_map,
 };
-use device_rules::{Draft, TapPorts, first_rule, raw_device};
+use device_rules::{Draft, DraftFault, TapPorts, raw_device};
 use std::alloc::{AllocError, Global};
 
 /// The contents of a BSDL text. Most of them are strings.
@@ -279,41 +279,37 @@ fn is_short(draft: &Draft) -> bool
         && draft.entries.len() < 1000
 }
 
+/// Fills an empty draft with these texts. Its lists must be short.
+fn fill_short(alloc: Global, texts: &Texts, draft: &mut Draft) -> Result<(), CaseFault>
+    ensures { OnOk result (HasShortLists draft.new) }
+{
+    fill(alloc, texts, draft)?;
+    if is_short(draft) {
+        Ok(())
+    } else {
+        Err(CaseFault::TooLong)
+    }
+}
+
 /// Returns the number of the broken rule and the item, or zeros if no rule is broken.
 fn broken(alloc: Global, texts: &Texts) -> Result<(u32, u32), CaseFault> {
     let mut draft = empty_draft(alloc);
-    filled_broken(alloc, texts, &mut draft)
-}
-
-/// Fills an empty draft. Returns the number of the rule that the draft breaks and the item, or zeros if it breaks no rule.
-fn filled_broken(alloc: Global, texts: &Texts, draft: &mut Draft) -> Result<(u32, u32), CaseFault> {
-    fill(alloc, texts, draft)?;
-    if !is_short(draft) {
-        return Err(CaseFault::TooLong);
-    }
-    match first_rule(alloc, draft)? {
-        Some(broken) => Ok((broken.rule, broken.item)),
-        None => Ok((0, 0)),
+    fill_short(alloc, texts, &mut draft)?;
+    match raw_device(alloc, draft) {
+        Ok(_) => Ok((0, 0)),
+        Err(DraftFault::Rule(broken)) => Ok((broken.rule, broken.item)),
+        Err(DraftFault::Memory(error)) => Err(CaseFault::Memory(error)),
     }
 }
 
+/// Returns the device of these texts as text.
 fn shown_device(alloc: Global, texts: &Texts) -> Result<String, CaseFault> {
     let mut draft = empty_draft(alloc);
-    filled_shown(alloc, texts, &mut draft)
-}
-
-/// Fills an empty draft, and returns its device as text.
-fn filled_shown(alloc: Global, texts: &Texts, draft: &mut Draft) -> Result<String, CaseFault> {
-    fill(alloc, texts, draft)?;
-    if !is_short(draft) || !(1 <= draft.boundary && draft.boundary < 1000) {
-        return Err(CaseFault::TooLong);
-    }
-    if draft.ir != 2 || first_rule(alloc, draft)?.is_some() {
-        return Ok(String::from_str(alloc, "no device")?);
-    }
+    fill_short(alloc, texts, &mut draft)?;
     match raw_device(alloc, draft) {
         Ok(raw) => shown_raw(alloc, &raw),
-        Err(error) => Err(CaseFault::Memory(error)),
+        Err(DraftFault::Rule(_)) => Ok(String::from_str(alloc, "no device")?),
+        Err(DraftFault::Memory(error)) => Err(CaseFault::Memory(error)),
     }
 }
 

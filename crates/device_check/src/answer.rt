@@ -17,21 +17,22 @@ use crate::needed::find_needed;
 use crate::strings::read_strings;
 use board_defs::Device;
 use bsdl_parser::Entity;
-use device_rules::{Draft, first_rule, raw_device};
+use device_rules::{Draft, DraftFault, raw_device};
 use std::alloc::Global;
 
 /// Returns the device of a draft, or the first broken rule of V2 to V14.
-fn judge(alloc: Global, draft: &Draft) -> Result<Device, DeviceFault>
-    requires short { HasShortLists draft.now }
-    requires lengths { HasLengths draft.now }
-    ensures { IsJudged draft.now result }
+fn judge(alloc: Global, draft: Draft) -> Result<Device, DeviceFault>
+    requires short { HasShortLists draft }
+    requires lengths { HasLengths draft }
+    ensures { IsJudged draft result }
 {
-    match first_rule(alloc, draft)? {
-        Some(broken) => Err(DeviceFault::Rule {
+    match raw_device(alloc, draft) {
+        Ok(raw) => Ok(Device::new(raw)),
+        Err(DraftFault::Rule(broken)) => Err(DeviceFault::Rule {
             number: broken.rule,
             item: broken.item,
         }),
-        None => Ok(Device::new(raw_device(alloc, draft)?)),
+        Err(DraftFault::Memory(e)) => Err(DeviceFault::Memory(e)),
     }
 }
 
@@ -54,7 +55,7 @@ fn answer(alloc: Global, entity: &Entity, package: Option<&[u8]>) -> Result<Devi
         Err(fault) => return Err(fault),
     };
     let draft = draft_of(alloc, entity, &needed, strings)?;
-    judge(alloc, &draft)
+    judge(alloc, draft)
 }
 
 /// Returns the device that the entity describes in this package. If `package` is None, takes the default package of the generic.

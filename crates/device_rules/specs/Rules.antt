@@ -1,7 +1,9 @@
 -- The first rule that a draft breaks.
-use Rattle.std.specs.Prelude.{◌≡◌, ℕ, ◌^◌, ◌<◌, length, Option, Some, None}
+use Rattle.std.specs.Prelude.{◌≡◌, ℕ, ◌^◌, ◌<◌, length, Option, Some, None, Result, Ok, Err}
 use Rattle.device_rules.specs.declared.draft.Draft.{Draft}
 use Rattle.device_rules.specs.declared.broken.Broken.{Broken}
+use Rattle.device_rules.specs.declared.fault.DraftFault.{DraftFault}
+use Rattle.device_rules.specs.declared.fault.DraftFault.TheVariants as faults
 use Rattle.device_rules.specs.Ports.{v2}
 use Rattle.device_rules.specs.Taps.{v3}
 use Rattle.device_rules.specs.PinMap.{v4}
@@ -51,6 +53,13 @@ from_3 draft =
 -- the first of the rules V2 to V14 that the draft breaks, with the first item that breaks it
 unfoldable pub first_rule : Draft → Option Broken
 first_rule draft = rule 2 (v2 draft.ports) (from_3 draft)
+
+-- No rule is broken, and `IsWanted` is true of the value. Otherwise the fault is the first rule that the draft breaks. If memory was
+-- refused, nothing is claimed.
+abbrev pub IfSound : {A : Type 0} → Draft → (A → Type 0) → Result A DraftFault → Type 0
+IfSound draft IsWanted (Ok value) = (first_rule draft ≡ None) × IsWanted value
+IfSound draft IsWanted (Err (faults.Rule broken)) = first_rule draft ≡ Some broken
+IfSound draft IsWanted (Err (faults.Memory error)) = Unit {0}
 
 -- the draft breaks no rule
 pub record KeepsRules (draft : Draft) : Type 0 where

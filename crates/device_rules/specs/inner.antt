@@ -3,3 +3,4 @@ pub mod Tables
 pub mod Index
 pub mod Seen
 pub mod Stages
+pub mod Parts

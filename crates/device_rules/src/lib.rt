@@ -7,6 +7,7 @@ mod cells;
 mod compliance;
 mod controls;
 mod draft;
+mod fault;
 mod indexed;
 pub mod law;
 mod pin_index;
@@ -20,5 +21,5 @@ mod taps;
 
 pub use broken::Broken;
 pub use draft::{Draft, TapPorts};
+pub use fault::DraftFault;
 pub use raw::raw_device;
-pub use rules::first_rule;

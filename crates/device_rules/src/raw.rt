@@ -1,19 +1,22 @@
 //! The record of the device that a text without a broken rule describes.
-ghost use Rattle.std.specs.Prelude.{◌≡◌, ◌<◌, ◌^◌, ◌++◌, None, true, map, slice_get, option_and_then, IfOk, OnOk};
+ghost use Rattle.std.specs.Prelude.{◌≡◌, ◌<◌, ◌^◌, ◌++◌, true, map, slice_get, option_and_then, IfOk, OnOk};
 ghost use Rattle.std.specs.Option.{option_copied};
 ghost use Rattle.board_defs.specs.DeviceRules.{IsDevice};
 ghost use Rattle.device_rules.specs.Ports.{in_order, width, bits_of_port};
-ghost use Rattle.device_rules.specs.Rules.{HasShortLists, first_rule};
+ghost use Rattle.device_rules.specs.Rules.{HasShortLists, IfSound};
 ghost use Rattle.device_rules.specs.inner.Index.{index_at};
 ghost use Rattle.instruction_rules.specs.Instructions.{preload as preload_code, extest as extest_code};
 ghost use Rattle.device_rules.specs.Raw.{port_bit, cell_of, raw_bits, raw_cells, raw_device, HasLengths};
+ghost use Rattle.device_rules.specs.inner.Parts.{parts_of};
 
 use crate::compliance::NamedBits;
 use crate::draft::{Draft, TapPorts};
+use crate::fault::DraftFault;
 use crate::indexed::IndexedDraft;
 use crate::pin_index::PinIndex;
 use crate::port_index::{Near, PortIndex};
 use crate::ports::bit_count;
+use crate::rules::checked;
 use crate::taps::is_tap;
 use board_defs::{Cell, Code, Items, Name, PortBit, RawDevice};
 use bsdl_parser::{Port, Range};
@@ -158,70 +161,86 @@ fn all_cells(alloc: Global, ports: &PortIndex, entries: &[Entry]) -> Result<Vec<
     Ok(cells)
 }
 
-/// Copies the IDCODE pattern, if there is one.
-fn copied_code(alloc: Global, code: &Option<Code>) -> Result<Option<Code>, AllocError>
-    ensures { IfOk result (λ copy. copy ≡ code.now) }
-{
-    match code {
-        Some(code) => Ok(Some(Code::of(alloc, code.symbols())?)),
-        None => Ok(None),
-    }
+/// The parts of a device that its draft has in another form.
+#[derive(Drop)]
+struct Parts {
+    ports: Items<Name>,
+    sample: Code,
+    extest: Code,
+    bits: Items<PortBit>,
+    cells: Items<Cell>,
 }
 
-/// Copies the names of the entity, its package and its ports.
-fn copied_names(alloc: Global, text: &Draft) -> Result<(Name, Name, Items<Name>), AllocError>
-    ensures { IfOk result (λ names. names ≡ (text.now.entity, text.now.«package», map (λ port. port.name) text.now.ports)) }
-{
-    let entity = copied_name(alloc, &text.entity)?;
-    let package = copied_name(alloc, &text.package)?;
-    let ports = port_names(alloc, text.ports.as_slice())?;
-    Ok((entity, package, Items::of(ports)))
-}
-
-/// Returns the preload code, the EXTEST code, and a copy of the IDCODE pattern.
-fn codes_of(alloc: Global, text: &Draft) -> Result<(Code, Code, Option<Code>), AllocError>
-    ensures { IfOk result (λ codes. codes ≡ (preload_code text.now.edition text.now.opcodes, extest_code text.now.edition text.now.ir text.now.opcodes, text.now.idcode)) }
+/// Returns the preload code and the EXTEST code.
+fn codes_of(alloc: Global, text: &Draft) -> Result<(Code, Code), AllocError>
+    ensures { IfOk result (λ codes. codes ≡ (preload_code text.now.edition text.now.opcodes, extest_code text.now.edition text.now.ir text.now.opcodes)) }
 {
     let opcodes = text.opcodes.as_slice();
     let sample = preload(alloc, text.edition, opcodes)?;
     let extest = extest(alloc, text.edition, text.ir, opcodes)?;
-    let idcode = copied_code(alloc, &text.idcode)?;
-    Ok((sample, extest, idcode))
+    Ok((sample, extest))
 }
 
-fn described(alloc: Global, draft: &IndexedDraft) -> Result<RawDevice, AllocError>
-    ensures { IfOk result (λ raw. raw ≡ raw_device draft.now) }
+fn parts_of(alloc: Global, draft: &IndexedDraft) -> Result<Parts, AllocError>
+    ensures { IfOk result (λ parts. parts ≡ parts_of draft.now) }
 {
     let text = draft.text();
     let bits = described_bits(alloc, draft)?;
     let cells = all_cells(alloc, draft.ports(), text.entries.as_slice())?;
-    let (entity, package, ports) = copied_names(alloc, text)?;
-    let (sample, extest, idcode) = codes_of(alloc, text)?;
-    Ok(RawDevice {
-        entity,
-        package,
-        edition: text.edition,
-        ports,
-        ir: text.ir,
+    let ports = port_names(alloc, text.ports.as_slice())?;
+    let (sample, extest) = codes_of(alloc, text)?;
+    Ok(Parts {
+        ports: Items::of(ports),
         sample,
         extest,
-        idcode,
-        boundary: text.boundary,
         bits: Items::of(bits),
         cells: Items::of(cells),
     })
 }
 
-/// Returns the record of the device that the draft describes. The draft must break no rule, and the lengths of its
-/// registers must be in their ranges. These are 2 to 255 bits for the instruction register and 1 to 65,535 cells for
-/// the boundary register.
-pub fn raw_device(alloc: Global, draft: &Draft) -> Result<RawDevice, AllocError>
-    requires short { HasShortLists draft.now }
-    requires rules { first_rule draft.now ≡ None }
-    requires lengths { HasLengths draft.now }
-    ensures raw { IfOk result (λ raw. raw ≡ raw_device draft.now) }
-    ensures device { IfOk result (λ raw. IsDevice raw) }
+/// Returns the parts of the device, or the first rule that the draft breaks.
+fn checked_parts(alloc: Global, draft: &Draft) -> Result<Parts, DraftFault>
+    requires { HasShortLists draft.now }
+    ensures { IfSound draft.now (λ parts. parts ≡ parts_of draft.now) result }
 {
-    let draft = IndexedDraft::of(alloc, draft)?;
-    described(alloc, &draft)
+    match checked(alloc, draft) {
+        Ok(draft) => Ok(parts_of(alloc, &draft)?),
+        Err(fault) => Err(fault),
+    }
+}
+
+/// Returns the record of the device with these parts. Everything else is moved out of the draft.
+fn with_parts(draft: Draft, parts: Parts) -> RawDevice
+    requires { parts ≡ parts_of draft }
+    ensures { result ≡ raw_device draft }
+{
+    RawDevice {
+        entity: draft.entity,
+        package: draft.package,
+        edition: draft.edition,
+        ports: parts.ports,
+        ir: draft.ir,
+        sample: parts.sample,
+        extest: parts.extest,
+        idcode: draft.idcode,
+        boundary: draft.boundary,
+        bits: parts.bits,
+        cells: parts.cells,
+    }
+}
+
+/// Returns the record of the device that the draft describes. Otherwise returns the first of the rules V2 to V14 that the draft
+/// breaks, with the first item that breaks it.
+///
+/// The record keeps the rules of devices if the lengths of the registers are in their ranges. These are 2 to 255 bits for the
+/// instruction register and 1 to 65,535 cells for the boundary register.
+pub fn raw_device(alloc: Global, draft: Draft) -> Result<RawDevice, DraftFault>
+    requires { HasShortLists draft }
+    ensures raw { IfSound draft (λ raw. raw ≡ raw_device draft) result }
+    ensures device { HasLengths draft → IfOk result (λ raw. IsDevice raw) }
+{
+    match checked_parts(alloc, &draft) {
+        Ok(parts) => Ok(with_parts(draft, parts)),
+        Err(fault) => Err(fault),
+    }
 }

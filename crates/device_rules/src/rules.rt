@@ -1,11 +1,12 @@
 //! The rules, in the order in which they are checked.
 ghost use Rattle.std.specs.Prelude.{◌≡◌, ◌<◌, All, IfOk};
-ghost use Rattle.device_rules.specs.Rules.{HasShortLists, from_3, from_5, from_8, from_9, from_11, first_rule};
+ghost use Rattle.device_rules.specs.Rules.{HasShortLists, from_3, from_5, from_8, from_9, from_11, IfSound};
 
 use crate::broken::Broken;
 use crate::cells::{crowded_cell, two_valued_control, wrong_cell};
 use crate::controls::wrong_control;
 use crate::draft::Draft;
+use crate::fault::DraftFault;
 use crate::indexed::IndexedDraft;
 use crate::pin_map::wrong_map_entry;
 use crate::places::{misfit, second_driver, wrong_place};
@@ -100,16 +101,19 @@ fn first_from_3(alloc: Global, draft: &IndexedDraft) -> Result<Option<Broken>, A
     first_from_5(alloc, draft)
 }
 
-/// Returns the first of the rules V2 to V14 that the draft breaks, with the first item that breaks it. Returns None if
-/// the draft breaks no rule.
+/// Returns the draft with an index of its ports. Otherwise returns the first of the rules V2 to V14 that the draft breaks, with
+/// the first item that breaks it.
 #[tactic(auto, unfolding(crate::specs::Rules::first_rule))]
-pub fn first_rule(alloc: Global, draft: &Draft) -> Result<Option<Broken>, AllocError>
+pub(crate) fn checked<'a>(alloc: Global, draft: &'a Draft) -> Result<IndexedDraft<'a>, DraftFault>
     requires { HasShortLists draft.now }
-    ensures { IfOk result (λ broken. broken ≡ first_rule draft.now) }
+    ensures { IfSound draft.now (λ checked. checked ≡ draft.now) result }
 {
     if let Some(item) = wrong_port(alloc, draft.ports.as_slice())? {
-        return Ok(Some(Broken { rule: 2, item }));
+        return Err(DraftFault::Rule(Broken { rule: 2, item }));
     }
-    let draft = IndexedDraft::of(alloc, draft)?;
-    first_from_3(alloc, &draft)
+    let indexed = IndexedDraft::of(alloc, draft)?;
+    match first_from_3(alloc, &indexed)? {
+        Some(broken) => Err(DraftFault::Rule(broken)),
+        None => Ok(indexed),
+    }
 }

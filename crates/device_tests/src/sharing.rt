@@ -3,7 +3,7 @@ use bsdl_lexer::{LexFault, Token, TokenKind};
 use bsdl_parser::{Attr, AttrValue, Constant, Entity, ParseFault, Port, Range};
 use bsdl_strings::{Compliance, Entry, MapEntry, Opcode, PortWord, StringFault};
 use device_check::DeviceFault;
-use device_rules::{Broken, Draft, TapPorts};
+use device_rules::{Broken, Draft, DraftFault, TapPorts};
 
 fn is_shared<T: Send + Sync>() {}
 
@@ -35,6 +35,7 @@ fn values_of_strings_may_be_shared() {
 fn drafts_and_faults_of_devices_may_be_shared() {
     is_shared::<Broken>();
     is_shared::<Draft>();
+    is_shared::<DraftFault>();
     is_shared::<TapPorts>();
     is_shared::<DeviceFault>();
 }
