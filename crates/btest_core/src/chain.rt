@@ -14,7 +14,7 @@ ghost use Rattle.btest_core.specs.BoardRead.{AreFileLengths, AreChainLengths, Ar
 use crate::devices::devices;
 use crate::fault::InputFault;
 use board_build::parts_of_chain;
-use board_defs::{Device, Part, PartKind};
+use board_defs::{Device, Part};
 use board_files::{ChainFile, LineFault, chain};
 use std::alloc::{AllocError, Global};
 
@@ -30,23 +30,13 @@ pub(crate) fn chain_file(alloc: Global, text: &[u8]) -> Result<ChainFile, InputF
     }
 }
 
-// Returns the number of bits in a part's instruction register.
-fn instruction_length(part: &Part) -> u32
-    ensures { result ≡ instruction_length part.now.kind }
-{
-    match &part.kind {
-        PartKind::Described(device) => device.raw().ir,
-        PartKind::Bypass(length) => *length,
-    }
-}
-
 // Returns the instruction lengths of these parts.
 fn instruction_lengths(alloc: Global, parts: &[Part]) -> Result<Vec<u32>, AllocError>
     ensures { IfOk result (λ lengths. lengths.items ≡ map (λ part. instruction_length part.kind) parts.now) }
 {
     let mut lengths = Vec::new(alloc);
     for part in parts {
-        lengths.push(instruction_length(part))?;
+        lengths.push(part.kind.instruction_length())?;
     }
     Ok(lengths)
 }
