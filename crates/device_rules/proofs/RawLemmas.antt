@@ -1,11 +1,8 @@
 -- The bits of a device, port by port.
 use Rattle.std.proofs.Common.{◌≡◌, ℕ, zero, suc, ◌+◌, ◌<◌, Bool, true, List, [], ◌∷◌, ◌++◌, length, map, take, drop, get_or, Option, None, sym, ap, ◌∙◌, arith, append_assoc}
 use Rattle.std.specs.Prelude.{option_and_then, slice_get, find}
-use Rattle.std.specs.List.{list_any, position_from}
-use Rattle.std.specs.Str.{bytes_eq}
+use Rattle.std.specs.List.{list_any}
 use Rattle.std.proofs.lemmas.List.{map-append, drop_more, take_more}
-use Rattle.lists.proofs.ListLemmas.{position_from-map}
-use Rattle.first_places.specs.Places.{first_place}
 use Rattle.board_defs.specs.declared.device.Mode.{Mode}
 use Rattle.board_defs.specs.declared.device.PortBit.{PortBit}
 use Rattle.bsdl_parser.specs.declared.entity.Port.{Port}
@@ -66,9 +63,6 @@ ordered_in (p ∷ ports) (suc i) port h less is = ordered_in ports i port h.2 (o
 
 pub ordered_at : (ports : List Port) (i : ℕ) (port : Port) → v2 ports ≡ None → i < length ports → get_or ports i port ≡ port → in_order port.range ≡ true
 ordered_at ports i port e less is = ordered_in ports i port (apart ports e) less is
-
-pub map_place_is : (names : List (List ℕ)) (entries : List MapEntry) (q : List ℕ) → names ≡ map (λ entry. entry.port) entries → first_place bytes_eq names q ≡ position_from (maps_port q) 0 entries
-map_place_is names entries q e = ap (λ ns. first_place bytes_eq ns q) e ∙ sym (position_from-map (λ entry. entry.port) (λ n. bytes_eq n q) 0 entries)
 
 -- the bit at a place of a port, made from its fields, is the bit that the definition gives for this place
 pub bit_is : (entries : List MapEntry) (taps : TapPorts) (compliance : Option Compliance) (number : ℕ) (port : Port) (place : ℕ) (name : List ℕ) (index : Option ℕ) (pin : Option (List ℕ)) (tap named : Bool)

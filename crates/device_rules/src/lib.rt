@@ -10,7 +10,7 @@ mod draft;
 mod fault;
 mod indexed;
 pub mod law;
-mod pin_index;
+mod name_index;
 mod pin_map;
 mod places;
 mod port_index;

@@ -1,53 +1,16 @@
 //! An index that finds ports by their names and the numbers of their bits.
-ghost use Rattle.std.specs.Prelude.{◌≡◌, ◌<◌, ◌^◌, Some, None, true, length, map, take, vec_len, IfOk, IfSome};
+ghost use Rattle.std.specs.Prelude.{◌≡◌, ◌<◌, ◌^◌, Some, None, true, length, take, IfOk, IfSome};
 ghost use Rattle.std.specs.Option.{option_copied};
-ghost use Rattle.std.specs.Str.{bytes_eq};
 ghost use Rattle.std.specs.List.{position_from};
-ghost use Rattle.indexmap.specs.IndexMap.{get_by};
-ghost use Rattle.first_places.specs.Places.{first_place};
 ghost use Rattle.device_rules.specs.Ports.{v2, bits_of, port_of, port_number, port_bits, is_bit, bit_number};
-ghost use Rattle.device_rules.specs.inner.Index.{AreLent, AreStarts, Finds, place_in};
+ghost use Rattle.device_rules.specs.inner.Index.{AreStarts, place_in};
 
+use crate::name_index::NameIndex;
 use crate::ports::bit_count;
 use bsdl_parser::{Port, Range};
 use bsdl_strings::PortWord;
-use first_places::first_places;
-use indexmap::IndexMap;
 use std::alloc::{AllocError, Global};
 use std::marker::Model;
-
-fn names_of<'a>(alloc: Global, ports: &'a [Port]) -> Result<Vec<&'a [u8]>, AllocError>
-    ensures names { IfOk result (λ names.
-        AreLent names.items (map (λ port. port.name) ports.now)) }
-    ensures count { IfOk result (λ names. vec_len names ≡ length ports.now) }
-{
-    let mut names = Vec::new(alloc);
-    for port in ports {
-        names.push(port.name.bytes())?;
-    }
-    Ok(names)
-}
-
-/// Returns a map from each name to its first place in the list.
-pub(crate) fn first_places_of<'a>(
-    alloc: Global,
-    names: &[&'a [u8]],
-) -> Result<IndexMap<&'a [u8], u32>, AllocError>
-    requires { length names.now < 2 ^ 32 }
-    ensures { IfOk result (λ places.
-        Finds places (first_place bytes_eq (map (λ n. n.now) names.now))) }
-{
-    first_places(alloc, names)
-}
-
-/// Returns a map from the name of each port to the port's number.
-fn places_of<'a>(alloc: Global, ports: &'a [Port]) -> Result<IndexMap<&'a [u8], u32>, AllocError>
-    requires { length ports.now < 2 ^ 32 }
-    ensures { IfOk result (λ places. Finds places (port_number ports.now)) }
-{
-    let names = names_of(alloc, ports)?;
-    first_places_of(alloc, &names)
-}
 
 /// Returns the number of bits before each port, followed by the number of all bits.
 fn starts_of(alloc: Global, ports: &[Port]) -> Result<Vec<u32>, AllocError>
@@ -62,13 +25,6 @@ fn starts_of(alloc: Global, ports: &[Port]) -> Result<Vec<u32>, AllocError>
     }
     starts.push(bits as u32)?;
     Ok(starts)
-}
-
-/// Returns the number that the map has for the name, or None if the map lacks the name.
-pub(crate) fn place_of(places: &IndexMap<&[u8], u32>, name: &[u8]) -> Option<u32>
-    ensures { result ≡ get_by (λ n. bytes_eq name.now n.now) places.now }
-{
-    places.get(&name).copied()
 }
 
 /// Returns the place of index `number` in the range, or None if the range does not have the index. Places count from 0,
@@ -114,8 +70,7 @@ impl Near {
 /// port and of all bits. The value in contracts is the list of the ports.
 #[derive(Drop)]
 pub struct PortIndex<'a> {
-    ports: &'a [Port],
-    places: IndexMap<&'a [u8], u32>,
+    ports: NameIndex<'a, Port>,
     starts: Vec<u32>,
 }
 
@@ -126,9 +81,9 @@ impl<'a> Model for PortIndex<'a> {
 
     ghost Value = { List Port };
 
-    ghost view = { λ a. a.ports.now };
+    ghost view = { λ a. a.ports };
 
-    ghost invariant = { λ a. IsIndex a.ports.now a.places a.starts.items };
+    ghost invariant = { λ a. IsIndex a.ports a.starts.items };
 }
 
 impl<'a> PortIndex<'a> {
@@ -138,13 +93,9 @@ impl<'a> PortIndex<'a> {
         requires rule { v2 ports.now ≡ None }
         ensures { IfOk result (λ index. index ≡ ports.now) }
     {
-        let places = places_of(alloc, ports)?;
         let starts = starts_of(alloc, ports)?;
-        Ok(PortIndex {
-            ports,
-            places,
-            starts,
-        })
+        let ports = NameIndex::of(alloc, ports)?;
+        Ok(PortIndex { ports, starts })
     }
 
     /// Returns the ports in order.
@@ -153,7 +104,7 @@ impl<'a> PortIndex<'a> {
         ensures short { length result.now < 2 ^ 32 }
         ensures rule { v2 result.now ≡ None }
     {
-        self.ports
+        self.ports.as_slice()
     }
 
     /// Returns whether the port at `place` has this name. Since port names differ, no other port then has the name. The
@@ -171,7 +122,7 @@ impl<'a> PortIndex<'a> {
     fn mapped_number(&self, name: &[u8]) -> Option<u32>
         ensures { result ≡ port_number self.now name.now }
     {
-        place_of(&self.places, name)
+        self.ports.place_of(name)
     }
 
     /// Returns the number of the port with this name, if there is one.
@@ -213,7 +164,7 @@ impl<'a> PortIndex<'a> {
     pub fn total_bits(&self) -> u32
         ensures { result ≡ bits_of self.now }
     {
-        self.starts[self.ports.len()]
+        self.starts[self.ports.as_slice().len()]
     }
 
     /// Returns the number of the port bit with this name and index, if there is one.

@@ -13,7 +13,7 @@ use crate::compliance::NamedBits;
 use crate::draft::{Draft, TapPorts};
 use crate::fault::DraftFault;
 use crate::indexed::IndexedDraft;
-use crate::pin_index::PinIndex;
+use crate::name_index::NameIndex;
 use crate::port_index::{Near, PortIndex};
 use crate::ports::bit_count;
 use crate::rules::checked;
@@ -75,7 +75,7 @@ fn index_at(range: Option<Range>, place: u32) -> Option<u32>
 /// Appends the bits of a port, in order from left to right.
 fn push_bits(
     alloc: Global,
-    pins: &PinIndex,
+    pins: &NameIndex<MapEntry>,
     taps: &TapPorts,
     named: &NamedBits,
     number: u32,
@@ -88,7 +88,7 @@ fn push_bits(
         ++ map (port_bit pins.now taps.now named.now) (bits_of_port number port.now)) }
 {
     let name = port.name.bytes();
-    let entry = pins.entry_of(name);
+    let entry = pins.item_of(name);
     let tap = is_tap(taps, name);
     for place in 0..bit_count(port.range) as u32 {
         let index = index_at(port.range, place);
@@ -110,7 +110,7 @@ fn push_bits(
 fn all_bits(
     alloc: Global,
     ports: &PortIndex,
-    pins: &PinIndex,
+    pins: &NameIndex<MapEntry>,
     taps: &TapPorts,
     named: &NamedBits,
 ) -> Result<Vec<PortBit>, AllocError>
@@ -130,7 +130,7 @@ fn described_bits(alloc: Global, draft: &IndexedDraft) -> Result<Vec<PortBit>, A
         ≡ raw_bits draft.now.ports draft.now.map draft.now.taps draft.now.compliance) }
 {
     let text = draft.text();
-    let pins = PinIndex::of(alloc, text.map.as_slice())?;
+    let pins = NameIndex::of(alloc, text.map.as_slice())?;
     let named = NamedBits::of(alloc, &text.compliance)?;
     all_bits(alloc, draft.ports(), &pins, &text.taps, &named)
 }

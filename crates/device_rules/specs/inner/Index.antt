@@ -1,5 +1,5 @@
 -- An index that finds ports by their names, and the numbers of their bits.
-use Rattle.std.specs.Prelude.{◌≡◌, ℕ, ◌+◌, ◌-◌, ◌^◌, ◌<◌, ◌≤◌, List, [], length, map, take, nat_eq, Bool, false, ◌&&◌, if◌then◌else◌, Option, Some, None, nat_le, slice_index}
+use Rattle.std.specs.Prelude.{◌≡◌, ℕ, ◌+◌, ◌-◌, ◌≤◌, List, [], length, map, take, nat_eq, Bool, false, ◌&&◌, if◌then◌else◌, Option, Some, None, nat_le, slice_index}
 use Rattle.std.specs.Borrow.{Bor}
 use Rattle.std.specs.Str.{bytes_eq}
 use Rattle.std.specs.List.{list_any, position_from}
@@ -9,11 +9,9 @@ use Rattle.indexmap.specs.IndexMap.{IndexMap, get_by}
 use Rattle.bsdl_parser.specs.declared.entity.Port.{Port}
 use Rattle.bsdl_parser.specs.declared.entity.Range.{Range}
 use Rattle.bsdl_strings.specs.declared.values.Compliance.{Compliance}
-use Rattle.bsdl_strings.specs.declared.values.MapEntry.{MapEntry}
 use Rattle.bsdl_strings.specs.declared.values.PortWord.{PortWord}
 use Rattle.bsdl_strings.specs.declared.values.PortWord.TheVariants.{Star, Plain, Index}
-use Rattle.device_rules.specs.PinMap.{maps_port}
-use Rattle.device_rules.specs.Ports.{Bit, bits_of, port_number, v2}
+use Rattle.device_rules.specs.Ports.{Bit, bits_of, v2}
 
 -- the borrowed names are `names`
 abbrev pub AreLent : List (Bor (List ℕ)) → List (List ℕ) → Type 0
@@ -28,17 +26,18 @@ pub record AreStarts (ports : List Port) (starts : List ℕ) : Type 0 where
   pub size : length starts ≡ length ports + 1
   pub each : (n : ℕ) → n ≤ length ports → slice_index starts n ≡ bits_of (take n ports)
 
--- There are fewer than 2^32 ports, and they keep rule V2. The map has the number of each port by its name, and `starts` has the number of
--- bits before each port.
-pub record IsIndex {S : Type 0} (ports : List Port) (places : IndexMap (Bor (List ℕ)) ℕ S) (starts : List ℕ) : Type 0 where
-  pub short : length ports < 2 ^ 32
+-- the ports keep rule V2, and `starts` has the number of bits before each port
+pub record IsIndex (ports : List Port) (starts : List ℕ) : Type 0 where
   pub rule : v2 ports ≡ None
-  pub found : Finds places (port_number ports)
   pub counted : AreStarts ports starts
 
--- the place of the first entry of the pin map for this port name
-abbrev pub map_place : List MapEntry → List ℕ → Option ℕ
-map_place entries name = position_from (maps_port name) 0 entries
+-- the item has this name
+abbrev pub is_called : {A : Type 0} → (A → List ℕ) → List ℕ → A → Bool
+is_called name_in name = λ item. bytes_eq (name_in item) name
+
+-- the place of the first item with this name
+abbrev pub place_called : {A : Type 0} → (A → List ℕ) → List A → List ℕ → Option ℕ
+place_called name_in items name = position_from (is_called name_in name) 0 items
 
 -- the place of an index in a range, counted from 0 and from left to right
 abbrev pub place_in : Option Range → Option ℕ → Option ℕ

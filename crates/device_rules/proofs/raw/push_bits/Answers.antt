@@ -16,7 +16,7 @@ loop-place-preserved c =
     let port = c.args.port.now in
     let F = port_bit c.args.pins.now c.args.taps.now c.args.named.now in
     let less : place < width port.range = omega (arith, c.loop-place-test.true, c.bit_count-place-end.ensures.count) in
-    let entry = c.entry_of-entry.ensures ∙ ap (λ name. find (maps_port name) c.args.pins.now) c.bytes-name.ensures in
+    let entry = c.item_of-entry.ensures ∙ ap (λ name. find (maps_port name) c.args.pins.now) c.bytes-name.ensures in
     let bit = bit_is c.args.pins.now c.args.taps.now c.args.named.now c.args.number port place c.bytes-name.result.now c.index_at-index.result c.in_ok-pin.pin c.is_tap-tap.result c.has.result
     c.bytes-name.ensures c.index_at-index.ensures (c.in_ok-pin.ensures ∙ ap (option_and_then (λ entry. slice_get entry.pins place)) entry)
     (c.is_tap-tap.ensures ∙ ap (is_among (tap_names c.args.taps.now)) c.bytes-name.ensures) c.has.ensures in
