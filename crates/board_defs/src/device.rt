@@ -43,6 +43,13 @@ impl Code {
         })
     }
 
+    /// Returns a copy of the code.
+    pub fn copy(&self, alloc: Global) -> Result<Code, AllocError>
+        ensures { IfOk result (λ code. code ≡ self.now) }
+    {
+        Code::of(alloc, self.symbols())
+    }
+
     /// Returns the code with these symbols. Takes ownership of the vector. There must be fewer than 2^32 symbols.
     pub fn from_vec(symbols: Vec<Symbol>) -> Code
         requires { length symbols.items < 2 ^ 32 }

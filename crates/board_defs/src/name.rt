@@ -52,6 +52,13 @@ impl Name {
         })
     }
 
+    /// Returns a copy of the name.
+    pub fn copy(&self, alloc: Global) -> Result<Name, AllocError>
+        ensures { IfOk result (λ name. name ≡ self.now) }
+    {
+        Name::of(alloc, self.bytes())
+    }
+
     /// Returns a name with a copy of these bytes, in which lower-case ASCII letters are changed to upper case.
     pub fn in_upper_case(alloc: Global, bytes: &[u8]) -> Result<Name, AllocError>
         ensures { IfOk result (λ name. name ≡ map to_ascii_uppercase bytes.now) }

@@ -4,18 +4,12 @@ ghost use Rattle.std.specs.Prelude.{◌≡◌, IfOk};
 use board_defs::{Code, Device, Items, Name, PortBit, RawDevice};
 use std::alloc::{AllocError, Global};
 
-fn name_copy(alloc: Global, name: &Name) -> Result<Name, AllocError>
-    ensures { IfOk result (λ copy. copy ≡ name.now) }
-{
-    Name::of(alloc, name.bytes())
-}
-
 fn names_copy(alloc: Global, names: &[Name]) -> Result<Vec<Name>, AllocError>
     ensures { IfOk result (λ copy. copy.items ≡ names.now) }
 {
     let mut copy = Vec::with_capacity(alloc, names.len())?;
     for name in names {
-        copy.push(name_copy(alloc, name)?)?;
+        copy.push(name.copy(alloc)?)?;
     }
     Ok(copy)
 }
@@ -25,7 +19,7 @@ fn pin_copy(alloc: Global, pin: &Option<Name>) -> Result<Option<Name>, AllocErro
 {
     match pin {
         None => Ok(None),
-        Some(name) => Ok(Some(name_copy(alloc, name)?)),
+        Some(name) => Ok(Some(name.copy(alloc)?)),
     }
 }
 
@@ -52,18 +46,12 @@ fn bits_copy(alloc: Global, bits: &[PortBit]) -> Result<Vec<PortBit>, AllocError
     Ok(copy)
 }
 
-fn code_copy(alloc: Global, code: &Code) -> Result<Code, AllocError>
-    ensures { IfOk result (λ copy. copy ≡ code.now) }
-{
-    Code::of(alloc, code.symbols())
-}
-
 fn idcode_copy(alloc: Global, code: &Option<Code>) -> Result<Option<Code>, AllocError>
     ensures { IfOk result (λ copy. copy ≡ code.now) }
 {
     match code {
         None => Ok(None),
-        Some(code) => Ok(Some(code_copy(alloc, code)?)),
+        Some(code) => Ok(Some(code.copy(alloc)?)),
     }
 }
 
@@ -71,13 +59,13 @@ fn raw_copy(alloc: Global, raw: &RawDevice) -> Result<RawDevice, AllocError>
     ensures { IfOk result (λ copy. copy ≡ raw.now) }
 {
     Ok(RawDevice {
-        entity: name_copy(alloc, &raw.entity)?,
-        package: name_copy(alloc, &raw.package)?,
+        entity: raw.entity.copy(alloc)?,
+        package: raw.package.copy(alloc)?,
         edition: raw.edition,
         ports: Items::of(names_copy(alloc, raw.ports.as_slice())?),
         ir: raw.ir,
-        sample: code_copy(alloc, &raw.sample)?,
-        extest: code_copy(alloc, &raw.extest)?,
+        sample: raw.sample.copy(alloc)?,
+        extest: raw.extest.copy(alloc)?,
         idcode: idcode_copy(alloc, &raw.idcode)?,
         boundary: raw.boundary,
         bits: Items::of(bits_copy(alloc, raw.bits.as_slice())?),

@@ -18,7 +18,7 @@ fn copied_port(alloc: Global, port: &Port) -> Result<Port, AllocError>
     ensures { IfOk result (λ copy. copy ≡ port.now) }
 {
     Ok(Port {
-        name: Name::of(alloc, port.name.bytes())?,
+        name: port.name.copy(alloc)?,
         mode: port.mode,
         range: port.range,
     })

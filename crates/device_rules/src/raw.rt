@@ -24,19 +24,13 @@ use bsdl_strings::{Entry, MapEntry};
 use instruction_rules::{extest, preload};
 use std::alloc::{AllocError, Global};
 
-fn copied_name(alloc: Global, name: &Name) -> Result<Name, AllocError>
-    ensures { IfOk result (λ copy. copy ≡ name.now) }
-{
-    Name::of(alloc, name.bytes())
-}
-
 /// Returns the names of the ports in order.
 fn port_names(alloc: Global, ports: &[Port]) -> Result<Vec<Name>, AllocError>
     ensures { IfOk result (λ names. names.items ≡ map (λ port. port.name) ports.now) }
 {
     let mut names = Vec::new(alloc);
     for port in ports {
-        names.push(copied_name(alloc, &port.name)?)?;
+        names.push(port.name.copy(alloc)?)?;
     }
     Ok(names)
 }
@@ -50,7 +44,7 @@ fn pin_of(alloc: Global, entry: Option<&MapEntry>, place: u32) -> Result<Option<
         None => Ok(None),
         Some(entry) => match entry.pins.as_slice().get(place as usize) {
             None => Ok(None),
-            Some(pin) => Ok(Some(copied_name(alloc, pin)?)),
+            Some(pin) => Ok(Some(pin.copy(alloc)?)),
         },
     }
 }
