@@ -22,7 +22,8 @@ use Rattle.device_rules.proofs.RangeLemmas.{place_found, place_within, length_in
 use Rattle.device_rules.proofs.RuleLemmas.{holds}
 use Rattle.device_rules.proofs.IsDeviceLists.{none_has}
 
--- the first passing place in two joined lists is the first list's, or otherwise the second list's after the length of the first
+-- the first place in two joined lists of an item that passes is the place in the first list, or, if
+-- no item of that list passes, the place in the second list plus the length of the first
 place_append_by : {A : Type 0} (p : A → Bool) (n : ℕ) (xs ys : List A) (b : Bool) → position_from p (n + 1) (xs ++ ys) ≡ or_else (position_from p (n + 1) xs) (position_from p (n + 1 + length xs) ys)
     → cond b (Some n) (position_from p (n + 1) (xs ++ ys)) ≡ or_else (cond b (Some n) (position_from p (n + 1) xs)) (position_from p (n + suc (length xs)) ys)
 place_append_by p n xs ys true e = refl
@@ -57,12 +58,12 @@ none_among name at number n (port ∷ ports) e =
     ∙ ap (λ o. or_else o (position_from (is_bit name at) (n + length (bits_of_port number port)) (bits_from (number + 1) ports))) (none_along name at number port 0 (indexes port.range) n parts.0)
     ∙ none_among name at (number + 1) (n + length (bits_of_port number port)) ports parts.1
 
--- each port's range is in order, and no later port has the port's name
+-- no port has the name of an earlier port, and each port's range is in order
 abbrev pub Apart : List Port → Type 0
 Apart [] = Unit {0}
 Apart (port ∷ ports) = (in_order port.range ≡ true) × (list_any (port_named port.name) ports ≡ false) × Apart ports
 
--- a port has as many bits as its range is wide
+-- if a port's range is in order, the port has as many bits as its range is wide
 pub length_bits : (number : ℕ) (port : Port) → in_order port.range ≡ true → length (bits_of_port number port) ≡ width port.range
 length_bits number port e = length_along number port 0 (indexes port.range) ∙ length_indexes port.range e
 
@@ -70,7 +71,8 @@ none_else : {A : Type 0} (o : Option A) → or_else o None ≡ o
 none_else None = refl
 none_else (Some a) = refl
 
--- the number of the bit with this name and index, found port by port; the first port's bits have the numbers from `start` on
+-- the number of the bit with this name and index, found port by port, if the bits are numbered from
+-- `start` on
 abbrev located : List ℕ → Option ℕ → ℕ → List Port → Option ℕ
 located name at start [] = None
 located name at start (port ∷ ports) = cond (bytes_eq port.name name) (option_map (λ k. start + k) (place_in port.range at)) (located name at (start + width port.range) ports)
@@ -99,7 +101,8 @@ located_is : (name : List ℕ) (at : Option ℕ) (number start : ℕ) (ports : L
 located_is name at number start [] apart = refl
 located_is name at number start (port ∷ ports) apart = located_by name at number start port ports (bytes_eq port.name name) refl apart (located_is name at (number + 1) (start + width port.range) ports apart.2)
 
--- a search that begins with a number one higher finds a place one higher
+-- the step for one item: if a search in the later items that begins with a number one higher finds
+-- a place one higher, so does a search in all items
 place_later_by : {A : Type 0} (p : A → Bool) (n : ℕ) (x : A) (xs : List A) (b : Bool) → position_from p (n + 1 + 1) xs ≡ option_map (λ k. k + 1) (position_from p (n + 1) xs) → cond b (Some (n + 1)) (position_from p (n + 1 + 1) xs) ≡ option_map (λ k. k + 1) (cond b (Some n) (position_from p (n + 1) xs))
 place_later_by p n x xs true e = refl
 place_later_by p n x xs false e = e
@@ -108,7 +111,7 @@ place_later : {A : Type 0} (p : A → Bool) (n : ℕ) (xs : List A) → position
 place_later p n [] = refl
 place_later p n (x ∷ xs) = place_later_by p n x xs (p x) (place_later p (n + 1) xs)
 
--- the step for one port, if no port has the name
+-- the step of `located` for one port: if no port has the name, no bit is located
 nowhere_by : (name : List ℕ) (at : Option ℕ) (start : ℕ) (port : Port) (ports : List Port) (b : Bool) → (position_from (port_named name) 0 ports ≡ None → located name at (start + width port.range) ports ≡ None)
     → cond b (Some 0) (position_from (port_named name) 1 ports) ≡ None → cond b (option_map (λ k. start + k) (place_in port.range at)) (located name at (start + width port.range) ports) ≡ None
 nowhere_by name at start port ports true later e = cc e
@@ -122,7 +125,7 @@ nowhere : (name : List ℕ) (at : Option ℕ) (start : ℕ) (ports : List Port) 
 nowhere name at start [] e = refl
 nowhere name at start (port ∷ ports) e = nowhere_by name at start port ports (bytes_eq port.name name) (λ none. nowhere name at (start + width port.range) ports none) e
 
--- the step for one port, if port `n` is the first that has the name
+-- the step of `located` for one port, if port `n` is the first that has the name
 there_by : (name : List ℕ) (at : Option ℕ) (start n : ℕ) (d port : Port) (ports : List Port) (b : Bool)
     → ((m : ℕ) → position_from (port_named name) 0 ports ≡ Some m → located name at (start + width port.range) ports ≡ option_map (λ k. start + width port.range + bits_of (take m ports) + k) (place_in (get_or ports m d).range at))
     → cond b (Some 0) (position_from (port_named name) 1 ports) ≡ Some n
@@ -194,12 +197,13 @@ kept_from : (before ports : List Port) → first_from breaks_port before ports �
 kept_from before [] e = (tt, tt)
 kept_from before (port ∷ ports) e = kept_by before port ports (breaks_port before port) refl (kept_from (before ++ port ∷ []) ports) e
 
--- if V2 holds, the names differ and the ranges are in order
+-- if V2 holds, no two ports have the same name, and each port's range is in order
 pub apart : (ports : List Port) → v2 ports ≡ None → Apart ports
 unfolding v2
 apart ports e = (kept_from [] ports e).1
 
--- if the names of ports differ, each port is the first that has its name
+-- if no two ports have the same name, a port with this name at place `n` is the first that has the
+-- name
 pub is_first : (name : List ℕ) (ports : List Port) (n : ℕ) (port : Port) → Apart ports → slice_get ports n ≡ Some port → bytes_eq port.name name ≡ true → position_from (port_named name) 0 ports ≡ Some n
 is_first name [] n port h at is = cc at
 is_first name (first ∷ ports) zero port h at is = let same : first ≡ port = cc at in ap (λ b. cond b (Some 0) (position_from (port_named name) 1 ports)) (ap (port_named name) same ∙ is)
@@ -211,7 +215,8 @@ is_first name (first ∷ ports) (suc n) port h at is =
     differs : bytes_eq port.name first.name ≡ false → bytes_eq port.name name ≡ true → bytes_eq first.name name ≡ false
     differs e f = grind (arith, bytes_eq-Decides)
 
--- if the first place of a passing item is `n`, item `n` is the one that `find` returns
+-- if `n` is the first place of an item that passes, `n` is below the length of the list, and item
+-- `n` is the one that `find` returns
 at_by : {A : Type 0} (p : A → Bool) (xs : List A) (n : ℕ) (b : Bool) → nat_lt (position_or_len p xs) (length xs) ≡ b → cond b (Some (position_or_len p xs)) None ≡ Some n → (n < length xs) × (find p xs ≡ slice_get xs n)
 at_by p xs n true e f =
     let is : position_or_len p xs ≡ n = cc f in
@@ -234,7 +239,7 @@ nothing_by p xs false e f = sym (find_at p xs ∙ slice_get_past xs (position_or
 pub nothing_found : {A : Type 0} (p : A → Bool) (xs : List A) → position_from p 0 xs ≡ None → None ≡ find p xs
 nothing_found p xs e = nothing_by p xs (nat_lt (position_or_len p xs) (length xs)) refl (position_from-zero p xs ∙ e)
 
--- if V2 holds, the ports up to and including each port have at most 65,535 bits
+-- if V2 holds, ports `0..=i` together have at most 65,535 bits
 pub bits_few : (ports : List Port) (i : ℕ) (port : Port) → v2 ports ≡ None → i < length ports → get_or ports i port ≡ port → bits_of (take i ports) + width port.range ≤ most_bits
 unfolding v2
 bits_few ports i port e less is =
@@ -246,7 +251,8 @@ bits_few ports i port e less is =
     few : (n : ℕ) → nat_lt most_bits n ≡ false → n ≤ most_bits
     few n e = grind (arith, nat_tests)
 
--- the ports up to port `i` have the bits of the ports before it, and as many more as the range of port `i` is wide
+-- the number of bits of ports `0..=i` is the number of bits of ports `0..i` plus the width of port
+-- `i`'s range
 pub bits_more : (ports : List Port) (i : ℕ) (port : Port) → i < length ports → get_or ports i port ≡ port → bits_of (take (i + 1) ports) ≡ bits_of (take i ports) + width port.range
 bits_more ports i port less is =
     sum_by_more (λ port. width port.range) ports i port less ∙ ap (λ p. bits_of (take i ports) + width p.range) is
@@ -254,7 +260,7 @@ bits_more ports i port less is =
 pub found_item : {A : Type 0} (p : A → Bool) (xs : List A) (n : ℕ) (x : A) → position_from p 0 xs ≡ Some n → get_or xs n x ≡ x → Some x ≡ find p xs
 found_item p xs n x e is = sym (slice_get-get_or xs n x (number_below p xs n e) ∙ ap Some is) ∙ found_at p xs n e
 
--- the number of the bit with this name and index; it follows from the number of its port and its place in the port
+-- the number of the bit with this name and index
 abbrev bit_by : List Port → List ℕ → Option ℕ → Option ℕ
 bit_by ports name at = position_from (is_bit name at) 0 (port_bits ports)
 
@@ -286,7 +292,8 @@ bit_fits ports name at n k start port kept e is here before =
     let within = place_within port.range at k here in
     omega (arith, few, within, before)
 
--- the number of a bit, computed from its port and its place in the port, is less than the number of all bits
+-- if the index has place `k` in the range of port `n`, and `start` is the number of bits before
+-- port `n`, `start + k` is less than the number of all bits
 pub bit_within : (ports : List Port) (name : List ℕ) (at : Option ℕ) (n k start : ℕ) (port : Port) → position_from (port_named name) 0 ports ≡ Some n → get_or ports n port ≡ port
     → place_in port.range at ≡ Some k → start ≡ bits_of (take n ports) → start + k < bits_of ports
 bit_within ports name at n k start port e is here before =

@@ -1,4 +1,5 @@
--- The bits of the device are in the order of its ports, and each port has its bits.
+-- The bits of a device are in the order of its ports, and the bits with a port's number are the
+-- bits of that port.
 use Rattle.std.proofs.Common.{◌≡◌, ◌≢◌, ℕ, zero, suc, ◌+◌, ◌<◌, ◌≤◌, ◌==◌, Bool, true, false, cond, List, [], ◌∷◌, ◌++◌, map, length, get_or, Option, Some, None, refl, sym, ◌∙◌, ap, subst, arith, inl, inr, append-nil}
 use Rattle.std.specs.Prelude.{slice_get, All, AllPairs, filter, find, is_some}
 use Rattle.std.specs.List.Sorted.{IsNonDecreasing}
@@ -22,7 +23,8 @@ use Rattle.device_rules.proofs.IsDeviceLists.{all_alike, made_at}
 use Rattle.device_rules.proofs.IsDevicePorts.{PortsStand, IsBitOf, is_bit_of, is_of_port}
 use Rattle.device_rules.proofs.IsDevicePins.{is_mapped}
 
--- filtering a mapped list is mapping the list filtered by a test that agrees with the mapped one
+-- if the test `p` of `f x` always agrees with the test `q` of `x`, filtering `map f xs` by `p`
+-- gives the same list as mapping the list `xs` filtered by `q`
 filter_made : {X Y : Type 0} (f : X → Y) (p : Y → Bool) (q : X → Bool) → ((x : X) → p (f x) ≡ q x) → (xs : List X) → filter p (map f xs) ≡ map f (filter q xs)
 filter_made f p q same [] = refl
 filter_made {X} {Y} f p q same (x ∷ xs) = ap (λ b. cond b (f x ∷ filter p (map f xs)) (filter p (map f xs))) (same x) ∙ by_test (q x) (filter_made f p q same xs)
@@ -39,10 +41,11 @@ filter_none : {X : Type 0} (p : X → Bool) (xs : List X) → ((x : X) → Has x
 filter_none p [] h = refl
 filter_none p (x ∷ xs) h = ap (λ b. cond b (x ∷ filter p xs) (filter p xs)) (h x (inl refl)) ∙ filter_none p xs (λ y k. h y (inr k))
 
--- the bit belongs to port `k`; of the bits of all ports, those of which this is true are the bits of port `k`
+-- the bit belongs to port `k`
 abbrev is_of : ℕ → Bit → Bool
 is_of k bit = bit.port == k
 
+-- the bits of all ports that belong to port `k` are exactly the bits of port `k`, in order
 bits_kept : (k first m : ℕ) (ports : List Port) (port : Port) → k ≡ first + m → slice_get ports m ≡ Some port → filter (is_of k) (bits_from first ports) ≡ bits_of_port k port
 bits_kept k first m [] port here at = cc at
 bits_kept k first zero (p ∷ ports) port here at =
@@ -57,7 +60,7 @@ bits_kept k first (suc m) (p ∷ ports) port here at =
     filter-append (is_of k) (bits_of_port first p) (bits_from (first + 1) ports) ∙ (ap (λ v. v ++ filter (is_of k) (bits_from (first + 1) ports)) none
     ∙ bits_kept k (first + 1) m ports port (omega arith) at)
 
--- the numbers do not decrease, and the first is at least `low`
+-- the numbers do not decrease, and the first of them is at least `low`
 abbrev Rises : ℕ → List ℕ → Type 0
 Rises low [] = Unit {0}
 Rises low (x ∷ xs) = (low ≤ x) × Rises x xs
@@ -86,7 +89,7 @@ rises_from first [] = tt
 rises_from first (port ∷ ports) =
     rises_along first port 0 (indexes port.range) (bits_from (first + 1) ports) (lower first (first + 1) (map (λ bit. bit.port) (bits_from (first + 1) ports)) (omega arith) (rises_from (first + 1) ports))
 
--- the port bits of the device have the ports and the indexes of the bits from which they are made
+-- the device's port bits have the same port numbers as the bits from which they are made
 module _ (entries : List MapEntry) (taps : TapPorts) (compliance : Option Compliance) where
   ports_kept : (bits : List Bit) → map (λ bit. bit.port) (map (port_bit entries taps compliance) bits) ≡ map (λ bit. bit.port) bits
   ports_kept [] = refl
@@ -103,7 +106,7 @@ module _ (entries : List MapEntry) (taps : TapPorts) (compliance : Option Compli
       by_range None e = inl e
       by_range (Some range) e = inr (range.left, range.right, e)
 
-  -- of the device's port bits, those with the number of one port are made from the bits of this port
+  -- the device's port bits with port number `k` are made from the bits of port `k`
   kept_bits : (ports : List Port) (k : ℕ) (port : Port) → slice_get ports k ≡ Some port → filter (λ bit. bit.port == k) (map (port_bit entries taps compliance) (port_bits ports)) ≡ map (port_bit entries taps compliance) (bits_of_port k port)
   kept_bits ports k port at =
       filter_made (port_bit entries taps compliance) (λ bit. bit.port == k) (is_of k) (λ bit. refl) (port_bits ports) ∙ ap (map (port_bit entries taps compliance)) (bits_kept k 0 k ports port (omega arith) at)
@@ -111,7 +114,7 @@ module _ (entries : List MapEntry) (taps : TapPorts) (compliance : Option Compli
   mode_of : (k : ℕ) (port : Port) (bit : PortBit) → Has (map (port_bit entries taps compliance) (bits_of_port k port)) bit → bit.mode ≡ port.mode
   mode_of k port bit h = let r = map_has (port_bit entries taps compliance) (bits_of_port k port) bit h in sym (ap (λ (b : PortBit). b.mode) r.2) ∙ (is_of_port k port r.0 r.1).of_mode
 
--- each bit of a port is one of the device's bits
+-- each bit of port `k` is one of the bits of all ports
 of_port_has : (k first m : ℕ) (ports : List Port) (port : Port) → k ≡ first + m → slice_get ports m ≡ Some port → (bit : Bit) → Has (bits_of_port k port) bit → Has (bits_from first ports) bit
 of_port_has k first m ports port here at bit h = (filter_has (is_of k) (bits_from first ports) bit (let P : List Bit → Type 0 = λ v. Has v bit in subst P (sym (bits_kept k first m ports port here at)) h)).0
 

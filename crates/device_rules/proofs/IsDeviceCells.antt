@@ -44,7 +44,7 @@ cells_all draft e cell less =
     let P : ℕ → Type 0 = λ n. Has (map (λ (c : Cell). c.num) (map (cell_of draft.ports) draft.entries)) n in
     has_contains (map (λ (c : Cell). c.num) (map (cell_of draft.ports) draft.entries)) cell (subst P (eqb-true r.0.num cell r.2) has)
 
--- if V10 holds, each entry has a control exactly as its function requires or allows
+-- if V10 holds, no entry breaks the rule on controls
 control_kept : (entries : List Entry) → v10 entries ≡ None → (entry : Entry) → Has entries entry → breaks_control entries entry ≡ false
 unfolding v10
 control_kept entries e entry has =
@@ -126,8 +126,8 @@ controls_below draft e8 e10 = All-map (λ (cell : Cell). IfSome cell.ctl (λ con
     by_control entry has None is = tt
     by_control entry has (Some control) is = control_below draft.boundary draft.entries e8 e10 entry has control is
 
--- if an entry's control is `cell` with the disable value `value`, `cell` controls an entry with this value; so V11 leaves
--- one value for each cell
+-- if an entry's control is `cell` with the disable value `value`, then `cell` controls some entry
+-- with this value
 disables : (entries : List Entry) (entry : Entry) → Has entries entry → (control : Control) → entry.ctl ≡ Some control → (cell : ℕ) → control.cell ≡ cell → (value : Bool) → control.disable ≡ value → list_any (controls_entry value cell) entries ≡ true
 disables entries entry has control is cell same value disable =
     has_any (controls_entry value cell) entries entry has (ap (is_disabled_by value cell) is ∙ and_from (control.cell == cell) (same_bit control.disable value) (eq-eqb control.cell cell same) (ap (λ b. same_bit b value) disable ∙ same_bits value))
@@ -136,6 +136,7 @@ two_values : (boundary : ℕ) (entries : List Entry) → v11 boundary entries �
 unfolding v11
 two_values boundary entries e cell less = none_below (has_two_values entries) boundary e cell less
 
+-- if V8, V10 and V11 hold, two entries with the same control cell have the same disable value
 pub one_disable : (draft : Draft) → v8 draft.boundary draft.entries ≡ None → v10 draft.entries ≡ None → v11 draft.boundary draft.entries ≡ None → OneDisable (raw_device draft)
 unfolding raw_cells
 one_disable draft e8 e10 e11 i j e d a b at_i at_j is_a is_b same =

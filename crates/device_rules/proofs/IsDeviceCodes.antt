@@ -20,7 +20,7 @@ use Rattle.device_rules.specs.Raw.{raw_device, HasLengths}
 use Rattle.device_rules.proofs.RuleLemmas.{holds}
 use Rattle.device_rules.proofs.IsDeviceLists.{holds_at}
 
--- each code of each opcode has the length of the instruction register
+-- each code of each opcode has as many symbols as the instruction register has bits
 abbrev AreLong : ℕ → List Opcode → Type 0
 AreLong ir ops = (op : Opcode) → Has ops op → list_all (has_length ir) op.codes ≡ true
 
@@ -53,12 +53,13 @@ preload_long ir Of2001 ops long code e = by_part (either_code (first_code (codes
     by_part (inl h) = code_long ir ops long (codes "PRELOAD") code h
     by_part (inr h) = code_long ir ops long (codes "SAMPLE") code h
 
--- putting 0 in place of X keeps the bit of a symbol and leaves no X
+-- putting 0 in place of X does not change the bit of a symbol, since X counts as 0
 settled_bit : (s : Symbol) → bit_of (settled s) ≡ bit_of s
 settled_bit Zero = refl
 settled_bit One = refl
 settled_bit Any = refl
 
+-- a symbol with 0 in place of X is not X
 settled_given : (s : Symbol) → settled s ≢ Any
 settled_given Zero e = cc e
 settled_given One e = cc e
@@ -75,7 +76,6 @@ any_settled (s ∷ code) = ap (λ b. b || list_any bit_of (map settled code)) (s
 given : (code : List Symbol) → All (λ s. s ≢ Any) (map settled code)
 given code = all_from_has (λ (s : Symbol). s ≢ Any) (map settled code) (λ s has e. let r = map_has settled code s has in settled_given r.0 (r.2 ∙ e))
 
--- if two codes are equal with 0 in place of each X, they are equal if X counts as 0
 pub same_bits : (b : Bool) → same_bit b b ≡ true
 same_bits true = refl
 same_bits false = refl
@@ -89,16 +89,19 @@ same_pairs (x ∷ a) (y ∷ b) e =
     let bits : bit_of x ≡ bit_of y = sym (settled_bit x) ∙ (ap bit_of head ∙ settled_bit y) in
     and_from (same_bit (bit_of x) (bit_of y)) _ (ap (λ v. same_bit v (bit_of y)) bits ∙ same_bits (bit_of y)) (same_pairs a b tail)
 
+-- if two codes are equal after 0 is put in place of each X, `same_code`, for which X counts as 0,
+-- is true of them
 same_codes : (a b : List Symbol) → map settled a ≡ map settled b → same_code a b ≡ true
 same_codes a b e =
     let lengths : length a ≡ length b = sym (length-map a settled) ∙ (ap length e ∙ length-map b settled) in
     and_from (length a == length b) _ (eq-eqb (length a) (length b) lengths) (same_pairs a b e)
 
--- a code of zeros has no 1, and if it has at least two symbols, it is not a code of ones
+-- a code of zeros has no 1
 none_one : (n : ℕ) → list_any bit_of (replicate n Zero) ≡ false
 none_one zero = refl
 none_one (suc n) = none_one n
 
+-- a code of at least two zeros is not a code of ones
 not_ones : (n : ℕ) → 2 ≤ n → list_all bit_of (replicate n Zero) ≡ false
 not_ones zero least = absurd (omega arith)
 not_ones (suc n) least = refl
@@ -106,7 +109,7 @@ not_ones (suc n) least = refl
 zero_given : Zero ≢ Any
 zero_given e = cc e
 
--- the preload code is listed, and it has not only ones
+-- the text lists a preload code, and some symbol of the code counts as 0
 record Preloads (edition : Edition) (preload : Option (List Symbol)) : Type 0 where
   code : List Symbol
   is : preload ≡ Some code
@@ -121,7 +124,8 @@ not_zeros : (o : Option (List Symbol)) (code : List Symbol) → o ≡ Some code 
 not_zeros None code same e = cc e
 not_zeros (Some c) code same e = let one : c ≡ code = cc same in ap (list_any bit_of) (sym one) ∙ not-false (list_any bit_of c) (not-true (is_all_zeros c) (and_parts (not (is_all_zeros c)) (not (is_all_ones c)) e).0)
 
--- the EXTEST code of the 2001 edition is listed, has not only ones, and differs from the preload code
+-- the text lists an EXTEST code, some symbol of which counts as 0 and which differs from the
+-- preload code
 record Extests (code preload : Option (List Symbol)) : Type 0 where
   own : List Symbol
   is : code ≡ Some own
@@ -161,8 +165,8 @@ idcode_long ir capture idcode e = by_tests (has_length ir capture && ends_in_01 
         by_length true is n = eqb-true (length code) 32 is
         by_length false is n = cc n
 
--- in either edition, the EXTEST code has the right length and no X, has not only ones, and differs from the preload code;
--- in the old edition, it has only zeros
+-- in either edition, the EXTEST code has `ir` symbols, none of which is X and not all of which are
+-- 1, and it differs from the preload code; in the old edition, all of its symbols are 0
 record ExtestStands (edition : Edition) (ir : ℕ) (ops : List Opcode) : Type 0 where
   long : length (extest edition ir ops) ≡ ir
   given : All (λ s. s ≢ Any) (extest edition ir ops)

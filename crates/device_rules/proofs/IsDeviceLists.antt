@@ -1,4 +1,5 @@
--- Lemmas about lists: the places of items, items with different keys, and what a rule that holds says about each item at its place.
+-- Lemmas about lists: the places of items, items with different keys, and what a rule that holds
+-- says about each item.
 use Rattle.std.proofs.Common.{◌≡◌, ℕ, zero, suc, ◌+◌, ◌<◌, ◌≤◌, Bool, true, false, cond, List, [], ◌∷◌, ◌++◌, map, length, take, drop, Option, Some, None, refl, sym, ◌∙◌, ap, subst, arith, ◌⊎◌, inl, inr}
 use Rattle.std.specs.Prelude.{slice_get, All, AllPairs, count_by, is_some}
 use Rattle.std.specs.List.{list_any, position_from}
@@ -16,7 +17,7 @@ same_name a b = (bytes_eq-Decides a b).0
 pub name_same : (a b : List ℕ) → a ≡ b → bytes_eq a b ≡ true
 name_same a b = (bytes_eq-Decides a b).1
 
--- a list is the list before an item, the item, and the list after it
+-- a list is the items before item `j`, item `j`, and the items after it
 pub cut : {X : Type 0} (xs : List X) (j : ℕ) (x : X) → slice_get xs j ≡ Some x → xs ≡ take j xs ++ x ∷ drop (suc j) xs
 cut [] j x e = cc e
 cut (y ∷ ys) zero x e = let same : y ≡ x = cc e in ap (λ v. v ∷ ys) same
@@ -31,13 +32,13 @@ earlier (y ∷ ys) (suc i) (suc j) x less e = inr (earlier ys i j x (omega arith
 pub holds_at : {X : Type 0} (breaks : List X → X → Bool) (xs : List X) → Holds breaks xs → (j : ℕ) (x : X) → slice_get xs j ≡ Some x → breaks (take j xs) x ≡ false
 holds_at breaks xs h j x e = h (take j xs) x (drop (suc j) xs) (cut xs j x e)
 
--- if `list_any` is false, no item of the list passes
+-- if `list_any` is false of a test and a list, no item of the list passes the test
 pub none_has : {X : Type 0} (p : X → Bool) (xs : List X) (x : X) → list_any p xs ≡ false → Has xs x → p x ≡ false
 none_has p [] x e h = absurd h
 none_has p (y ∷ ys) x e (inl same) = sym (ap p same) ∙ (or_parts (p y) (list_any p ys) e).0
 none_has p (y ∷ ys) x e (inr h) = none_has p ys x (or_parts (p y) (list_any p ys) e).1 h
 
--- if a function has the value `v` for all items, it has the same value for any two of them
+-- if `key` has the value `v` for each item, it has the same value for any two items
 pub all_alike : {X K : Type 0} (key : X → K) (v : K) (xs : List X) → All (λ x. key x ≡ v) xs → AllPairs (λ a b. key a ≡ key b) xs
 all_alike key v xs h = λ i j d less within. h i d (omega arith) ∙ sym (h j d within)
 
@@ -81,7 +82,7 @@ once_by_order key xs later i j x y ex ey e = by_order (cases_order i j)
     by_order (inr (inl less)) = absurd (later i j x y less ex ey e)
     by_order (inr (inr less)) = absurd (later j i y x less ey ex (sym e))
 
--- an item of a mapped list, with the item from which it was made
+-- item `k` of the list `map f xs` is made from item `k` of `xs`
 pub record Made {X Y : Type 0} (f : X → Y) (xs : List X) (k : ℕ) (y : Y) : Type 0 where
   pub from : X
   pub at : slice_get xs k ≡ Some from
@@ -92,7 +93,8 @@ made_at f [] k y e = cc e
 made_at f (x ∷ xs) zero y e = record { from = x; at = refl; gives = cc e }
 made_at f (x ∷ xs) (suc k) y e = let r : Made f xs k y = made_at f xs k y e in record { from = r.from; at = r.at; gives = r.gives }
 
--- the place that a search returned, with the item there, which passes the test
+-- a search that numbers the items from `n` on returned the number `k`: the item with this number
+-- passes the test
 pub record Placed {X : Type 0} (p : X → Bool) (xs : List X) (n k : ℕ) : Type 0 where
   pub place : ℕ
   pub item : X
@@ -123,7 +125,7 @@ pub never_found : {X : Type 0} (n : ℕ) (xs : List X) → position_from (λ x. 
 never_found n [] = refl
 never_found n (x ∷ xs) = never_found (n + 1) xs
 
--- if an item passes a test, the count of passing items is at least 1; if the count is at most 1, any two passing items are at one place
+-- if an item of a list passes a test, the count of passing items is at least 1
 pub counted : {X : Type 0} (p : X → Bool) (xs : List X) (j : ℕ) (y : X) → slice_get xs j ≡ Some y → p y ≡ true → 1 ≤ count_by p xs
 counted p [] j y e t = cc e
 counted p (x ∷ xs) zero y e t =

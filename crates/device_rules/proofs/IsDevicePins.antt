@@ -1,5 +1,5 @@
--- The pins of a text that keeps the rules: no two port bits have the same pin, and the map assigns pins to all bits of a port or
--- to none.
+-- The pins of a text whose ports and pin map keep the rules: no two port bits have the same pin,
+-- and the map assigns pins to either all bits of a port or none.
 use Rattle.std.proofs.Common.{◌≡◌, ℕ, ◌<◌, true, false, not, List, [], ◌∷◌, ◌++◌, map, length, take, Option, Some, None, refl, sym, ◌∙◌, ap, subst, arith, ◌⊎◌, inl, inr}
 use Rattle.std.specs.Prelude.{slice_get, find, is_some, option_and_then}
 use Rattle.std.specs.List.{list_any}
@@ -23,7 +23,7 @@ use Rattle.device_rules.proofs.IsDeviceLists.{same_name, name_same, earlier, hol
 use Rattle.device_rules.proofs.RangeLemmas.{length_indexes}
 use Rattle.device_rules.proofs.IsDevicePorts.{PortsStand, IsBitOf, is_bit_of, spot, spots_once}
 
--- the search for the name of a port finds the port, if port names differ
+-- if no two ports have the same name, the search for a port's name finds that port
 pub port_is : (ports : List Port) → Once (λ port. port.name) ports → (name : List ℕ) (port : Port) → Has ports port → port.name ≡ name → port_of ports name ≡ Some port
 port_is ports once name port has same = by_found (port_of ports name) refl
   where
@@ -33,7 +33,9 @@ port_is ports once name port has same = by_found (port_of ports name) refl
         let r = find_has (port_named name) ports other e in
         e ∙ ap Some (once_item (λ p. p.name) ports once other port r.0 has (same_name other.name name r.1 ∙ sym same))
 
--- an entry of the pin map that keeps V4: its port is new and has as many bits as the entry has pins, and no pin is repeated
+-- an entry of the pin map that keeps V4: no earlier entry names its port, the port has as many bits
+-- as the entry has pins, and none of the entry's pins is in an earlier entry or occurs twice in the
+-- entry
 record KeptEntry (ports : List Port) (before : List MapEntry) (entry : MapEntry) : Type 0 where
   new : list_any (maps_port entry.port) before ≡ false
   wide : has_width (port_of ports entry.port) (length entry.pins) ≡ true
@@ -45,7 +47,7 @@ kept_entry ports before entry e =
     let b = or_parts (not (has_width (port_of ports entry.port) (length entry.pins))) (some_repeats (pins_of before) entry.pins) a.1 in
     record { new = a.0; wide = not-false (has_width (port_of ports entry.port) (length entry.pins)) b.0; apart = b.1 }
 
--- if none of these pins repeats one that was seen, no pin is in both lists
+-- if none of `pins` is in `seen` or occurs twice in `pins`, no pin is in both lists
 none_seen : (seen pins : List (List ℕ)) (pin : List ℕ) → some_repeats seen pins ≡ false → Has seen pin → Has pins pin → ⊥
 none_seen seen [] pin e h k = absurd k
 none_seen seen (p ∷ pins) pin e h (inl same) = clash (is_among seen p) (has_any (bytes_eq p) seen pin h (name_same p pin same)) (or_parts (is_among seen p) (some_repeats (seen ++ p ∷ []) pins) e).0
@@ -54,14 +56,15 @@ none_seen seen (p ∷ pins) pin e h (inr k) = none_seen (seen ++ p ∷ []) pins 
 abbrev itself : List ℕ → List ℕ
 itself pin = pin
 
--- if none of these pins repeats one that was seen or an earlier one, none of them occurs twice
+-- if none of `pins` is in `seen` or occurs twice in `pins`, no two places of `pins` have the same
+-- pin
 pins_once : (seen pins : List (List ℕ)) → some_repeats seen pins ≡ false → Once itself pins
 pins_once seen [] e = once_nil itself
 pins_once seen (pin ∷ pins) e =
     let rest : some_repeats (seen ++ pin ∷ []) pins ≡ false = (or_parts (is_among seen pin) (some_repeats (seen ++ pin ∷ []) pins) e).1 in
     once_cons itself pin pins (pins_once (seen ++ pin ∷ []) pins rest) (λ p h same. none_seen (seen ++ pin ∷ []) pins p rest (has_right seen (pin ∷ []) p (inl same)) h)
 
--- two entries with the same pin are the same entry, and the pin has the same place in both
+-- the entries `e` and `d` are for the same port, and the places `k` and `l` of their pins are equal
 pub record SamePin (e d : MapEntry) (k l : ℕ) : Type 0 where
   pub port : e.port ≡ d.port
   pub place : k ≡ l
@@ -88,7 +91,7 @@ same_pin ports entries h e d has_e has_d k l pin at_e at_d = by_order (has_place
         by_case (inr (inl less)) = absurd (ordered m n e d k l less at_m at_n at_e at_d)
         by_case (inr (inr less)) = absurd (ordered n m d e l k less at_n at_m at_d at_e)
 
--- an entry of the pin map that assigns this pin to the bit
+-- an entry of the pin map assigns this pin to the bit
 record PinFrom (entries : List MapEntry) (bit : Bit) (pin : List ℕ) : Type 0 where
   entry : MapEntry
   has : Has entries entry
@@ -104,7 +107,7 @@ pin_from entries bit pin e = by_found (find (maps_port bit.name) entries) refl e
         let r = find_has (maps_port bit.name) entries entry found in
         record { entry = entry; has = r.0; named = same_name entry.port bit.name r.1; at = is }
 
--- no two port bits have the same pin
+-- if V4 holds, no two port bits have the same pin
 pub pins_apart : (ports : List Port) (entries : List MapEntry) (taps : TapPorts) (compliance : Option Compliance) → PortsStand ports → v4 ports entries ≡ None
     → (i j : ℕ) (a b : PortBit) (pin : List ℕ) → slice_get (map (port_bit entries taps compliance) (port_bits ports)) i ≡ Some a → slice_get (map (port_bit entries taps compliance) (port_bits ports)) j ≡ Some b → a.pin ≡ Some pin → b.pin ≡ Some pin → i ≡ j
 unfolding v4
@@ -118,7 +121,7 @@ pins_apart ports entries taps compliance stand e i j a b pin at_i at_j pin_a pin
     let one : spot x.from ≡ spot y.from = ap (λ n. let s : List ℕ × ℕ = (n, x.from.place) in s) named ∙ ap (λ k. let s : List ℕ × ℕ = (y.from.name, k) in s) same.place in
     spots_once ports stand i j x.from y.from x.at y.at one
 
--- a bit has a pin if and only if the map names its port
+-- if V4 holds, a bit has a pin if and only if the map names the bit's port
 pub is_mapped : (ports : List Port) (entries : List MapEntry) → PortsStand ports → v4 ports entries ≡ None → (bit : Bit) → Has (port_bits ports) bit → is_some (pin_of entries bit) ≡ is_some (find (maps_port bit.name) entries)
 unfolding v4
 is_mapped ports entries stand e bit has = by_found (find (maps_port bit.name) entries) refl

@@ -1,4 +1,5 @@
--- The port bits of entries: which entries have one, which drive one, and the modes of their ports.
+-- The port bits of boundary entries: which entries are on a bit, which drive one, and the modes of
+-- their ports.
 use Rattle.std.proofs.Common.{◌≡◌, ℕ, ◌<◌, Bool, true, false, not, ◌&&◌, List, map, length, take, Option, Some, None, refl, sym, ◌∙◌, ap, subst, ◌⊎◌, inl, inr}
 use Rattle.std.specs.Prelude.{slice_get, All, is_none, if◌then◌else◌}
 use Rattle.std.specs.Str.{bytes_eq}
@@ -28,7 +29,6 @@ use Rattle.device_rules.proofs.IsDeviceLists.{same_name, earlier, holds_at, none
 use Rattle.device_rules.proofs.IsDevicePorts.{PortsStand, IsBitOf, is_bit_of}
 use Rattle.device_rules.proofs.IsDevicePins.{port_is}
 
--- if V9 holds, an entry has a port bit if and only if its function is not CONTROL, CONTROLR or INTERNAL
 star_is : (word : PortWord) → is_star word ≡ true → word ≡ Star
 star_is Star e = refl
 star_is (Plain name) e = cc e
@@ -37,6 +37,8 @@ star_is (Index name index) e = cc e
 no_place : (ports : List Port) (word : PortWord) → is_star word ≡ true → bit_number ports word ≡ None
 no_place ports word e = ap (bit_number ports) (star_is word e) ∙ never_found 0 (port_bits ports)
 
+-- if an entry does not break V9, it is on a port bit if and only if its function is not CONTROL,
+-- CONTROLR or INTERNAL
 place_of : (ports : List Port) (entry : Entry) → breaks_place ports entry ≡ false → HasPlace (length (port_bits ports)) entry.role (bit_number ports entry.port)
 place_of ports entry e = by_inner (is_inner entry.role) (bit_number ports entry.port) refl refl e
   where
@@ -63,7 +65,7 @@ places draft e =
     (all_from_has (λ (entry : Entry). HasPlace (length (map made (port_bits draft.ports))) entry.role (bit_number draft.ports entry.port)) draft.entries (λ entry has.
     subst (λ n. HasPlace n entry.role (bit_number draft.ports entry.port)) (sym many) (place_of draft.ports entry (place_kept draft.ports draft.entries e entry has))))
 
--- if V13 holds, a port bit has at most one driving entry
+-- if the cell of an entry drives port bit `bit`, the entry drives this bit
 driven : (ports : List Port) (bit : ℕ) (entry : Entry) → drives_bit bit (cell_of ports entry) ≡ true → driven_bit ports entry ≡ Some bit
 driven ports bit entry e =
     let parts = and_parts (is_on bit (bit_number ports entry.port)) (is_driving entry.role) e in
@@ -79,6 +81,7 @@ driven_before ports entries e bit i j x y less at_i at_j drives_x drives_y =
     let other : is_on bit (driven_bit ports x) ≡ false = none_has (λ (entry : Entry). is_on bit (driven_bit ports entry)) (take j entries) x kept (earlier entries i j x less at_i) in
     clash (is_on bit (driven_bit ports x)) (ap (is_on bit) drives_x ∙ eq-eqb bit bit refl) other
 
+-- if V13 holds, each port bit has at most one driving entry
 pub one_driver : (draft : Draft) → v13 draft.ports draft.entries ≡ None → OneDriver (raw_device draft)
 unfolding raw_cells
 one_driver draft none i j bit e d at_i at_j drives_e drives_d =
@@ -93,7 +96,7 @@ one_driver draft none i j bit e d at_i at_j drives_e drives_d =
     by_order x y at_x at_y drives_x drives_y (inr (inl less)) = absurd (driven_before draft.ports draft.entries none bit i j x y less at_x at_y drives_x drives_y)
     by_order x y at_x at_y drives_x drives_y (inr (inr less)) = absurd (driven_before draft.ports draft.entries none bit j i y x less at_y at_x drives_y drives_x)
 
--- if an entry names a bit, the port that it names is the port of this bit
+-- if a word names a bit, the port that the word names is the port of the bit
 named_is : (ports : List Port) → PortsStand ports → (bit : Bit) (of : IsBitOf ports 0 bit) (word : PortWord) → is_named word bit ≡ true → named_port ports word ≡ Some of.port
 named_is ports stand bit of Star e = cc e
 named_is ports stand bit of (Plain name) e =
@@ -107,7 +110,8 @@ mode_kept ports taps entries e entry has =
     let r = has_place entries entry has in
     holds_at (λ before entry. breaks_mode ports taps entry) entries (holds (λ before entry. breaks_mode ports taps entry) entries e) r.0 entry r.1
 
--- the port bit may have an entry with this function: it is on no TAP port, and the part can drive it if the function drives
+-- an entry with this function may be on the port bit: the bit is not on a TAP port, and if the
+-- function drives, the mode of the bit allows driving
 record Fits (taps : TapPorts) (role : Role) (bit : Bit) : Type 0 where
   no_tap : is_among (tap_names taps) bit.name ≡ false
   driven : is_driving role ≡ true → may_drive bit.mode ≡ true

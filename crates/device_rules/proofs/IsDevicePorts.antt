@@ -1,4 +1,4 @@
--- The ports of a text that keeps the rules, and their bits.
+-- The ports of a text that keeps V2, and the bits of these ports.
 use Rattle.std.proofs.Common.{◌≡◌, ℕ, suc, ◌+◌, ◌≤◌, true, false, not, List, [], ◌∷◌, ◌++◌, length, Option, Some, None, refl, sym, ◌∙◌, ap, subst, arith, ◌⊎◌, inl, inr, length-append}
 use Rattle.std.specs.Prelude.{slice_get, nat_lt}
 use Rattle.std.specs.List.{list_any}
@@ -14,7 +14,8 @@ use Rattle.device_rules.proofs.RuleLemmas.{holds}
 use Rattle.device_rules.proofs.BitLemmas.{length_bits}
 use Rattle.device_rules.proofs.IsDeviceLists.{name_same, earlier, holds_at, none_has, Once, once_nil, once_cons, once_tail, once_head, once_append, once_by_order}
 
--- what V2 says about the ports: their names differ, their ranges are in order, and they have at most 65,535 bits
+-- what V2 says about the ports: no two have the same name, their ranges are in order, and together
+-- they have at most 65,535 bits
 pub record PortsStand (ports : List Port) : Type 0 where
   pub once : Once (λ port. port.name) ports
   pub ordered : (port : Port) → Has ports port → in_order port.range ≡ true
@@ -31,7 +32,7 @@ kept_port before port e =
     let b = or_parts (not (in_order port.range)) (nat_lt most_bits (bits_of before + width port.range)) a.1 in
     record { new = a.0; ordered = not-false (in_order port.range) b.0; few = ltb-false most_bits (bits_of before + width port.range) b.1 }
 
--- a list with a last item, which follows `front`; a list is empty or has a last item
+-- the list has a last item, and `front` is the list of the items before it
 record EndsIn {X : Type 0} (xs : List X) : Type 0 where
   front : List X
   last : X
@@ -70,11 +71,11 @@ length_all number (port ∷ ports) h =
     let sum : bits_of (port ∷ ports) ≡ width port.range + bits_of ports = sum_by-cons (λ (p : Port). width p.range) port ports in
     omega (arith, here, rest, all, sum)
 
--- there are at most 65,535 port bits
+-- if V2 holds, there are at most 65,535 port bits
 pub bits_few : (ports : List Port) → PortsStand ports → length (port_bits ports) ≤ most_bits
 bits_few ports stand = let all : length (port_bits ports) ≡ bits_of ports = length_all 0 ports stand.ordered in omega (arith, all, stand.few)
 
--- a bit of these ports, the first of which has the number `first`
+-- the bit belongs to one of these ports, which are numbered from `first` on
 pub record IsBitOf (ports : List Port) (first : ℕ) (bit : Bit) : Type 0 where
   pub number : ℕ
   pub port : Port
@@ -106,7 +107,7 @@ is_along number port place (ix ∷ ixs) bit (inr h) =
     let r : IsAlong number port (place + 1) ixs bit = is_along number port (place + 1) ixs bit h in
     record { step = suc r.step; placed = omega (arith, r.placed); numbered = r.numbered; named = r.named; of_mode = r.of_mode; indexed = r.indexed }
 
--- a bit of the port with this number
+-- the bit belongs to this port, which has the number `number`
 pub record IsOfPort (number : ℕ) (port : Port) (bit : Bit) : Type 0 where
   pub numbered : bit.port ≡ number
   pub named : bit.name ≡ port.name

@@ -1,4 +1,5 @@
--- The TAP ports of the device are plain. One has mode out, and three or four have mode in.
+-- The TAP ports of a device are plain ports. One of them has mode out, and the other three or four
+-- have mode in.
 use Rattle.std.proofs.Common.{◌≡◌, ◌≢◌, ℕ, zero, suc, ◌+◌, Bool, true, false, not, ◌&&◌, ◌||◌, cond, List, [], ◌∷◌, ◌++◌, map, Option, Some, None, refl, sym, ◌∙◌, ap, subst, arith, ◌⊎◌, inl, inr}
 use Rattle.std.specs.Prelude.{slice_get, count_by, is_none, IsTrue}
 use Rattle.std.specs.List.{list_all}
@@ -23,7 +24,7 @@ use Rattle.device_rules.specs.Raw.{port_bit, raw_bits, raw_device}
 use Rattle.device_rules.proofs.IsDeviceLists.{same_name, name_same, Once, once_tail, once_head, once_item}
 use Rattle.device_rules.proofs.IsDevicePorts.{PortsStand, IsBitOf, is_bit_of, is_of_port}
 
--- the name is that of a plain port with this mode
+-- a plain port has this name and this mode
 record IsTap (ports : List Port) (name : List ℕ) (mode : Mode) : Type 0 where
   port : Port
   has : Has ports port
@@ -31,7 +32,8 @@ record IsTap (ports : List Port) (name : List ℕ) (mode : Mode) : Type 0 where
   plain : port.range ≡ None
   of_mode : port.mode ≡ mode
 
--- the names differ, and each is that of a plain port with the mode in the second list
+-- the names differ, and each is the name of a plain port whose mode is the item at the same place
+-- in the list of modes
 abbrev AreTaps : List Port → List (List ℕ) → List Mode → Type 0
 AreTaps ports [] [] = Unit {0}
 AreTaps ports [] (mode ∷ modes) = ⊥
@@ -51,11 +53,12 @@ one_more ports (n ∷ names) (m ∷ modes) name mode h new tap =
     apart other new (inr (inl same)) e = clash (bytes_eq name n) (name_same name n (same ∙ sym e)) new
     apart other new (inr (inr k)) e = absurd k
 
--- if a TAP attribute keeps the rule, its name is that of a plain port with the right mode
 no_range : (range : Option Range) → is_none range ≡ true → range ≡ None
 no_range None e = refl
 no_range (Some range) e = cc e
 
+-- if a TAP attribute does not break V3 and `test` is true of `mode` only, the attribute names a
+-- plain port of mode `mode`
 is_tap : (ports : List Port) (before : List (List ℕ)) (name : List ℕ) (test : Mode → Bool) (mode : Mode) → ((m : Mode) → test m ≡ true → m ≡ mode) → breaks_tap test ports before name ≡ false → IsTap ports name mode
 is_tap ports before name test mode means e = by_found (port_of ports name) refl (not-false (is_plain test (port_of ports name)) (or_parts (is_among before name) _ e).1)
   where
@@ -84,7 +87,7 @@ next_tap : (ports : List Port) (names : List (List ℕ)) (modes : List Mode) (na
     → AreTaps ports (names ++ name ∷ []) (modes ++ mode ∷ [])
 next_tap ports names modes name test mode means h e = one_more ports names modes name mode h (or_parts (is_among names name) _ e).0 (is_tap ports names name test mode means e)
 
--- the modes of TDI, TDO, TMS, TCK and TRST*
+-- the modes of TDI, TDO, TMS, TCK and, if the device has one, TRST*
 abbrev tap_modes : Option (List ℕ) → List Mode
 tap_modes None = Inward ∷ Outward ∷ Inward ∷ Inward ∷ []
 tap_modes (Some name) = Inward ∷ Outward ∷ Inward ∷ Inward ∷ Inward ∷ []
@@ -117,7 +120,7 @@ are_taps ports taps compliance e =
     by_reset None four r = four
     by_reset (Some name) four r = next_tap ports (four_taps taps) (Inward ∷ Outward ∷ Inward ∷ Inward ∷ []) name is_inward Inward inward four r
 
--- if no item passes the test, the count of items that pass is 0
+-- if no item passes the test, the count of items that pass it is 0
 none_counted : {X : Type 0} (p : X → Bool) (xs : List X) → ((x : X) → Has xs x → p x ≡ false) → count_by p xs ≡ 0
 none_counted p [] h = refl
 none_counted p (x ∷ xs) h =
@@ -137,7 +140,7 @@ both_counted p q r (x ∷ xs) h =
     let rest : count_by p xs ≡ count_by q xs + count_by r xs = both_counted p q r xs h in
     omega (arith, sum_by-cons (λ v. cond (p v) 1 0) x xs, sum_by-cons (λ v. cond (q v) 1 0) x xs, sum_by-cons (λ v. cond (r v) 1 0) x xs, h x, rest)
 
--- the test that a bit has this name and a mode that passes; exactly one bit has the name of a plain port
+-- the bit has this name, and `mode` is true of its mode
 abbrev tapped_by : List ℕ → (Mode → Bool) → Bit → Bool
 tapped_by name mode bit = bytes_eq bit.name name && mode bit.mode
 
@@ -158,6 +161,8 @@ here_counted number port name mode named plain =
     ap (λ range. count_by (tapped_by name mode) (bits_along number port 0 (indexes range))) plain
     ∙ (one_counted (tapped_by name mode) (only_bit number port) ∙ ap (λ b. cond (b && mode port.mode) 1 0) (name_same port.name name named))
 
+-- exactly one bit has the name of a plain port; it is counted if and only if `mode` is true of the
+-- port's mode
 name_counted : (first : ℕ) (ports : List Port) → Once (λ port. port.name) ports → (port : Port) → Has ports port → port.range ≡ None → (mode : Mode → Bool) → count_by (tapped_by port.name mode) (bits_from first ports) ≡ cond (mode port.mode) 1 0
 name_counted first [] once port has plain mode = absurd has
 name_counted first (p ∷ ports) once port (inl same) plain mode =
@@ -181,7 +186,8 @@ split_test false true false h = refl
 split_test false false true h = refl
 split_test false false false h = refl
 
--- for each test of modes, the number of bits with these names that pass is the number of modes that pass
+-- for every predicate `mode`, the number of port bits named in `names` whose mode satisfies it
+-- equals the number of items of `modes` that satisfy it
 taps_counted : (ports : List Port) → PortsStand ports → (names : List (List ℕ)) (modes : List Mode) → AreTaps ports names modes → (mode : Mode → Bool) → count_by (tapped names mode) (port_bits ports) ≡ count_by mode modes
 taps_counted ports stand [] [] h mode = none_counted (tapped [] mode) (port_bits ports) (λ bit k. refl)
 taps_counted ports stand [] (m ∷ modes) h mode = absurd h
@@ -197,7 +203,7 @@ taps_counted ports stand (name ∷ names) (m ∷ modes) h mode =
     h.1 r.0 r.1 (sym (same_name bit.name name is) ∙ same_name bit.name r.0 r.2))) in
     omega (arith, sum_by-cons (λ v. cond (mode v) 1 0) m modes, here, rest, both)
 
--- the name is that of a TAP port with one of these modes
+-- this is the name of a TAP port whose mode is one of `modes`
 record HasMode (ports : List Port) (name : List ℕ) (modes : List Mode) : Type 0 where
   mode : Mode
   has : Has modes mode

@@ -1,4 +1,5 @@
--- A loop that looks for the first item that breaks a rule, and what its result says.
+-- Lemmas about a loop that looks for the first item that breaks a rule, and about what its result
+-- says.
 use Rattle.std.proofs.Common.{◌≡◌, ℕ, ◌+◌, ◌<◌, ◌≤◌, get_or, Bool, true, false, List, [], ◌∷◌, ◌++◌, length, take, drop, Option, Some, None, refl, sym, ◌∙◌, ap, subst, arith, length-append, append_assoc, append-nil}
 use Rattle.std.proofs.Math.ListN.{drop_of_length-le}
 use Rattle.std.proofs.lemmas.List.{take_more, drop_more, length-take-le}
@@ -10,7 +11,7 @@ first_more breaks before item items e = rw e refl
 pub first_found : {A : Type 0} (breaks : List A → A → Bool) (before : List A) (item : A) (items : List A) → breaks before item ≡ true → first_from breaks before (item ∷ items) ≡ Some (length before + 1)
 first_found breaks before item items e = rw e refl
 
--- none of these items breaks the rule, if `before` are the items before them
+-- none of `items` breaks the rule, if they follow the items `before`
 abbrev HoldsFrom : {A : Type 0} → (List A → A → Bool) → List A → List A → Type 0
 HoldsFrom {A} breaks before items = (front : List A) (item : A) (back : List A) → items ≡ front ++ item ∷ back → breaks (before ++ front) item ≡ false
 
@@ -86,7 +87,8 @@ is_found breaks items (Some number) h = record {
 pub first_is_found : {A : Type 0} (breaks : List A → A → Bool) (items : List A) → IsFound breaks items (first_break breaks items)
 first_is_found breaks items = is_found breaks items (first_break breaks items) (found_from breaks items [])
 
--- one step of the loop: if item `i` does not break the rule, the search from item `i + 1` on has the same result
+-- one step of the loop: if item `i` does not break the rule, the search from item `i + 1` on has
+-- the same result as the search from item `i` on
 pub first_step : {A : Type 0} (breaks : List A → A → Bool) (items : List A) (i : ℕ) (item : A) (o : Option ℕ) → i < length items → get_or items i item ≡ item → breaks (take i items) item ≡ false
     → first_from breaks (take i items) (drop i items) ≡ o → first_from breaks (take (i + 1) items) (drop (i + 1) items) ≡ o
 first_step breaks items i item o lt is e so_far =

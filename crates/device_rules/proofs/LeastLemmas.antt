@@ -1,4 +1,4 @@
--- A loop that looks for the lowest number with a property.
+-- Lemmas about a loop that looks for the lowest number with a property.
 use Rattle.std.proofs.Common.{◌≡◌, ℕ, zero, suc, ◌+◌, ◌-◌, ◌<◌, ◌≤◌, Bool, true, false, Option, Some, None, refl, sym, ◌∙◌, ap, arith, ◌⊎◌, inl, inr}
 use Rattle.std.specs.Bool.{if◌then◌else◌}
 use Rattle.std.proofs.Math.Numerals.{suc-eq-add-one}
@@ -25,7 +25,8 @@ same_from p q n zero h = refl
 same_from p q n (suc count) h =
     ap (λ b. if b then Some n else least_from p (suc n) count) (h n (omega arith)) ∙ ap (λ o. if q n then Some n else o) (same_from p q (suc n) count (λ m less. h m (omega arith)))
 
--- if two properties agree below the bound, the lowest number with the first property is the lowest with the second
+-- if two properties agree on the numbers below the bound, the lowest number below it with one
+-- property is the lowest with the other
 pub least_same : (p q : ℕ → Bool) (bound : ℕ) → ((n : ℕ) → n < bound → p n ≡ q n) → least_below p bound ≡ least_below q bound
 least_same p q bound h = same_from p q 0 bound (λ m less. h m (omega arith))
 
@@ -35,7 +36,8 @@ none_left bound n le = omega arith
 pub least_end : (is : ℕ → Bool) (n bound : ℕ) (o : Option ℕ) → bound ≤ n → least_from is n (bound - n) ≡ o → None ≡ o
 least_end is n bound o le so_far = sym (ap (λ k. least_from is n k) (none_left bound n le)) ∙ so_far
 
--- this is the lowest of the numbers with the property, or None if none of them has it; the loop returns it
+-- the result is the lowest number in `from..from + count` that has the property, or None if no
+-- number in this range has it
 abbrev LeastFrom : (ℕ → Bool) → ℕ → ℕ → Option ℕ → Type 0
 LeastFrom is from count None = (n : ℕ) → from ≤ n → n < from + count → is n ≡ false
 LeastFrom is from count (Some least) = (from ≤ least) × (least < from + count) × (is least ≡ true) × ((n : ℕ) → from ≤ n → n < least → is n ≡ false)
@@ -54,6 +56,7 @@ found_now : (is : ℕ → Bool) (from count : ℕ) (b : Bool) → is from ≡ b 
 found_now is from count true e h = (omega arith, omega arith, e, λ n le lt. absurd (omega arith))
 found_now is from count false e h = found_later is from count (least_from is (suc from) count) e h
 
+-- this is what the loop returns
 from_least : (is : ℕ → Bool) (from count : ℕ) → LeastFrom is from count (least_from is from count)
 from_least is from zero = λ n le lt. absurd (omega arith)
 from_least is from (suc count) = found_now is from count (is from) refl (from_least is (suc from) count)

@@ -1,4 +1,4 @@
--- Borrowed names, compared with the names themselves.
+-- Lemmas that carry facts about names over to borrowed names.
 use Rattle.std.proofs.Common.{◌≡◌, ℕ, List, map, sym, ap, ◌∙◌, arith}
 use Rattle.std.specs.Str.{bytes_eq}
 use Rattle.std.proofs.lemmas.Slice.Eq.{bytes_eq-Decides}

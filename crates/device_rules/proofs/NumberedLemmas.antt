@@ -1,4 +1,5 @@
--- V3, V6 and V7 find the lowest number that breaks the rule, and V8 finds the first wrong cell.
+-- V3, V6 and V7 find the lowest number of an item that breaks the rule, and V8 finds the first
+-- wrong cell.
 use Rattle.std.proofs.Common.{◌≡◌, ℕ, List, [], ◌∷◌, ◌++◌, Bool, true, false, not, if◌then◌else◌, Option, Some, None, inl, inr, refl, ap, subst}
 use Rattle.std.specs.Prelude.{nat_le, find, option_map}
 use Rattle.board_defs.specs.declared.device.Symbol.{Symbol}
@@ -63,7 +64,8 @@ none_more boundary entry entries e h (x ∷ front) item back split =
     let rest : entries ≡ front ++ item ∷ back = cc in
     h front item back rest
 
--- this is the cell number of the first entry outside the register, or None if there is no such entry
+-- if there is a cell number, it belongs to the first entry outside the register; if there is none,
+-- no entry is outside
 abbrev FindsOutside : ℕ → List Entry → Option ℕ → Type 0
 FindsOutside boundary entries None = Holds (is_outside boundary) entries
 FindsOutside boundary entries (Some cell) = IsOutside boundary entries cell

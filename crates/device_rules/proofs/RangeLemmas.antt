@@ -1,4 +1,4 @@
--- The place of an index in a range.
+-- Lemmas about the place of an index in a range.
 use Rattle.std.proofs.Common.{◌≡◌, ℕ, zero, suc, ◌+◌, ◌-◌, ◌<◌, ◌≤◌, ◌==◌, Bool, true, false, ◌&&◌, cond, ◌⊎◌, inl, inr, List, [], ◌∷◌, length, map, get_or, reverse, Option, Some, None, refl, sym, ap, subst, ◌∙◌, arith, nat_le}
 use Rattle.std.specs.Prelude.{is_none, option_map, if◌then◌else◌}
 use Rattle.std.specs.List.{position_from, range_with_len}
@@ -14,7 +14,7 @@ use Rattle.bsdl_parser.specs.declared.entity.Range.{Range}
 use Rattle.device_rules.specs.Ports.{in_order, width, indexes, has_index}
 use Rattle.device_rules.specs.inner.Index.{place_in, index_at}
 
--- the first place of an index in a list of indexes
+-- the first place of the index `i` in a list of indexes, if places are numbered from `n` on
 abbrev place_of : ℕ → ℕ → List ℕ → Option ℕ
 place_of i n indexes = position_from (is_on i) n (map Some indexes)
 
@@ -27,7 +27,6 @@ miss i n a indexes e = ap (λ b. cond b (Some n) (place_of i (n + 1) indexes)) e
 here_or_above : (i a : ℕ) → a ≤ i → (a ≡ i) ⊎ (a + 1 ≤ i)
 here_or_above i a le = grind arith
 
--- in a range that counts up, the place of an index is its distance from the first index
 up_step : (i n a count : ℕ) → (a + 1 ≤ i → place_of i (n + 1) (range_with_len (a + 1) count) ≡ Some ((n + 1) + (i - (a + 1)))) → (a ≡ i) ⊎ (a + 1 ≤ i) → place_of i n (range_with_len a (suc count)) ≡ Some (n + (i - a))
 up_step i n a count later (inl e) =
     let here : n ≡ n + (i - a) = omega (arith, e) in
@@ -37,6 +36,7 @@ up_step i n a count later (inr above) =
     let less : a < i = omega (arith, above) in
     miss i n a (range_with_len (a + 1) count) (lt-eqb a i less) ∙ later above ∙ ap Some sums
 
+-- in a range that counts up from `a`, the place of an index in the range is its distance from `a`
 up_hit : (i n a count : ℕ) → a ≤ i → i < a + count → place_of i n (range_with_len a count) ≡ Some (n + (i - a))
 up_hit i n a zero low high = absurd (omega arith)
 up_hit i n a (suc count) low high = up_step i n a count (λ above. up_hit i (n + 1) (a + 1) count above (omega arith)) (here_or_above i a low)
@@ -51,7 +51,7 @@ up_below i n a (suc count) le =
     let less : a < i = omega arith in
     miss i n a (range_with_len (a + 1) count) (lt-eqb a i less) ∙ up_below i (n + 1) (a + 1) count (omega arith)
 
--- the indexes of a range that counts down
+-- the `count` indexes from `a` on, in descending order
 abbrev down : ℕ → ℕ → List ℕ
 down a zero = []
 down a (suc count) = (a + count) ∷ down a count
@@ -87,7 +87,7 @@ down_below i n a (suc count) le =
     let over : a + count < i = omega arith in
     miss i n (a + count) (down a count) (lt-eqb (a + count) i over) ∙ down_below i (n + 1) a count (omega arith)
 
--- no bit of a vector is without an index, and the place of an index is its distance from the left bound
+-- each bit of a vector has an index
 none_at : (n : ℕ) (indexes : List ℕ) → position_from is_none n (map Some indexes) ≡ None
 none_at n [] = refl
 none_at n (i ∷ indexes) = none_at (n + 1) indexes
@@ -174,7 +174,8 @@ found_by : (left right i start : ℕ) (up : Bool) → (if up then nat_le left ri
 found_by left right i start true e = found_up left right i start (le_of left right e)
 found_by left right i start false e = found_down left right i start (le_of right left e)
 
--- if a range is in order, the first place of an index in it is `start` plus `place_in`
+-- if a range is in order, the search for an index among its indexes, numbered from `start` on,
+-- finds `start` plus the place that `place_in` returns, or nothing if `place_in` returns None
 pub place_found : (range : Option Range) (at : Option ℕ) (start : ℕ) → in_order range ≡ true → position_from (has_index at) start (indexes range) ≡ option_map (λ k. start + k) (place_in range at)
 place_found None None start e = let sums : start ≡ start + 0 = omega arith in ap Some sums
 place_found None (Some i) start e = refl
@@ -194,12 +195,11 @@ length_by : (left right : ℕ) (up : Bool) → (if up then nat_le left right els
 length_by left right true e = length_up left right (le_of left right e)
 length_by left right false e = length_down left right (le_of right left e)
 
--- a range has as many indexes as the port has bits
+-- if a range is in order, it has as many indexes as it is wide
 pub length_indexes : (range : Option Range) → in_order range ≡ true → length (indexes range) ≡ width range
 length_indexes None e = refl
 length_indexes (Some range) e = length-map (range_indexes range.left range.right) Some ∙ length_by range.left range.right range.up e
 
--- a place in a range is below its width
 within_by : (left right i : ℕ) (up : Bool) (k : ℕ) → (if up then (if nat_le left i && nat_le i right then Some (i - left) else None) else (if nat_le right i && nat_le i left then Some (left - i) else None)) ≡ Some k
     → k < (if up then right - left else left - right) + 1
 within_by left right i true k e = by_test (nat_le left i) (nat_le i right) refl refl e
@@ -215,13 +215,14 @@ within_by left right i false k e = by_test (nat_le right i) (nat_le i left) refl
     by_test true false f g h = cc h
     by_test false b f g h = cc h
 
+-- the place of an index in a range is below the width of the range
 pub place_within : (range : Option Range) (at : Option ℕ) (k : ℕ) → place_in range at ≡ Some k → k < width range
 place_within None None k e = let is : 0 ≡ k = cc e in omega (arith, is)
 place_within None (Some i) k e = cc e
 place_within (Some range) None k e = cc e
 place_within (Some range) (Some i) k e = within_by range.left range.right i range.up k e
 
--- the index at place `k` of a range is `k` more than the left bound if the range counts up, and `k` less if it counts down
+-- item `k` of `count` descending indexes that end at `a` is `a + count - 1 - k`
 get_down : (a count k : ℕ) → k < count → get_or (down a count) k 0 ≡ a + count - 1 - k
 get_down a zero k less = absurd (omega arith)
 get_down a (suc count) zero less = omega arith
@@ -245,6 +246,8 @@ index_by left right k false e less =
     let within : k < length (range_indexes left right) = omega (arith, less, length_down left right (le_of right left e)) in
     get_or-map Some (range_indexes left right) k 0 None within ∙ ap Some (down_index left right k (le_of right left e) less)
 
+-- if a range is in order, item `k` of its indexes is the left bound plus `k` if the range counts
+-- up, and minus `k` if it counts down
 pub index_found : (range : Option Range) (k : ℕ) → in_order range ≡ true → k < width range → get_or (indexes range) k None ≡ index_at range k
 index_found None zero e less = refl
 index_found None (suc k) e less = absurd (omega arith)

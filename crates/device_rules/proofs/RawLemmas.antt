@@ -1,4 +1,4 @@
--- The bits of a device, port by port.
+-- Lemmas about the bits of a device, which a loop makes port by port.
 use Rattle.std.proofs.Common.{◌≡◌, ℕ, zero, suc, ◌+◌, ◌<◌, Bool, true, List, [], ◌∷◌, ◌++◌, length, map, take, drop, get_or, Option, None, sym, ap, ◌∙◌, arith, append_assoc}
 use Rattle.std.specs.Prelude.{option_and_then, slice_get, find}
 use Rattle.std.specs.List.{list_any}
@@ -22,7 +22,7 @@ use Rattle.device_rules.proofs.BitLemmas.{Apart, apart, length_bits}
 abbrev pub made : ℕ → Mode → Option ℕ → Option (List ℕ) → Bool → Bool → PortBit
 made number mode index pin tap named = record { port = number; index = index; mode = mode; pin = pin; tap = tap; compliance = named }
 
--- the bit of a port with this index and this place; bit `k` of a port has the index at place `k` of the port's range
+-- the bit of the port with this index and this place
 abbrev bit_with : ℕ → Port → Option ℕ → ℕ → Bit
 bit_with number port index place = record { port = number; name = port.name; index = index; place = place; mode = port.mode }
 
@@ -33,12 +33,13 @@ get_along number port place (i ∷ ixs) (suc k) d less =
     let sums : (place + 1) + k ≡ place + suc k = omega arith in
     get_along number port (place + 1) ixs k d (omega arith) ∙ ap (bit_with number port (get_or ixs k None)) sums
 
+-- bit `k` of a port has the index at place `k` of the port's range
 get_bit : (number : ℕ) (port : Port) (k : ℕ) (d : Bit) → in_order port.range ≡ true → k < width port.range → get_or (bits_of_port number port) k d ≡ bit_of_port number port k
 get_bit number port k d e less =
     let within : k < length (indexes port.range) = omega (arith, less, length_indexes port.range e) in
     get_along number port 0 (indexes port.range) k d within ∙ ap (λ p. bit_with number port (get_or (indexes port.range) k None) p) (omega arith) ∙ ap (λ i. bit_with number port i k) (index_found port.range k e less)
 
--- the first `k` bits of a port followed by bit `k` are the first `k + 1` bits
+-- the first `k` bits of a port followed by bit `k` are the port's first `k + 1` bits
 pub bits_step : {B : Type 0} (f : Bit → B) (number : ℕ) (port : Port) (k : ℕ) (before : List B) → in_order port.range ≡ true → k < width port.range
     → (before ++ map f (take k (bits_of_port number port))) ++ f (bit_of_port number port k) ∷ [] ≡ before ++ map f (take (k + 1) (bits_of_port number port))
 bits_step f number port k before e less =
@@ -47,7 +48,8 @@ bits_step f number port k before e less =
     let more : take (k + 1) bits ≡ take k bits ++ bit_of_port number port k ∷ [] = take_more bits k (bit_of_port number port k) within ∙ ap (λ b. take k bits ++ b ∷ []) (get_bit number port k (bit_of_port number port k) e less) in
     append_assoc before (map f (take k bits)) (f (bit_of_port number port k) ∷ []) ∙ ap (λ bs. before ++ bs) (sym (map-append f (take k bits) (bit_of_port number port k ∷ [])) ∙ sym (ap (map f) more))
 
--- after the bits of one more port, the bits so far followed by those of the ports that are left are still all bits
+-- if the bits made before port `i`, followed by the bits of ports `i..`, are all bits, the same is
+-- true of port `i + 1` after the bits of port `i` are appended
 pub ports_step : {B : Type 0} (f : Bit → B) (ports : List Port) (i : ℕ) (port : Port) (before all new : List B) → i < length ports → get_or ports i port ≡ port → all ≡ before ++ map f (bits_from i (drop i ports))
     → new ≡ before ++ map f (bits_of_port i port) → all ≡ new ++ map f (bits_from (i + 1) (drop (i + 1) ports))
 ports_step f ports i port before all new less is so_far added =
@@ -55,7 +57,8 @@ ports_step f ports i port before all new less is so_far added =
     so_far ∙ ap (λ ps. before ++ map f (bits_from i ps)) cut ∙ ap (λ bs. before ++ bs) (map-append f (bits_of_port i port) (bits_from (i + 1) (drop (i + 1) ports)))
     ∙ sym (append_assoc before (map f (bits_of_port i port)) (map f (bits_from (i + 1) (drop (i + 1) ports)))) ∙ ap (λ bs. bs ++ map f (bits_from (i + 1) (drop (i + 1) ports))) (sym added)
 
--- if V2 holds, the range of each port is in order
+-- if no port has the name of an earlier port and each range is in order, the range of port `i` is
+-- in order
 ordered_in : (ports : List Port) (i : ℕ) (port : Port) → Apart ports → i < length ports → get_or ports i port ≡ port → in_order port.range ≡ true
 ordered_in [] i port h less is = absurd (omega arith)
 ordered_in (p ∷ ports) zero port h less is = ap (λ q. in_order q.range) (sym is) ∙ h.0
@@ -64,7 +67,8 @@ ordered_in (p ∷ ports) (suc i) port h less is = ordered_in ports i port h.2 (o
 pub ordered_at : (ports : List Port) (i : ℕ) (port : Port) → v2 ports ≡ None → i < length ports → get_or ports i port ≡ port → in_order port.range ≡ true
 ordered_at ports i port e less is = ordered_in ports i port (apart ports e) less is
 
--- the bit at a place of a port, made from its fields, is the bit that the definition gives for this place
+-- the record made from the fields of the bit at `place` of a port is equal to `port_bit` of this
+-- bit
 pub bit_is : (entries : List MapEntry) (taps : TapPorts) (compliance : Option Compliance) (number : ℕ) (port : Port) (place : ℕ) (name : List ℕ) (index : Option ℕ) (pin : Option (List ℕ)) (tap named : Bool)
     → name ≡ port.name → index ≡ index_at port.range place → pin ≡ option_and_then (λ entry. slice_get entry.pins place) (find (maps_port port.name) entries) → tap ≡ is_among (tap_names taps) port.name
     → named ≡ list_any (names_bit name index) (words_of compliance)

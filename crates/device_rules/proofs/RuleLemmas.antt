@@ -16,7 +16,8 @@ use Rattle.device_rules.proofs.LeastLemmas.{is_least}
 abbrev BothNone : Option ℕ → Option Broken → Type 0
 BothNone item after = (item ≡ None) × (after ≡ None)
 
--- if neither a rule nor a later one is broken, the function of the rule returns None, and so does `after`
+-- if neither this rule nor a later one is broken, the rule finds no item, and `after`, the result
+-- for the later rules, is None
 none_found : (number : ℕ) (item : Option ℕ) (after : Option Broken) → rule number item after ≡ None → BothNone item after
 none_found number None after e = (refl, e)
 none_found number (Some item) after e = cc e
@@ -85,10 +86,10 @@ keeps_rules draft e =
       v14 = d.3;
     }
 
--- if the result is None, no item breaks the rule
+-- if `first_break` returns None, no item breaks the rule
 pub holds : {A : Type 0} (breaks : List A → A → Bool) (items : List A) → first_break breaks items ≡ None → Holds breaks items
 holds breaks items e = subst (IsFound breaks items) e (first_is_found breaks items)
 
--- if the result is None, no number below the bound has the property
+-- if `least_below` returns None, no number below the bound has the property
 pub none_below : (is : ℕ → Bool) (bound : ℕ) → least_below is bound ≡ None → IsLeast is bound None
 none_below is bound e = subst (IsLeast is bound) e (is_least is bound)

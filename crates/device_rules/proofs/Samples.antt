@@ -11,18 +11,19 @@ use Rattle.device_rules.specs.inner.Index.{AreStarts, place_in}
 abbrev port : List ℕ → Option Range → Port
 port name range = record { name = name; mode = Inward; range = range }
 
--- the ranges 7 downto 0 and 2 to 4
+-- the range `7 downto 0`
 abbrev falling : Option Range
 falling = Some (record { left = 7; right = 0; up = false })
 
+-- the range `2 to 4`
 abbrev rising : Option Range
 rising = Some (record { left = 2; right = 4; up = true })
 
--- ports with 8 bits, 1 bit and 3 bits
+-- port D with 8 bits, port C with 1 bit, and port Q with 3 bits
 abbrev ports : List Port
 ports = port (codes "D") falling ∷ port (codes "C") None ∷ port (codes "Q") rising ∷ []
 
--- the numbers of the first bits of the ports, which are 0, 8 and 9, followed by the number of all bits
+-- the numbers of the ports' first bits, which are 0, 8 and 9, followed by the number of all bits
 abbrev firsts : List ℕ
 firsts = 0 ∷ 8 ∷ 9 ∷ 12 ∷ []
 
@@ -39,11 +40,11 @@ starts = record {
     each (suc (suc (suc zero))) within = refl
     each (suc (suc (suc (suc n)))) within = absurd (omega (arith, within))
 
--- the number of all bits must be the last item
+-- a list without the number of all bits as its last item is not a list of starts
 no_last : AreStarts ports (0 ∷ 8 ∷ 9 ∷ []) → ⊥
 no_last are = absurd (omega (arith, are.size))
 
--- without ports, the number of all bits is the only item
+-- if there are no ports, the only item is the number of all bits, which is 0
 no_ports : AreStarts [] (0 ∷ [])
 no_ports = record {
   size = refl;
@@ -54,8 +55,8 @@ no_ports = record {
     each zero within = refl
     each (suc n) within = absurd (omega (arith, within))
 
--- Places of indexes at both ends of a range, and past them. A plain port has no bit with an index, and a vector has no
--- bit without one.
+-- Places of indexes at both ends of a range and just outside it. A plain port has no bit with an
+-- index, and a vector has no bit without one.
 places : place_in falling (Some 7) ∷ place_in falling (Some 0) ∷ place_in falling (Some 8) ∷ place_in rising (Some 2) ∷ place_in rising (Some 4) ∷ place_in rising (Some 1) ∷ place_in rising (Some 5) ∷ []
     ≡ Some 0 ∷ Some 7 ∷ None ∷ Some 0 ∷ Some 2 ∷ None ∷ None ∷ []
 places = refl
@@ -63,7 +64,8 @@ places = refl
 plain_places : place_in None None ∷ place_in None (Some 0) ∷ place_in rising None ∷ [] ≡ Some 0 ∷ None ∷ None ∷ []
 plain_places = refl
 
--- the number of the bit that a word names is its place in its port plus the number of bits before the port
+-- the number of the bit that a word names is the number of bits before its port plus its place in
+-- the port
 numbers : map (bit_number ports) (Index (codes "D") 7 ∷ Index (codes "D") 0 ∷ Plain (codes "C") ∷ Index (codes "Q") 2 ∷ Index (codes "Q") 4 ∷ [])
     ≡ Some 0 ∷ Some 7 ∷ Some 8 ∷ Some 9 ∷ Some 11 ∷ []
 numbers = refl

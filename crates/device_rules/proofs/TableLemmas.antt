@@ -1,4 +1,4 @@
--- A table of flags or counts that a loop fills item by item.
+-- Lemmas about a table of counts that a loop fills item by item.
 use Rattle.std.proofs.Common.{◌≡◌, ◌≢◌, ℕ, ◌+◌, ◌<◌, ◌≤◌, count_by, Bool, true, false, List, length, take, get_or, sym, ◌∙◌, ap, arith, get_or-set_same, get_or-set_other, ◌⊎◌, inl, inr}
 use Rattle.std.proofs.Math.ListN.{set, length-set}
 use Rattle.std.proofs.lemmas.List.Sums.{count_by_more_no, count_by_more_yes, count_by-le-length}
@@ -8,7 +8,8 @@ use Rattle.device_rules.specs.inner.Tables.{Counts}
 same_or_not : (m n : ℕ) → (m ≡ n) ⊎ (m ≢ n)
 same_or_not m n = grind arith
 
--- if the next item belongs to no number below the bound, the counts stay the same
+-- if the counts are right for the first `i` items, and item `i` belongs to no number below the
+-- bound, the same counts are right for the first `i + 1` items
 pub counts_kept : {A : Type 0} (is_of : ℕ → A → Bool) (items : List A) (bound i : ℕ) (item : A) (table : List ℕ) → i < length items → get_or items i item ≡ item
     → ((n : ℕ) → n < bound → is_of n item ≡ false) → Counts is_of (take i items) bound table → Counts is_of (take (i + 1) items) bound table
 counts_kept is_of items bound i item table lt is none h = record {
@@ -16,7 +17,9 @@ counts_kept is_of items bound i item table lt is none h = record {
   each = λ n below. h.each n below ∙ sym (count_by_more_no (is_of n) items i item lt (ap (is_of n) is ∙ none n below));
 }
 
--- if the next item belongs to exactly one number, the count of this number rises by one
+-- if the counts are right for the first `i` items, and item `i` belongs to the number `cell` and to
+-- no other, the counts are right for the first `i + 1` items after the count of `cell` is raised by
+-- one
 pub counts_more : {A : Type 0} (is_of : ℕ → A → Bool) (items : List A) (bound i : ℕ) (item : A) (cell : ℕ) (table : List ℕ) → i < length items → get_or items i item ≡ item → cell < bound
     → is_of cell item ≡ true → ((n : ℕ) → n ≢ cell → is_of n item ≡ false) → Counts is_of (take i items) bound table → Counts is_of (take (i + 1) items) bound (set table cell (get_or table cell 0 + 1))
 counts_more is_of items bound i item cell table lt is below here none h = record {

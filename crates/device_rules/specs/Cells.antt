@@ -12,7 +12,7 @@ use Rattle.instruction_rules.specs.Instructions.{same_bit}
 abbrev pub is_entry_of : ℕ → Entry → Bool
 is_entry_of cell entry = entry.num == cell
 
--- the cell number of the first entry whose cell number is too large
+-- the cell number of the first entry whose cell number is not below the length of the register
 abbrev pub too_large : ℕ → List Entry → Option ℕ
 too_large boundary entries = option_map (λ entry. entry.num) (find (λ entry. nat_le boundary entry.num) entries)
 
@@ -23,7 +23,7 @@ is_missing entries cell = not (list_any (is_entry_of cell) entries)
 unfoldable pub v8 : ℕ → List Entry → Option ℕ
 v8 boundary entries = or_else (too_large boundary entries) (least_below (is_missing entries) boundary)
 
--- an entry with the function OUTPUT3 or BIDIR needs a control
+-- an entry with this function needs a control: OUTPUT3 or BIDIR
 abbrev pub needs_control : Role → Bool
 needs_control Output3 = true
 needs_control Bidir = true
@@ -60,14 +60,14 @@ abbrev pub is_disabled_by : Bool → ℕ → Option Control → Bool
 is_disabled_by value cell None = false
 is_disabled_by value cell (Some control) = (control.cell == cell) && same_bit control.disable value
 
--- the cell controls the entry, with this disable value
+-- the cell controls the entry with this disable value
 abbrev pub controls_entry : Bool → ℕ → Entry → Bool
 controls_entry value cell entry = is_disabled_by value cell entry.ctl
 
 abbrev pub has_two_values : List Entry → ℕ → Bool
 has_two_values entries cell = list_any (controls_entry true cell) entries && list_any (controls_entry false cell) entries
 
--- V11: all entries with the same control have the same disable value
+-- V11: all entries that the same cell controls have the same disable value
 unfoldable pub v11 : ℕ → List Entry → Option ℕ
 v11 boundary entries = least_below (has_two_values entries) boundary
 

@@ -1,5 +1,6 @@
--- The attributes, instructions and patterns that break V3, V6 and V7, by their numbers, and the cell that V8 finds. These definitions don't
--- depend on the order in which a rule tries its cases.
+-- The attributes, instructions and patterns that break V3, V6 and V7, by their numbers, and the
+-- cell that V8 finds. These definitions do not depend on the order in which a rule checks its
+-- items.
 use Rattle.std.specs.Prelude.{◌≡◌, ℕ, ◌==◌, List, [], ◌∷◌, ◌++◌, Bool, true, false, ◌&&◌, not, if◌then◌else◌, Option, Some, None, ◌⊎◌, codes, nat_le}
 use Rattle.board_defs.specs.declared.device.Symbol.{Symbol}
 use Rattle.board_defs.specs.declared.device.Edition.{Edition}
@@ -50,12 +51,13 @@ pub record IsOutside (boundary : ℕ) (entries : List Entry) (cell : ℕ) : Type
   pub large : nat_le boundary entry.num ≡ true
   pub held : Holds (is_outside boundary) before
 
--- no entry is outside the register, and the number is the least without an entry, if there is such a number
+-- no entry is outside the register, and `cell` is the lowest cell number that has no entry, or None
+-- if each number has one
 abbrev pub IsMissing : ℕ → List Entry → Option ℕ → Type 0
 IsMissing boundary entries cell = Holds (is_outside boundary) entries × IsLeast (is_missing entries) boundary cell
 
--- V8 finds the cell number of the first entry outside the register, or otherwise the lowest cell number without an entry.
--- V8 finds nothing if there is neither.
+-- V8 finds the cell number of the first entry outside the register. If there is no such entry, it
+-- finds the lowest cell number without an entry, or nothing if each cell has an entry.
 abbrev pub IsWrongCell : ℕ → List Entry → Option ℕ → Type 0
 IsWrongCell boundary entries None = IsMissing boundary entries None
 IsWrongCell boundary entries (Some cell) = IsOutside boundary entries cell ⊎ IsMissing boundary entries (Some cell)

@@ -1,4 +1,4 @@
--- The ports of a device, and their bits.
+-- The ports of a device, and the bits of these ports.
 use Rattle.std.specs.Prelude.{ℕ, ◌+◌, ◌-◌, List, [], ◌∷◌, ◌++◌, map, Bool, true, false, ◌&&◌, ◌||◌, not, if◌then◌else◌, Option, Some, None, is_none, nat_lt, nat_le, sum_by, find, option_and_then}
 use Rattle.std.specs.List.{list_any, position_from}
 use Rattle.std.specs.Str.{bytes_eq}
@@ -34,15 +34,15 @@ breaks_port before port = list_any (port_named port.name) before || (not (in_ord
 unfoldable pub v2 : List Port → Option ℕ
 v2 ports = first_break breaks_port ports
 
--- The port with this name, if there is one. `port_number` is its number, counted from 0.
+-- The port with this name, if there is one.
 abbrev pub port_of : List Port → List ℕ → Option Port
 port_of ports name = find (port_named name) ports
 
 abbrev pub port_number : List Port → List ℕ → Option ℕ
 port_number ports name = position_from (port_named name) 0 ports
 
--- A bit of a port: the number and the name of the port, the index if the port is a vector, the place among the bits of the port from left
--- to right, and the mode.
+-- A bit of a port: the number and the name of its port, its index if the port is a vector, its
+-- place among the bits of the port from left to right, and its mode.
 pub record Bit : Type 0 where
   pub port : ℕ
   pub name : List ℕ
@@ -55,7 +55,7 @@ abbrev pub indexes : Option Range → List (Option ℕ)
 indexes None = None ∷ []
 indexes (Some range) = map Some (range_indexes range.left range.right)
 
--- the bits of a port that have these indexes, with places from `place` on
+-- the bits of a port that have these indexes, with places numbered from `place` on
 abbrev pub bits_along : ℕ → Port → ℕ → List (Option ℕ) → List Bit
 bits_along number port place [] = []
 bits_along number port place (index ∷ indexes) = record { port = number; name = port.name; index = index; place = place; mode = port.mode } ∷ bits_along number port (place + 1) indexes
@@ -71,7 +71,8 @@ bits_from number (port ∷ ports) = bits_of_port number port ++ bits_from (numbe
 abbrev pub port_bits : List Port → List Bit
 port_bits ports = bits_from 0 ports
 
--- A word with the first index can name a bit with the second index. Either both are None, or both are the same number.
+-- A word with the first index can name a bit with the second: both are None, or both are the same
+-- number.
 abbrev pub has_index : Option ℕ → Option ℕ → Bool
 has_index None index = is_none index
 has_index (Some number) index = is_on number index
@@ -79,7 +80,8 @@ has_index (Some number) index = is_on number index
 abbrev pub is_bit : List ℕ → Option ℕ → Bit → Bool
 is_bit name index bit = bytes_eq bit.name name && has_index index bit.index
 
--- the word names the bit: the bit of a plain port without an index, or a bit of a vector with its index
+-- the word names the bit: `name` names the bit of a plain port, and `name(index)` names a bit of a
+-- vector
 abbrev pub is_named : PortWord → Bit → Bool
 is_named Star bit = false
 is_named (Plain name) bit = is_bit name None bit

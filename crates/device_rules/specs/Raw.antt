@@ -1,4 +1,4 @@
--- The record of the device that a text without a broken rule describes.
+-- The record that describes a text's device, if the text breaks no rule.
 use Rattle.std.specs.Prelude.{ℕ, ◌≤◌, List, map, Bool, false, Option, Some, None, find, option_and_then, slice_get}
 use Rattle.std.specs.List.{list_any}
 use Rattle.board_defs.specs.Limits.{most_bits, most_instruction_bits}
@@ -68,7 +68,7 @@ raw_device draft = record {
   cells = raw_cells draft.ports draft.entries;
 }
 
--- the lengths of the registers are in their ranges
+-- the lengths of the instruction register and of the boundary register are in their ranges
 pub record HasLengths (draft : Draft) : Type 0 where
   pub ir_least : 2 ≤ draft.ir
   pub ir_most : draft.ir ≤ most_instruction_bits

@@ -11,12 +11,13 @@ use Rattle.instruction_rules.specs.Instructions.{v5, v6, v7}
 use Rattle.device_rules.specs.Cells.{v8, v10, v11, v12}
 use Rattle.device_rules.specs.Places.{v9, v13, v14}
 
--- the rule with the first item that breaks it, or the result `after` for the later rules if no item breaks it
+-- the rule and the first item that breaks it, or `after`, the result for the later rules, if no
+-- item breaks it
 abbrev pub rule : ℕ → Option ℕ → Option Broken → Option Broken
 rule number None after = after
 rule number (Some item) after = Some (record { rule = number; item = item })
 
--- the first of the rules V11 to V14 that the draft breaks
+-- the first of the rules V11 to V14 that the draft breaks, with the item that breaks it
 unfoldable pub from_11 : Draft → Option Broken
 from_11 draft =
     rule 11 (v11 draft.boundary draft.entries) (
@@ -24,18 +25,18 @@ from_11 draft =
     rule 13 (v13 draft.ports draft.entries) (
     rule 14 (v14 draft.ports draft.taps draft.entries) None)))
 
--- the first of the rules V9 to V14 that the draft breaks
+-- the first of the rules V9 to V14 that the draft breaks, with the item that breaks it
 unfoldable pub from_9 : Draft → Option Broken
 from_9 draft =
     rule 9 (v9 draft.ports draft.entries) (
     rule 10 (v10 draft.entries) (
     from_11 draft))
 
--- the first of the rules V8 to V14 that the draft breaks
+-- the first of the rules V8 to V14 that the draft breaks, with the item that breaks it
 unfoldable pub from_8 : Draft → Option Broken
 from_8 draft = rule 8 (v8 draft.boundary draft.entries) (from_9 draft)
 
--- the first of the rules V5 to V14 that the draft breaks
+-- the first of the rules V5 to V14 that the draft breaks, with the item that breaks it
 unfoldable pub from_5 : Draft → Option Broken
 from_5 draft =
     rule 5 (v5 draft.ir draft.opcodes) (
@@ -43,14 +44,14 @@ from_5 draft =
     rule 7 (v7 draft.ir draft.capture draft.idcode) (
     from_8 draft)))
 
--- the first of the rules V3 to V14 that the draft breaks
+-- the first of the rules V3 to V14 that the draft breaks, with the item that breaks it
 unfoldable pub from_3 : Draft → Option Broken
 from_3 draft =
     rule 3 (v3 draft.ports draft.taps draft.compliance) (
     rule 4 (v4 draft.ports draft.map) (
     from_5 draft))
 
--- the first of the rules V2 to V14 that the draft breaks, with the first item that breaks it
+-- the first of the rules V2 to V14 that the draft breaks, with the item that breaks it
 unfoldable pub first_rule : Draft → Option Broken
 first_rule draft = rule 2 (v2 draft.ports) (from_3 draft)
 
@@ -77,7 +78,8 @@ pub record KeepsRules (draft : Draft) : Type 0 where
   pub v13 : v13 draft.ports draft.entries ≡ None
   pub v14 : v14 draft.ports draft.taps draft.entries ≡ None
 
--- each list whose items have numbers has fewer than 2^32 items
+-- the lists of ports, of pin map entries, of opcodes and of boundary entries each have fewer than
+-- 2^32 items
 pub record HasShortLists (draft : Draft) : Type 0 where
   pub ports : length draft.ports < 2 ^ 32
   pub map : length draft.map < 2 ^ 32

@@ -32,8 +32,8 @@ is_plain mode (Some port) = is_none port.range && mode port.mode
 abbrev pub is_among : List (List ℕ) → List ℕ → Bool
 is_among names name = list_any (bytes_eq name) names
 
--- a TAP attribute breaks the rule: its port is one of `before`, or it does not have type bit and a mode of which `mode` is
--- true
+-- a TAP attribute that names the port `name` breaks V3: the name is one of `before`, there is no
+-- port of type bit with this name, or `mode` is false of the port's mode
 abbrev pub breaks_tap : (Mode → Bool) → List Port → List (List ℕ) → List ℕ → Bool
 breaks_tap mode ports before name = is_among before name || not (is_plain mode (port_of ports name))
 

@@ -72,8 +72,9 @@ fn too_large_cell(boundary: u32, entries: &[Entry]) -> Option<u32>
         .map(|entry| entry.num)
 }
 
-/// Checks rule V8. Returns the first cell number that is too large. If there is none, returns the lowest cell number
-/// that is missing.
+/// Checks rule V8. Returns the cell number of the first entry whose cell number is not below
+/// `boundary`. If there is no such entry, returns the lowest cell number that has no entry, or None
+/// if each cell has one.
 #[tactic(auto, unfolding(crate::specs::Cells::v8))]
 pub(crate) fn wrong_cell(
     alloc: Global,
@@ -91,7 +92,8 @@ pub(crate) fn wrong_cell(
     }
 }
 
-/// Returns whether the flag at `place` is set in both tables.
+/// Returns whether the flag at `place` is set in both tables. A flag past the end of its table is
+/// not set.
 fn are_set(on: &[bool], off: &[bool], place: usize) -> bool
     ensures { result ≡ (slice_index_or on.now place false && slice_index_or off.now place false) }
 {
@@ -172,7 +174,7 @@ fn counts_of(
     Ok(table)
 }
 
-/// Returns whether the number at `place` is more than 1. Returns false past the end.
+/// Returns whether the count at `place` is more than 1. Returns false past the end.
 fn is_several(counts: &[u32], place: usize) -> bool
     ensures { result ≡ nat_lt 1 (slice_index counts.now place) }
 {
@@ -182,7 +184,7 @@ fn is_several(counts: &[u32], place: usize) -> bool
     }
 }
 
-/// Returns the lowest cell for which one of the two numbers is more than 1.
+/// Returns the lowest cell that has more than one loader or more than one writer.
 fn least_several(boundary: u32, loaders: &[u32], writers: &[u32]) -> Option<u32>
     ensures { result ≡ least_below (λ cell.
         nat_lt 1 (slice_index loaders.now cell) || nat_lt 1 (slice_index writers.now cell)) boundary }

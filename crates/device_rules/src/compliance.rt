@@ -22,7 +22,7 @@ fn key_of(word: &PortWord) -> Option<Key>
     }
 }
 
-/// Returns the words that name the bits of the patterns.
+/// Returns the words of the compliance patterns, which name the bits that the patterns are for.
 fn words_of(compliance: &Option<Compliance>) -> &[PortWord]
     ensures { result.now ≡ words_of compliance.now }
 {
@@ -51,7 +51,8 @@ fn has_key(bits: &HashSet<Key>, name: &[u8], index: Option<u32>) -> bool
     bits.contains(&(name, index))
 }
 
-/// Compliance patterns, and the set of bits that they name. The value in contracts is the patterns.
+/// Compliance patterns, and the set of bits that they name. In contracts, the value is the
+/// patterns.
 #[derive(Drop)]
 pub struct NamedBits<'a> {
     compliance: &'a Option<Compliance>,

@@ -8,7 +8,8 @@ use crate::port_index::PortIndex;
 use std::alloc::{AllocError, Global};
 use std::marker::Model;
 
-/// A draft whose ports keep rule V2, with an index of the ports. The value in contracts is the draft.
+/// A draft whose ports keep rule V2, with an index of the ports. In contracts, the value is the
+/// draft.
 #[derive(Drop)]
 pub struct IndexedDraft<'a> {
     text: &'a Draft,

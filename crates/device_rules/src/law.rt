@@ -26,9 +26,10 @@ pub fn all_rules_hold()
     ensures { (draft : Draft) → first_rule draft ≡ None → KeepsRules draft }
 {}
 
-/// If a rule finds nothing, none of its items breaks the rule. Otherwise the rule finds the first port, entry or opcode, or
-/// the lowest number of an attribute, instruction, pattern or cell, that breaks the rule. V8 finds an entry outside the
-/// register before it looks for cells without an entry.
+/// If the function of a rule returns None, no item breaks the rule. Otherwise the function returns
+/// the first port, entry or opcode that breaks it, or the lowest number of an attribute,
+/// instruction, pattern or cell that breaks it. V8 looks for an entry outside the register before
+/// it looks for a cell without an entry.
 pub fn finds_the_first()
     ensures v2 { (ports : List Port) → IsFound breaks_port ports (v2 ports) }
     ensures v3 { (ports : List Port) (taps : TapPorts) (compliance : Option Compliance) → IsLeast (breaks_attribute ports taps compliance) 14 (v3 ports taps compliance) }
@@ -45,8 +46,8 @@ pub fn finds_the_first()
     ensures v14 { (ports : List Port) (taps : TapPorts) (entries : List Entry) → IsFound (λ before entry. breaks_mode ports taps entry) entries (v14 ports taps entries) }
 {}
 
-/// If a draft breaks no rule and its lengths are in their ranges, the record that it describes keeps the rules of
-/// devices.
+/// If a draft breaks no rule and the lengths of its registers are in their ranges, the record of
+/// the draft keeps the rules of devices.
 pub fn devices_keep_rules()
     ensures { (draft : Draft) → HasLengths draft → first_rule draft ≡ None → IsDevice (raw_device draft) }
 {}

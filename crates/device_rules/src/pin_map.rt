@@ -33,16 +33,17 @@ fn fits_port(ports: &PortIndex, entry: &MapEntry) -> bool
     )
 }
 
-/// Returns whether an entry breaks the rule. `known` says whether an earlier entry names its port, `fits` whether it
-/// fits its port, and `repeats` whether it repeats a pin.
+/// Returns whether an entry breaks rule V4. `known` says whether an earlier entry names the entry's
+/// port, `fits` says whether the entry has as many pins as the port has bits, and `repeats` says
+/// whether one of the entry's pins is repeated.
 fn is_broken(known: bool, fits: bool, repeats: bool) -> bool
     ensures { result ≡ (known || (not fits || repeats)) }
 {
     known || !fits || repeats
 }
 
-/// Returns whether one of the pins is in `seen` or occurs twice in `pins`. If the result is false, `seen` then has all
-/// of the pins.
+/// Returns whether one of the pins is in `seen` or occurs twice in `pins`. If the result is false,
+/// all of the pins were added to `seen`.
 fn some_repeats<'a>(seen: &mut HashSet<&'a [u8]>, pins: &'a [Name]) -> Result<bool, AllocError>
     ensures answer { IfOk result (λ repeats. (before : List (List ℕ))
         → HasNames seen.old before → repeats ≡ some_repeats before pins.now) }

@@ -51,8 +51,9 @@ fn place_in(range: Option<Range>, number: Option<u32>) -> Option<u32>
     }
 }
 
-/// The numbers of the two ports that were looked up last. Entries in a row often name one port, or two ports in turn,
-/// so these ports are tried first. The numbers never change a result, only the time that it takes.
+/// The numbers of the two ports that were looked up last. Consecutive entries often name one port,
+/// or two ports in turn, so these ports are tried first. The numbers never change a result. They
+/// only save time.
 #[derive(Clone, Copy, Debug, PartialEq, Eq)]
 pub struct Near {
     last: u32,
@@ -66,8 +67,9 @@ impl Near {
     }
 }
 
-/// The ports of a device, which keep rule V2, with an index: the place of each name, and the number of bits before each
-/// port and of all bits. The value in contracts is the list of the ports.
+/// The ports of a device, which keep rule V2, with an index: the number of each port by its name,
+/// the number of bits before each port, and the number of all bits. In contracts, the value is the
+/// list of the ports.
 #[derive(Drop)]
 pub struct PortIndex<'a> {
     ports: NameIndex<'a, Port>,
@@ -107,8 +109,9 @@ impl<'a> PortIndex<'a> {
         self.ports.as_slice()
     }
 
-    /// Returns whether the port at `place` has this name. Since port names differ, no other port then has the name. The
-    /// contract says nothing about the result false, since a wrong false would only cost time.
+    /// Returns whether the port at `place` has this name. Port names differ, so no other port has
+    /// the name then. The contract says nothing about the result false, since a wrong false would
+    /// only cost time.
     fn has_name(&self, place: u32, name: &[u8]) -> bool
         ensures { result ≡ true → port_number self.now name.now ≡ Some place }
     {

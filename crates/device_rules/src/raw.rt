@@ -35,7 +35,8 @@ fn port_names(alloc: Global, ports: &[Port]) -> Result<Vec<Name>, AllocError>
     Ok(names)
 }
 
-/// Returns the pin at `place` of the pin map's entry, if there is an entry and it has that place.
+/// Returns the pin at `place` of the entry. Returns None if there is no entry, or if the entry has
+/// no pin at this place.
 fn pin_of(alloc: Global, entry: Option<&MapEntry>, place: u32) -> Result<Option<Name>, AllocError>
     ensures { IfOk result (λ pin. pin
         ≡ option_and_then (λ entry. slice_get entry.pins place) (option_copied entry.entry)) }
@@ -66,7 +67,7 @@ fn index_at(range: Option<Range>, place: u32) -> Option<u32>
     }
 }
 
-/// Appends the bits of a port, in order from left to right.
+/// Appends the bits of a port to the list, in order from left to right.
 fn push_bits(
     alloc: Global,
     pins: &NameIndex<MapEntry>,
@@ -118,7 +119,7 @@ fn all_bits(
     Ok(bits)
 }
 
-/// Returns the bits of the ports in the draft.
+/// Returns the bits of the draft's ports, in the order of the ports.
 fn described_bits(alloc: Global, draft: &IndexedDraft) -> Result<Vec<PortBit>, AllocError>
     ensures { IfOk result (λ bits. bits.items
         ≡ raw_bits draft.now.ports draft.now.map draft.now.taps draft.now.compliance) }
@@ -129,7 +130,7 @@ fn described_bits(alloc: Global, draft: &IndexedDraft) -> Result<Vec<PortBit>, A
     all_bits(alloc, draft.ports(), &pins, &text.taps, &named)
 }
 
-/// Returns the entry, with the number of its port bit.
+/// Returns the boundary entry as a cell, with the number of the port bit that the entry is on.
 fn cell_of(ports: &PortIndex, near: &mut Near, entry: &Entry) -> Cell
     ensures { result ≡ cell_of ports.now entry.now }
 {
@@ -142,7 +143,8 @@ fn cell_of(ports: &PortIndex, near: &mut Near, entry: &Entry) -> Cell
     }
 }
 
-/// Returns the entries in the order of the text, each with the number of its port bit.
+/// Returns the entries as cells, in the order of the text, each with the number of the port bit
+/// that it is on.
 #[tactic(auto, unfolding(crate::specs::Raw::raw_cells))]
 fn all_cells(alloc: Global, ports: &PortIndex, entries: &[Entry]) -> Result<Vec<Cell>, AllocError>
     ensures { IfOk result (λ cells. cells.items ≡ raw_cells ports.now entries.now) }

@@ -68,8 +68,8 @@ fn breaks_reset(ports: &PortIndex, before: &[&[u8]], reset: &Option<Name>) -> bo
     }
 }
 
-/// Returns the number of the first wrong TAP attribute. A TAP attribute must name a port that no earlier one names,
-/// with type bit and the right mode.
+/// Returns the number of the first wrong TAP attribute. A TAP attribute must name a port of type
+/// bit with the right mode, and no earlier TAP attribute may name the same port.
 fn wrong_tap(ports: &PortIndex, taps: &TapPorts) -> Option<u32>
     ensures { result ≡ wrong_tap ports.now taps.now }
 {

@@ -1,4 +1,5 @@
--- An index that finds ports by their names, and the numbers of their bits.
+-- An index that finds ports by their names and port bits by their words, and an index of the pin
+-- map.
 use Rattle.std.specs.Prelude.{◌≡◌, ℕ, ◌+◌, ◌-◌, ◌≤◌, List, [], length, map, take, nat_eq, Bool, false, ◌&&◌, if◌then◌else◌, Option, Some, None, nat_le, slice_index}
 use Rattle.std.specs.Borrow.{Bor}
 use Rattle.std.specs.Str.{bytes_eq}
@@ -13,15 +14,15 @@ use Rattle.bsdl_strings.specs.declared.values.PortWord.{PortWord}
 use Rattle.bsdl_strings.specs.declared.values.PortWord.TheVariants.{Star, Plain, Index}
 use Rattle.device_rules.specs.Ports.{Bit, bits_of, v2}
 
--- the borrowed names are `names`
+-- the borrowed names, in order, are `names`
 abbrev pub AreLent : List (Bor (List ℕ)) → List (List ℕ) → Type 0
 AreLent lent names = map (λ n. n.now) lent ≡ names
 
--- the map has the result of `place` for each name
+-- for every name, the look-up in the map returns what `place` returns
 abbrev pub Finds : {S : Type 0} → IndexMap (Bor (List ℕ)) ℕ S → (List ℕ → Option ℕ) → Type 0
 Finds places place = (q : Bor (List ℕ)) → get_by (λ n. bytes_eq q.now n.now) places ≡ place q.now
 
--- the number of bits before each port, followed by the number of all bits
+-- `starts` has the number of bits before each port, followed by the number of all bits
 pub record AreStarts (ports : List Port) (starts : List ℕ) : Type 0 where
   pub size : length starts ≡ length ports + 1
   pub each : (n : ℕ) → n ≤ length ports → slice_index starts n ≡ bits_of (take n ports)
@@ -57,7 +58,7 @@ index_at (Some range) place = Some (if range.up then range.left + place else ran
 abbrev pub bit_of_port : ℕ → Port → ℕ → Bit
 bit_of_port number port place = record { port = number; name = port.name; index = index_at port.range place; place = place; mode = port.mode }
 
--- the name and the index of the bit that a word names
+-- the key of a word: the name and the index of the bit that the word names, or None for `*`
 abbrev pub key_of : PortWord → Option (List ℕ × Option ℕ)
 key_of Star = None
 key_of (Plain name) = Some (name, None)

@@ -1,4 +1,4 @@
--- Sets of names that were seen.
+-- Sets of the names that a loop has seen.
 use Rattle.std.specs.Prelude.{◌≡◌, ℕ, List}
 use Rattle.std.specs.Borrow.{Bor}
 use Rattle.std.specs.Str.{bytes_eq}

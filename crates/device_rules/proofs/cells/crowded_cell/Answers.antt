@@ -1,4 +1,5 @@
--- The tables have the number of entries of each cell for each stage.
+-- The tables count, for each cell, the entries for the capture stage and the entries for the update
+-- latch.
 use Rattle.std.proofs.Common.{◌||◌, ap, count_by, ◌∙◌}
 use Rattle.std.specs.Prelude.{nat_lt, slice_index}
 use Rattle.device_rules.specs.Cells.{loads_cell, is_crowded, v12}

@@ -1,4 +1,5 @@
--- The tables have the cells that control entries with each disable value.
+-- For each disable value, a table has a flag for each cell, set if the cell controls an entry with
+-- this disable value.
 use Rattle.std.proofs.Common.{◌&&◌, true, false, ap, ◌∙◌}
 use Rattle.std.specs.Prelude.{slice_index_or}
 use Rattle.std.specs.List.{list_any}

@@ -1,4 +1,4 @@
--- The table has the cells that have an entry.
+-- The table has a flag for each cell, set if the cell has an entry.
 use Rattle.std.proofs.Common.{sym, ap, ◌∙◌}
 use Rattle.std.specs.Prelude.{not, false, slice_index_or}
 use Rattle.first_places.specs.Items.{least_below, or_else}

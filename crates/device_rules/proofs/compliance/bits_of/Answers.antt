@@ -1,4 +1,4 @@
--- If the word names a bit, that bit is added.
+-- If the loop's next word names a bit, the loop adds that bit to the set.
 use Rattle.std.proofs.Common.{sym, ap, subst, ◌∙◌, ◌+◌, take}
 use Rattle.std.specs.Prelude.{option_map}
 use Rattle.std.specs.List.{list_any}

@@ -1,4 +1,4 @@
--- The keys of the map are borrowed names.
+-- The keys of the map are borrowed names, which are compared by their bytes.
 use Rattle.std.proofs.Common.{◌∙◌}
 use Rattle.std.specs.Str.{bytes_eq}
 use Rattle.std.proofs.lemmas.Result.{IfOk-weaker}

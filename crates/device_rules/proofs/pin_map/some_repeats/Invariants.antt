@@ -3,7 +3,8 @@ use Rattle.device_rules.specs.PinMap.{some_repeats}
 use Rattle.device_rules.specs.inner.Seen.{HasNames}
 use Rattle.device_rules.proofs.pin_map.some_repeats.Given as goal
 
--- the set has the names that were seen before and the pins so far, and none of these pins repeats
+-- the set has the names that were in it at the start and the pins so far; the list has a repeated
+-- pin if and only if the pins that are left have one
 abbrev pub invariant-loop-pin : goal.invariant-loop-pin
 invariant-loop-pin l = record {
   seen : (before : List (List ℕ)) → HasNames l.fn.seen before → HasNames l.seen (before ++ take l.pin-index l.pins);

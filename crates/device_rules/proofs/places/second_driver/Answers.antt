@@ -1,4 +1,4 @@
--- The flag of the bit is set, so an earlier entry drives the bit.
+-- If the flag of the entry's bit is set, an earlier entry drives the bit.
 use Rattle.std.proofs.Common.{◌≡◌, true, false, take, get_or, sym, ap, ◌∙◌, arith}
 use Rattle.std.proofs.lemmas.Grind.{common_steps}
 use Rattle.device_rules.specs.Places.{is_driven, breaks_driver, v13}

@@ -1,4 +1,4 @@
--- Names differ, so the port is the first that has the name.
+-- No two ports have the same name, so a port with the name is the first that has it.
 use Rattle.std.proofs.Common.{refl, sym, ap, ◌∙◌}
 use Rattle.std.specs.Str.{bytes_eq}
 use Rattle.std.proofs.lemmas.Option.{slice_get_read}
