@@ -1,4 +1,5 @@
--- The result that the function of each step returns is the answer of the entity.
+-- The answer of an entity, from the results of the three steps: V1, the strings, and the rules V2
+-- to V14.
 use Rattle.std.proofs.Common.{◌≡◌, ℕ, List, Option, Result, Ok, Err, inl, inr, refl, sym, subst}
 use Rattle.std.specs.Option.{IfSome}
 use Rattle.board_defs.specs.Limits.{most_bits, most_instruction_bits}
@@ -25,7 +26,8 @@ use Rattle.device_check.proofs.FoundLemmas.{found_is, lies_within}
 use Rattle.device_check.proofs.StringLemmas.{few_entries}
 use Rattle.device_check.proofs.TextLemmas.{short_strings}
 
--- if V1 fails, its source is the answer
+-- if V1 fails, the answer is the fault of rule 1 whose item is the number of the source that V1
+-- returns
 pub needs_answer : (entity : Entity) (given : Option (List ℕ)) (source : Source) → v1 entity given ≡ Err source → IsAnswer entity given (Err (Rule 1 (source_number source)))
 needs_answer entity given source e = inl (record { number_is = refl; source = source; wrong = e; item_is = refl })
 
@@ -45,7 +47,7 @@ judged_answer entity given found strings draft result e read is h = by_result re
     by_result (Err (Text attribute entry)) k = absurd k
     by_result (Err (Memory error)) k = tt
 
--- the lists of a small entity are short
+-- if V1 holds of a small entity and its strings have values, the lists of its draft are short
 short_lists : (entity : Entity) (given : Option (List ℕ)) (found : Found) (strings : Strings) → IsSmall entity → v1 entity given ≡ Ok found → AreStrings entity found strings → HasShortLists (draft_of entity found strings)
 short_lists entity given found strings small e read =
     let short = short_strings entity given found small e in

@@ -1,4 +1,5 @@
--- If V1 holds, it returns the values of the sources.
+-- If V1 holds, the values that it returns are the values of the entity's attributes and of the
+-- package.
 use Rattle.std.proofs.Common.{◌≡◌, ℕ, ◌≤◌, ◌&&◌, nat_le, if◌then◌else◌, Bool, true, false, List, Option, Some, None, Result, Ok, Err, refl, subst}
 use Rattle.std.proofs.lemmas.Bool.{and_parts, leb-true}
 use Rattle.board_defs.specs.Limits.{most_bits, most_instruction_bits}
@@ -10,7 +11,7 @@ use Rattle.device_check.specs.declared.sources.Source.TheVariants as sources
 use Rattle.device_check.specs.Attributes.{only_number, only_text, chosen}
 use Rattle.device_check.specs.Needed.{FoundRegisters, Found, need, and_then, unless, within, found_taps, found_registers, wrong_option, found_package, v1}
 
--- there is a value, and the next step has this result for the value
+-- there is a value, and the next step applied to it returns `Ok result`
 record Has {A B : Type 0} (value : Option A) (next : A → Result B Source) (result : B) : Type 0 where
   it : A
   value_is : value ≡ Some it
@@ -20,7 +21,7 @@ has : {A B : Type 0} (source : Source) (value : Option A) (next : A → Result B
 has source None next result e = cc
 has source (Some it) next result e = record { it = it; value_is = refl; goes_on = e }
 
--- the search returned a value, and the next step has this result for the value
+-- the search returned a value, and the next step applied to it returns `Ok result`
 record Goes {A B : Type 0} (value : Result A Source) (next : A → Result B Source) (result : B) : Type 0 where
   it : A
   value_is : value ≡ Ok it
@@ -37,7 +38,8 @@ none_wrong None next result e = e
 same_value : {B : Type 0} (x y : B) → ◌≡◌ {A = Result B Source} (Ok x) (Ok y) → x ≡ y
 same_value x y e = cc e
 
--- the values that the attributes of the two registers have
+-- the found values are the values of the attributes of the instruction register and the boundary
+-- register
 record AreRegisters (entity : Entity) (found : FoundRegisters) : Type 0 where
   length_is : within 2 most_instruction_bits (only_number entity InstructionLength) ≡ Some found.instruction_length
   opcodes_are : only_text entity InstructionOpcode ≡ Some found.opcodes
@@ -56,7 +58,8 @@ registers_are entity found e =
     let same : ◌≡◌ {A = FoundRegisters} (record { instruction_length = a.it; opcodes = b.it; capture = c.it; boundary_length = d.it; boundary = f.it }) found = same_value _ _ f.goes_on in
     subst (AreRegisters entity) same (record { length_is = a.value_is; opcodes_are = b.value_is; capture_is = c.value_is; cells_are = d.value_is; boundary_is = f.value_is })
 
--- the values that V1 returns are those of the attributes and of the package
+-- the found values are the values of the entity's attributes, and the found package is the package
+-- that was chosen
 pub record IsFound (entity : Entity) (given : Option (List ℕ)) (found : Found) : Type 0 where
   pub length_is : within 2 most_instruction_bits (only_number entity InstructionLength) ≡ Some found.registers.instruction_length
   pub opcodes_are : only_text entity InstructionOpcode ≡ Some found.registers.opcodes
@@ -75,7 +78,7 @@ found_is entity given found e =
     let are : AreRegisters entity b.it = registers_are entity b.it b.value_is in
     subst (IsFound entity given) same (record { length_is = are.length_is; opcodes_are = are.opcodes_are; capture_is = are.capture_is; cells_are = are.cells_are; boundary_is = are.boundary_is; chosen_is = c.value_is })
 
--- a number that is found is in its range
+-- if `within` returns a number, the number is from `least` to `most`
 pub lies_within : (least most : ℕ) (number : Option ℕ) (found : ℕ) → within least most number ≡ Some found → (least ≤ found) × (found ≤ most)
 lies_within least most None found e = cc
 lies_within least most (Some number) found e = by_test (nat_le least number && nat_le number most) refl e

@@ -37,8 +37,8 @@ drivers = record {
       record { num = 0; role = Output2; bit = Some 4; safe = Any; ctl = None } ∷ record { num = 1; role = Output2; bit = Some 5; safe = Any; ctl = None } ∷ [];
 }
 
--- a device of 2001: a three-state output, the input that enables this output, and a port without a pin. The entry of the
--- last cell comes first.
+-- a device of the 2001 edition: a three-state output, the input that enables this output, and a
+-- port without a pin. The entry of the last cell is the first in the list.
 abbrev buffer : List Symbol → RawDevice
 buffer idcode = record {
   entity = codes "BUF";
@@ -58,7 +58,7 @@ buffer idcode = record {
       ∷ record { num = 0; role = Output3; bit = Some 1; safe = Any; ctl = Some (record { cell = 1; disable = true }) } ∷ [];
 }
 
--- an identification pattern: 29 zeros followed by XX1
+-- the identification pattern: 29 zeros followed by XX1; a code begins with the symbol nearest TDO
 abbrev sample_pattern : List Symbol
 sample_pattern =
     One ∷ Any ∷ Any ∷ Zero ∷ Zero ∷ Zero ∷ Zero ∷ Zero ∷ Zero ∷ Zero ∷ Zero ∷ Zero ∷ Zero ∷ Zero ∷ Zero ∷ Zero

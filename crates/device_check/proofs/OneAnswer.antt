@@ -29,7 +29,7 @@ use Rattle.device_check.specs.DeviceStrings.{MayBe, MayLeave, DeviceString, pin_
 use Rattle.device_check.specs.SoundDevice.{FailsNeed, FailsRule, FailsText, IsSound, draft_of, IsAnswer, device_told}
 use Rattle.device_check.proofs.StringLemmas.{one_number}
 
--- a pattern leaves its grammar at only one place
+-- a pattern that leaves its grammar does so at only one place
 one_place : (text : List ℕ) (n m : ℕ) → IsNoPattern text n → IsNoPattern text m → n ≡ m
 one_place text n m x y = x.place ∙ sym y.place
 
@@ -43,7 +43,7 @@ maybe_once : (IsNo : List ℕ → ℕ → Type 0) → ((text : List ℕ) (n m : 
 maybe_once IsNo once None n m x y = absurd x
 maybe_once IsNo once (Some text) n m x y = once text n m x y
 
--- a string leaves its grammar at only one entry
+-- a string that leaves its grammar does so at only one entry
 leaves_once : (entity : Entity) (found : Found) (string : DeviceString) (n m : ℕ) → Leaves entity found string n → Leaves entity found string m → n ≡ m
 leaves_once entity found pin_map n m x y = one_number (pieces found.chosen.pin_map) n m x y
 leaves_once entity found opcodes n m x y = one_number (pieces found.registers.opcodes) n m x y
@@ -57,7 +57,8 @@ maybe_not Is IsNo never None value n x y = y
 maybe_not Is IsNo never (Some text) None n x y = x
 maybe_not Is IsNo never (Some text) (Some value) n x y = never text value n x y
 
--- a string that is read does not leave its grammar
+-- a string that has a value in its grammar, or that is optional and missing, does not leave its
+-- grammar
 read_not_left : (entity : Entity) (found : Found) (string : DeviceString) (n : ℕ) → IsRead entity found string → Leaves entity found string n → ⊥
 read_not_left entity found pin_map n x y = y.no_value x.0 x.1
 read_not_left entity found opcodes n x y = y.no_value x.0 x.1
@@ -66,7 +67,7 @@ read_not_left entity found idcode n x y = maybe_not IsPattern IsNoPattern (λ te
 read_not_left entity found compliance n x y = maybe_not IsCompliance IsNoCompliance (λ text value n a b. b.no_value value a) (text_of entity CompliancePatterns) x.0 n x.1 y
 read_not_left entity found boundary n x y = y.no_value x.0 x.1
 
--- only one string is the first that leaves its grammar
+-- the first string that leaves its grammar, and the entry at which it does, are unique
 one_first : (entity : Entity) (found : Found) (strings : List DeviceString) (a n b m : ℕ) → LeavesFirst entity found strings a n → LeavesFirst entity found strings b m → (a ≡ b) × (n ≡ m)
 one_first entity found [] a n b m x y = absurd x
 one_first entity found (string ∷ strings) a n b m x y = by x y (λ u v. one_first entity found strings a n b m u v)
@@ -77,7 +78,7 @@ one_first entity found (string ∷ strings) a n b m x y = by x y (λ u v. one_fi
     by (inr u) (inl v) again = absurd (read_not_left entity found string m u.0 v.1)
     by (inr u) (inr v) again = again u.1 v.1
 
--- if all strings are read, none is the first that leaves its grammar
+-- if each string has a value or is optional and missing, none is the first that leaves its grammar
 none_first : (entity : Entity) (found : Found) (strings : List DeviceString) (a n : ℕ) → ((string : DeviceString) → IsRead entity found string) → LeavesFirst entity found strings a n → ⊥
 none_first entity found [] a n read x = x
 none_first entity found (string ∷ strings) a n read x = elim x [ inl u ↦ read_not_left entity found string n (read string) u.1 | inr u ↦ none_first entity found strings a n read u.1 ]
@@ -104,7 +105,7 @@ one_code text a b x y = x.1 ∙ sym y.1
 one_compliance : (text : List ℕ) (a b : Compliance) → IsCompliance text a → IsCompliance text b → a ≡ b
 one_compliance text a b x y = one_value strings_of.compliance compliance_takes (pieces text) a b x y
 
--- each string has at most one value, so the strings have at most one list of values
+-- each string has at most one value, so there is at most one record of the values of all strings
 one_strings : (entity : Entity) (found : Found) (s t : Strings) → AreStrings entity found s → AreStrings entity found t → s ≡ t
 one_strings entity found s t x y =
     let map = one_value (list_of map_entry comma_or_end) (each_takes can_maps) (pieces found.chosen.pin_map) s.map t.map x.map_is y.map_is in
@@ -141,11 +142,11 @@ both_rules a n b m e f = rw (e, f) refl
 both_texts : (a n b m : ℕ) → a ≡ b → n ≡ m → ◌≡◌ {A = DeviceFault} (Text a n) (Text b m)
 both_texts a n b m e f = rw (e, f) refl
 
--- V1 returns only one result
+-- if V1 returns the values `f` and the values `g`, they are equal
 one_found : (entity : Entity) (given : Option (List ℕ)) (f g : Found) → v1 entity given ≡ Ok f → v1 entity given ≡ Ok g → f ≡ g
 one_found entity given f g x y = ok_is f g (sym x ∙ y)
 
--- an entity has only one draft for each package
+-- an entity has at most one draft for each package
 one_draft : (entity : Entity) (given : Option (List ℕ)) (f g : Found) (s t : Strings) → v1 entity given ≡ Ok f → v1 entity given ≡ Ok g → AreStrings entity f s → AreStrings entity g t → draft_of entity f s ≡ draft_of entity g t
 one_draft entity given f g s t e d x y =
     let found = one_found entity given f g e d in
@@ -170,13 +171,13 @@ same_text entity given a n b m x y =
     let same = one_first entity y.found in_order a n b m (subst (λ (h : Found). LeavesFirst entity h in_order a n) found x.leaves) y.leaves in
     both_texts a n b m same.0 same.1
 
--- if an entity has a sound device, none of the rules V2 to V14 fails
+-- if an entity has a sound device, it fails none of the rules V2 to V14
 not_broken : (entity : Entity) (given : Option (List ℕ)) (d : RawDevice) (b m : ℕ) {P : Type 0} → IsSound entity given d → FailsRule entity given b m → P
 not_broken entity given d b m x y =
     let same = one_draft entity given x.found y.found x.strings y.strings x.needed y.needed x.read y.read in
     none_is_some (first_rule (draft_of entity y.found y.strings)) (record { rule = b; item = m }) (sym (ap first_rule same) ∙ x.kept) y.broken
 
--- if all strings have values, none of them leaves its grammar
+-- if V1 holds and all strings have values, no string leaves its grammar
 not_left : (entity : Entity) (given : Option (List ℕ)) (found : Found) (strings : Strings) (b m : ℕ) {P : Type 0} → v1 entity given ≡ Ok found → AreStrings entity found strings → FailsText entity given b m → P
 not_left entity given found strings b m e read y =
     let same = one_found entity given found y.found e y.needed in

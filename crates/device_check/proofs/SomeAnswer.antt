@@ -42,7 +42,8 @@ first_takes : EachTurnTakes first_parenthesis
 unfolding grammar.compliance
 first_takes = compliance_takes.0
 
--- the string begins with a whole first parenthesis, or it does not
+-- the number of the part of the string at which a wrong value of COMPLIANCE_PATTERNS goes wrong: 2
+-- if the string begins with a whole first parenthesis, and 1 if it does not
 which_parenthesis : (text : List ℕ) → (n : ℕ) × (((n ≡ 1) × ¬ HasFirstParenthesis text) ⊎ ((n ≡ 2) × HasFirstParenthesis text))
 which_parenthesis text = by_reader (reader_of first_parenthesis (pieces text)) refl
   where
@@ -75,7 +76,8 @@ maybe_answered {A} Is IsNo answers (Some text) = by_answer (answers text)
     by_answer (inl x) = inl (Some x.0, x.1)
     by_answer (inr y) = inr y
 
--- each string is read or leaves its grammar
+-- each string is read, which means that it has a value or is optional and missing, or it leaves its
+-- grammar at some entry
 read_or_left : (entity : Entity) (needs : Found) (string : DeviceString) → IsRead entity needs string ⊎ ((n : ℕ) × Leaves entity needs string n)
 read_or_left entity needs pin_map = list_answered can_maps needs.chosen.pin_map
 read_or_left entity needs opcodes = list_answered can_opcodes needs.registers.opcodes
@@ -84,7 +86,7 @@ read_or_left entity needs idcode = maybe_answered IsPattern IsNoPattern pattern_
 read_or_left entity needs compliance = maybe_answered IsCompliance IsNoCompliance compliance_answered (text_of entity CompliancePatterns)
 read_or_left entity needs boundary = list_answered can_entries needs.registers.boundary
 
--- the values of all strings, or the first string that leaves its grammar
+-- either all strings have values, or some string is the first that leaves its grammar
 pub data Gathered (entity : Entity) (needs : Found) : Type 0 where
   values : (strings : Strings) → AreStrings entity needs strings → Gathered entity needs
   leaves : (attribute entry : ℕ) → LeavesFirst entity needs in_order attribute entry → Gathered entity needs

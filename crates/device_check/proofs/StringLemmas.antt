@@ -14,12 +14,13 @@ use Rattle.bsdl_strings.specs.Places.{Part, comma_or_end, is_code, code_of, is_s
 use Rattle.bsdl_strings.specs.Strings.{IsListOf, IsPattern, IsNoPattern}
 use Rattle.bsdl_strings.proofs.PieceLemmas.{length_pieces}
 
--- the tokens are a list whose entries and marks take at least one token each, or they go wrong at some entry
+-- either the tokens are a list, and each entry and each mark takes at least one token, or the list
+-- goes wrong at some entry
 pub data Answered {T A : Type 0} (entry : Grammar T A) (more : Grammar T Bool) (tokens : List T) : Type 0 where
   listed : (values : List A) → (production_of (list_of entry more)).Whole tokens values → 2 * length values ≤ length tokens → Answered entry more tokens
   wrong : (number : ℕ) → GoesWrongAt entry more number tokens → Answered entry more tokens
 
--- if the list ends and tokens are left after it, the tokens go wrong at its last entry
+-- if the list ends after some entry and tokens are left, the list goes wrong at that entry
 ends_early : {T A : Type 0} {entry : Grammar T A} {more : Grammar T Bool} → CanRead entry more → (tokens here mid : List T) (t : T) (rest : List T) (before : List A) (one : A)
     → Progress entry more tokens here before → reader_of entry here ≡ found one mid → reader_of more mid ≡ found false (t ∷ rest) → GoesWrongAt entry more (length before + 1) tokens
 ends_early {T} {A} {entry} {more} can tokens here mid t rest before one so_far e f = record {
@@ -72,7 +73,7 @@ answered_from {T} {A} {entry} {more} can (suc fuel) tokens here before so_far lt
 pub answered : {A : Type 0} {entry : Part A} → CanRead entry comma_or_end → (text : List ℕ) → Answered entry comma_or_end (pieces text)
 answered {A} {entry} can text = answered_from can (suc (length (pieces text))) (pieces text) (pieces text) [] (begins entry comma_or_end (pieces text)) (omega arith)
 
--- a text that begins with `n` whole entries also begins with fewer
+-- tokens that begin with `n` whole entries also begin with `m` whole entries for each `m` up to `n`
 fewer_stand : {T A : Type 0} (entry : Grammar T A) (more : Grammar T Bool) (n m : ℕ) (tokens : List T) → m ≤ n → Fronts entry more n tokens → Fronts entry more m tokens
 fewer_stand entry more n zero tokens le h = tt
 fewer_stand entry more zero (suc m) tokens le h = absurd (omega arith)
@@ -85,14 +86,14 @@ fewer_stand entry more (suc n) (suc m) tokens le h = record {
   next = record { front = h.next.front; back = h.next.back; value = h.next.value; split = h.next.split; first = h.next.first; next = (h.next.next.0, fewer_stand entry more n m h.next.back (omega arith) h.next.next.1) };
 }
 
--- a list goes wrong at only one entry
+-- a list that goes wrong does so at only one entry
 pub one_number : {T A : Type 0} {entry : Grammar T A} {more : Grammar T Bool} (tokens : List T) (n m : ℕ) → GoesWrongAt entry more n tokens → GoesWrongAt entry more m tokens → n ≡ m
 one_number {T} {A} {entry} {more} tokens n m x y =
     let a : x.whole < suc y.whole = lt_of_not-le (λ le. y.no_more (fewer_stand entry more x.whole (suc y.whole) tokens le x.stand)) in
     let b : y.whole < suc x.whole = lt_of_not-le (λ le. x.no_more (fewer_stand entry more y.whole (suc x.whole) tokens le y.stand)) in
     omega (arith, x.next, y.next)
 
--- a short string has few entries
+-- a list in a string of fewer than 2^32 bytes has fewer than 2^32 entries
 pub few_entries : {A : Type 0} {entry : Part A} → CanRead entry comma_or_end → (text : List ℕ) (values : List A) → IsListOf entry text values → length text < 2 ^ 32 → length values < 2 ^ 32
 few_entries {A} {entry} can text values is short = by_answer (answered can text)
   where
@@ -103,7 +104,7 @@ few_entries {A} {entry} can text values is short = by_answer (answered can text)
         omega (arith, (length_pieces text).1)
     by_answer (wrong number h) = absurd (h.no_value values is)
 
--- a string is a pattern, or leaves the grammar of patterns at some place
+-- either a string is a pattern, or it leaves the grammar of patterns at some place
 pub pattern_answered : (text : List ℕ) → ((code : List Symbol) × IsPattern text code) ⊎ ((number : ℕ) × IsNoPattern text number)
 pattern_answered text = by_test (is_code text) refl
   where

@@ -1,4 +1,4 @@
--- The texts of a small entity are short.
+-- The strings of a small entity are short: each has fewer than 2^32 bytes.
 use Rattle.std.proofs.Common.{◌≡◌, ◌==◌, ℕ, ◌<◌, ◌^◌, Bool, true, false, if◌then◌else◌, List, [], ◌∷◌, length, Option, Some, None, Ok, subst, ap}
 use Rattle.std.specs.List.{All, count_by, find}
 use Rattle.std.specs.Option.{IfSome, option_map, option_and_then}
@@ -17,7 +17,7 @@ use Rattle.device_check.specs.Needed.{FoundPackage, Found, pin_map_in, found_pac
 use Rattle.device_check.specs.inner.Reading.{HasShortStrings}
 use Rattle.device_check.proofs.FoundLemmas.{IsFound, found_is}
 
--- a property of all items is a property of the item that `find` returns
+-- if all items of a list have a property, the item that `find` returns has it
 found_holds : {X : Type 0} (P : X → Type 0) (test : X → Bool) (xs : List X) → All P xs → IfSome (find test xs) P
 found_holds P test [] all = tt
 found_holds P test (x ∷ xs) all = by_x (test x) (found_holds P test xs (All-tail P x xs all))

@@ -1,4 +1,4 @@
--- The values of an entity's attributes and constants, which are in upper case.
+-- The values of an entity's attributes and constants. Names and values are in upper case.
 use Rattle.std.specs.Prelude.{ℕ, ◌==◌, List, Bool, false, ◌||◌, if◌then◌else◌, Option, Some, None, codes, count_by, find, option_map, option_and_then}
 use Rattle.std.specs.List.{list_any}
 use Rattle.std.specs.Str.{bytes_eq}
@@ -47,7 +47,7 @@ text_in (values.Port port) = None
 text_in (values.Number number) = None
 text_in (values.Text text) = Some text
 
--- the port to which the attribute belongs
+-- the port that is the value of the attribute, as of a TAP attribute
 abbrev pub port_of : Entity → Attribute → Option (List ℕ)
 port_of entity attribute = option_and_then port_in (value_of entity attribute)
 
@@ -55,17 +55,20 @@ port_of entity attribute = option_and_then port_in (value_of entity attribute)
 abbrev pub text_of : Entity → Attribute → Option (List ℕ)
 text_of entity attribute = option_and_then text_in (value_of entity attribute)
 
--- the port, the number or the string of an attribute that the entity has exactly once
+-- the port that is the value of an attribute that the entity has exactly once
 abbrev pub only_port : Entity → Attribute → Option (List ℕ)
 only_port entity attribute = option_and_then port_in (only_value entity attribute)
 
+-- the number that is the value of an attribute that the entity has exactly once
 abbrev pub only_number : Entity → Attribute → Option ℕ
 only_number entity attribute = option_and_then number_in (only_value entity attribute)
 
+-- the string that is the value of an attribute that the entity has exactly once
 abbrev pub only_text : Entity → Attribute → Option (List ℕ)
 only_text entity attribute = option_and_then text_in (only_value entity attribute)
 
--- the package that is given, or otherwise the default of the generic
+-- the package that the caller gives, or, if the caller gives none, the default of the entity's
+-- generic
 abbrev pub chosen : Entity → Option (List ℕ) → Option (List ℕ)
 chosen entity (Some name) = Some name
 chosen entity None = entity.fallback

@@ -1,4 +1,5 @@
--- The strings of an entity for which V1 holds: their values, and the first string that leaves its grammar.
+-- The strings of an entity that are read after V1 holds: their values, and the first string that
+-- leaves its grammar.
 use Rattle.std.specs.Prelude.{◌≡◌, ℕ, List, [], ◌∷◌, Option, Some, None, ◌⊎◌}
 use Rattle.board_defs.specs.declared.device.Symbol.{Symbol}
 use Rattle.bsdl_parser.specs.declared.entity.Entity.{Entity}
@@ -15,7 +16,7 @@ use Rattle.device_check.specs.Sources.{source_number}
 use Rattle.device_check.specs.Attributes.{text_of}
 use Rattle.device_check.specs.Needed.{Found}
 
--- the string has this value, or there is neither a string nor a value
+-- either there is a string and `value` is its value, or there is neither a string nor a value
 abbrev pub MayBe : {A : Type 0} → (List ℕ → A → Type 0) → Option (List ℕ) → Option A → Type 0
 MayBe Is None None = Unit {0}
 MayBe Is None (Some value) = ⊥
@@ -27,8 +28,8 @@ abbrev pub MayLeave : (List ℕ → ℕ → Type 0) → Option (List ℕ) → �
 MayLeave IsNo None entry = ⊥
 MayLeave IsNo (Some text) entry = IsNo text entry
 
--- the strings that are read: the pin map of the package, then those of INSTRUCTION_OPCODE, INSTRUCTION_CAPTURE, IDCODE_REGISTER,
--- COMPLIANCE_PATTERNS and BOUNDARY_REGISTER
+-- the strings that are read: the pin map of the package, and the values of INSTRUCTION_OPCODE,
+-- INSTRUCTION_CAPTURE, IDCODE_REGISTER, COMPLIANCE_PATTERNS and BOUNDARY_REGISTER
 pub data DeviceString : Type 0 where
   pin_map : DeviceString
   opcodes : DeviceString
@@ -50,7 +51,7 @@ source_of boundary = sources.Attribute BoundaryRegister
 abbrev pub string_number : DeviceString → ℕ
 string_number string = source_number (source_of string)
 
--- the string is in its grammar, or is optional and missing
+-- the string has a value in its grammar, or it is optional and missing
 abbrev pub IsRead : Entity → Found → DeviceString → Type 0
 IsRead entity found pin_map = (entries : List MapEntry) × IsPinMap found.chosen.pin_map entries
 IsRead entity found opcodes = (ops : List Opcode) × AreOpcodes found.registers.opcodes ops
@@ -68,11 +69,12 @@ Leaves entity found idcode entry = MayLeave IsNoPattern (text_of entity IdcodeRe
 Leaves entity found compliance entry = MayLeave IsNoCompliance (text_of entity CompliancePatterns) entry
 Leaves entity found boundary entry = IsNoBoundary found.registers.boundary entry
 
--- the string has this number, and leaves its grammar at this entry
+-- `attribute` is the number of the string, and the string leaves its grammar at this entry
 abbrev pub LeavesBy : Entity → Found → DeviceString → ℕ → ℕ → Type 0
 LeavesBy entity found string attribute entry = (attribute ≡ string_number string) × Leaves entity found string entry
 
--- the first string that leaves its grammar has this number, and leaves its grammar at this entry
+-- `attribute` is the number of the first string that leaves its grammar, and that string leaves it
+-- at this entry; the strings before it are read
 abbrev pub LeavesFirst : Entity → Found → List DeviceString → ℕ → ℕ → Type 0
 LeavesFirst entity found [] attribute entry = ⊥
 LeavesFirst entity found (string ∷ strings) attribute entry =
@@ -82,7 +84,7 @@ LeavesFirst entity found (string ∷ strings) attribute entry =
 abbrev pub in_order : List DeviceString
 in_order = pin_map ∷ opcodes ∷ capture ∷ idcode ∷ compliance ∷ boundary ∷ []
 
--- the values of all strings, each by the grammar of the string
+-- `strings` has the values of all strings, each by its own grammar
 pub record AreStrings (entity : Entity) (found : Found) (strings : Strings) : Type 0 where
   pub map_is : IsPinMap found.chosen.pin_map strings.map
   pub opcodes_are : AreOpcodes found.registers.opcodes strings.opcodes

@@ -1,4 +1,5 @@
--- The listing of a device: a line for each of its names, its instruction register, each port, and each entry of a cell.
+-- The listing of a device: a line for its entity, its package, its instruction register, each port,
+-- and each entry of a cell.
 use Rattle.std.specs.Prelude.{ℕ, ◌==◌, Bool, true, false, List, [], ◌∷◌, ◌++◌, length, codes, decimal, filter, Option, None, Some, is_some, slice_get, slice_index_or, if◌then◌else◌}
 use Rattle.std.specs.List.{flat_map, list_any, range_with_len}
 use Rattle.line_printer.specs.Prints.{whole, line_of}
@@ -15,7 +16,7 @@ use Rattle.board_defs.specs.declared.device.Cell.{Cell}
 use Rattle.board_defs.specs.declared.device.PortBit.{PortBit}
 use Rattle.board_defs.specs.declared.device.RawDevice.{RawDevice}
 
--- the words that the listing uses for modes, functions, symbols and bits
+-- the words that the listing uses for the modes of ports
 abbrev pub mode_word : Mode → List ℕ
 mode_word Inward = codes "IN"
 mode_word Outward = codes "OUT"
@@ -43,16 +44,19 @@ abbrev pub bit_word : Bool → List ℕ
 bit_word false = codes "0"
 bit_word true = codes "1"
 
--- the text of a code, which ends with the symbol nearest TDO, the first of the code
+-- the text of a code: its symbols in reverse, so that the first symbol of the code, the one nearest
+-- TDO, is the last
 abbrev pub code_text : List Symbol → List ℕ
 code_text [] = []
 code_text (symbol ∷ symbols) = code_text symbols ++ symbol_word symbol
 
--- the texts of the instruction codes: 1149.1-2001 splits SAMPLE/PRELOAD in two, and does not prescribe the code of EXTEST
+-- the texts of the instruction codes; IEEE 1149.1-2001 splits SAMPLE/PRELOAD in two and does not
+-- prescribe the code of EXTEST
 abbrev pub instructions_text : Edition → List Symbol → List Symbol → List ℕ
 instructions_text Old sample extest = whole (codes " SAMPLE " ∷ code_text sample ∷ [])
 instructions_text Of2001 sample extest = whole (codes " PRELOAD " ∷ code_text sample ∷ codes " EXTEST " ∷ code_text extest ∷ [])
 
+-- the text of the identification pattern, or `-` if there is none
 abbrev pub pattern_text : Option (List Symbol) → List ℕ
 pattern_text None = codes "-"
 pattern_text (Some code) = code_text code
@@ -61,15 +65,17 @@ abbrev pub instruction_line : RawDevice → List ℕ
 instruction_line device =
     line_of (codes "IR " ∷ decimal device.ir ∷ instructions_text device.edition device.sample device.extest ∷ codes " IDCODE " ∷ pattern_text device.idcode ∷ [])
 
--- a space and the pin of a port bit, or no text if the bit has no pin; and the pins of all bits of a port
+-- a space and the pin of a port bit, or no text if the bit has no pin
 abbrev pub pin_text : Option (List ℕ) → List ℕ
 pin_text None = []
 pin_text (Some pin) = whole (codes " " ∷ pin ∷ [])
 
+-- the pins of the bits of a port, or ` -` if no bit has a pin
 abbrev pub pins_text : List PortBit → List ℕ
 pins_text bits = if list_any (λ bit. is_some bit.pin) bits then flat_map (λ bit. pin_text bit.pin) bits else codes " -"
 
--- the line of a port, whose bits have one mode; a port without bits has no line
+-- the line of a port with this name and these bits, which all have the mode of the first; a port
+-- without bits has no line
 abbrev pub port_line : List ℕ → List PortBit → List ℕ
 port_line name [] = []
 port_line name (bit ∷ bits) = line_of (codes "PORT " ∷ name ∷ codes " " ∷ mode_word bit.mode ∷ pins_text (bit ∷ bits) ∷ [])
@@ -81,31 +87,36 @@ abbrev pub port_lines : List (List ℕ) → List PortBit → List ℕ
 port_lines ports bits =
     flat_map (λ port. port_line (port_name ports port) (filter (λ bit. bit.port == port) bits)) (range_with_len 0 (length ports))
 
--- the index of a vector's bit in parentheses, or no text for a plain port; it is a part of the line of an entry, which `cell_line` defines
+-- the index of a vector's bit in parentheses, or no text for the bit of a plain port
 abbrev pub index_text : Option ℕ → List ℕ
 index_text None = []
 index_text (Some index) = whole (codes "(" ∷ decimal index ∷ codes ")" ∷ [])
 
+-- a port bit: the name of its port, followed by its index
 abbrev pub bit_text : List (List ℕ) → Option PortBit → List ℕ
 bit_text ports None = []
 bit_text ports (Some bit) = port_name ports bit.port ++ index_text bit.index
 
+-- the port bit of an entry, or `*` if the entry has none
 abbrev pub place_text : List (List ℕ) → List PortBit → Option ℕ → List ℕ
 place_text ports bits None = codes "*"
 place_text ports bits (Some bit) = bit_text ports (slice_get bits bit)
 
+-- the control cell of an entry and the disable value, or no text if the entry has no control
 abbrev pub control_text : Option Control → List ℕ
 control_text None = []
 control_text (Some control) = whole (codes " " ∷ decimal control.cell ∷ codes " " ∷ bit_word control.disable ∷ [])
 
+-- the line of an entry of a cell
 abbrev pub cell_line : List (List ℕ) → List PortBit → Cell → List ℕ
 cell_line ports bits cell =
     line_of (codes "CELL " ∷ decimal cell.num ∷ codes " " ∷ role_word cell.role ∷ codes " " ∷ place_text ports bits cell.bit ∷ codes " " ∷ symbol_word cell.safe ∷ control_text cell.ctl ∷ [])
 
--- the entries of a cell, in the order of the text
+-- the entries of a cell, in the order of the list
 abbrev pub entries_of : ℕ → List Cell → List Cell
 entries_of num cells = filter (λ cell. cell.num == num) cells
 
+-- the lines of the entries of `count` cells from `from` on, in the order of the cells
 abbrev pub cell_lines : List (List ℕ) → List PortBit → List Cell → ℕ → ℕ → List ℕ
 cell_lines ports bits cells from count =
     flat_map (λ num. flat_map (cell_line ports bits) (entries_of num cells)) (range_with_len from count)

@@ -35,22 +35,24 @@ pub record Found : Type 0 where
   pub registers : FoundRegisters
   pub chosen : FoundPackage
 
--- the result of the next step for this value; if there is no value, the search ends with the source
+-- applies the next step to the value; without a value, the result is the source, which then is
+-- missing or wrong
 abbrev pub need : {A B : Type 0} → Source → Option A → (A → Result B Source) → Result B Source
 need source None next = Err source
 need source (Some value) next = next value
 
--- like `need`, but for the result of another search in place of a value
+-- like `need`, but takes the result of another search instead of a value, and passes its error on
 abbrev pub and_then : {A B : Type 0} → Result A Source → (A → Result B Source) → Result B Source
 and_then (Err source) next = Err source
 and_then (Ok value) next = next value
 
--- the result of the next step, if no attribute is wrong
+-- the result `next` of the next step, or the attribute as the source if an attribute is wrong
 abbrev pub unless : {B : Type 0} → Option Attribute → Result B Source → Result B Source
 unless (Some attribute) next = Err (sources.Attribute attribute)
 unless None next = next
 
--- the ports that the four mandatory TAP attributes name, if the entity has PIN_MAP and each of these attributes exactly once
+-- the ports that the four mandatory TAP attributes name, or the first of PIN_MAP and these
+-- attributes that the entity does not have exactly once or whose value has the wrong kind
 unfoldable pub found_taps : Entity → Result FoundTaps Source
 found_taps entity =
     need (sources.Attribute PinMap) (only_value entity PinMap) (λ _.
@@ -65,7 +67,9 @@ abbrev pub within : ℕ → ℕ → Option ℕ → Option ℕ
 within least most None = None
 within least most (Some number) = if nat_le least number && nat_le number most then Some number else None
 
--- the values of the attributes of the two registers, if the entity has each attribute exactly once and each length is in its range
+-- the values of the attributes of the two registers, or the first of these attributes that the
+-- entity does not have exactly once, whose value has the wrong kind, or whose length is out of
+-- range
 unfoldable pub found_registers : Entity → Result FoundRegisters Source
 found_registers entity =
     need (sources.Attribute InstructionLength) (within 2 most_instruction_bits (only_number entity InstructionLength)) (λ instruction_length.
@@ -79,7 +83,7 @@ found_registers entity =
 abbrev pub is_repeated : Entity → Attribute → Bool
 is_repeated entity attribute = nat_lt 1 (times entity attribute)
 
--- the text is an edition of the standard that COMPONENT_CONFORMANCE may name
+-- the text is one of the editions that COMPONENT_CONFORMANCE may name
 abbrev pub is_edition : Option (List ℕ) → Bool
 is_edition text = is_text (codes "STD_1149_1_1990") text || (is_text (codes "STD_1149_1_1993") text || is_text (codes "STD_1149_1_2001") text)
 
@@ -87,7 +91,8 @@ is_edition text = is_text (codes "STD_1149_1_1990") text || (is_text (codes "STD
 abbrev pub conforms : Entity → Bool
 conforms entity = (times entity ComponentConformance == 0) || is_edition (only_text entity ComponentConformance)
 
--- the first optional attribute that is repeated, or COMPONENT_CONFORMANCE if it names no edition
+-- the first of the optional TAP_SCAN_RESET, IDCODE_REGISTER and COMPLIANCE_PATTERNS that is
+-- repeated, or otherwise COMPONENT_CONFORMANCE if it is repeated or names no edition
 unfoldable pub wrong_option : Entity → Option Attribute
 wrong_option entity =
     if is_repeated entity TapScanReset then Some TapScanReset else
@@ -95,7 +100,7 @@ wrong_option entity =
     if is_repeated entity CompliancePatterns then Some CompliancePatterns else
     if conforms entity then None else Some ComponentConformance
 
--- the package with the string of this constant
+-- the package with this name, whose pin map is the string of the constant
 abbrev pub pin_map_in : List ℕ → Option Constant → Option FoundPackage
 pin_map_in name None = None
 pin_map_in name (Some constant) = Some (record { name = name; pin_map = constant.text })
@@ -105,8 +110,9 @@ abbrev pub found_package : Entity → Option (List ℕ) → Option FoundPackage
 found_package entity None = None
 found_package entity (Some name) = pin_map_in name (only_constant entity name)
 
--- V1: the values of all sources, or the first source that is missing, repeated or has a wrong value. The attributes are
--- tried in the order of their numbers, and then the pin map is tried.
+-- V1: the values of all sources, or the first source that is missing, repeated or has a wrong
+-- value. The attributes are checked first, in the order of their numbers, and the pin map is
+-- checked last.
 unfoldable pub v1 : Entity → Option (List ℕ) → Result Found Source
 v1 entity given =
     and_then (found_taps entity) (λ taps.

@@ -1,4 +1,5 @@
--- The answer to an entity and a package: its sound device, or the first rule or string that fails.
+-- The answer to an entity and a package: the sound device of the entity, or the first rule or
+-- string that fails.
 use Rattle.std.specs.Prelude.{◌≡◌, ℕ, List, Option, Some, None, ◌⊎◌, Result, Ok, Err}
 use Rattle.board_defs.specs.declared.device.RawDevice.{RawDevice}
 use Rattle.bsdl_parser.specs.declared.entity.Entity.{Entity}
@@ -16,7 +17,7 @@ use Rattle.device_check.specs.Attributes.{port_of, edition}
 use Rattle.device_check.specs.Needed.{Found, v1}
 use Rattle.device_check.specs.DeviceStrings.{LeavesFirst, in_order, AreStrings}
 
--- the ports that the TAP attributes name
+-- the ports that the entity's TAP attributes name
 abbrev pub taps_of : Entity → Found → TapPorts
 taps_of entity found = record {
   scan_in = found.taps.scan_in;
@@ -74,7 +75,8 @@ pub record FailsNeed (entity : Entity) (given : Option (List ℕ)) (number item 
   pub wrong : v1 entity given ≡ Err source
   pub item_is : item ≡ source_number source
 
--- the fault is that of the first step that fails: V1, then the strings, then V2 to V14
+-- the fault is the fault of the first step that fails; the steps are V1, then the strings, then V2
+-- to V14
 abbrev pub IsFirst : Entity → Option (List ℕ) → DeviceFault → Type 0
 IsFirst entity given (Rule number item) = FailsNeed entity given number item ⊎ FailsRule entity given number item
 IsFirst entity given (Text attribute entry) = FailsText entity given attribute entry
@@ -84,7 +86,7 @@ abbrev pub IsAnswer : Entity → Option (List ℕ) → Result RawDevice DeviceFa
 IsAnswer entity given (Ok device) = IsSound entity given device
 IsAnswer entity given (Err fault) = IsFirst entity given fault
 
--- the fault, or None for a refusal of memory
+-- the fault, or None if memory ran out
 abbrev pub device_told : DeviceFault → Option DeviceFault
 device_told (Memory error) = None
 device_told fault = Some fault

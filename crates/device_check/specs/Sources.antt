@@ -1,11 +1,12 @@
--- The numbers of the attributes, and the numbers by which a fault names a place in an entity.
+-- The numbers of the attributes, and the numbers by which a fault names an attribute or the pin map
+-- of an entity.
 use Rattle.std.specs.Prelude.{ℕ}
 use Rattle.device_check.specs.declared.sources.Attribute.{Attribute}
 use Rattle.device_check.specs.declared.sources.Attribute.TheVariants as attributes
 use Rattle.device_check.specs.declared.sources.Source.{Source}
 use Rattle.device_check.specs.declared.sources.Source.TheVariants as sources
 
--- the number that the parser gives an attribute
+-- the number by which the parser identifies the attribute
 abbrev pub attribute_number : Attribute → ℕ
 attribute_number attributes.PinMap = 1
 attribute_number attributes.TapScanIn = 2

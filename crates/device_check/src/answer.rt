@@ -1,4 +1,4 @@
-//! Returns the device of an entity, or its first fault.
+//! Makes the device that an entity describes, or finds the first fault of the entity.
 ghost use Rattle.std.specs.Prelude.{◌≡◌, None, Result, IfOk, option_copied};
 ghost use Rattle.answers.specs.Gives.{Gives};
 ghost use Rattle.board_defs.specs.declared.device.RawDevice.{RawDevice};
@@ -20,7 +20,8 @@ use bsdl_parser::Entity;
 use device_rules::{Draft, DraftFault, raw_device};
 use std::alloc::Global;
 
-/// Returns the device of a draft, or the first broken rule of V2 to V14.
+/// Returns the device of a draft, or a fault: the first of the rules V2 to V14 that the draft
+/// breaks.
 fn judge(alloc: Global, draft: Draft) -> Result<Device, DeviceFault>
     requires short { HasShortLists draft }
     requires lengths { HasLengths draft }
@@ -58,14 +59,17 @@ fn answer(alloc: Global, entity: &Entity, package: Option<&[u8]>) -> Result<Devi
     judge(alloc, draft)
 }
 
-/// Returns the device that the entity describes in this package. If `package` is None, takes the default package of the generic.
+/// Returns the device that the entity describes in this package. If `package` is None, takes the
+/// default package of the entity's generic.
 ///
-/// The rules are tried in this order: V1; the strings of the pin map and of INSTRUCTION_OPCODE, INSTRUCTION_CAPTURE,
-/// IDCODE_REGISTER, COMPLIANCE_PATTERNS and BOUNDARY_REGISTER; V2 to V14. The first rule or string that fails is the fault.
+/// The rules are checked in this order: V1; the strings of the pin map and of INSTRUCTION_OPCODE,
+/// INSTRUCTION_CAPTURE, IDCODE_REGISTER, COMPLIANCE_PATTERNS and BOUNDARY_REGISTER; V2 to V14. The
+/// fault is the first rule or string that fails.
 #[tactic(auto, using(crate::proofs::OneAnswer::only_answer))]
 pub fn device(alloc: Global, entity: &Entity, package: Option<&[u8]>) -> Result<Device, DeviceFault>
     requires small { IsSmall entity.now }
-    // The device is the sound device of the entity, or the fault is that of the first step that fails.
+    // The device is the sound device of the entity, or the fault is the fault of the first step
+    // that fails.
     ensures answer { Gives device_told (λ device. device) (IsAnswer entity.now (option_copied «package».entry)) result }
     // There is no other answer.
     ensures only { Gives device_told (λ device. device) (λ answer. (other : Result RawDevice DeviceFault) → IsAnswer entity.now (option_copied «package».entry) other → other ≡ answer) result }

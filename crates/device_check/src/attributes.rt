@@ -81,7 +81,7 @@ fn text_in(value: Option<&AttrValue>) -> Option<&[u8]>
     }
 }
 
-/// Returns the port to which the attribute belongs.
+/// Returns the port that is the value of the attribute, as of a TAP attribute.
 pub(crate) fn port_of(entity: &Entity, attribute: Attribute) -> Option<&[u8]>
     ensures { option_copied result ≡ port_of entity.now attribute }
 {
@@ -116,7 +116,8 @@ pub(crate) fn only_text(entity: &Entity, attribute: Attribute) -> Option<&[u8]>
     text_in(only_value(entity, attribute))
 }
 
-/// Returns the package that is given, or otherwise the default of the generic.
+/// Returns the package that the caller gives, or, if the caller gives none, the default of the
+/// entity's generic.
 pub(crate) fn chosen<'a>(entity: &'a Entity, package: Option<&'a [u8]>) -> Option<&'a [u8]>
     ensures { option_copied result ≡ chosen entity.now (option_copied «package».entry) }
 {

@@ -43,7 +43,7 @@ fn reset_port(alloc: Global, entity: &Entity) -> Result<Option<Name>, AllocError
     }
 }
 
-/// Returns the ports that the TAP attributes name.
+/// Returns copies of the names of the ports that the TAP attributes name.
 fn taps_of(alloc: Global, entity: &Entity, needed: &Needed) -> Result<TapPorts, AllocError>
     ensures { IfOk result (λ taps. taps ≡ taps_of entity.now (needed_view needed.now)) }
 {
@@ -56,8 +56,8 @@ fn taps_of(alloc: Global, entity: &Entity, needed: &Needed) -> Result<TapPorts, 
     })
 }
 
-/// The names and the ports of a draft: the entity's name, the package's name, the ports of the entity, and the
-/// ports that the TAP attributes name.
+/// The names and the ports of a draft: the name of the entity, the name of the package, the ports
+/// of the entity, and the ports that the TAP attributes name.
 type EntityParts = (Name, Name, Items<Port>, TapPorts);
 
 fn parts_of(alloc: Global, entity: &Entity, needed: &Needed) -> Result<EntityParts, AllocError>

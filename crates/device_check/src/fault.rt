@@ -1,28 +1,30 @@
-//! The faults because of which an entity describes no device.
+//! The faults for which an entity describes no device.
 ghost use Rattle.std.specs.Prelude.{◌≡◌, alloc_error};
 ghost use Rattle.device_check.specs.declared.fault.DeviceFault.TheVariants.{Memory};
 
 use std::alloc::{AllocError, AllocFailed};
 use thiserror::Error;
 
-/// The first rule or string of a device that fails, or a refusal of memory.
+/// The first rule or string of a device that fails, or lack of memory.
 #[derive(Clone, Copy, Debug, PartialEq, Eq, Error)]
 pub enum DeviceFault {
     /// A rule, by its number from 1 to 14, and the first item that breaks it.
     ///
-    /// For rule 1 the item is the number of an attribute, or 15 for the pin map of the package. For any other rule
-    /// the item is that of `device_rules::Broken`.
+    /// For rule 1 the item is the number of an attribute, or 15 for the pin map of the package. For
+    /// the other rules `device_rules::Broken` says what the item is.
     #[error("rule V{number} item {item}")]
     Rule { number: u32, item: u32 },
-    /// A string that leaves its grammar: the number of its attribute, or 15 for the pin map of the package, and the
-    /// number, from 1, of the entry at which the string leaves the grammar.
+    /// A string that leaves its grammar. `attribute` is the number of its attribute, or 15 for the
+    /// pin map of the package. `entry` is the number, from 1, of the entry at which the string
+    /// leaves the grammar.
     #[error("{} entry {entry}", attribute_name(*.attribute))]
     Text { attribute: u32, entry: u32 },
     #[error("out of memory")]
     Memory(AllocError),
 }
 
-// Returns the name of the attribute with this number. Its string has a grammar of its own.
+// Returns the name of the attribute with this number, one of those whose value is a string with a
+// grammar of its own.
 fn attribute_name(attribute: u32) -> &'static str {
     match attribute {
         7 => "INSTRUCTION_OPCODE",

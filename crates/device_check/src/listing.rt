@@ -62,7 +62,8 @@ fn bit_word(bit: bool) -> &'static [u8]
     if bit { b"1" } else { b"0" }
 }
 
-/// Prints a code, ending with the symbol nearest TDO.
+/// Prints a code in reverse, so that the symbol nearest TDO, the first of the code, is the last
+/// printed.
 fn print_code<K: Sink>(code: &[Symbol], line: &mut Line, out: &mut K) -> Result<(), PutFault>
     ensures { Prints (K.shown out.old) (K.shown out.new) line.old line.new (code_text code.now) result }
 {
@@ -186,7 +187,7 @@ fn begin_port<K: Sink>(name: &[u8], line: &mut Line, out: &mut K) -> Result<(), 
     begin_line(&[b"PORT ".as_slice(), name, b" "], line, out)
 }
 
-/// Prints the mode of a port.
+/// Prints the word for the mode of a port.
 fn print_mode<K: Sink>(mode: Mode, line: &mut Line, out: &mut K) -> Result<(), PutFault>
     ensures { Prints (K.shown out.old) (K.shown out.new) line.old line.new (mode_word mode) result }
 {
@@ -210,7 +211,7 @@ fn put_port_line<K: Sink>(
     end_line(line, out)
 }
 
-/// Writes the line of a port with these bits, or nothing if there are none.
+/// Writes the line of a port with these bits, or nothing if there are no bits.
 fn put_port<K: Sink>(
     name: &[u8],
     bits: &[PortBit],
@@ -225,7 +226,7 @@ fn put_port<K: Sink>(
     }
 }
 
-/// Returns the name of a port.
+/// Returns the name of the port with this number, or an empty name if there is no such port.
 fn port_name(ports: &[Name], port: usize) -> &[u8]
     ensures { result.now ≡ port_name ports.now port }
 {
@@ -235,7 +236,7 @@ fn port_name(ports: &[Name], port: usize) -> &[u8]
     }
 }
 
-/// Returns the number of bits at the front that belong to the port.
+/// Returns how many bits at the front of the list belong to the port.
 fn count_bits(port: usize, bits: &[PortBit]) -> usize
     ensures value { result ≡ prefix_len (λ bit. bit.port == port) bits.now }
     ensures within { result ≤ length bits.now }
@@ -245,7 +246,8 @@ fn count_bits(port: usize, bits: &[PortBit]) -> usize
         .count()
 }
 
-/// Returns the bits of a port and the bits of later ports.
+/// Splits bits that are in the order of their ports into the bits of `port` and the bits of later
+/// ports. No bit may belong to an earlier port.
 fn split_port(port: usize, bits: &[PortBit]) -> (&[PortBit], &[PortBit])
     requires { Rises port bits.now }
     ensures own { result.0.now ≡ filter (λ bit. bit.port == port) bits.now }
@@ -255,7 +257,7 @@ fn split_port(port: usize, bits: &[PortBit]) -> (&[PortBit], &[PortBit])
     bits.split_at(count_bits(port, bits))
 }
 
-/// Writes the lines of the ports, whose bits are in the order of the ports.
+/// Writes the lines of the ports. The bits must be in the order of the ports.
 fn put_ports<K: Sink>(
     ports: &[Name],
     bits: &[PortBit],
@@ -274,7 +276,7 @@ fn put_ports<K: Sink>(
     Ok(())
 }
 
-/// Prints the index of a bit, if it belongs to a vector.
+/// Prints the index of a bit in parentheses, or nothing if the bit belongs to a plain port.
 fn print_index<K: Sink>(index: Option<u32>, line: &mut Line, out: &mut K) -> Result<(), PutFault>
     ensures { Prints (K.shown out.old) (K.shown out.new) line.old line.new (index_text index) result }
 {
@@ -298,7 +300,7 @@ fn print_port_name<K: Sink>(
     print(port_name(ports, port as usize), line, out)
 }
 
-/// Prints a port bit.
+/// Prints a port bit: the name of its port, followed by its index.
 fn print_bit<K: Sink>(
     ports: &[Name],
     bit: &PortBit,
@@ -312,7 +314,7 @@ fn print_bit<K: Sink>(
     print_index(bit.index, line, out)
 }
 
-/// Prints the port bit of an entry, or `*` if it has none.
+/// Prints the port bit of an entry, or `*` if the entry has none.
 fn print_place<K: Sink>(
     ports: &[Name],
     bits: &[PortBit],
@@ -406,7 +408,7 @@ fn put_entries<K: Sink>(
     }
 }
 
-/// Writes the lines of the cells of a table.
+/// Writes the lines of the entries in a table, in the order of the table's places.
 fn put_table<K: Sink>(
     ports: &[Name],
     bits: &[PortBit],
@@ -423,7 +425,8 @@ fn put_table<K: Sink>(
     Ok(())
 }
 
-/// Writes the lines of cells `from`, `from + 1` and so on, one cell for each place of the table.
+/// Writes the lines of the entries of cells `from`, `from + 1` and so on, one cell for each place
+/// of the table.
 fn put_block<K: Sink>(
     device: &RawDevice,
     from: u32,
@@ -446,7 +449,8 @@ fn put_block<K: Sink>(
     )
 }
 
-/// Writes the lines of all cells, block by block. So the time does not depend on the order of the entries.
+/// Writes the lines of all cells, block by block. Each block takes one walk over all entries,
+/// whatever their order is, so the time does not depend on the order.
 fn put_blocks<K: Sink>(device: &RawDevice, line: &mut Line, out: &mut K) -> Result<(), PutFault>
     requires few { (num : ℕ) → length (entries_of num device.now.cells) ≤ 2 }
     requires most { device.now.boundary ≤ most_bits }
@@ -463,7 +467,8 @@ fn put_blocks<K: Sink>(device: &RawDevice, line: &mut Line, out: &mut K) -> Resu
     Ok(())
 }
 
-/// Returns whether the entries are in the order of their cells and all cell numbers are below `most`.
+/// Returns whether the entries are in the order of their cells, and all cell numbers are below
+/// `most`.
 fn are_in_order(cells: &[Cell], most: u32) -> bool
     ensures { result ≡ true → Climbs 0 most cells.now }
 {
@@ -477,7 +482,7 @@ fn are_in_order(cells: &[Cell], most: u32) -> bool
     true
 }
 
-/// Writes the lines of the entries in their order.
+/// Writes the lines of the entries in the order of the list.
 fn put_in_order<K: Sink>(
     ports: &[Name],
     bits: &[PortBit],
@@ -493,7 +498,8 @@ fn put_in_order<K: Sink>(
     Ok(())
 }
 
-/// Writes the lines of all cells. Most texts have the entries in the order of the cells, so one walk writes them.
+/// Writes the lines of all cells. If the entries are in the order of their cells, as in most texts,
+/// one walk writes them.
 fn put_cells<K: Sink>(device: &RawDevice, line: &mut Line, out: &mut K) -> Result<(), PutFault>
     requires few { (num : ℕ) → length (entries_of num device.now.cells) ≤ 2 }
     requires most { device.now.boundary ≤ most_bits }
@@ -522,14 +528,14 @@ fn put_all_ports<K: Sink>(device: &RawDevice, line: &mut Line, out: &mut K) -> R
     put_ports(device.ports.as_slice(), device.bits.as_slice(), line, out)
 }
 
-/// Writes a line of a word and a name.
+/// Writes a line with a word and a name.
 fn put_name<K: Sink>(word: &[u8], name: &Name, line: &mut Line, out: &mut K) -> Result<(), PutFault>
     ensures { Prints (K.shown out.old) (K.shown out.new) [] [] (line_of (word.now ∷ name.now ∷ [])) result }
 {
     put_line(&[word, name.bytes()], line, out)
 }
 
-/// Writes the listing.
+/// Writes the listing of the device.
 fn put_listing<K: Sink>(device: &RawDevice, line: &mut Line, out: &mut K) -> Result<(), PutFault>
     requires { IsDevice device.now }
     ensures { Prints (K.shown out.old) (K.shown out.new) [] [] (device_text device.now) result }

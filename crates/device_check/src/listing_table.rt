@@ -1,4 +1,4 @@
-//! The entries of a block of cells.
+//! The table of the entries of a block of cells.
 ghost use Rattle.std.specs.Prelude.{◌≡◌, ◌==◌, ◌<◌, ◌≤◌, ◌+◌, ℕ, [], ◌∷◌, ◌++◌, length, map, slice_index_or, if◌then◌else◌};
 ghost use Rattle.std.specs.List.{range_with_len};
 ghost use Rattle.device_check.specs.DeviceText.{entries_of};
@@ -15,7 +15,7 @@ pub enum Entries {
 }
 
 impl Entries {
-    /// Returns the entries followed by another one.
+    /// Returns these entries followed by another entry.
     fn and(self, cell: Cell) -> Entries
         requires { length (entries_in self) < 2 }
         ensures { entries_in result ≡ entries_in self ++ cell ∷ [] }
@@ -28,7 +28,8 @@ impl Entries {
     }
 }
 
-/// Adds an entry to those of its cell, if that cell is in the block.
+/// Adds an entry to the place of its cell in the table, if the cell is in the block that begins
+/// with cell `from`.
 fn add_entry(cell: Cell, from: u32, table: &mut [Entries])
     requires { (k : ℕ) → k < length table.old → cell.num ≡ from + k → length (entries_in (slice_index_or table.old k Entries.Nothing)) < 2 }
     ensures length { length table.new ≡ length table.old }

@@ -23,16 +23,16 @@ pub struct NeededTaps<'a> {
 /// The values of the attributes of the instruction register and the boundary-scan register.
 #[derive(Clone, Copy)]
 pub struct NeededRegisters<'a> {
-    /// In bits, from 2 to 255.
+    /// The length of the instruction register, in bits, from 2 to 255.
     pub instruction_length: u32,
     pub opcodes: &'a [u8],
     pub capture: &'a [u8],
-    /// In cells, from 1 to 65,535.
+    /// The length of the boundary register, in cells, from 1 to 65,535.
     pub boundary_length: u32,
     pub boundary: &'a [u8],
 }
 
-/// The package that is chosen: its name, and the string of its pin map.
+/// The chosen package: its name, and the string of its pin map.
 #[derive(Clone, Copy)]
 pub struct NeededPackage<'a> {
     pub name: &'a [u8],
@@ -47,7 +47,7 @@ pub struct Needed<'a> {
     pub chosen: NeededPackage<'a>,
 }
 
-/// Returns the ports of the four mandatory TAP attributes. PIN_MAP is tried first.
+/// Returns the ports of the four mandatory TAP attributes. Checks PIN_MAP before them.
 #[tactic(auto, unfolding(crate::specs::Needed::found_taps))]
 fn needed_taps(entity: &Entity) -> Result<NeededTaps<'_>, Source>
     ensures { Says taps_view (found_taps entity.now) result }
@@ -139,7 +139,8 @@ fn conforms(entity: &Entity) -> bool
         || is_edition(only_text(entity, Attribute::ComponentConformance))
 }
 
-/// Returns the first optional attribute that is repeated or names no edition.
+/// Returns the first of TAP_SCAN_RESET, IDCODE_REGISTER and COMPLIANCE_PATTERNS that is repeated.
+/// If there is none, returns COMPONENT_CONFORMANCE if it is repeated or names no edition.
 #[tactic(auto, unfolding(crate::specs::Needed::wrong_option))]
 fn wrong_option(entity: &Entity) -> Option<Attribute>
     ensures { result ≡ wrong_option entity.now }
@@ -160,8 +161,9 @@ fn wrong_option(entity: &Entity) -> Option<Attribute>
     }
 }
 
-/// Returns the package that is given, or otherwise the default, with its pin map. Returns None if there is no package,
-/// or if not exactly one constant has its name.
+/// Returns the package that the caller gives, or otherwise the default of the entity's generic,
+/// with its pin map. Returns None if there is no package, or if there is not exactly one constant
+/// with the package's name.
 fn needed_package<'a>(entity: &'a Entity, package: Option<&'a [u8]>) -> Option<NeededPackage<'a>>
     ensures { option_map package_view result ≡ found_package entity.now (chosen entity.now (option_copied «package».entry)) }
 {
@@ -173,8 +175,8 @@ fn needed_package<'a>(entity: &'a Entity, package: Option<&'a [u8]>) -> Option<N
     })
 }
 
-/// Tries rule V1. Returns what the entity must have, or the first source that is missing, repeated or has a wrong
-/// value.
+/// Checks rule V1. Returns the values that the entity must have, or the first source that is
+/// missing, repeated or has a wrong value.
 #[tactic(auto, unfolding(crate::specs::Needed::v1))]
 pub(crate) fn find_needed<'a>(
     entity: &'a Entity,

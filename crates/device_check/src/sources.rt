@@ -1,8 +1,8 @@
-//! The attributes that are used, and the places in an entity that a fault may name.
+//! The attributes that describe a device, and the places in an entity that a fault may name.
 ghost use Rattle.std.specs.Prelude.{◌≡◌};
 ghost use Rattle.device_check.specs.Sources.{attribute_number, source_number};
 
-/// An attribute that is used. The variants are in the order of the attributes' numbers.
+/// An attribute that describes a device. The variants are in the order of the attributes' numbers.
 #[derive(Clone, Copy)]
 pub enum Attribute {
     PinMap,
@@ -45,7 +45,8 @@ impl Attribute {
     }
 }
 
-/// A place in an entity that has a value for the device.
+/// A place in an entity that has a value for the device: an attribute, or the constant of the pin
+/// map.
 #[derive(Clone, Copy)]
 pub enum Source {
     Attribute(Attribute),

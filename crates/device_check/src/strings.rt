@@ -1,4 +1,4 @@
-//! Reads the strings of an entity: the pin map of the package, and those of five attributes.
+//! Reads the strings of an entity: the pin map of the package, and the values of five attributes.
 ghost use Rattle.std.specs.Prelude.{◌≡◌, ◌<◌, ◌^◌, length, All, IfOk, IfErr};
 ghost use Rattle.bsdl_parser.specs.Entity.{HasShortText};
 ghost use Rattle.bsdl_strings.specs.Strings.{IsPinMap, IsNoPinMap, AreOpcodes, AreNoOpcodes, IsPattern, IsNoPattern, IsCompliance, IsBoundary, IsNoBoundary};
@@ -29,7 +29,7 @@ pub struct Strings {
     pub entries: Items<Entry>,
 }
 
-/// Returns the device's fault for a string of this source.
+/// Returns the fault of the device for a fault in the string of this source.
 fn fault(source: Source, fault: StringFault) -> DeviceFault
     ensures { result ≡ fault_of source fault }
 {
@@ -113,8 +113,8 @@ fn read_boundary(alloc: Global, needed: &Needed) -> Result<Items<Entry>, DeviceF
     }
 }
 
-/// Returns the values of all strings, or the fault of the first string that leaves its grammar. The strings are read
-/// in the order of the fields of `Strings`.
+/// Returns the values of all strings, or the fault of the first string that leaves its grammar.
+/// Reads the strings in the order of the fields of `Strings`.
 pub(crate) fn read_strings(
     alloc: Global,
     entity: &Entity,

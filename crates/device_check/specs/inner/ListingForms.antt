@@ -1,11 +1,11 @@
--- The order of bits and entries in the listing of a device.
+-- The order of bits and entries in the listing of a device, and the entries in a table's place.
 use Rattle.std.specs.Prelude.{ℕ, ◌<◌, ◌≤◌, List, [], ◌∷◌}
 use Rattle.board_defs.specs.declared.device.Cell.{Cell}
 use Rattle.board_defs.specs.declared.device.PortBit.{PortBit}
 use Rattle.device_check.specs.declared.listing_table.Entries.{Entries}
 use Rattle.device_check.specs.declared.listing_table.Entries.TheVariants.{Nothing, One, Two}
 
--- the entries that were found for a cell
+-- the entries in a place of a table, in order
 abbrev pub entries_in : Entries → List Cell
 entries_in Nothing = []
 entries_in (One first) = first ∷ []

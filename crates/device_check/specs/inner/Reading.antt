@@ -1,4 +1,4 @@
--- The results of the functions that try V1, read the strings of an entity and try the rules.
+-- What the functions return that check V1, read the strings of an entity and check the other rules.
 use Rattle.std.specs.Prelude.{◌≡◌, ℕ, ◌<◌, ◌^◌, length, Some, None, Result, Ok, Err}
 use Rattle.board_defs.specs.declared.device.RawDevice.{RawDevice}
 use Rattle.bsdl_parser.specs.declared.entity.Entity.{Entity}
@@ -19,10 +19,11 @@ use Rattle.device_check.specs.Sources.{source_number}
 use Rattle.device_check.specs.Needed.{FoundTaps, FoundRegisters, FoundPackage, Found}
 use Rattle.device_check.specs.DeviceStrings.{LeavesFirst, in_order, AreStrings}
 
--- the values that V1 returned, without the references to the text
+-- the definition's record of the TAP ports that the function returns
 abbrev pub taps_view : NeededTaps → FoundTaps
 taps_view taps = record { scan_in = taps.scan_in.now; scan_out = taps.scan_out.now; mode = taps.mode.now; clock = taps.clock.now }
 
+-- the definition's record of the values of the two registers' attributes that the function returns
 abbrev pub registers_view : NeededRegisters → FoundRegisters
 registers_view registers = record {
   instruction_length = registers.instruction_length;
@@ -35,38 +36,41 @@ registers_view registers = record {
 abbrev pub package_view : NeededPackage → FoundPackage
 package_view chosen = record { name = chosen.name.now; pin_map = chosen.pin_map.now }
 
+-- the definition's record of all values that the function returns
 abbrev pub needed_view : Needed → Found
 needed_view needed = record { taps = taps_view needed.taps; registers = registers_view needed.registers; chosen = package_view needed.chosen }
 
--- the definition's result `said` is the function's result, with `view` applied to an Ok value
+-- `said` is the function's result, with `view` applied to an Ok value
 abbrev pub Says : {T A E : Type 0} → (T → A) → Result A E → Result T E → Type 0
 Says view said (Ok value) = said ≡ Ok (view value)
 Says view said (Err error) = said ≡ Err error
 
--- the mandatory strings are short
+-- each mandatory string has fewer than 2^32 bytes
 pub record HasShortStrings (found : Found) : Type 0 where
   pub pin_map : length found.chosen.pin_map < 2 ^ 32
   pub opcodes : length found.registers.opcodes < 2 ^ 32
   pub capture : length found.registers.capture < 2 ^ 32
   pub boundary : length found.registers.boundary < 2 ^ 32
 
--- the fault names an attribute and an entry with this property, or is a refusal of memory
+-- either the fault names an attribute and an entry of which `P` is true, or memory ran out
 abbrev pub NamesPlace : (ℕ → ℕ → Type 0) → DeviceFault → Type 0
 NamesPlace P (faults.Rule number item) = ⊥
 NamesPlace P (faults.Text attribute entry) = P attribute entry
 NamesPlace P (faults.Memory error) = Unit {0}
 
--- the fault for the string of this source
+-- the fault of the device for a fault in the string of this source
 abbrev pub fault_of : Source → StringFault → DeviceFault
 fault_of source (At entry) = faults.Text (source_number source) entry
 fault_of source (Memory error) = faults.Memory error
 
--- the result is the values of all strings, or the fault of the first one that leaves its grammar
+-- the result is the values of all strings, or the fault of the first string that leaves its
+-- grammar, or memory ran out
 abbrev pub Gathers : Entity → Found → Result Strings DeviceFault → Type 0
 Gathers entity found (Ok strings) = AreStrings entity found strings
 Gathers entity found (Err fault) = NamesPlace (LeavesFirst entity found in_order) fault
 
--- the result is the device of the draft, or the first rule that fails with the first item that breaks it
+-- the draft breaks no rule and the result is its device, or the result is the first rule that fails
+-- with the first item that breaks it, or memory ran out
 abbrev pub IsJudged : Draft → Result RawDevice DeviceFault → Type 0
 IsJudged draft (Ok device) = (first_rule draft ≡ None) × (device ≡ raw_device draft)
 IsJudged draft (Err (faults.Rule number item)) = first_rule draft ≡ Some (record { rule = number; item = item })

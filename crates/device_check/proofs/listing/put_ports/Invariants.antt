@@ -7,7 +7,8 @@ use Rattle.device_check.specs.DeviceText.{port_line, port_name}
 use Rattle.device_check.specs.inner.ListingForms.{Rises}
 use Rattle.device_check.proofs.listing.put_ports.Given as goal
 
--- the lines of the ports so far were written, and the bits of the other ports are left
+-- the lines of ports `0..port` were written, and the bits that are left include all bits of the
+-- other ports
 abbrev pub invariant-loop-port : goal.invariant-loop-port
 invariant-loop-port g l = record {
   rises : Rises l.port l.rest;
