@@ -1,4 +1,4 @@
--- The flags of a device's port bits say which port bits have an always-on driver.
+-- The flags of a device's port bits: each flag says whether its port bit has an always-on driver.
 use Rattle.std.proofs.Common.{◌≡◌, ℕ, suc, ◌+◌, ◌<◌, ◌≤◌, nat_lt, Bool, true, false, cond, ◌&&◌, List, [], ◌∷◌, length, drop, get_or, Some, refl, sym, ap, subst, ◌∙◌, arith}
 use Rattle.std.specs.Prelude.{find, All}
 use Rattle.std.proofs.lemmas.List.{drop_more, get_or_past}
@@ -8,7 +8,8 @@ use Rattle.board_defs.specs.DeviceRules.{is_driving, drives_bit, driving_entry, 
 use Rattle.board_defs.proofs.CellLemmas.{off_past}
 use Rattle.board_build.specs.inner.Marked.{AreFlags, is_free}
 
--- if the flags are those of the entries from `i` on, they become those of the entries from `i - 1` on when the loop handles entry `i - 1`
+-- if the old flags are right for the entries from `i` on, and handling entry `i - 1` keeps flags
+-- right, the new flags are right for the entries from `i - 1` on
 pub flags_more : (cells : List Cell) (i k bits : ℕ) (old new : List Bool) (d : Cell) → k + 1 ≡ i → k < length cells → AreFlags (drop i cells) bits old →
     (AreFlags (drop i cells) bits old → AreFlags (get_or cells k d ∷ drop i cells) bits new) → AreFlags (drop k cells) bits new
 flags_more cells i k bits old new d next within was step =
@@ -21,7 +22,8 @@ none_there bits bit (cell ∷ cells) places past =
     let rest = none_there bits bit cells (λ i d less. places (suc i) d (omega arith)) past in
     ap (λ on. is_free (cond (on && is_driving cell.role) (Some cell) (find (drives_bit bit) cells))) (off_past bits bit cell cell.bit (places 0 cell (omega arith)) past) ∙ rest
 
--- if the flags are those of all entries of a device, they say for each port bit whether it has an always-on driver
+-- if the flags are right for all entries of a device, and each entry's port bit is a bit of the
+-- device, the flag of each port bit says whether the bit has an always-on driver
 pub device_flagged : (device : RawDevice) (flags : List Bool) → All (λ entry. HasPlace (length device.bits) entry.role entry.bit) device.cells → AreFlags device.cells (length device.bits) flags →
     (bit : ℕ) → get_or flags bit false ≡ is_free (driving_entry device bit)
 device_flagged device flags places are bit = by_there (nat_lt bit (length device.bits)) refl

@@ -1,4 +1,5 @@
--- The pins of each net, gathered word by word, and the nets that are made from their names and groups.
+-- The pins of each net, which a loop gathers word by word, and the nets made from the names and
+-- these groups of pins.
 use Rattle.std.proofs.Common.{◌≡◌, ◌≢◌, ℕ, zero, suc, ◌+◌, ◌<◌, ◌≤◌, ◌==◌, Bool, true, false, cond, List, [], ◌∷◌, ◌++◌, length, map, take, drop, get_or, set, append_assoc, nat_lt, Option, Some, None, refl, sym, ap, ◌∙◌, arith, Bor}
 use Rattle.std.specs.Prelude.{filter, zip, slice_get, option_map}
 use Rattle.std.specs.Option.{option_to_list}
@@ -20,7 +21,8 @@ one_pin : (m : Marked) (b : Bool) → map pin_with (cond b (m ∷ []) []) ≡ co
 one_pin m true = refl
 one_pin m false = refl
 
--- with word `i`, the group of net `n` has one more pin if the word belongs to net `n`, and is unchanged otherwise
+-- the group of net `n` from the first `i + 1` words is its group from the first `i` words, followed
+-- by the pin of word `i` if this word is in net `n`
 pub group_more : (words : List MarkedWord) (i : ℕ) (w : MarkedWord) (n : ℕ) → i < length words → get_or words i w ≡ w →
     group_of (map seen (take (i + 1) words)) n ≡ group_of (map seen (take i words)) n ++ cond (w.net == n) (pin_with (seen w) ∷ []) []
 group_more words i w n within read =
@@ -31,7 +33,8 @@ group_more words i w n within read =
     ∙ map-append pin_with (filter (λ m. number_of m == n) (map seen (take i words))) (filter (λ m. number_of m == n) (seen w ∷ []))
     ∙ ap (λ v. group_of (map seen (take i words)) n ++ v) (one_pin (seen w) (w.net == n))
 
--- if the pin of word `i` is added to the group of its net, the groups are those of the words up to and including word `i`
+-- if the groups are right for the first `i` words, and the pin of word `i` is appended to the group
+-- of the word's net, they are right for the first `i + 1` words
 pub groups_step : (words : List MarkedWord) (i : ℕ) (w : MarkedWord) (count : ℕ) (old new : List (List NetPin)) → i < length words → get_or words i w ≡ w → w.net < length old →
     new ≡ set old w.net (get_or old w.net [] ++ pin_with (seen w) ∷ []) → ((n : ℕ) → n < count → get_or old n [] ≡ group_of (map seen (take i words)) n) →
     (n : ℕ) → n < count → get_or new n [] ≡ group_of (map seen (take (i + 1) words)) n
@@ -51,7 +54,8 @@ groups_step words i w count old new within read inside changed was n less = by_t
         wrong : true ≡ false → ⊥
         wrong h = cc h
 
--- if word `i` belongs to none of the nets, the groups are those of the words up to and including word `i`
+-- if the groups are right for the first `i` words, and word `i` is in none of the nets, they are
+-- right for the first `i + 1` words
 pub groups_kept : (words : List MarkedWord) (i : ℕ) (w : MarkedWord) (count : ℕ) (old : List (List NetPin)) → i < length words → get_or words i w ≡ w → (w.net < count → ⊥) →
     ((n : ℕ) → n < count → get_or old n [] ≡ group_of (map seen (take i words)) n) → (n : ℕ) → n < count → get_or old n [] ≡ group_of (map seen (take (i + 1) words)) n
 groups_kept words i w count old within read outside was n less = by_test (w.net == n) refl
@@ -67,7 +71,8 @@ net_cong name s t p q as_ bs es ep eb =
     ∙ ap (λ (v : Option Bool). let net : Net = record { name = name; supply = t; pull = v; pins = as_ } in net) ep
     ∙ ap (λ (v : List NetPin). let net : Net = record { name = name; supply = t; pull = q; pins = v } in net) eb
 
--- the names, paired with their groups, give the nets of the definition
+-- if group `k` has the pins of net `n + k`, for each `k`, the nets made from the names and groups
+-- are the nets of the definition
 pub nets_zip : (supply : Bor (List ℕ) → Bool) (pull : Bor (List ℕ) → Option Bool) (supplies : List (List ℕ)) (pulls : List Pulled) (words : List Marked) →
     ((q : Bor (List ℕ)) → supply q ≡ is_among supplies q.now) → ((q : Bor (List ℕ)) → pull q ≡ pull_of_net pulls q.now) →
     (names : List (Bor (List ℕ))) (gs : List (List NetPin)) (n : ℕ) → length gs ≡ length names → ((k : ℕ) → k < length names → get_or gs k [] ≡ group_of words (n + k)) →
@@ -92,7 +97,8 @@ mark_cong parts word d e a b i j ed ea ei =
     ∙ ap (λ (v : Option PinAt). let m : Marked = record { word = word; described = e; at = v; inert = i; always_on = is_free_at parts v } in m) ea
     ∙ ap (λ (v : Bool). let m : Marked = record { word = word; described = e; at = b; inert = v; always_on = is_free_at parts b } in m) ei
 
--- if P holds of the item at a place within the list, P holds of what a look-up at this place returns
+-- if P holds of item `i` of a list, and `i` is within the list, P holds of the result of the
+-- look-up at `i`
 pub at_place : {A : Type 0} (P : Option A → Type 0) (xs : List A) (i : ℕ) → i < length xs → ((x : A) → get_or xs i x ≡ x → P (Some x)) → P (slice_get xs i)
 at_place {A} P xs i within given = by_get (slice_get xs i) refl
   where
@@ -105,7 +111,8 @@ at_place {A} P xs i within given = by_get (slice_get xs i) refl
         outside (y ∷ ys) (suc k) h f = outside ys k (omega (arith, h)) f
     by_get (Some x) e = given x (get_or_from_slice_get xs i x x e)
 
--- if the groups are those of the words before word `i`, they are those of one word more after the loop handles word `i`
+-- if the groups are right for the first `i` words, they are right for the first `i + 1` words after
+-- the loop handles word `i`
 pub groups_more : (words : List MarkedWord) (i count len : ℕ) (old new : List (List NetPin)) → i < length words → len ≡ count → length old ≡ len →
     new ≡ groups_after (slice_get words i) len old → ((n : ℕ) → n < count → get_or old n [] ≡ group_of (map seen (take i words)) n) →
     (n : ℕ) → n < count → get_or new n [] ≡ group_of (map seen (take (i + 1) words)) n
@@ -126,7 +133,8 @@ zip_nil : {A B : Type 0} (xs : List A) → ◌≡◌ {A = List (A × B)} (zip xs
 zip_nil [] = refl
 zip_nil (x ∷ xs) = refl
 
--- after one more name and its group, the nets so far followed by those of the remaining names are still all nets
+-- if the nets so far, followed by the nets of the names and groups from name `i` on, are all nets,
+-- the same is true from name `i + 1` on after the net of name `i` is appended
 pub zip_step : {A G N : Type 0} (f : A × G → N) (names : List A) (i : ℕ) (gs rest : List G) (nets new all : List N) → i < length names → rest ≡ drop 1 gs →
     new ≡ nets_after f (slice_get names i) (slice_get gs 0) nets → all ≡ nets ++ map f (zip (drop i names) gs) → all ≡ new ++ map f (zip (drop (i + 1) names) rest)
 zip_step {A} {G} {N} f names i gs rest nets new all within er en same =
@@ -141,7 +149,8 @@ zip_step {A} {G} {N} f names i gs rest nets new all within er en same =
         same ∙ ap (λ (v : List A). nets ++ map f (zip v (g ∷ hs))) cut ∙ sym (append_assoc nets (f (q, g) ∷ []) (map f (zip (drop (i + 1) names) hs)))
         ∙ ap (λ (v : List N). v ++ map f (zip (drop (i + 1) names) hs)) (sym now) ∙ ap (λ (v : List G). new ++ map f (zip (drop (i + 1) names) v)) (sym er)
 
--- after one more word, the marks are those of the words up to and including this word
+-- if the marks are right for the first `i` words, they are right for the first `i + 1` words after
+-- the mark of word `i` is appended
 pub mark_step : {A N : Type 0} (f : A → N) (words : List A) (i : ℕ) (done new : List N) → i < length words → new ≡ marks_after f (slice_get words i) done → done ≡ map f (take i words) → new ≡ map f (take (i + 1) words)
 mark_step {A} {N} f words i done new within e was =
     at_place (λ o. new ≡ marks_after f o done → new ≡ map f (take (i + 1) words)) words i within

@@ -1,4 +1,5 @@
--- If lines and devices keep their rules, their board keeps the rules of a board.
+-- If the devices keep the rules of a device, and the lengths of BYPASS lines are in range, the
+-- board of the files keeps the rules of a board.
 use Rattle.std.proofs.Common.{◌≡◌, List, [], ◌∷◌, length, Option, Some, None, Ok, refl, subst}
 use Rattle.std.specs.Prelude.{All}
 use Rattle.std.specs.List.{AllByRecursion, cons_option}
@@ -26,7 +27,8 @@ use Rattle.board_build.proofs.LawLemmas.{is_board}
 abbrev AreParts : List Part → Type 0
 AreParts parts = AllByRecursion (λ part. IsPart part.kind) parts
 
--- if the parts of later lines keep the rules of parts, so do the part of this line and the parts of later lines together
+-- if the parts of the later lines keep the rules of a part, so do the part of this line and the
+-- parts of the later lines
 line_kinds : (statement : ChainStatement) (devices : List RawDevice) (rest : List Part) → HasLength statement → AllByRecursion IsDevice devices → (AllByRecursion IsDevice (devices_after statement devices) → AreParts rest) → AreParts (cons_option (part_of_line statement devices) rest)
 line_kinds (Device part entity pack) [] rest has are next = next tt
 line_kinds (Device part entity pack) (device ∷ devices) rest has are next = (are.0, next are.1)
@@ -36,7 +38,7 @@ line_kinds (Supply net) devices rest has are next = next are
 line_kinds (Pull net value) devices rest has are next = next are
 line_kinds (Link part first second) devices rest has are next = next are
 
--- the parts of the lines keep the rules of parts
+-- if the devices keep the rules of a device, the parts of the lines keep the rules of a part
 part_kinds : (lines : List ChainLine) (devices : List RawDevice) → AllByRecursion (λ line. HasLength line.statement) lines → AllByRecursion IsDevice devices → AreParts (chain_parts lines devices)
 part_kinds [] devices has are = tt
 part_kinds (line ∷ lines) devices has are = line_kinds line.statement devices (chain_parts lines (devices_after line.statement devices)) has.0 are (λ after. part_kinds lines (devices_after line.statement devices) has.1 after)
@@ -45,7 +47,8 @@ unless_none : (fault : Option BoardFault) (whole board : RawBoard) → unless fa
 unless_none None whole board is = (refl, cc)
 unless_none (Some fault) whole board is = absurd cc
 
--- if lines and devices keep their rules and denote a board, the board keeps the rules of boards
+-- if the chain is selected, the devices keep the rules of a device, and the files denote a board,
+-- the board keeps the rules of a board
 pub board_is : (chain : List ChainLine) (nets : List NetLine) (devices : List RawDevice) (board : RawBoard) → IsChain chain → AllByRecursion (λ line. HasLength line.statement) chain → AllByRecursion IsDevice devices → length devices ≡ length (named EntityName chain)
     → board_of chain nets devices ≡ Ok board → IsBoard board
 unfolding board_answer

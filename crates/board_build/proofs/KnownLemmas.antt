@@ -32,7 +32,7 @@ some_value {K} {V} eq (item ∷ items) q = by_test (eq item.0 q) (some_value eq 
     by_test true e = refl
     by_test false e = e
 
--- the pins of a part with another name give no place of the pin
+-- if a part has another name than the pin's part, its port bits give no place of the pin
 none_in_bits : (part : ℕ) (name : List ℕ) (n : ℕ) (bits : List PortBit) (pin : Pin) → same_word name pin.0 ≡ false → list_any (λ (i : PinPlace). same_pin i.0 pin) (bit_places part name n bits) ≡ false
 none_in_bits part name n [] pin e = refl
 none_in_bits part name n (bit ∷ bits) pin e = by_pin bit.pin (none_in_bits part name (n + 1) bits pin e)
@@ -54,7 +54,7 @@ none_placed n (part ∷ parts) pin e =
         let both = or_parts (same_word part.name pin.0) (list_any (λ name. same_word name pin.0) (described_names parts)) k in
         ap (λ b. b || list_any (λ (i : PinPlace). same_pin i.0 pin) (places_from (n + 1) parts)) (none_in_bits n part.name 0 device.bits pin both.0) ∙ rest both.1
 
--- so a pin with a place belongs to a described part
+-- a pin that has a place belongs to a described part
 placed_known : (parts : List Part) (pin : Pin) → (is_some (place_of_pin (pin_places parts) pin) || is_among (described_names parts) pin.0) ≡ is_among (described_names parts) pin.0
 placed_known parts pin = by_test (is_among (described_names parts) pin.0) refl
   where
@@ -63,6 +63,7 @@ placed_known parts pin = by_test (is_among (described_names parts) pin.0) refl
     by_test false e =
         ap (λ b. b || false) (some_value same_pin (pin_places parts) pin ∙ none_placed 0 parts pin (sym (some_place (λ name. same_word name pin.0) 0 (described_names parts)) ∙ e))
 
--- a pin belongs to a described part if it has a place or if the part's name is that of a described part
+-- the code's test, which first asks whether the pin has a place, agrees with the test whether the
+-- pin's part is described
 pub known_same : (parts : List Part) (pin : Pin) (d : Bool) (a : Option PinAt) → d ≡ is_among (described_names parts) pin.0 → a ≡ place_of_pin (pin_places parts) pin → (is_some a || d) ≡ is_among (described_names parts) pin.0
 known_same parts pin d a ed ea = ap (λ (v : Option PinAt). is_some v || d) ea ∙ ap (λ b. is_some (place_of_pin (pin_places parts) pin) || b) ed ∙ placed_known parts pin

@@ -1,4 +1,4 @@
--- If no rule finds a fault in files, they denote a board.
+-- If no rule finds a fault, the files denote a board that keeps the rules of a board.
 use Rattle.std.proofs.Common.{◌≡◌, ◌≢◌, ℕ, ◌<◌, ◌≤◌, ◌==◌, true, false, List, length, map, Some, None, refl, sym, ap, subst, ◌∙◌, arith, ◌⊎◌, inl, inr}
 use Rattle.std.specs.Prelude.{slice_get, find, All, AllPairs}
 use Rattle.std.specs.List.{list_any, AllByRecursion, slice_index_or}
@@ -46,7 +46,7 @@ pins_differ parts marks words names apart m n i j first second p q at_p at_q sam
     let r : SameWord m n i j = one_word words apart m n i j a.word b.word a.stands b.stands part pin in
     (r.net, r.place)
 
--- if P holds of the pin of each word, P holds of each pin of each net
+-- if P holds of the pin that each word gives, P holds of each pin of each net
 each_pin : (P : NetPin → Type 0) (parts : List Part) (marks : Marks) (words : List NetWord) (names : List (List ℕ)) → ((word : NetWord) → Has words word → P (net_pin marks (pin_of word))) → All (λ (net : Net). All P net.pins) (board_nets marks words names)
 each_pin P parts marks words names h n d within place e inside =
     let net : Net = slice_index_or (board_nets marks words names) n d in
@@ -74,7 +74,8 @@ inert_alike parts marks words names none = record {
       ap (λ (v : NetPin). v.inert) a.is ∙ ap (is_among marks.inerts) part ∙ sym (ap (λ (v : NetPin). v.inert) b.is);
 }
 
--- if a pin of a net is an always-on driver, `drives_always` is true of the pin that the word names from which it was made
+-- if a pin of a net is an always-on driver and is made from a word, `drives_always` is true of the
+-- pin that this word names
 drives_at : (parts : List Part) (marks : Marks) (words : List NetWord) (names : List (List ℕ)) (n place : ℕ) (net : Net) (pin : NetPin) → slice_get (board_nets marks words names) n ≡ Some net →
     drive (board_on parts marks words names) net pin ≡ Some AlwaysOn → (r : PinAtWord marks words n place pin) →
     drives_always (board_on parts marks words names) marks (pin_of r.word) (slice_get (board_nets marks words names) (net_of r.word)) ≡ true
@@ -120,7 +121,8 @@ one_always_on parts marks words names single n net i j p q at at_p at_q differ d
     by_order (inr (inl less)) x y ex ey on_x on_y net_x net_y = wrong x y net_x net_y (pairs_at (λ (a b : NetWord). drives_always (board_on parts marks words names) marks (pin_of a) (slice_get (board_nets marks words names) (net_of a)) ≡ true → drives_always (board_on parts marks words names) marks (pin_of b) (slice_get (board_nets marks words names) (net_of b)) ≡ true → (net_of a == net_of b) ≡ false) (words_on words n) apart i j x y less ex ey on_x on_y)
     by_order (inr (inr less)) x y ex ey on_x on_y net_x net_y = wrong y x net_y net_x (pairs_at (λ (a b : NetWord). drives_always (board_on parts marks words names) marks (pin_of a) (slice_get (board_nets marks words names) (net_of a)) ≡ true → drives_always (board_on parts marks words names) marks (pin_of b) (slice_get (board_nets marks words names) (net_of b)) ≡ true → (net_of a == net_of b) ≡ false) (words_on words n) apart j i y x less ey ex on_y on_x)
 
--- a chain has as many parts as it has DEVICE and BYPASS lines
+-- if the parts have the names of the DEVICE and BYPASS lines, there are as many parts as there are
+-- such lines
 part_count : (chain : List ChainLine) (parts : List Part) → map (λ part. part.name) parts ≡ names_of (named PartName chain) → length parts ≡ length (named PartName chain)
 part_count chain parts e = sym (length-map parts (λ part. part.name)) ∙ ap length e ∙ length-map (named PartName chain) (λ n. n.1)
 
@@ -133,7 +135,8 @@ pairs_map {X} {Y} f R xs h i j d less within =
     let Q : Y → Type 0 = λ v. R (f (slice_index_or xs i d)) v in
     subst Q (get_or-map f xs j d (f d) within) (subst P (get_or-map f xs i d (f d) low) (h i j (f d) less inside))
 
--- files without a fault denote a board that keeps the rules of boards
+-- if the chain is selected, each part keeps the rules of a part, and no rule finds a fault, the
+-- board keeps the rules of a board
 pub is_board : (chain : List ChainLine) (nets : List NetLine) (parts : List Part) → IsChain chain → map (λ part. part.name) parts ≡ names_of (named PartName chain) → All (λ part. IsPart part.kind) parts → board_fault chain nets parts ≡ None → IsBoard (board_with chain nets parts)
 unfolding board_fault
 is_board chain nets parts selected names kinds e =

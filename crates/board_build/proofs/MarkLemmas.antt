@@ -32,7 +32,7 @@ use Rattle.board_build.specs.BoardRules.{data_limit, net_limit, pin_limit, no_pi
 use Rattle.board_build.specs.inner.Marked.{Marked, mark, is_free, is_free_bit, is_free_at, pin_with, group_of, number_of, place_of, net_with, nets_with, board_by, same_pins, marked_limit, marked_unknown, marked_twice, marked_pins, marked_guarded, marked_two, marked_drivers, file_fault, always_on, marked_fault, marked_answer}
 use Rattle.board_lines.proofs.MapLemmas.{filter-map, find-map, once-map, repeated-map}
 
--- a driver is always on if and only if it has no control
+-- the driver of an entry is always on if and only if the entry has no control
 free_drive : (board : RawBoard) (net : Net) (part : ℕ) (cell : Cell) (o : Option Control) → is_always_on (Some (drive_by board net part cell o)) ≡ is_none o
 free_drive board net part cell None = refl
 free_drive board net part cell (Some control) = by_tests (control.cell == cell.num) (lets_switch board net control.disable)

@@ -14,11 +14,12 @@ use Rattle.board_lines.specs.NetWords.{Pin, NetWord, same_pin, net_of, pin_of, p
 use Rattle.board_build.specs.BoardNets.{Marks, net_pin, board_net, nets_from, board_nets}
 use Rattle.board_lines.proofs.ApartLemmas.{Apart, apart_pairs, apart_map, apart_weaker, one_place, Passing, passing, mapped}
 
--- the words of a net
+-- the words that name pins of net `n`
 abbrev pub words_on : List NetWord → ℕ → List NetWord
 words_on words n = filter (λ word. net_of word == n) words
 
--- the net at place `n`, with the name at this place
+-- the net is net `n` of the nets numbered from `first` on, and has the name at place `n` of the
+-- list
 pub record NetAt (marks : Marks) (words : List NetWord) (first : ℕ) (names : List (List ℕ)) (n : ℕ) (net : Net) : Type 0 where
   pub name : List ℕ
   pub named : slice_get names n ≡ Some name
@@ -49,7 +50,8 @@ nets_differ marks words names h =
     let P : List (List ℕ) → Type 0 = λ v. Apart (λ a b. a ≢ b) v in
     apart_pairs _ _ (apart_map (λ (net : Net). net.name) (λ a b. a ≢ b) (board_nets marks words names) (subst P (sym (names_of_nets marks words 0 names)) (apart_weaker _ _ (λ a b e. other_text a b (sym e)) names h)))
 
--- the word from which the pin at `place` of net `n` is made
+-- the pin at `place` of net `n` is made from this word, which is the word at the same place among
+-- the net's words
 pub record PinAtWord (marks : Marks) (words : List NetWord) (n place : ℕ) (pin : NetPin) : Type 0 where
   pub word : NetWord
   pub stands : slice_get (words_on words n) place ≡ Some word
@@ -75,11 +77,13 @@ same_pin_of a b e f = and_from (same_word a.0 b.0) (same_word a.1 b.1) (sym (ap 
 not_apart : (a b : NetWord) → (pin_of a).0 ≡ (pin_of b).0 → (pin_of a).1 ≡ (pin_of b).1 → have_same_pin a b ≡ false → ⊥
 not_apart a b e f h = clash (have_same_pin a b) (same_pin_of (pin_of a) (pin_of b) e f) h
 
--- two words with the same pin are at the same place of the same net
+-- the nets `m` and `n` are the same, and so are the places `i` and `j` in them
 pub record SameWord (m n i j : ℕ) : Type 0 where
   pub net : m ≡ n
   pub place : i ≡ j
 
+-- if no two words name the same pin, two words with the same pin are at the same place of the same
+-- net
 pub one_word : (words : List NetWord) → Apart (λ a b. have_same_pin a b ≡ false) words → (m n i j : ℕ) (a b : NetWord) → slice_get (words_on words m) i ≡ Some a → slice_get (words_on words n) j ≡ Some b →
     (pin_of a).0 ≡ (pin_of b).0 → (pin_of a).1 ≡ (pin_of b).1 → SameWord m n i j
 one_word words apart m n i j a b ea eb e f =
@@ -99,11 +103,13 @@ one_word words apart m n i j a b ea eb e f =
     pairs_on : (ws : List NetWord) (k : ℕ) → AllPairs (λ a b. have_same_pin a b ≡ false) ws → AllPairs (λ a b. have_same_pin a b ≡ false) (words_on ws k)
     pairs_on ws k h = AllPairs-filter (λ a b. have_same_pin a b ≡ false) (λ word. net_of word == k) ws h
 
--- 1 for true, and 0 for false; the sum over some tests says how many of them an item passes
+-- 1 for true, and 0 for false
 abbrev count_of : Bool → ℕ
 count_of true = 1
 count_of false = 0
 
+-- if an item that passes `p` or `q` passes `r`, and none passes both `p` and `q`, the counts of
+-- items that pass `p` and that pass `q` add up to at most the count of items that pass `r`
 cut_count : {X : Type 0} (p q r : X → Bool) → ((x : X) → count_of (p x) + count_of (q x) ≤ count_of (r x)) → (xs : List X) → length (filter p xs) + length (filter q xs) ≤ length (filter r xs)
 cut_count p q r h [] = omega arith
 cut_count {X} p q r h (x ∷ xs) = by_test (p x) (q x) (r x) (h x) (cut_count p q r h xs)
@@ -157,7 +163,7 @@ pins_from marks words first (name ∷ names) =
     let cut = cut_count (λ word. net_of word == first) (λ word. nat_le (first + 1) (net_of word)) (λ word. nat_le first (net_of word)) (λ word. level first (net_of word)) words in
     omega (arith, step, count, rest, cut)
 
--- the nets have no more pins than there are words
+-- all nets together have no more pins than there are words
 pub pins_fit : (marks : Marks) (words : List NetWord) (names : List (List ℕ)) → sum_by (λ (net : Net). length net.pins) (board_nets marks words names) ≤ length words
 pins_fit marks words names =
     let few = pins_from marks words 0 names in

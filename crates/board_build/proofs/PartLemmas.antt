@@ -41,12 +41,14 @@ parts_named_by n (SupplyLine net) lines devices ih h = ih devices h
 parts_named_by n (PullLine net value) lines devices ih h = ih devices h
 parts_named_by n (Link part first second) lines devices ih h = ih devices h
 
--- with a device for each DEVICE line, the parts have the names of the DEVICE and BYPASS lines
+-- if there is a device for each DEVICE line, the parts have the names of the DEVICE and BYPASS
+-- lines, in order
 pub parts_named : (lines : List ChainLine) (devices : List RawDevice) → length devices ≡ length (named EntityName lines) → map (λ part. part.name) (chain_parts lines devices) ≡ names_of (named PartName lines)
 parts_named [] devices h = refl
 parts_named (line ∷ lines) devices h = parts_named_by line.line line.statement lines devices (parts_named lines) h
 
--- `s` is the pin and the place of one of these port bits
+-- `s` is the pin and the place of one of these port bits, which belong to part `part` and are
+-- numbered from `n` on
 pub record BitSite (part : ℕ) (name : List ℕ) (n : ℕ) (bits : List PortBit) (s : PinPlace) : Type 0 where
   pub of_part : s.1.part ≡ part
   pub of_name : s.0.0 ≡ name
@@ -78,7 +80,8 @@ bit_site part name n (b ∷ bits) s h = by_pin (bit_site part name (n + 1) bits 
         }
     by_pin rest (Some pin) e (inr k) = bit_later part name n b bits s (rest k)
 
--- `s` is the pin and the place of a port bit of one of these parts, which is described
+-- `s` is the pin and the place of a port bit of one of these parts; the part is described, and the
+-- parts are numbered from `n` on
 pub record Site (n : ℕ) (parts : List Part) (s : PinPlace) : Type 0 where
   pub index : ℕ
   pub number : s.1.part ≡ n + index
@@ -138,7 +141,7 @@ not_among names x h = weaker names (none_among names x 0 h)
     weaker [] h = tt
     weaker (name ∷ list) h = (other_text name x (sym h.0), weaker list h.1)
 
--- a part with a name that no described part has is not described
+-- if `x` is not the name of a described part, each part with the name `x` is not described
 undescribed : (parts : List Part) (x : List ℕ) → AllByRecursion (λ name. name ≢ x) (described_names parts) → AllByRecursion (λ part. part.name ≡ x → described part.kind ≡ None) parts
 undescribed [] x h = tt
 undescribed (p ∷ parts) x h = by_kind (undescribed parts x) p.kind refl h
@@ -178,6 +181,6 @@ placed_where board marks pin (Some at) same e h = by_found (find (λ i. same_pin
           has_pin = r.has_pin ∙ ap Some (same_text s.0.1 pin.1 (sym parts.1));
         })
 
--- a pin that is not unknown has the place that the rules of a board require
+-- if a pin is not unknown, its place is the one that the rules of a board require
 pub placed : (board : RawBoard) (marks : Marks) (pin : Pin) → marks.places ≡ pin_places board.chain → is_unknown (described_names board.chain) marks.places pin ≡ false → IsPlaced board (net_pin marks pin) (place_of_pin marks.places pin)
 placed board marks pin same h = placed_where board marks pin (place_of_pin marks.places pin) same refl h

@@ -1,4 +1,5 @@
--- If no two words have the same pin by its place or by its names, they name different pins.
+-- If no two words have the same pin when pins are compared by their places, the words name
+-- different pins.
 use Rattle.std.proofs.Common.{◌≡◌, ℕ, ◌≤◌, ◌==◌, Bool, true, false, cond, ◌&&◌, ◌||◌, List, [], ◌∷◌, ◌++◌, length, map, take, drop, Option, Some, None, refl, sym, ap, ◌∙◌}
 use Rattle.std.specs.Prelude.{option_map}
 use Rattle.std.specs.List.{list_any}
@@ -28,7 +29,7 @@ one_at : (o : Option PinAt) → at_one_place o o true ≡ true
 one_at None = refl
 one_at (Some at) = ap (λ b. b && (at.bit == at.bit)) (eqb_refl at.part) ∙ eqb_refl at.bit
 
--- if two words have the same pin by its names, they have the same pin by its place
+-- if two words name their pins by the same two names, their pins are also the same by place
 same_is_one : (parts : List Part) (inerts : List (List ℕ)) (a b : NetWord) → have_same_pin a b ≡ true → are_one (mark parts (pin_places parts) inerts a) (mark parts (pin_places parts) inerts b) ≡ true
 same_is_one parts inerts a b same =
     let each = and_parts (same_word (pin_of a).0 (pin_of b).0) (same_word (pin_of a).1 (pin_of b).1) same in
@@ -47,7 +48,8 @@ any_weaker {X} p q h (x ∷ xs) e = by_test (any_weaker p q h xs) (p x) (q x) re
     by_test rest true false ea eb k = let wrong : true ≡ false = sym (h x ea) ∙ eb in cc wrong
     by_test rest false false ea eb k = rest k
 
--- if no two items are equal in a weaker sense, no two items are equal in a stronger sense
+-- if `p x y` implies `q x y`, and no item of the list repeats an earlier one by `q`, none repeats
+-- an earlier one by `p`
 repeated_weaker : {X : Type 0} (p q : X → X → Bool) → ((x y : X) → p x y ≡ true → q x y ≡ true) → (seen xs : List X) → repeated_from q seen xs ≡ None → repeated_from p seen xs ≡ None
 repeated_weaker p q h seen [] e = refl
 repeated_weaker {X} p q h seen (x ∷ xs) e = by_test (repeated_weaker p q h (seen ++ x ∷ []) xs) (list_any (λ s. q s x) seen) refl e
@@ -56,7 +58,8 @@ repeated_weaker {X} p q h seen (x ∷ xs) e = by_test (repeated_weaker p q h (se
     by_test rest true eb k = cc k
     by_test rest false eb k = ap (λ b. cond b (Some x) (repeated_from p (seen ++ x ∷ []) xs)) (any_weaker (λ s. p s x) (λ s. q s x) (λ s. h s x) seen eb) ∙ rest k
 
--- so if no two marked words have the same pin by its place, no two words have the same pin by its names
+-- if no two marked words have the same pin when pins are compared by place, no two words have the
+-- same pin when pins are compared by name
 pub differ_by_place : (parts : List Part) (inerts : List (List ℕ)) (words : List NetWord) (marked : List Marked) → marked ≡ map (mark parts (pin_places parts) inerts) words → first_repeated are_one marked ≡ None → first_repeated have_same_pin words ≡ None
 differ_by_place parts inerts words marked is e =
     let marks = mark parts (pin_places parts) inerts in
@@ -65,13 +68,14 @@ differ_by_place parts inerts words marked is e =
     repeated_weaker have_same_pin (λ a b. are_one (marks a) (marks b)) (same_is_one parts inerts) [] words
     (map_none marks (first_repeated (λ a b. are_one (marks a) (marks b)) words) (sym same ∙ ap (option_map (λ (m : Marked). m)) placed))
 
--- if the search has gone through the whole list without finding a repeated item, no item is repeated
+-- if the search has passed all words without finding a repeated pin, no pin is repeated
 pub differ_seen : (words : List MarkedWord) (i : ℕ) → length words ≤ i → first_repeated (λ a b. are_one (seen a) (seen b)) words ≡ repeated_from (λ a b. are_one (seen a) (seen b)) (take i words) (drop i words) → first_repeated are_one (map seen words) ≡ None
 differ_seen words i whole same =
     let none : first_repeated (λ a b. are_one (seen a) (seen b)) words ≡ None = same ∙ ap (repeated_from (λ a b. are_one (seen a) (seen b)) (take i words)) (drop_all i words whole) in
     map_none (λ (m : Marked). m) (first_repeated are_one (map seen words)) (repeated-map seen are_one (λ (m : Marked). m) words ∙ ap (option_map seen) none)
 
--- if no two words have the same pin, each word counts, and no word has the pin of another word
+-- if no two marked words have the same pin, every word counts, and the rule on pins in two nets
+-- finds no fault
 pub all_stand_apart : (chain : List ChainLine) (parts : List Part) (nets : List NetLine) (marked : List Marked) → marked ≡ map (mark parts (pin_places parts) (names_of (named Inert chain))) (net_words nets) → first_repeated are_one marked ≡ None →
     (marked ≡ map (mark parts (pin_places parts) (names_of (named Inert chain))) (standing_words nets)) × (marked_twice marked ≡ None)
 all_stand_apart chain parts nets marked is e =

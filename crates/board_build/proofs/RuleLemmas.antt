@@ -34,7 +34,7 @@ pub map_none : {A B : Type 0} (f : A → B) (o : Option A) → option_map f o �
 map_none f None e = refl
 map_none f (Some a) e = cc e
 
--- the limits that files keep if they have no limit fault
+-- the limits that files keep if the rules on limits find no fault
 pub record LimitsKept (parts : List Part) (names : List (List ℕ)) (words : List NetWord) : Type 0 where
   pub bits : sum_by (λ part. data_length part.kind) parts ≤ most_bits
   pub nets : length names ≤ most_nets
@@ -67,7 +67,8 @@ pins_kept parts words e =
       differ = unrepeated_apart have_same_pin words once_;
     }
 
--- if a rule finds no line that breaks it, no item passes the test of the rule
+-- if a rule that reports the line of the first item that passes its test finds no fault, no item
+-- passes the test
 no_place : {A : Type 0} (fault : Spot → BoardFault) (list : List Named) (test : A → Bool) (xs : List A) → length xs ≡ length list → option_map fault (option_and_then (spot_at list) (position test xs)) ≡ None → position test xs ≡ None
 no_place {A} fault list test xs count e = by_place (position test xs) refl e
   where
@@ -108,7 +109,7 @@ among_has (name ∷ names) x n h = by_test (among_has names x (n + 1)) (same_wor
     by_test rest true e k = inl (same_text name x (sym e))
     by_test rest false e k = inr (rest k)
 
--- if the rule on INERT lines finds no fault, no part of the chain is inert
+-- if the rule on INERT lines finds no fault, no part of the chain has a name that an INERT line has
 pub not_inert : (inerts : List Named) (parts : List (List ℕ)) → inert_in_chain inerts parts ≡ None → (x : List ℕ) → is_among (names_of inerts) x ≡ true → AllByRecursion (λ name. name ≢ x) parts
 unfolding inert_in_chain
 not_inert inerts parts e x among =

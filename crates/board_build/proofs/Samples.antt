@@ -53,17 +53,18 @@ device mode role = record {
   cells = entry 0 role 4 ∷ entry 1 role 5 ∷ [];
 }
 
--- a device with two drivers that are always on, and a device with two receivers
+-- a device with two always-on drivers
 abbrev drv : RawDevice
 drv = device Outward Output2
 
+-- a device with two receivers
 abbrev rcv : RawDevice
 rcv = device Inward Input
 
 abbrev said : ℕ → ChainStatement → ChainLine
 said n statement = record { line = n; statement = statement }
 
--- U1 and U2 in the chain, and further lines
+-- the lines of U1 and U2, followed by the lines `more`
 abbrev chain : List ChainLine → List ChainLine
 chain more = said 1 (Device (codes "U1") (codes "E") None) ∷ said 2 (Device (codes "U2") (codes "E") None) ∷ more
 
@@ -116,7 +117,8 @@ a_net_that_is_pulled_twice : board_of (chain (said 3 (Pull (codes "N2") true) �
 unfolding board_answer board_fault limit_fault data_limit net_limit pin_limit pin_fault no_pin pin_twice line_fault inert_in_chain no_supply_net no_pull_net pull_twice driver_fault guarded_driver two_always_on
 a_net_that_is_pulled_twice = refl
 
--- nets are in the order of their first lines, a second line adds pins, and a repeated pin counts once
+-- nets are in the order of their first lines, a second line of a net adds pins to it, and a
+-- repeated pin counts once
 a_whole_board : board_of (chain (said 3 (Bypass (codes "U3") 4) ∷ said 4 (Inert (codes "R1")) ∷ said 5 (Pull (codes "B") true) ∷ [])) (net 1 (codes "A") (pin (codes "U1") (codes "1") ∷ pin (codes "U1") (codes "1") ∷ pin (codes "R1") (codes "2") ∷ []) ∷ net 2 (codes "B") (pin (codes "U3") (codes "7") ∷ []) ∷ net 3 (codes "A") (pin (codes "U2") (codes "2") ∷ []) ∷ []) (drv ∷ rcv ∷ []) ≡ Ok (record {
   chain = (record { name = codes "U1"; kind = Described drv }) ∷ (record { name = codes "U2"; kind = Described rcv }) ∷ (record { name = codes "U3"; kind = BypassPart 4 }) ∷ [];
   nets =
@@ -134,18 +136,21 @@ a_pin_of_a_bypass_part_in_two_nets = refl
 abbrev place : ℕ → ℕ → PinAt
 place part bit = record { part = part; bit = bit }
 
--- pins with one place are the same pin, whatever their names are; two bits of one part are different places, and so are bits of two parts
+-- pins with the same place are the same pin, whatever their names are; different bits of a part,
+-- and bits of different parts, are different places
 by_places : at_one_place (Some (place 0 4)) (Some (place 0 4)) false ∷ at_one_place (Some (place 0 4)) (Some (place 0 5)) true ∷ at_one_place (Some (place 0 4)) (Some (place 1 4)) true ∷ [] ≡ true ∷ false ∷ false ∷ []
 by_places = refl
 
--- if no pin has a place, the names decide; a pin with a place is never the same as a pin without one
+-- if neither pin has a place, their names decide
 by_names : map (at_one_place None None) (true ∷ false ∷ []) ≡ true ∷ false ∷ []
 by_names = refl
 
+-- a pin with a place is never the same as a pin without one
 one_has_a_place : at_one_place None (Some (place 0 4)) true ∷ at_one_place (Some (place 0 4)) None true ∷ [] ≡ false ∷ false ∷ []
 one_has_a_place = refl
 
--- a flag that is set, a flag that is not set, a bit past the end of its part, and a part past the end of the chain
+-- a set flag, a flag that is not set, a bit past the end of its part, and a part past the end of
+-- the chain
 flags : map (is_flagged ((false ∷ true ∷ []) ∷ [])) (place 0 1 ∷ place 0 0 ∷ place 0 2 ∷ place 1 1 ∷ []) ≡ true ∷ false ∷ false ∷ false ∷ []
 flags = refl
 
@@ -156,17 +161,21 @@ parts = record { name = codes "U1"; kind = Described drv } ∷ record { name = c
 abbrev word : ℕ → List ℕ → List ℕ → Marked
 word n part name = mark parts (pin_places parts) [] ((n, (part, name)), at n 3)
 
--- pin 1 of U1 is the same pin in another net; it differs from pin 2 of U1 and from pin 1 of another part
+-- pin 1 of U1 is the same pin in another net; it differs from pin 2 of U1 and from pin 1 of U2 and
+-- of U3
 one_pin : map (are_one (word 0 (codes "U1") (codes "1"))) (word 1 (codes "U1") (codes "1") ∷ word 1 (codes "U1") (codes "2") ∷ word 1 (codes "U2") (codes "1") ∷ word 1 (codes "U3") (codes "1") ∷ []) ≡ true ∷ false ∷ false ∷ false ∷ []
 one_pin = refl
 
--- pin 7 of U3 has no place; it is the same pin in another net, and differs from the other pins
+-- pin 7 of U3 has no place; it is the same pin in another net, and it differs from another pin of
+-- U3 and from pins of other parts
 one_unplaced_pin : map (are_one (word 0 (codes "U3") (codes "7"))) (word 1 (codes "U3") (codes "7") ∷ word 1 (codes "U3") (codes "8") ∷ word 1 (codes "RAM") (codes "7") ∷ word 1 (codes "U1") (codes "1") ∷ []) ≡ true ∷ false ∷ false ∷ false ∷ []
 one_unplaced_pin = refl
 
--- if two words have the same place, their names do not matter; no file gives two such words, since the reader puts pins in upper case
+-- a word that names a pin of U1 with this name and has the place of port bit 0 of part 0
 abbrev there : List ℕ → Marked
 there name = record { word = ((0, (codes "U1", name)), at 1 3); described = true; at = Some (place 0 0); inert = false; always_on = false }
 
+-- if two words have the same place, their names do not matter; no file gives two such words with
+-- different names, since the reader puts pins in upper case
 two_words_of_one_place : are_one (there (codes "T1")) (there (codes "t1")) ≡ true
 two_words_of_one_place = refl

@@ -1,4 +1,5 @@
--- The rules on the words that the code keeps agree with the rules on marked words.
+-- The rules on the marked words of the code find the same faults as the rules on the marked words
+-- of the definitions.
 use Rattle.std.proofs.Common.{◌≡◌, ℕ, zero, suc, ◌==◌, Bool, false, cond, ◌&&◌, List, [], ◌∷◌, length, map, get_or, Some, refl, sym, ap, ◌∙◌, Bor}
 use Rattle.std.specs.Prelude.{slice_get, find, option_map, is_none}
 use Rattle.std.proofs.lemmas.List.{length-map}

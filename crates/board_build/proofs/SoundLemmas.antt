@@ -1,4 +1,5 @@
--- The board that the marked words of the files give, and the rules that it keeps.
+-- The board that the marked words of the files give keeps the rules of a board if no rule finds a
+-- fault.
 use Rattle.std.proofs.Common.{◌≡◌, ℕ, List, [], map, None, sym, subst, ◌∙◌, ap}
 use Rattle.std.specs.Prelude.{option_map}
 use Rattle.first_places.specs.Places.{first_repeated}
@@ -17,7 +18,8 @@ use Rattle.board_build.specs.inner.Selected.{ChainWithParts, IsSelected}
 use Rattle.board_build.proofs.MarkLemmas.{board_same, fault_same, answer_same, twice_same}
 use Rattle.board_build.proofs.LawLemmas.{is_board}
 
--- if no rule finds a fault, the board of the marked words keeps the rules of a board
+-- if the chain is selected and no rule finds a fault, the board of the marked words keeps the rules
+-- of a board
 pub sound_by : (chain : ChainWithParts) (nets : List NetLine) (names : List (List ℕ)) (words : List Marked) → IsSelected chain →
     names ≡ net_names nets → words ≡ map (mark chain.parts (pin_places chain.parts) (names_of (named Inert chain.lines))) (standing_words nets) →
     marked_fault chain.lines chain.parts names words ≡ None → IsBoard (board_by chain.lines chain.parts names words)
@@ -37,7 +39,7 @@ no_twice : (words : List NetWord) → first_repeated have_same_pin words ≡ Non
 unfolding pin_twice
 no_twice words e = ap (option_map (λ (w : NetWord). PinTwice (spot_of w))) e
 
--- if no pin is repeated, the rule on pins in two nets finds no fault
+-- if no two words name the same pin, the rule on pins in two nets finds no fault
 pub twice_none : (chain : List ChainLine) (parts : List Part) (words : List NetWord) → first_repeated have_same_pin words ≡ None →
     marked_twice (map (mark parts (pin_places parts) (names_of (named Inert chain))) words) ≡ None
 twice_none chain parts words e = twice_same chain parts [] words ∙ no_twice words e

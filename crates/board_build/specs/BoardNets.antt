@@ -13,8 +13,8 @@ use Rattle.board_lines.specs.NetWords.{Pin, NetWord, is_among, net_names, standi
 use Rattle.board_lines.specs.ChainParts.{PinPlace, chain_parts, pin_places, place_of_pin}
 use Rattle.board_lines.specs.LineRules.{Pulled, pulls_of, pull_of_net}
 
--- what the nets of a board are built from, besides the words: the places of the described parts' pins, the names on the
--- INERT and SUPPLY lines, and the pulls
+-- what determines the nets of a board, besides the words: the places of the described parts' pins,
+-- the names on the INERT and SUPPLY lines, and the nets and values of the PULL lines
 pub record Marks : Type 0 where
   pub places : List PinPlace
   pub inerts : List (List ℕ)
@@ -29,7 +29,8 @@ marks_of lines parts = record {
   pulls = pulls_of lines;
 }
 
--- a pin of a net, with the pin's place if its part is described, and with a flag that is true if an INERT line names its part
+-- a pin of a net, with its place if it has one, and with a flag that says whether an INERT line
+-- names its part
 abbrev pub net_pin : Marks → Pin → NetPin
 net_pin marks pin = record {
   part = pin.0;
@@ -47,7 +48,7 @@ board_net marks words n name = record {
   pins = map (net_pin marks) (pins_of_net words n);
 }
 
--- the nets of these names, which are numbered from n
+-- the nets with these names, numbered from `n` on
 abbrev pub nets_from : Marks → List NetWord → ℕ → List (List ℕ) → List Net
 nets_from marks words n [] = []
 nets_from marks words n (name ∷ names) = board_net marks words n name ∷ nets_from marks words (n + 1) names
@@ -55,10 +56,10 @@ nets_from marks words n (name ∷ names) = board_net marks words n name ∷ nets
 abbrev pub board_nets : Marks → List NetWord → List (List ℕ) → List Net
 board_nets marks words names = nets_from marks words 0 names
 
--- the board of these parts and lines
+-- the board of these parts, chain lines and net lines
 abbrev pub board_with : List ChainLine → List NetLine → List Part → RawBoard
 board_with chain nets parts = record { chain = parts; nets = board_nets (marks_of chain parts) (standing_words nets) (net_names nets) }
 
--- the board that the files and the devices denote if they keep the rules
+-- the board that the files and the devices denote if they break no rule
 abbrev pub raw_board : List ChainLine → List NetLine → List RawDevice → RawBoard
 raw_board chain nets devices = board_with chain nets (chain_parts chain devices)

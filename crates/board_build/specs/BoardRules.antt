@@ -1,4 +1,4 @@
--- The rules on a board's files, in the order in which they are tried.
+-- The rules on a board's files, in the order in which they are checked.
 use Rattle.std.specs.Prelude.{ℕ, ◌==◌, Bool, false, ◌&&◌, ◌||◌, List, filter, find, length, nat_lt, slice_get, sum_by, Option, Some, None, Result, option_map, is_none, if◌then◌else◌}
 use Rattle.std.specs.List.{list_any}
 use Rattle.board_defs.specs.Limits.{most_bits, most_nets, most_pins}
@@ -19,7 +19,8 @@ use Rattle.board_lines.specs.ChainParts.{PinPlace, chain_parts, pin_places, plac
 use Rattle.board_lines.specs.LineRules.{line_fault}
 use Rattle.board_build.specs.BoardNets.{Marks, marks_of, net_pin, board_with}
 
--- the fault if a data scan has more than 65,535 bits: one bit for each boundary cell of a described part, and one bit for each other part
+-- the fault if a data scan has more than 65,535 bits: one for each boundary cell of a described
+-- part, and one for each part in BYPASS
 unfoldable pub data_limit : List Part → Option BoardFault
 data_limit parts = if nat_lt most_bits (sum_by (λ part. data_length part.kind) parts) then Some (Limit 2) else None
 
@@ -31,28 +32,31 @@ net_limit names = if nat_lt most_nets (length names) then Some (Limit 3) else No
 unfoldable pub pin_limit : List NetWord → Option BoardFault
 pin_limit words = if nat_lt most_pins (length (once have_same_pin words)) then Some (Limit 4) else None
 
--- the pin's part is described, and the chosen pin map does not have the pin
+-- the pin's part is described, and the part's pin map does not have the pin
 abbrev pub is_unknown : List (List ℕ) → List PinPlace → Pin → Bool
 is_unknown described places pin = is_among described pin.0 && is_none (place_of_pin places pin)
 
--- the fault of the first pin that belongs to a described part and is not in the part's pin map
+-- the fault of the first word that names a pin of a described part that is not in the part's pin
+-- map
 unfoldable pub no_pin : List (List ℕ) → List PinPlace → List NetWord → Option BoardFault
 no_pin described places words = option_map (λ word. NoPin (spot_of word)) (find (λ word. is_unknown described places (pin_of word)) words)
 
--- the fault of the first pin that an earlier word names; the words of one net name different pins, so the earlier word is in another net
+-- the fault of the first word whose pin an earlier word names; the words that count name different
+-- pins of a net, so the earlier word is in another net
 unfoldable pub pin_twice : List NetWord → Option BoardFault
 pin_twice words = option_map (λ word. PinTwice (spot_of word)) (first_repeated have_same_pin words)
 
--- the pin is an always-on driver of the net
+-- there is a net, and the pin is an always-on driver of it
 abbrev pub drives_always : RawBoard → Marks → Pin → Option Net → Bool
 drives_always board marks pin None = false
 drives_always board marks pin (Some net) = is_always_on (drive board net (net_pin marks pin))
 
--- the words whose pins are always-on drivers
+-- the words that name always-on drivers
 abbrev pub always_on : RawBoard → Marks → List NetWord → List NetWord
 always_on board marks words = filter (λ word. drives_always board marks (pin_of word) (slice_get board.nets (net_of word))) words
 
--- the net is a supply, or has a TAP or compliance pin, so it may not have an always-on driver
+-- there is a net, and it must not have an always-on driver, since it is a supply net or has a TAP
+-- or compliance pin
 abbrev pub is_kept : RawBoard → Option Net → Bool
 is_kept board None = false
 is_kept board (Some net) = net.supply || list_any (is_test_pin board) net.pins
@@ -61,7 +65,7 @@ is_kept board (Some net) = net.supply || list_any (is_test_pin board) net.pins
 unfoldable pub guarded_driver : RawBoard → List NetWord → Option BoardFault
 guarded_driver board drivers = option_map (λ word. GuardedDriver (spot_of word)) (find (λ word. is_kept board (slice_get board.nets (net_of word))) drivers)
 
--- the fault of the first always-on driver whose net has an always-on driver at an earlier place
+-- the fault of the first always-on driver whose net has an earlier always-on driver
 unfoldable pub two_always_on : List NetWord → Option BoardFault
 two_always_on drivers = option_map (λ word. TwoAlwaysOn (spot_of word)) (first_repeated (λ a b. net_of a == net_of b) drivers)
 
@@ -77,13 +81,13 @@ pin_fault parts words = no_pin (described_names parts) (pin_places parts) words 
 unfoldable pub driver_fault : RawBoard → List NetWord → Option BoardFault
 driver_fault board drivers = guarded_driver board drivers then two_always_on drivers
 
--- the first fault, by the rules in their order
+-- the first fault of the files, by the rules in their order
 unfoldable pub board_fault : List ChainLine → List NetLine → List Part → Option BoardFault
 board_fault chain nets parts =
     limit_fault parts (net_names nets) (standing_words nets) then pin_fault parts (standing_words nets) then line_fault chain (net_names nets)
     then driver_fault (board_with chain nets parts) (always_on (board_with chain nets parts) (marks_of chain parts) (standing_words nets))
 
--- the board of these parts, or the first fault
+-- the board of these parts and lines, or the first fault
 unfoldable pub board_answer : List ChainLine → List NetLine → List Part → Result RawBoard BoardFault
 board_answer chain nets parts = unless (board_fault chain nets parts) (board_with chain nets parts)
 

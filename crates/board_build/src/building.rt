@@ -19,12 +19,13 @@ use board_files::{ChainFile, NetFile, NetLine};
 use board_lines::{BoardFault, chain_parts, net_names};
 use std::alloc::{AllocError, Global};
 
-/// Returns the board that the files and the devices denote, or the first rule that fails, in this
-/// order: Limit 2 to 4, NoPin, PinTwice, InertInChain, NoSupplyNet, NoPullNet, PullTwice,
-/// GuardedDriver and TwoAlwaysOn. `devices` has a device for each DEVICE line, in order.
+/// Returns the board that the files and the devices denote, or the fault of the first rule that the
+/// files break. The rules are checked in this order: Limit 2 to 4, NoPin, PinTwice, InertInChain,
+/// NoSupplyNet, NoPullNet, PullTwice, GuardedDriver and TwoAlwaysOn. `devices` has a device for
+/// each DEVICE line, in order.
 ///
-/// `select` must have accepted the chain. LINK lines are ignored:
-/// a board with series parts is built from its joined files.
+/// `select` must have accepted the chain. LINK lines are ignored: a board with series parts is
+/// built from its joined files.
 pub fn board(
     alloc: Global,
     chain: &ChainFile,
@@ -56,7 +57,7 @@ pub fn parts_of_chain(
     Ok(parts)
 }
 
-/// Returns the board of the chain and these lines, or the first rule that fails.
+/// Returns the board of the chain and these lines, or the fault of the first rule that they break.
 fn board_of(alloc: Global, chain: SelectedChain<'_>, nets: &[NetLine]) -> Result<Board, BoardFault>
     requires { IsNetFile nets.now }
     ensures { Gives board_told (λ board. board) (λ said. board_answer chain.entry.lines nets.now chain.entry.parts ≡ said) result }

@@ -1,4 +1,5 @@
-// The port bits that have an always-on driver. Each part has a table of its port bits, so no pin needs a search of the cells.
+// The port bits that have an always-on driver. Each part has a flag for each port bit, so a look-up
+// of a pin does not search the cells.
 ghost use Rattle.std.specs.Prelude.{◌≡◌, ◌∷◌, ℕ, List, length, slice_index_or, false, IfOk};
 ghost use Rattle.board_defs.specs.declared.device.Cell.{Cell};
 ghost use Rattle.board_defs.specs.DeviceRules.{driving_entry};
@@ -9,7 +10,8 @@ use board_defs::{Cell, Device, Part, PartKind, PinAt};
 use std::alloc::{AllocError, Global};
 use std::marker::Model;
 
-/// Handles one entry. If the entry drives a port bit, the flag of the bit says whether the driver is always on.
+/// Handles one entry. If the entry drives a port bit, sets or clears the bit's flag, which says
+/// whether the driver is always on.
 fn flag_entry(flags: &mut [bool], cell: Cell)
     ensures { (cells : List Cell) (bits : ℕ) → AreFlags cells bits flags.old → AreFlags (cell ∷ cells) bits flags.new }
 {
@@ -22,8 +24,9 @@ fn flag_entry(flags: &mut [bool], cell: Cell)
     }
 }
 
-/// Returns a flag for each port bit, which says whether the bit has an always-on driver. The first
-/// driving entry of a bit counts, so the loop goes from the last entry to the first.
+/// Returns a flag for each port bit, which says whether the bit has an always-on driver. If several
+/// entries drive a bit, the first of them counts, so the loop goes from the last entry to the
+/// first.
 fn flags_of(alloc: Global, bits: usize, cells: &[Cell]) -> Result<Vec<bool>, AllocError>
     ensures { IfOk result (λ flags. AreFlags cells.now bits flags.items) }
 {
@@ -50,7 +53,8 @@ fn part_flags(alloc: Global, kind: &PartKind) -> Result<Vec<bool>, AllocError>
     }
 }
 
-/// A part with the port bits of its always-on drivers. The value in contracts is the part.
+/// A part, with a flag for each port bit that has an always-on driver. In contracts, the value is
+/// the part.
 #[derive(Drop)]
 pub struct PartDrivers<'a> {
     part: &'a Part,
@@ -90,7 +94,7 @@ impl<'a> PartDrivers<'a> {
     }
 }
 
-/// Returns the parts, each with the port bits of its always-on drivers.
+/// Returns the parts, each with a flag for each port bit.
 pub fn drivers_of<'a>(alloc: Global, parts: &'a [Part]) -> Result<Vec<PartDrivers<'a>>, AllocError>
     ensures { IfOk result (λ drivers. drivers.items ≡ parts.now) }
 {

@@ -1,4 +1,4 @@
-// Look-ups by the names of chain lines and parts.
+// Maps for look-ups by the names of parts and nets.
 ghost use Rattle.std.specs.Prelude.{◌≡◌, ◌<◌, ◌^◌, ℕ, List, length, IfOk};
 ghost use Rattle.std.specs.Borrow.{Bor};
 ghost use Rattle.indexmap.specs.IndexMap.{get_by};
@@ -39,7 +39,7 @@ pub fn described_by_place<'a>(
     first_places_of(alloc, &names)
 }
 
-/// Returns a map from each net to the value of its first PULL line.
+/// Returns a map from each net that a PULL line names to the value of the first such line.
 pub fn pulls_in<'a>(
     alloc: Global,
     lines: &'a [ChainLine],

@@ -1,4 +1,4 @@
-// Net words, each with facts about its pin.
+// The words of a net file, each with facts about the pin that it names.
 ghost use Rattle.std.specs.Prelude.{◌≡◌, map, IfOk, OnOk, is_none, is_some, option_copied, slice_get};
 ghost use Rattle.indexmap.specs.IndexMap.{get_by};
 ghost use Rattle.board_files.specs.Names.{same_word};
@@ -115,7 +115,8 @@ fn mark_all<'a>(
     mark_each(alloc, words, &drivers, places, described, inerts)
 }
 
-/// Returns the words, each with the facts about its pin. `places` has the places of the pins.
+/// Returns the words, each with the facts about its pin. `places` has the places of the chain's
+/// pins.
 fn mark_known<'a>(
     alloc: Global,
     chain: &SelectedChain<'_>,

@@ -41,7 +41,7 @@ fn push_pin(groups: &mut Vec<Vec<NetPin>>, number: usize, pin: NetPin) -> Result
     Ok(())
 }
 
-/// Adds the pin of a word to the group of its net.
+/// Adds the pin of a word to the group of the word's net, if there is a group for the net.
 fn add_word(
     alloc: Global,
     groups: &mut Vec<Vec<NetPin>>,
@@ -81,7 +81,7 @@ fn count_pin(counts: &mut [usize], net: usize)
     }
 }
 
-/// Returns the number of words of each net. The counts only decide how much room is reserved.
+/// Returns the number of words of each net. The counts only determine how much room is reserved.
 fn pin_counts(
     alloc: Global,
     count: usize,
@@ -96,7 +96,7 @@ fn pin_counts(
     Ok(counts)
 }
 
-/// Returns an empty group for each net, with room for the net's count of pins.
+/// Returns an empty group for each net, with room for as many pins as the net's count says.
 fn empty_groups(alloc: Global, counts: &[usize]) -> Result<Vec<Vec<NetPin>>, AllocError>
     ensures count { IfOk result (λ groups. vec_len groups ≡ length counts.now) }
     ensures empty { IfOk result (λ groups. (n : ℕ) → slice_index_or (map (λ g. g.items) groups.items) n [] ≡ []) }
@@ -108,7 +108,7 @@ fn empty_groups(alloc: Global, counts: &[usize]) -> Result<Vec<Vec<NetPin>>, All
     Ok(groups)
 }
 
-/// Returns the pins of each net.
+/// Returns the pins of nets `0..count`.
 fn groups(
     alloc: Global,
     count: usize,
@@ -149,7 +149,7 @@ fn next_group(groups: &mut IntoIter<Vec<NetPin>>) -> Option<Vec<NetPin>>
     groups.next()
 }
 
-/// Adds the net with this name and this group of pins, if there is a group.
+/// Appends the net with this name and this group of pins, if there is a group.
 fn push_net(
     alloc: Global,
     nets: &mut Vec<Net>,
@@ -201,8 +201,8 @@ fn nets_by(
     Ok(nets)
 }
 
-/// Returns the nets of these names, each with the pins of its words. The contract's clause is true for all lists of
-/// supplies and of pulls that agree with the two maps.
+/// Returns the nets with these names, each with the pins of its words. The contract's clause holds
+/// for all lists of supplies and of pulls that agree with the two maps.
 fn nets_of(
     alloc: Global,
     names: &[&[u8]],
@@ -230,7 +230,7 @@ fn board_nets(
     nets_of(alloc, names, words, &supplies, &pulls)
 }
 
-/// Returns the board of the chain's parts and these words.
+/// Returns the board of the chain's parts with the nets of these names and words.
 pub fn board_by(
     alloc: Global,
     chain: SelectedChain<'_>,

@@ -53,7 +53,7 @@ fn net_limit(names: &[&[u8]]) -> Option<BoardFault>
     }
 }
 
-/// Returns the pin and the place of each word.
+/// Returns the pin that each word names, with the place of the word in the net file.
 fn by_pin<'a>(
     alloc: Global,
     words: &[MarkedWord<'a>],
@@ -107,7 +107,7 @@ fn unknown_pin(words: &[MarkedWord<'_>]) -> Option<BoardFault>
 fn marked_limit(alloc: Global, words: &[MarkedWord<'_>]) -> Result<Option<BoardFault>, AllocError>
     ensures { IfOk result (λ fault. fault ≡ marked_limit (map seen words.now)) }
 {
-    // At most `MOST_PINS` words cannot name too many pins.
+    // No more than `MOST_PINS` words cannot name too many pins.
     if words.len() <= MOST_PINS {
         return Ok(None);
     }
@@ -131,7 +131,7 @@ fn marked_twice(alloc: Global, words: &StandingWords<'_>) -> Result<Option<Board
     pin_twice(alloc, &pins)
 }
 
-/// Returns the first fault of the pins, by the rules in their order.
+/// Returns the first fault of the words' pins, by the rules in their order.
 #[tactic(auto, unfolding(crate::specs::inner::Marked::marked_pins))]
 fn pin_fault(alloc: Global, words: &StandingWords<'_>) -> Result<Option<BoardFault>, AllocError>
     ensures { IfOk result (λ fault. fault ≡ marked_pins words.now) }

@@ -1,5 +1,5 @@
-// The test whether the words of a net file name different pins.
-// Pins with a place in the chain are found by a flag for each port bit.
+// The test whether the words of a net file name different pins. It finds pins with a place in the
+// chain by a flag for each port bit, without comparing names.
 ghost use Rattle.std.specs.Prelude.{◌≡◌, ℕ, true, false, [], replicate, length, map, slice_index_or, None, IfOk, OnOk};
 ghost use Rattle.first_places.specs.Places.{first_repeated};
 ghost use Rattle.board_lines.specs.PinRows.{pins_of};
@@ -14,7 +14,7 @@ use indexmap::IndexSet;
 use std::alloc::{AllocError, Global};
 use std::marker::Model;
 
-/// A flag for each port bit of a part. The value in contracts is the list of the flags.
+/// A flag for each port bit of a part. In contracts, the value is the list of the flags.
 #[derive(Drop)]
 struct BitFlags {
     flags: Vec<bool>,
@@ -54,7 +54,7 @@ impl BitFlags {
     }
 }
 
-/// Returns the flags of each part, none of them set.
+/// Returns a row of flags for each part, with a flag for each of its port bits. No flag is set.
 fn unset_rows(alloc: Global, parts: &[Part]) -> Result<Vec<BitFlags>, AllocError>
     ensures { IfOk result (λ rows. rows.items ≡ map (λ part. replicate (length (pins_of part.kind)) false) parts.now) }
 {
@@ -83,12 +83,12 @@ fn set_first_at(rows: &mut [BitFlags], at: PinAt) -> bool
 struct SeenPins<'a> {
     /// A flag for each port bit of each part. It is true if a word has named the bit's pin.
     rows: Vec<BitFlags>,
-    /// The named pins that have no place in the chain.
+    /// The pins without a place in the chain that a word has named.
     unplaced: IndexSet<PinName<'a>>,
 }
 
 impl<'a> SeenPins<'a> {
-    /// Adds the pin of a word. Returns true only if the pin was not there before.
+    /// Adds the pin of a word. Returns true only if the pin had not been added before.
     fn is_new(&mut self, word: &MarkedWord<'a>) -> Result<bool, AllocError>
         ensures fresh { IfOk result (λ new. new ≡ true → is_known_pin self.old.rows.items self.old.unplaced word.now ≡ false) }
         ensures added { IfOk result (λ new. new ≡ true → (m : MarkedWord) → are_one (seen word.now) (seen m) ≡ true → is_known_pin self.new.rows.items self.new.unplaced m ≡ true) }

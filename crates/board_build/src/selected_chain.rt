@@ -29,7 +29,7 @@ impl<'a> Model for SelectedChain<'a> {
 }
 
 impl<'a> SelectedChain<'a> {
-    /// Returns the chain of these lines and these parts, which are in chain order.
+    /// Returns the chain of these lines and parts. The parts must be in the order of the chain.
     pub fn of(lines: &'a [ChainLine], parts: Vec<Part>) -> SelectedChain<'a>
         requires few { length lines.now < 2 ^ 32 }
         requires selected { IsChain lines.now }

@@ -41,7 +41,8 @@ impl<'a> StandingWords<'a> {
         &self.words
     }
 
-    /// Returns true only if no two words name the same pin. No words then need to be compared.
+    /// Returns true only if no two words name the same pin. In that case the words need not be
+    /// compared.
     pub fn differ(&self) -> bool
         ensures { result ≡ true → marked_twice self.now ≡ None }
     {
@@ -49,9 +50,10 @@ impl<'a> StandingWords<'a> {
     }
 }
 
-/// Returns each word whose pin no earlier word of the same net names.
+/// Returns the words that count: each word whose pin no earlier word of the same net names.
 ///
-/// If no two words name the same pin, as on most boards, every word counts, and no words are compared.
+/// If no two words name the same pin, as on most boards, every word counts, and no two words need
+/// to be compared.
 pub fn standing_words<'a>(
     alloc: Global,
     chain: &SelectedChain<'_>,

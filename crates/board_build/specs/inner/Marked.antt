@@ -1,4 +1,4 @@
--- The words of a net file with facts about their pins, as the code keeps them.
+-- The words of a net file as the code keeps them, with facts about the pins that they name.
 use Rattle.std.specs.Prelude.{◌≡◌, ℕ, ◌+◌, ◌<◌, ◌==◌, Bool, false, ◌&&◌, ◌||◌, List, [], ◌∷◌, ◌++◌, length, map, filter, find, nat_lt, slice_get, slice_index_or, slice_set, Option, Some, None, Result, option_and_then, option_map, is_none, is_some, if◌then◌else◌}
 use Rattle.std.proofs.Common.{Bor}
 use Rattle.std.specs.Option.{option_to_list}
@@ -26,17 +26,18 @@ use Rattle.board_build.specs.declared.marked.MarkedWord.{MarkedWord}
 use Rattle.board_lines.specs.NetWords.{Pin, NetWord, same_pin, net_of, pin_of, spot_of, is_among}
 use Rattle.board_lines.specs.ChainParts.{PinPlace, place_of_pin, described_names}
 
--- there is a driving entry, and the entry has no control
+-- there is an entry, and it has no control
 abbrev pub is_free : Option Cell → Bool
 is_free None = false
 is_free (Some cell) = is_none cell.ctl
 
--- this port bit of a device has an always-on driver
+-- there is a device, and its port bit has an always-on driver
 abbrev pub is_free_bit : Option RawDevice → ℕ → Bool
 is_free_bit None bit = false
 is_free_bit (Some device) bit = is_free (driving_entry device bit)
 
--- there are `bits` flags; the flag of a port bit says whether the first of these entries that drives the bit has no control
+-- there are `bits` flags. The flag of a port bit is set if and only if some entry in `cells` drives
+-- the bit and the first such entry has no control.
 pub record AreFlags (cells : List Cell) (bits : ℕ) (flags : List Bool) : Type 0 where
   pub size : length flags ≡ bits
   pub each : (bit : ℕ) → bit < bits → slice_index_or flags bit false ≡ is_free (find (drives_bit bit) cells)
@@ -49,7 +50,8 @@ abbrev pub is_free_at : List Part → Option PinAt → Bool
 is_free_at parts None = false
 is_free_at parts (Some at) = is_free_bit (device_of parts at.part) at.bit
 
--- a word with facts about its pin: whether the pin's part is described, the place of the pin, whether the part is inert, and whether the pin is an always-on driver
+-- a word with facts about its pin: whether the pin's part is described, the pin's place, whether
+-- the part is inert, and whether the pin is an always-on driver
 pub record Marked : Type 0 where
   pub word : NetWord
   pub described : Bool
@@ -66,7 +68,7 @@ mark parts places inerts word = record {
   always_on = is_free_at parts (place_of_pin places (pin_of word));
 }
 
--- a marked word of the code as a record of the definitions
+-- the marked word of the code, as a record of the definitions
 abbrev pub seen : MarkedWord → Marked
 seen m = record {
   word = ((m.net, (m.part.now, m.pin.now)), m.spot);
@@ -76,8 +78,8 @@ seen m = record {
   always_on = m.always_on;
 }
 
--- the marked word that is made from a borrowed word; the functions give the facts about the word's pin, and a pin with a
--- place belongs to a described part
+-- the marked word for a borrowed word; the given functions look up the facts about the word's pin,
+-- and a part is described if one of its pins has a place
 abbrev pub mark_by : List Part → (Bor (List ℕ) → Bool) → (Bor (List ℕ) × Bor (List ℕ) → Option PinAt) → (Bor (List ℕ) → Bool) → (ℕ × (Bor (List ℕ) × Bor (List ℕ))) × Spot → MarkedWord
 mark_by parts described place inert w = record {
   net = w.0.0;
@@ -90,7 +92,8 @@ mark_by parts described place inert w = record {
   always_on = is_free_at parts (place w.0.1);
 }
 
--- the net with this borrowed name and these pins; the functions say whether it is a supply, and which value it is pulled to
+-- the net with this borrowed name and these pins; the given functions say whether it is a supply
+-- net and to which value it is pulled
 abbrev pub net_by : (Bor (List ℕ) → Bool) → (Bor (List ℕ) → Option Bool) → Bor (List ℕ) × List NetPin → Net
 net_by supply pull p = record { name = p.0.now; supply = supply p.0; pull = pull p.0; pins = p.1 }
 
@@ -108,7 +111,8 @@ pin_with m = record { part = (pin_of m.word).0; pin = (pin_of m.word).1; at = m.
 abbrev pub group_of : List Marked → ℕ → List NetPin
 group_of words n = map pin_with (filter (λ m. number_of m == n) words)
 
--- adds the pin of the word to the group of the word's net, if there is a word and its net has a group
+-- appends the pin of the word to the group of the word's net, if there is a word and there is a
+-- group for its net
 abbrev pub groups_after : Option MarkedWord → ℕ → List (List NetPin) → List (List NetPin)
 groups_after None count groups = groups
 groups_after (Some word) count groups = if nat_lt word.net count then slice_set groups word.net (slice_index_or groups word.net [] ++ pin_with (seen word) ∷ []) else groups
@@ -126,7 +130,7 @@ marks_after f (Some word) marks = marks ++ f word ∷ []
 abbrev pub net_with : List (List ℕ) → List Pulled → List Marked → ℕ → List ℕ → Net
 net_with supplies pulls words n name = record { name = name; supply = is_among supplies name; pull = pull_of_net pulls name; pins = group_of words n }
 
--- the nets of these names, which are numbered from n
+-- the nets with these names, numbered from `n` on
 abbrev pub nets_with : List (List ℕ) → List Pulled → List Marked → ℕ → List (List ℕ) → List Net
 nets_with supplies pulls words n [] = []
 nets_with supplies pulls words n (name ∷ names) = net_with supplies pulls words n name ∷ nets_with supplies pulls words (n + 1) names
@@ -141,19 +145,24 @@ pin_in m = pin_of m.word
 abbrev pub same_pins : Marked → Marked → Bool
 same_pins a b = same_pin (pin_in a) (pin_in b)
 
--- the rules on marked words, each of which gives the fault that it finds
+-- the fault if the marked words name more than 65,535 different pins
 unfoldable pub marked_limit : List Marked → Option BoardFault
 marked_limit words = if nat_lt most_pins (length (once same_pins words)) then Some (Limit 4) else None
 
+-- the fault of the first word that names a pin of a described part that is not in the part's pin
+-- map
 unfoldable pub marked_unknown : List Marked → Option BoardFault
 marked_unknown words = option_map (λ m. NoPin (place_of m)) (find (λ m. m.described && is_none m.at) words)
 
+-- the fault of the first word whose pin an earlier word names
 unfoldable pub marked_twice : List Marked → Option BoardFault
 marked_twice words = option_map (λ m. PinTwice (place_of m)) (first_repeated same_pins words)
 
+-- the fault of the first of these drivers on a net that must not have an always-on driver
 unfoldable pub marked_guarded : RawBoard → List Marked → Option BoardFault
 marked_guarded board drivers = option_map (λ m. GuardedDriver (place_of m)) (find (λ m. is_kept board (slice_get board.nets (number_of m))) drivers)
 
+-- the fault of the first of these drivers whose net has an earlier driver
 unfoldable pub marked_two : List Marked → Option BoardFault
 marked_two drivers = option_map (λ m. TwoAlwaysOn (place_of m)) (first_repeated (λ a b. number_of a == number_of b) drivers)
 
@@ -163,10 +172,11 @@ marked_drivers board drivers = marked_guarded board drivers then marked_two driv
 unfoldable pub marked_pins : List Marked → Option BoardFault
 marked_pins words = marked_limit words then marked_unknown words then marked_twice words
 
+-- the first fault of the rules that come before the rules on always-on drivers
 unfoldable pub file_fault : List ChainLine → List Part → List (List ℕ) → List Marked → Option BoardFault
 file_fault chain parts names words = data_limit parts then net_limit names then marked_pins words then line_fault chain names
 
--- the words of always-on drivers whose net has a number below `nets`
+-- the words that name always-on drivers and whose net has a number below `nets`
 abbrev pub always_on : ℕ → List Marked → List Marked
 always_on nets words = filter (λ m. nat_lt (number_of m) nets && m.always_on) words
 

@@ -11,7 +11,8 @@ pub record ChainWithParts : Type 0 where
   pub lines : List ChainLine
   pub parts : List Part
 
--- the lines are those of a selected chain; the parts have the names that the lines give them, and keep the rules of a part
+-- the lines are a selected chain; the parts have the names on its DEVICE and BYPASS lines and keep
+-- the rules of a part
 pub record IsSelected (chain : ChainWithParts) : Type 0 where
   pub few : length chain.lines < 2 ^ 32
   pub selected : IsChain chain.lines

@@ -1,4 +1,4 @@
--- The parts have the names of the chain's lines.
+-- The parts have the names of the chain's DEVICE and BYPASS lines, in order.
 use Rattle.std.proofs.Common.{◌≡◌, length, map, ap, sym, ◌∙◌, arith}
 use Rattle.board_lines.specs.declared.names.Naming.TheVariants.{Part as PartName, Entity}
 use Rattle.board_lines.specs.Names.{named, names_of}

@@ -1,4 +1,5 @@
--- A device that keeps its rules has no entry outside its port bits.
+-- Each entry of a device is on one of its port bits or on none, so the flags of the entries are
+-- right for each port bit.
 use Rattle.std.proofs.Common.{ℕ, List, length, ap, ◌∙◌, subst}
 use Rattle.std.proofs.lemmas.Result.{IfOk-weaker}
 use Rattle.board_defs.specs.declared.device.Cell.{Cell}

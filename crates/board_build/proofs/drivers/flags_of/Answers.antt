@@ -1,4 +1,4 @@
--- Each step of the loop handles one more entry.
+-- Each step of the loop handles one more entry, from the last entry to the first.
 use Rattle.std.proofs.Common.{◌≡◌, ◌-◌, ◌<◌, Bool, List, length, drop, sym, subst, arith}
 use Rattle.std.proofs.lemmas.List.{with_items_is}
 use Rattle.board_build.specs.inner.Marked.{AreFlags}

@@ -1,4 +1,4 @@
--- Each name of the list is the name of a described part.
+-- The names in the list are the names of the described parts, in order.
 use Rattle.std.proofs.Common.{map, ap, ◌∙◌}
 use Rattle.std.proofs.lemmas.Result.{IfOk-weaker}
 use Rattle.first_places.specs.Places.{first_place}

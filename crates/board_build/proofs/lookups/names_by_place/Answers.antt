@@ -1,4 +1,4 @@
--- Each name of the list is a name on one of the lines.
+-- The names in the list are the names with this role on the lines, in order.
 use Rattle.std.proofs.Common.{map, ap, ◌∙◌}
 use Rattle.std.proofs.lemmas.Result.{IfOk-weaker}
 use Rattle.first_places.specs.Places.{first_place}

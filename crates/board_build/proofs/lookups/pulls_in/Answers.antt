@@ -1,4 +1,4 @@
--- The list has the pulls of the lines.
+-- The list has the nets and values of the PULL lines, in order.
 use Rattle.std.proofs.Common.{map, ap, ◌∙◌}
 use Rattle.std.proofs.lemmas.Result.{IfOk-weaker}
 use Rattle.board_lines.specs.LineRules.{pull_of_net}

@@ -1,4 +1,4 @@
--- The loop marks one more word.
+-- Each step of the loop marks one more word.
 use Rattle.std.specs.Prelude.{is_some}
 use Rattle.indexmap.specs.IndexMap.{get_by}
 use Rattle.board_files.specs.Names.{same_word}

@@ -1,4 +1,4 @@
--- The loop adds the pin of one more word to the group of its net.
+-- Each step of the loop adds the pin of one more word to the group of the word's net.
 use Rattle.std.proofs.Common.{◌≡◌, length, map, vec_len, sym, ◌∙◌}
 use Rattle.std.proofs.lemmas.List.{length-map}
 use Rattle.board_build.proofs.GroupLemmas.{groups_more}

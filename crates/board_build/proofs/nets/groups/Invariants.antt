@@ -2,7 +2,7 @@ use Rattle.std.proofs.Common.{◌≡◌, ◌<◌, ℕ, [], map, take, get_or, ve
 use Rattle.board_build.specs.inner.Marked.{group_of, seen}
 use Rattle.board_build.proofs.nets.groups.Given as goal
 
--- each group has the pins of its net from the words so far
+-- the group of each net has the net's pins from the first `i` words
 abbrev pub invariant-loop-i : goal.invariant-loop-i
 invariant-loop-i l = record {
   count : vec_len l.groups ≡ l.count;

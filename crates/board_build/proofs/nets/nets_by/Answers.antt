@@ -1,4 +1,4 @@
--- Each step of the loop adds one more net.
+-- Each step of the loop appends one more net.
 use Rattle.std.proofs.Common.{◌∙◌, map, ap}
 use Rattle.std.specs.Prelude.{is_some, slice_get}
 use Rattle.std.specs.Vec.Iter.{into_iter_items}

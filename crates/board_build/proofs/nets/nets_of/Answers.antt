@@ -1,4 +1,4 @@
--- Each net has the group of its number.
+-- Net `n` has the group with the number `n`.
 use Rattle.std.proofs.Common.{◌≡◌, ◌+◌, length, map, ap, ◌∙◌, arith}
 use Rattle.std.proofs.lemmas.List.{length-map}
 use Rattle.std.proofs.lemmas.Result.{IfOk-weaker}

@@ -1,4 +1,4 @@
--- The code counts as many pins as the definition.
+-- If there are at most 65,535 words, they name at most 65,535 pins.
 use Rattle.std.proofs.Common.{◌≡◌, ◌∙◌, length, map, [], ap, sym, arith, Some, None}
 use Rattle.std.specs.Prelude.{nat_lt, false, if◌then◌else◌}
 use Rattle.std.proofs.lemmas.List.{length-map}

@@ -6,7 +6,7 @@ use Rattle.board_build.specs.inner.Marked.{seen}
 use Rattle.board_build.specs.inner.SeenPins.{are_one, is_known_pin}
 use Rattle.board_build.proofs.seen_pins.pins_differ.Given as goal
 
--- the words so far differ, and their pins are known
+-- the words so far name different pins, and these pins are known
 abbrev pub invariant-loop-word : goal.invariant-loop-word
 invariant-loop-word l = record {
   differ : first_repeated (λ a b. are_one (seen a) (seen b)) l.words ≡ repeated_from (λ a b. are_one (seen a) (seen b)) (take l.word-index l.words) (drop l.word-index l.words);
