@@ -1,4 +1,4 @@
--- Properties of every two items of a list.
+-- Lemmas about lists of which a relation holds for each item and every later item.
 use Rattle.std.proofs.Common.{◌≡◌, ℕ, zero, suc, ◌<◌, Bool, true, false, cond, ◌||◌, List, [], ◌∷◌, ◌++◌, map, get_or, Some, None, refl, sym, ap, subst, ◌∙◌, arith, ◌⊎◌, inl, inr}
 use Rattle.std.specs.Prelude.{slice_get, filter, AllPairs}
 use Rattle.std.specs.List.{list_any, AllByRecursion}
@@ -25,7 +25,8 @@ pairs_at {X} R xs h i j x y less ei ej =
     let Q : X → Type 0 = λ v. R x v in
     subst Q (get_or_from_slice_get xs j y x ej) (subst P (get_or_from_slice_get xs i x x ei) (h i j x less (slice_get_within xs j y ej)))
 
--- if R holds in neither order for the items at two places, the two places are equal
+-- if R holds of each item and every later item, but of `x` and `y` in neither order, the places of
+-- `x` and `y` are equal
 pub one_place : {X : Type 0} (R : X → X → Type 0) (xs : List X) → AllPairs R xs → (i j : ℕ) (x y : X) → slice_get xs i ≡ Some x → slice_get xs j ≡ Some y → (R x y → ⊥) → (R y x → ⊥) → i ≡ j
 one_place R xs h i j x y ei ej wrong back = by_order (cases_order i j)
   where
@@ -50,7 +51,8 @@ pub apart_map : {X Y : Type 0} (f : X → Y) (R : Y → Y → Type 0) (xs : List
 apart_map f R [] h = h
 apart_map f R (x ∷ xs) h = (each_map f (R (f x)) xs h.0, apart_map f R xs h.1)
 
--- if P holds of each item of the filtered list, P holds of each item of the whole list that passes the test
+-- if P holds of each item of the filtered list, P holds of each item of the whole list that passes
+-- the test
 each_passing : {X : Type 0} (p : X → Bool) (P : X → Type 0) (xs : List X) → AllByRecursion P (filter p xs) → AllByRecursion (λ x. p x ≡ true → P x) xs
 each_passing p P [] h = h
 each_passing {X} p P (x ∷ xs) h = by_test (each_passing p P xs) (p x) refl h
@@ -89,7 +91,7 @@ any_first p xs y e = first_false (list_any p xs) (list_any p (y ∷ [])) (sym (l
 any_last : {X : Type 0} (p : X → Bool) (xs : List X) (y : X) → list_any p (xs ++ y ∷ []) ≡ false → p y ≡ false
 any_last p xs y e = last_false (list_any p xs) (p y) (sym (list_any-append p xs (y ∷ [])) ∙ e)
 
--- no item that `once_from` keeps equals an item that was seen before
+-- no item that `once_from` keeps equals an item of `seen`
 once_fresh : {X : Type 0} (eq : X → X → Bool) (seen items : List X) → AllByRecursion (λ i. list_any (λ s. eq s i) seen ≡ false) (once_from eq seen items)
 once_fresh eq seen [] = tt
 once_fresh {X} eq seen (x ∷ items) =
@@ -118,7 +120,7 @@ once_apart eq items = once_from_apart eq [] items
 pub unrepeated_apart : {X : Type 0} (eq : X → X → Bool) (items : List X) → first_repeated eq items ≡ None → Apart (λ a b. eq a b ≡ false) items
 unrepeated_apart {X} eq items e = let P : List X → Type 0 = λ v. Apart (λ a b. eq a b ≡ false) v in subst P (unrepeated eq eq (λ a b h. h) items e) (once_apart eq items)
 
--- item `x` passes the test and is at this place of the whole list
+-- item `x` is at this place of the list and passes the test
 pub record Passing {X : Type 0} (p : X → Bool) (xs : List X) (x : X) : Type 0 where
   pub place : ℕ
   pub stands : slice_get xs place ≡ Some x
@@ -136,7 +138,7 @@ passing {X} p (y ∷ ys) i x e = by_test (passing p ys) (p y) refl i e
     by_test rest true t (suc n) k = later (rest n x k)
     by_test rest false t n k = later (rest n x k)
 
--- each item of a mapped list is the value of `f` for the item at the same place
+-- item `i` of a mapped list is the value of `f` for item `i` of the list
 pub mapped : {X Y : Type 0} (f : X → Y) (xs : List X) (i : ℕ) (y : Y) → slice_get (map f xs) i ≡ Some y → (x : X) × (slice_get xs i ≡ Some x) × (f x ≡ y)
 mapped f [] i y e = cc e
 mapped f (x ∷ xs) zero y e = let same : f x ≡ y = cc e in (x, refl, same)

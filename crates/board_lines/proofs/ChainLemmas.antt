@@ -1,4 +1,4 @@
--- A loop over the lines of a chain file that collects the parts.
+-- Lemmas about a loop over the lines of a chain file that collects the parts.
 use Rattle.std.proofs.Common.{◌≡◌, ℕ, ◌+◌, ◌<◌, List, ◌∷◌, ◌++◌, length, drop, get_or, Option, Some, None, refl, sym, ap, subst, ◌∙◌, append_assoc, append-nil}
 use Rattle.std.specs.Prelude.{All, IfSome}
 use Rattle.std.specs.List.{cons_option}
@@ -14,7 +14,8 @@ cons_to : {A : Type 0} (o : Option A) (xs : List A) → cons_option o xs ≡ opt
 cons_to None xs = refl
 cons_to (Some x) xs = refl
 
--- after one more line, the parts so far followed by those of the remaining lines are still all parts
+-- if the parts so far, followed by the parts of the lines from line `i` on, are all parts, the same
+-- is true from line `i + 1` on after the part of line `i`, if it has one, is appended
 pub parts_step : (lines : List ChainLine) (i : ℕ) (line : ChainLine) (devices rest : List RawDevice) (o : Option Part) (parts new all : List Part) → i < length lines → get_or lines i line ≡ line →
     o ≡ part_of_line line.statement devices → rest ≡ devices_after line.statement devices → new ≡ parts ++ option_to_list o → all ≡ parts ++ chain_parts (drop i lines) devices → all ≡ new ++ chain_parts (drop (i + 1) lines) rest
 parts_step lines i line devices rest o parts new all within read eo er en same =

@@ -1,4 +1,5 @@
--- The words of a net file line by line, and words that name different pins.
+-- Lemmas about the words of a net file, which a loop collects line by line, and about words that
+-- name different pins.
 use Rattle.std.proofs.Common.{◌≡◌, ℕ, zero, suc, ◌+◌, ◌<◌, ◌==◌, Bool, true, List, [], ◌∷◌, ◌++◌, length, map, drop, get_or, append_assoc, arith, Option, Some, None, refl, sym, ap, ◌∙◌, Bor}
 use Rattle.std.specs.Prelude.{is_none, slice_get, unwrap_or}
 use Rattle.std.proofs.lemmas.List.{drop_more}
@@ -17,7 +18,8 @@ number_there f [] i x within read = absurd (omega (arith, within))
 number_there f (y ∷ ys) zero x within read = ap f read
 number_there f (y ∷ ys) (suc i) x within read = number_there f ys i x (omega (arith, within)) read
 
--- after one more line, the words so far followed by those of the remaining lines are still all words
+-- if the words so far, followed by the words of the lines from line `i` on, are all words, the same
+-- is true from line `i + 1` on after the words of line `i` are appended
 pub words_step : (names : List (List ℕ)) (lines : List NetLine) (i : ℕ) (line : NetLine) (numbers : List ℕ) (done new all : List NetWord) → i < length lines → get_or lines i line ≡ line →
     numbers ≡ map (λ (l : NetLine). net_number names l.name) lines → new ≡ done ++ line_words (unwrap_or (slice_get numbers i) 0) line.line 3 line.pins → all ≡ done ++ words_of names (drop i lines) →
     all ≡ new ++ words_of names (drop (i + 1) lines)
@@ -29,7 +31,7 @@ words_step names lines i line numbers done new all within read told pushed same 
     ∙ sym (append_assoc done (line_words (unwrap_or (slice_get numbers i) 0) line.line 3 line.pins) (words_of names (drop (i + 1) lines)))
     ∙ ap (λ (v : List NetWord). v ++ words_of names (drop (i + 1) lines)) (sym pushed)
 
--- if no pin is repeated, `once` keeps every word
+-- if no word names the pin of an earlier word, every word counts
 pub all_stand : (words : List NetWord) → first_repeated have_same_pin words ≡ None → once same_place words ≡ words
 all_stand words e = unrepeated have_same_pin same_place (λ a b h. and_right (net_of a == net_of b) (same_pin (pin_of a) (pin_of b)) h) words e
 

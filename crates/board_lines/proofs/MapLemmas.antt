@@ -1,4 +1,5 @@
--- Look-ups in a list, compared with look-ups in the list of the values of its items.
+-- Lemmas that compare a search in a list with the same search in the list of the values of its
+-- items.
 use Rattle.std.proofs.Common.{◌≡◌, Bool, true, false, cond, List, [], ◌∷◌, ◌++◌, map, Some, refl, sym, ap, ◌∙◌}
 use Rattle.std.specs.Prelude.{find, filter, option_map}
 use Rattle.std.specs.List.{list_any}

@@ -1,4 +1,4 @@
--- Names that a loop collects line by line, and borrowed names.
+-- Lemmas about names that a loop collects line by line, and about borrowed names.
 use Rattle.std.proofs.Common.{◌≡◌, ℕ, ◌+◌, ◌<◌, Bool, cond, List, [], ◌∷◌, ◌++◌, length, map, drop, get_or, Option, Some, None, refl, sym, ap, ◌∙◌, append_assoc, Bor}
 use Rattle.std.proofs.lemmas.List.{map-append, drop_more}
 use Rattle.std.specs.List.{list_any}
@@ -15,7 +15,9 @@ repeat-map f eq seen n (x ∷ xs) =
     ap (λ b. cond b (Some n) (repeat_from (λ a b. eq (f a) (f b)) (seen ++ x ∷ []) (n + 1) xs)) (sym (list_any-map f (λ s. eq s (f x)) seen))
     ∙ ap (cond (list_any (λ s. eq s (f x)) (map f seen)) (Some n)) (repeat-map f eq (seen ++ x ∷ []) (n + 1) xs ∙ ap (λ s. repeat_from eq s (n + 1) (map f xs)) (map-append f seen (x ∷ [])))
 
--- if the next line has a name, this name comes first among the names of the remaining lines
+-- if the names so far, followed by the names of the lines from line `i` on, are all names, they are
+-- also the names so far, then the name of line `i`, if it has one, then the names of the later
+-- lines
 pub named_step : (naming : Naming) (lines : List ChainLine) (i : ℕ) (line : ChainLine) (done all : List Named) → i < length lines → get_or lines i line ≡ line →
     all ≡ done ++ named naming (drop i lines) → all ≡ done ++ with_name line.line (name_of naming line.statement) (named naming (drop (i + 1) lines))
 named_step naming lines i line done all within read same =
@@ -28,7 +30,8 @@ named_some line name o done rest all e same = same ∙ ap (λ o. done ++ with_na
 pub named_none : (line : ℕ) (o : Option (List ℕ)) (done rest all : List Named) → o ≡ None → all ≡ done ++ with_name line o rest → all ≡ done ++ rest
 named_none line o done rest all e same = same ∙ ap (λ o. done ++ with_name line o rest) e
 
--- the first repeated name has the same place among the borrowed names as among the names themselves
+-- the search for the first repeated name finds the same place among borrowed names as among the
+-- names themselves
 pub first_repeat_lent : (names : List (Bor (List ℕ))) → first_repeat (λ a b. same_word a.now b.now) names ≡ first_repeat same_word (map (λ n. n.now) names)
 first_repeat_lent names = repeat-map (λ n. n.now) same_word [] 0 names
 

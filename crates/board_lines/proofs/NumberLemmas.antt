@@ -19,7 +19,7 @@ use Rattle.board_files.specs.Names.{same_word}
 use Rattle.board_lines.specs.Names.{Named, named, names_of}
 use Rattle.board_lines.specs.Selection.{spot_at, selection, answer, first_fault, no_chain, part_twice, no_entity, entity_twice, chain_limit, entity_places, entity_names}
 
--- if `unless` gives a value, there is no fault
+-- if `unless` returns a value, there is no fault
 unless_none : {V : Type 0} (f : Option BoardFault) (v w : V) → unless f v ≡ Ok w → f ≡ None
 unless_none None v w e = refl
 unless_none (Some fault) v w e = absurd cc
@@ -36,7 +36,7 @@ then_second : (a b : Option BoardFault) → (a then b) ≡ None → b ≡ None
 then_second None b e = e
 then_second (Some fault) b e = absurd cc
 
--- each place within a list of names has a spot
+-- each place within a list of names has a spot: the line of the name at this place
 spot_there : (list : List Named) (place : ℕ) → place < length list → (spot : Spot) × (spot_at list place ≡ Some spot)
 spot_there list place within =
     elim (slice_get_cases list place).1 [
@@ -44,7 +44,8 @@ spot_there list place within =
       | inr (past, _) ↦ absurd (omega (arith, past, within))
     ]
 
--- a place within the list gives a fault; so if there is no fault, there is no place
+-- if a place is within the list, a rule that reports the line at the place finds a fault; so if it
+-- finds none, there is no place
 found_none : (fault : Spot → BoardFault) (list : List Named) (place : Option ℕ) → ((k : ℕ) → place ≡ Some k → k < length list) → option_map fault (option_and_then (spot_at list) place) ≡ None → place ≡ None
 found_none fault list None within e = refl
 found_none fault list (Some k) within e =
@@ -58,7 +59,7 @@ within_more n k x xs rest more true found =
     omega (arith, same)
 within_more n k x xs rest more false found = omega (arith, more found)
 
--- a place that a search returns is within the list
+-- a place that a search returns, numbered from `n` on, is within the list
 place_within : (n : ℕ) (entities : List (List ℕ)) (name : List ℕ) (k : ℕ) → position_from (λ e. same_word e name) n entities ≡ Some k → k < n + length entities
 place_within n [] name k e = absurd cc
 place_within n (entity ∷ entities) name k e = within_more n k entity entities _ (place_within (n + 1) entities name k) (same_word entity name) e
@@ -67,7 +68,7 @@ unwrapped_within : (entities : List (List ℕ)) (name : List ℕ) (place : Optio
 unwrapped_within entities name None is e = absurd cc
 unwrapped_within entities name (Some k) is e = omega (arith, place_within 0 entities name k is)
 
--- no place is missing
+-- no item of the list of places is missing
 abbrev none_missing : List (Option ℕ) → Type 0
 none_missing places = AllByRecursion (λ place. is_none place ≡ false) places
 

@@ -1,4 +1,5 @@
--- The place of a pin, which is found by the name of its part and then by the pin's own name.
+-- Lemmas about the place of a pin, which is found by the name of the pin's part and then by the
+-- pin's own name.
 use Rattle.std.proofs.Common.{◌≡◌, ◌≢◌, ℕ, suc, ◌+◌, ◌-◌, ◌<◌, ◌≤◌, Bool, true, false, cond, ◌&&◌, List, [], ◌∷◌, ◌++◌, length, map, drop, take, get_or, Option, Some, None, refl, sym, ap, subst, ◌∙◌, arith}
 use Rattle.std.specs.Prelude.{find, slice_get, option_map, option_and_then, AllPairs}
 use Rattle.std.specs.Option.{option_or}
@@ -19,11 +20,12 @@ use Rattle.board_lines.specs.NetWords.{Pin, same_pin}
 use Rattle.board_lines.specs.ChainParts.{PinPlace, bit_places, with_place, part_places, places_from, pin_places, place_of_pin}
 use Rattle.board_lines.specs.PinRows.{AreRows, bit_of_pin, is_pin, pins_of, pins_of_bits, place_by_part, row_at}
 
--- the place of this port bit of part `part`
+-- the place of port bit `bit` of part `part`, if there is a bit
 abbrev bit_in_part : ℕ → Option ℕ → Option PinAt
 bit_in_part part bit = option_map (λ b. record { part = part; bit = b }) bit
 
--- a look-up in two joined lists tries the first list, then the second
+-- a look-up in two joined lists returns the value in the first list, or otherwise the value in the
+-- second
 value_append : {K V : Type 0} (eq : K → K → Bool) (xs ys : List (K × V)) (q : K) → first_value eq (xs ++ ys) q ≡ option_or (first_value eq xs q) (first_value eq ys q)
 value_append {K} {V} eq xs ys q = ap (option_map (λ (i : K × V). i.1)) (find-append (λ (i : K × V). eq i.0 q) xs ys) ∙ by_case (find (λ (i : K × V). eq i.0 q) xs)
   where
@@ -31,7 +33,7 @@ value_append {K} {V} eq xs ys q = ap (option_map (λ (i : K × V). i.1)) (find-a
     by_case None = refl
     by_case (Some i) = refl
 
--- the pins of a part with another name give no place of the pin
+-- if a part has another name than the pin's part, its port bits give no place of the pin
 bits_other : (part : ℕ) (name : List ℕ) (n : ℕ) (bits : List PortBit) (pin : Pin) → same_word name pin.0 ≡ false → first_value same_pin (bit_places part name n bits) pin ≡ None
 bits_other part name n [] pin other = refl
 bits_other part name n (bit ∷ bits) pin other = by_pin bit.pin (bits_other part name (n + 1) bits pin other)
@@ -40,7 +42,8 @@ bits_other part name n (bit ∷ bits) pin other = by_pin bit.pin (bits_other par
     by_pin None rest = rest
     by_pin (Some p) rest = ap (λ b. option_map (λ (i : PinPlace). i.1) (cond (b && same_word p pin.1) (Some ((name, p), record { part = part; bit = n })) (find (λ (i : PinPlace). same_pin i.0 pin) (bit_places part name (n + 1) bits)))) other ∙ rest
 
--- if the part has the name of the pin's part, the pin's place is that of the part's first port bit with this pin
+-- if a part has the name of the pin's part, the pin's place is the part's first port bit with this
+-- pin
 bits_same : (part : ℕ) (name : List ℕ) (n : ℕ) (bits : List PortBit) (pin : Pin) → same_word name pin.0 ≡ true → first_value same_pin (bit_places part name n bits) pin ≡ bit_in_part part (position_from (is_pin pin.1) n (pins_of_bits bits))
 bits_same part name n [] pin same = refl
 bits_same part name n (bit ∷ bits) pin same = by_pin bit.pin (bits_same part name (n + 1) bits pin same)
@@ -65,7 +68,7 @@ part_same n name (Bypass bits) pin same = refl
 abbrev names : List Part → List (List ℕ)
 names parts = map (λ part. part.name) parts
 
--- if no part has the name of the pin's part, the pin has no place
+-- if no part of the list has the name of the pin's part, the parts give no place of the pin
 parts_other : (n : ℕ) (parts : List Part) (pin : Pin) → AllByRecursion (λ name. same_word name pin.0 ≡ false) (names parts) → first_value same_pin (places_from n parts) pin ≡ None
 parts_other n [] pin others = refl
 parts_other n (part ∷ parts) pin others =
@@ -73,7 +76,8 @@ parts_other n (part ∷ parts) pin others =
     ∙ ap (λ o. option_or o (first_value same_pin (places_from (n + 1) parts) pin)) (part_other n part.name part.kind pin others.0)
     ∙ parts_other (n + 1) parts pin others.1
 
--- if R holds for every two items of a list, it holds for every two items after the first item
+-- if R holds of each item of a list and every later item, the same is true of the list without its
+-- first item
 rest_differ : {X : Type 0} (R : X → X → Type 0) (x : X) (xs : List X) → AllPairs R (x ∷ xs) → AllPairs R xs
 rest_differ R x xs h = λ i j d less within. h (suc i) (suc j) d (omega (arith, less)) (omega (arith, within))
 
@@ -85,7 +89,8 @@ first_differs : (name : List ℕ) (others : List (List ℕ)) (q : List ℕ) → 
 first_differs name [] q same differ = tt
 first_differs name (other ∷ others) q same differ = (not_same name other q same (differ 0 (omega arith)) (same_word other q) refl, first_differs name others q same (λ j within. differ (suc j) (omega (arith, within))))
 
--- part `k`, which is item `index` of this list of parts, decides the place of the pin
+-- `k` is the number of a part of the list; the place of the pin is the first port bit of part `k`
+-- with the pin's own name, or None if the part has no such bit
 pub record Found (n : ℕ) (parts : List Part) (pin : Pin) (k : ℕ) : Type 0 where
   pub index : ℕ
   pub number : k ≡ n + index
@@ -137,7 +142,7 @@ found_some n (part ∷ parts) pin k differ found = by_test (found_some (n + 1) p
               ∙ r.place;
         }
 
--- the row of a part has the pins of the part
+-- if the rows have the pins of the parts, the row of part `k` has the pins of part `k`
 row_of_part : (rows : List (List (Option (List ℕ)))) (numbers : List ℕ) (parts : List Part) (k : ℕ) → AreRows rows numbers parts → row_at rows numbers k ≡ option_map (λ part. pins_of part.kind) (slice_get parts k)
 row_of_part rows numbers parts k are = joined (slice_get numbers k) (slice_get parts k) (sym (slice_get-map (λ number. slice_get rows number) numbers k) ∙ ap (λ v. slice_get v k) are ∙ slice_get-map (λ part. Some (pins_of part.kind)) parts k)
   where
@@ -151,7 +156,8 @@ then_map : {A B C : Type 0} (f : A → B) (g : B → Option C) (o : Option A) �
 then_map f g None = refl
 then_map f g (Some a) = refl
 
--- the number of a pin's part and the row of this part give the place of the pin
+-- if no two parts have the same name and the rows have the pins of the parts, a look-up in the row
+-- of the pin's part gives the place of the pin
 pub place_by_rows : (rows : List (List (Option (List ℕ)))) (numbers : List ℕ) (parts : List Part) (pin : Pin) → AreRows rows numbers parts → AllPairs (λ a b. a ≢ b) (names parts) →
     place_by_part rows numbers (first_place same_word (names parts) pin.0) pin.1 ≡ place_of_pin (pin_places parts) pin
 place_by_rows rows numbers parts pin are differ = by_place (first_place same_word (names parts) pin.0) refl
@@ -166,7 +172,8 @@ place_by_rows rows numbers parts pin are differ = by_place (first_place same_wor
         ∙ ap (λ i. bit_in_part k (option_and_then (λ part. bit_of_pin (pins_of part.kind) pin.1) (slice_get parts i))) at
         ∙ sym r.place
 
--- if one more part and its row are added, each part has its row
+-- if the rows have the pins of the parts so far, and one more part and the number of a row with its
+-- pins are appended, the rows have the pins of all these parts
 pub rows_more : (rows longer : List (List (Option (List ℕ)))) (numbers : List ℕ) (done : List Part) (number : ℕ) (part : Part) → AreRows rows numbers done →
     ((k : ℕ) (row : List (Option (List ℕ))) → slice_get rows k ≡ Some row → slice_get longer k ≡ Some row) → slice_get longer number ≡ Some (pins_of part.kind) → AreRows longer (numbers ++ number ∷ []) (done ++ part ∷ [])
 rows_more rows longer [] [] number part are kept new = ap (λ o. o ∷ []) new
@@ -186,7 +193,8 @@ rows_step rows longer numbers pushed parts i number part within read are kept ne
     let cut : take (i + 1) parts ≡ take i parts ++ part ∷ [] = take_more parts i part within ∙ ap (λ p. take i parts ++ p ∷ []) (sym read) in
     subst P (sym is) (subst Q (sym cut) (rows_more rows longer numbers (take i parts) number part are kept new))
 
--- if bit `i - 1` is put into the map of the bits from `i` on, it becomes the map of the bits from `i - 1` on
+-- if the map has the first bits of the pins from bit `i` on, it has the first bits of the pins from
+-- bit `i - 1` on after bit `i - 1` is put into it
 pub bits_step : (bits : List PortBit) (i : ℕ) (default : PortBit) (name : List ℕ) (old new : Option ℕ) → 0 < i → i ≤ length bits →
     old ≡ position_from (λ (b : PortBit). is_pin name b.pin) i (drop i bits) → new ≡ cond (is_pin name (get_or bits (i - 1) default).pin) (Some (i - 1)) old →
     new ≡ position_from (λ (b : PortBit). is_pin name b.pin) (i - 1) (drop (i - 1) bits)
@@ -196,6 +204,6 @@ bits_step bits i default name old new some within was put =
     let cut : drop (i - 1) bits ≡ bit ∷ drop i bits = drop_more bits (i - 1) default (omega arith) ∙ ap (λ k. bit ∷ drop k bits) next in
     put ∙ ap (cond (is_pin name bit.pin) (Some (i - 1))) (was ∙ ap (λ k. position_from (λ (b : PortBit). is_pin name b.pin) k (drop i bits)) (sym next)) ∙ ap (position_from (λ (b : PortBit). is_pin name b.pin) (i - 1)) (sym cut)
 
--- the map of the bits from 0 on is the map of all bits
+-- a search that begins with bit 0 is a search in all bits
 pub bits_all : (bits : List PortBit) (i : ℕ) (name : List ℕ) → i ≡ 0 → position_from (λ (b : PortBit). is_pin name b.pin) i (drop i bits) ≡ bit_of_pin (pins_of_bits bits) name
 bits_all bits i name e = ap (λ k. position_from (λ (b : PortBit). is_pin name b.pin) k (drop k bits)) e ∙ position_from-map (λ (b : PortBit). b.pin) (is_pin name) 0 bits

@@ -1,4 +1,4 @@
--- The pins of parts and their port bits, worked out by hand.
+-- Samples of the pins of parts and their port bits, with values computed by hand.
 use Rattle.std.proofs.Common.{◌≡◌, ℕ, List, [], ◌∷◌, Option, Some, None, refl}
 use Rattle.std.specs.Prelude.{codes, false, map}
 use Rattle.board_defs.specs.declared.device.Symbol.TheVariants.{Zero, One}
@@ -12,7 +12,7 @@ use Rattle.board_defs.specs.declared.board.PinAt.{PinAt}
 use Rattle.board_lines.specs.ChainParts.{pin_places, place_of_pin}
 use Rattle.board_lines.specs.PinRows.{AreRows, bit_of_pin, place_by_part, pins_of}
 
--- a device whose third port bit has no pin, since the pin map does not name the port
+-- a port bit with this pin, or without a pin
 abbrev bit : Option (List ℕ) → PortBit
 bit pin = record { port = 0; index = None; mode = Outward; pin = pin; tap = false; compliance = false }
 
@@ -38,11 +38,12 @@ row = Some (codes "T1") ∷ Some (codes "A2") ∷ None ∷ Some (codes "7") ∷ 
 pins : map pins_of (Described device ∷ Bypass 4 ∷ []) ≡ row ∷ [] ∷ []
 pins = refl
 
--- a port bit without a pin takes a number, too, and no pin has this number
+-- a port bit without a pin also has a number, and no pin has this number
 bits : map (bit_of_pin row) (codes "T1" ∷ codes "A2" ∷ codes "7" ∷ codes "" ∷ codes "8" ∷ []) ≡ Some 0 ∷ Some 1 ∷ Some 3 ∷ None ∷ None ∷ []
 bits = refl
 
--- whole names are compared, and the case of letters counts: the readers of files put pins in upper case
+-- whole names are compared, and letters of different case differ, since the readers of files put
+-- pins in upper case
 whole : map (bit_of_pin row) (codes "a2" ∷ codes "A" ∷ codes "A22" ∷ []) ≡ None ∷ None ∷ None ∷ []
 whole = refl
 
@@ -60,15 +61,18 @@ numbers = 1 ∷ 0 ∷ 1 ∷ []
 rows : AreRows ([] ∷ row ∷ []) numbers parts
 rows = refl
 
--- the places of a pin of a described part, a pin that this part does not have, a pin of the part in BYPASS, a pin of no part, and a pin of a part without a row
+-- the place of a pin, by the number of its part and its own name
 abbrev place : Option ℕ → List ℕ → Option PinAt
 place = place_by_part ([] ∷ row ∷ []) numbers
 
+-- look-ups of a pin of a described part, a pin that this part does not have, a pin of the part in
+-- BYPASS, a pin of no part, and a pin of a part without a row
 places : place (Some 2) (codes "7") ∷ place (Some 2) (codes "9") ∷ place (Some 1) (codes "7") ∷ place None (codes "7") ∷ place (Some 3) (codes "7") ∷ []
     ≡ Some (record { part = 2; bit = 3 }) ∷ None ∷ None ∷ None ∷ None ∷ []
 places = refl
 
--- look-ups among the places of all pins: a pin of a described part, a pin that this part does not have, a pin of the part in BYPASS, and pins of two names that no part has
+-- look-ups among the places of all pins: a pin of a described part, a pin that this part does not
+-- have, a pin of the part in BYPASS, and pins of two parts that the chain does not have
 all_places : map (place_of_pin (pin_places parts)) ((codes "U3", codes "7") ∷ (codes "U3", codes "9") ∷ (codes "U2", codes "7") ∷ (codes "RAM", codes "7") ∷ (codes "u3", codes "7") ∷ [])
     ≡ Some (record { part = 2; bit = 3 }) ∷ None ∷ None ∷ None ∷ None ∷ []
 all_places = refl

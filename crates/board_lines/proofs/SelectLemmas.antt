@@ -22,7 +22,7 @@ use Rattle.board_lines.specs.ChainParts.{IsChain}
 use Rattle.board_lines.proofs.ApartLemmas.{apart_pairs, apart_weaker, unrepeated_apart}
 use Rattle.board_lines.proofs.FaultLemmas.{then_none, limit_kept}
 
--- the place of a repeated name is within the list
+-- `k` is within a list of `count` items numbered from `n` on
 pub record Repeat (n count k : ℕ) : Type 0 where
   pub below : k < n + count
 
@@ -74,7 +74,7 @@ unless_ok : {V : Type 0} (o : Option BoardFault) (v w : V) → unless o v ≡ Ok
 unless_ok None v w e = (refl, cc e)
 unless_ok (Some f) v w e = cc e
 
--- a chain without a fault has 1 to 255 parts with different names
+-- if the rules on the chain find no fault, the chain has 1 to 255 parts with different names
 chain_kept : (lines : List ChainLine) (devices : List Named) (places : List (Option ℕ)) (entities : List (List ℕ)) → first_fault (named PartName lines) devices places entities ≡ None → IsChain lines
 unfolding first_fault
 chain_kept lines devices places entities e =

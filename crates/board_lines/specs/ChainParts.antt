@@ -1,4 +1,4 @@
--- The parts of a chain, and the places of their pins.
+-- The parts of a chain, and the places of the parts' pins.
 use Rattle.std.specs.Prelude.{ℕ, ◌+◌, ◌≢◌, ◌≤◌, List, [], ◌∷◌, ◌++◌, length, drop, slice_get, Option, Some, None, option_map, AllPairs}
 use Rattle.std.specs.List.{cons_option}
 use Rattle.board_defs.specs.Limits.{most_parts}
@@ -16,13 +16,14 @@ use Rattle.board_lines.specs.Names.{named, names_of}
 use Rattle.board_lines.specs.declared.names.Naming.TheVariants.{Part as PartName}
 use Rattle.board_lines.specs.NetWords.{Pin, same_pin}
 
--- a selected chain has 1 to 255 parts with different names
+-- the chain has 1 to 255 parts with different names, as every selected chain has
 pub record IsChain (lines : List ChainLine) : Type 0 where
   pub some : 1 ≤ length (named PartName lines)
   pub most : length (named PartName lines) ≤ most_parts
   pub differ : AllPairs (λ a b. a ≢ b) (names_of (named PartName lines))
 
--- the part of a DEVICE or BYPASS line; a DEVICE line takes the next device
+-- the part of a DEVICE or BYPASS line, or None for any other line; a DEVICE line takes the first of
+-- the devices
 abbrev pub part_of_line : ChainStatement → List RawDevice → Option Part
 part_of_line (Device part entity pack) devices = option_map (λ device. record { name = part; kind = Described device }) (slice_get devices 0)
 part_of_line (BypassLine part bits) devices = Some (record { name = part; kind = Bypass bits })
@@ -31,7 +32,7 @@ part_of_line (SupplyLine net) devices = None
 part_of_line (PullLine net value) devices = None
 part_of_line (Link part first second) devices = None
 
--- the devices that are left after this line
+-- the devices that are left after the line: a DEVICE line takes the first of the devices
 abbrev pub devices_after : ChainStatement → List RawDevice → List RawDevice
 devices_after (Device part entity pack) devices = drop 1 devices
 devices_after (BypassLine part bits) devices = devices
@@ -49,12 +50,12 @@ chain_parts (line ∷ lines) devices = cons_option (part_of_line line.statement 
 abbrev pub PinPlace : Type 0
 PinPlace = Pin × PinAt
 
--- the pin of port bit `n` with its place, if the port bit has a pin, followed by `places`
+-- `places` with the pin of port bit `n` and its place in front, if the port bit has a pin
 abbrev pub with_place : ℕ → List ℕ → ℕ → Option (List ℕ) → List PinPlace → List PinPlace
 with_place part name n None places = places
 with_place part name n (Some pin) places = ((name, pin), record { part = part; bit = n }) ∷ places
 
--- the pins of these port bits with their places; the port bits are numbered from `n`
+-- the pins of these port bits with their places; the port bits are numbered from `n` on
 abbrev pub bit_places : ℕ → List ℕ → ℕ → List PortBit → List PinPlace
 bit_places part name n [] = []
 bit_places part name n (bit ∷ bits) = with_place part name n bit.pin (bit_places part name (n + 1) bits)
@@ -63,20 +64,20 @@ abbrev pub part_places : ℕ → List ℕ → PartKind → List PinPlace
 part_places part name (Described device) = bit_places part name 0 device.bits
 part_places part name (Bypass bits) = []
 
--- the pins of these parts with their places; the parts are numbered from `n`
+-- the pins of these parts with their places; the parts are numbered from `n` on
 abbrev pub places_from : ℕ → List Part → List PinPlace
 places_from n [] = []
 places_from n (part ∷ parts) = part_places n part.name part.kind ++ places_from (n + 1) parts
 
--- the pins of the described parts with their places
+-- the pins of the described parts of a chain, with their places
 abbrev pub pin_places : List Part → List PinPlace
 pin_places parts = places_from 0 parts
 
--- the place of a pin in the chain
+-- the first place that the list has for the pin
 abbrev pub place_of_pin : List PinPlace → Pin → Option PinAt
 place_of_pin places pin = first_value same_pin places pin
 
--- the name, if the part is described
+-- the name of a part, if the part is described
 abbrev pub name_in : List ℕ → PartKind → Option (List ℕ)
 name_in name (Described device) = Some name
 name_in name (Bypass bits) = None

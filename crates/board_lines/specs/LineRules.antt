@@ -13,7 +13,8 @@ use Rattle.board_lines.specs.Faults.{◌then◌}
 use Rattle.board_lines.specs.Names.{Named, named, names_of}
 use Rattle.board_lines.specs.Selection.{spot_at}
 
--- for each name of the list, its first place among the others
+-- the first place of each name of the list among the other names, or None for a name that is not
+-- among them
 abbrev pub places_of : List Named → List (List ℕ) → List (Option ℕ)
 places_of list others = map (first_place same_word others) (names_of list)
 
@@ -33,7 +34,7 @@ no_pull_net pulls nets = option_map NoPullNet (option_and_then (spot_at pulls) (
 unfoldable pub pull_twice : List Named → Option BoardFault
 pull_twice pulls = option_map PullTwice (option_and_then (spot_at pulls) (first_repeat same_word (names_of pulls)))
 
--- a net and the value that a resistor pulls it to
+-- the name of a net, and the value that a resistor pulls the net to
 abbrev pub Pulled : Type 0
 Pulled = List ℕ × Bool
 
@@ -45,7 +46,7 @@ pull_of_line (Inert part) = None
 pull_of_line (Supply net) = None
 pull_of_line (Link part first second) = None
 
--- the nets of the PULL lines, each with the value that it is pulled to
+-- the nets of the PULL lines, each with the value on its line
 abbrev pub pulls_of : List ChainLine → List Pulled
 pulls_of [] = []
 pulls_of (line ∷ lines) = cons_option (pull_of_line line.statement) (pulls_of lines)

@@ -6,11 +6,11 @@ use Rattle.board_files.specs.declared.chain_file.ChainStatement.TheVariants.{Dev
 use Rattle.board_lines.specs.declared.names.Naming.{Naming}
 use Rattle.board_lines.specs.declared.names.Naming.TheVariants.{Part, Entity, Inert, Supply, Pull}
 
--- a name and the number of its line
+-- the number of a line, and a name on this line
 abbrev pub Named : Type 0
 Named = ℕ × List ℕ
 
--- the part of a DEVICE or BYPASS line
+-- the name of the part on a DEVICE or BYPASS line
 abbrev pub part_of : ChainStatement → Option (List ℕ)
 part_of (Device part entity pack) = Some part
 part_of (Bypass part bits) = Some part
@@ -19,7 +19,7 @@ part_of (SupplyLine net) = None
 part_of (PullLine net value) = None
 part_of (Link part first second) = None
 
--- the entity of a DEVICE line
+-- the name of the entity on a DEVICE line
 abbrev pub entity_of : ChainStatement → Option (List ℕ)
 entity_of (Device part entity pack) = Some entity
 entity_of (Bypass part bits) = None
@@ -52,7 +52,7 @@ pull_of (InertLine part) = None
 pull_of (SupplyLine net) = None
 pull_of (Link part first second) = None
 
--- the name that a line has in this role
+-- the name on the line that has this role, if there is one
 abbrev pub name_of : Naming → ChainStatement → Option (List ℕ)
 name_of Part statement = part_of statement
 name_of Entity statement = entity_of statement
@@ -64,7 +64,7 @@ abbrev pub with_name : ℕ → Option (List ℕ) → List Named → List Named
 with_name line None named = named
 with_name line (Some name) named = (line, name) ∷ named
 
--- the names that the lines have in this role, each with the number of its line
+-- the names on the lines that have this role, each with the number of its line
 abbrev pub named : Naming → List ChainLine → List Named
 named naming [] = []
 named naming (line ∷ lines) = with_name line.line (name_of naming line.statement) (named naming lines)

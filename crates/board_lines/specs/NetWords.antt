@@ -27,14 +27,14 @@ pin_of word = word.0.1
 abbrev pub spot_of : NetWord → Spot
 spot_of word = word.1
 
--- the pin that a borrowed pin refers to
+-- the pin whose two names are borrowed
 abbrev pub lent_pin : Bor (List ℕ) × Bor (List ℕ) → Pin
 lent_pin p = (p.0.now, p.1.now)
 
 abbrev pub lent_word : (ℕ × (Bor (List ℕ) × Bor (List ℕ))) × Spot → NetWord
 lent_word w = ((w.0.0, lent_pin w.0.1), w.1)
 
--- both words name the same pin of the same net
+-- both words are on lines of the same net and name the same pin
 abbrev pub same_place : NetWord → NetWord → Bool
 same_place a b = (net_of a == net_of b) && same_pin (pin_of a) (pin_of b)
 
@@ -49,12 +49,12 @@ net_names lines = once same_word (line_names lines)
 abbrev pub net_number : List (List ℕ) → List ℕ → ℕ
 net_number names name = unwrap_or (first_place same_word names name) 0
 
--- the words of these pins of a line; the first pin is word n of the line
+-- the words for these pins of a line; the first pin is word `n` of the line
 abbrev pub line_words : ℕ → ℕ → ℕ → List PinWord → List NetWord
 line_words net line n [] = []
 line_words net line n (p ∷ pins) = ((net, (p.part, p.pin)), record { line = line; word = n }) ∷ line_words net line (n + 1) pins
 
--- the words that name pins, in all lines; the first pin of a line is its word 3
+-- the words of all lines that name pins; the first pin of a line is word 3 of the line
 abbrev pub words_of : List (List ℕ) → List NetLine → List NetWord
 words_of names [] = []
 words_of names (line ∷ lines) = line_words (net_number names line.name) line.line 3 line.pins ++ words_of names lines
@@ -62,11 +62,11 @@ words_of names (line ∷ lines) = line_words (net_number names line.name) line.l
 abbrev pub net_words : List NetLine → List NetWord
 net_words lines = words_of (net_names lines) lines
 
--- the words that name pins, without the words that repeat a pin of the same net
+-- the words that name pins, without each word that repeats a pin of the same net
 abbrev pub standing_words : List NetLine → List NetWord
 standing_words lines = once same_place (net_words lines)
 
--- the pins of net n
+-- the pins of net `n`
 abbrev pub pins_of_net : List NetWord → ℕ → List Pin
 pins_of_net words n = map pin_of (filter (λ word. net_of word == n) words)
 

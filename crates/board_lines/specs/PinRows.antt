@@ -1,4 +1,4 @@
--- The pins of each part, and the port bit of a pin.
+-- The row of each part, which has the pins of the part's port bits, and the port bit of a pin.
 use Rattle.std.specs.Prelude.{◌≡◌, ◌≢◌, ℕ, Bool, false, List, [], map, Option, Some, None, option_and_then, option_map, slice_get, AllPairs}
 use Rattle.std.specs.List.{position_from}
 use Rattle.std.proofs.Common.{Bor}
@@ -11,7 +11,7 @@ use Rattle.board_defs.specs.declared.board.Part.{Part}
 use Rattle.board_defs.specs.declared.board.PinAt.{PinAt}
 use Rattle.board_files.specs.Names.{same_word}
 
--- the port bit has a pin, and the pin has this name
+-- there is a pin, and it has this name
 abbrev pub is_pin : List ℕ → Option (List ℕ) → Bool
 is_pin name None = false
 is_pin name (Some pin) = same_word pin name
@@ -24,25 +24,26 @@ bit_of_pin pins name = position_from (is_pin name) 0 pins
 abbrev pub pins_of_bits : List PortBit → List (Option (List ℕ))
 pins_of_bits bits = map (λ bit. bit.pin) bits
 
--- the pins of a part's port bits; a part in BYPASS has no port bit
+-- the pin of each port bit of a part; a part in BYPASS has no port bits
 abbrev pub pins_of : PartKind → List (Option (List ℕ))
 pins_of (Described device) = pins_of_bits device.bits
 pins_of (Bypass bits) = []
 
--- the row of a part; `numbers` has the number of each part's row
+-- the row of part `part`; `numbers` has the number of each part's row
 abbrev pub row_at : List (List (Option (List ℕ))) → List ℕ → ℕ → Option (List (Option (List ℕ)))
 row_at rows numbers part = option_and_then (λ number. slice_get rows number) (slice_get numbers part)
 
--- each part's row has the pins of the part
+-- the row of each part has the pins of the part
 abbrev pub AreRows : List (List (Option (List ℕ))) → List ℕ → List Part → Type 0
 AreRows rows numbers parts = map (λ number. slice_get rows number) numbers ≡ map (λ part. Some (pins_of part.kind)) parts
 
--- the place of the pin, if there is a part and the part has the pin
+-- the place of the pin, if there is a part and a port bit of the part has the pin
 abbrev pub place_by_part : List (List (Option (List ℕ))) → List ℕ → Option ℕ → List ℕ → Option PinAt
 place_by_part rows numbers None pin = None
 place_by_part rows numbers (Some part) pin = option_map (λ bit. record { part = part; bit = bit }) (option_and_then (λ row. bit_of_pin row pin) (row_at rows numbers part))
 
--- the parts have different names, the map has the number of each name's part, and each part's row has the part's pins
+-- no two parts have the same name, the map has the number of each part by its name, and the row of
+-- each part has its pins
 pub record ArePlaces {S : Type 0} (by_name : IndexMap (Bor (List ℕ)) ℕ S) (rows : List (List (Option (List ℕ)))) (numbers : List ℕ) (parts : List Part) : Type 0 where
   pub named : (q : Bor (List ℕ)) → get_by (λ n. same_word q.now n.now) by_name ≡ first_place same_word (map (λ part. part.name) parts) q.now
   pub pinned : AreRows rows numbers parts

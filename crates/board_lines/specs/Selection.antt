@@ -12,7 +12,8 @@ use Rattle.board_files.specs.Names.{same_word}
 use Rattle.board_lines.specs.Names.{Named, named, names_of}
 use Rattle.board_lines.specs.Faults.{◌then◌, unless}
 
--- the spot of the name at this place of the list; the word is always 1, since a refusal names a whole chain line
+-- the spot of the name at this place of the list; its word is always 1, since a fault of a chain
+-- file names a whole line
 abbrev pub spot_at : List Named → ℕ → Option Spot
 spot_at list place = option_map (λ n. record { line = n.0; word = 1 }) (slice_get list place)
 
@@ -24,15 +25,15 @@ no_chain parts = if nat_eq (length parts) 0 then Some NoChain else None
 unfoldable pub part_twice : List Named → Option BoardFault
 part_twice parts = option_map PartTwice (option_and_then (spot_at parts) (first_repeat same_word (names_of parts)))
 
--- the place of each described part's entity among the texts' entities
+-- the place of each DEVICE line's entity in the list of entities
 abbrev pub entity_places : List Named → List (List ℕ) → List (Option ℕ)
 entity_places devices entities = map (first_place same_word entities) (names_of devices)
 
--- the fault of the first described part whose entity no text describes
+-- the fault of the first DEVICE line whose entity no text describes
 unfoldable pub no_entity : List Named → List (Option ℕ) → Option BoardFault
 no_entity devices places = option_map NoEntity (option_and_then (spot_at devices) (position is_none places))
 
--- the fault of the first text that describes the entity of an earlier text
+-- the fault of the first text whose entity an earlier text describes
 unfoldable pub entity_twice : List (List ℕ) → Option BoardFault
 entity_twice entities = option_map EntityTwice (first_repeat same_word entities)
 
@@ -40,18 +41,18 @@ entity_twice entities = option_map EntityTwice (first_repeat same_word entities)
 unfoldable pub chain_limit : List Named → Option BoardFault
 chain_limit parts = if nat_lt most_parts (length parts) then Some (Limit 1) else None
 
--- the first fault, by the rules in their order
+-- the first fault of the chain, by the rules in their order
 unfoldable pub first_fault : List Named → List Named → List (Option ℕ) → List (List ℕ) → Option BoardFault
 first_fault parts devices places entities = no_chain parts then part_twice parts then no_entity devices places then entity_twice entities then chain_limit parts
 
 abbrev pub entity_names : List Entity → List (List ℕ)
 entity_names entities = map (λ e. e.name) entities
 
--- the number of each described part's text, or the first fault
+-- the place of each DEVICE line's entity, or the first fault
 unfoldable pub answer : List Named → List Named → List (Option ℕ) → List (List ℕ) → Result (List ℕ) BoardFault
 answer parts devices places entities = unless (first_fault parts devices places entities) (map (λ place. unwrap_or place 0) places)
 
--- the number of the text that each DEVICE line selects, or the first fault
+-- the number of each DEVICE line's entity, or the first fault
 abbrev pub selection : List ChainLine → List Entity → Result (List ℕ) BoardFault
 selection lines entities =
     answer (named Part lines) (named EntityName lines) (entity_places (named EntityName lines) (entity_names entities)) (entity_names entities)

@@ -1,11 +1,11 @@
-// The reasons why files denote no board.
+// The reasons for which files denote no board.
 ghost use Rattle.std.specs.Prelude.{◌≡◌, alloc_error};
 ghost use Rattle.board_lines.specs.declared.fault.BoardFault.TheVariants.{Memory};
 
 use board_defs::Spot;
 use std::alloc::{AllocError, AllocFailed};
 
-/// The first fault of a board's files, or a refusal of memory.
+/// The first fault of a board's files, or lack of memory.
 #[derive(Debug, Drop, thiserror::Error)]
 pub enum BoardFault {
     #[error("no part in the chain")]
@@ -38,7 +38,7 @@ pub enum BoardFault {
     PullTwice(Spot),
 }
 
-// Returns the words for what the limit with number `which` counts.
+// Returns the word for what limit number `which` counts.
 fn limit_name(which: u32) -> &'static str {
     match which {
         1 => "chain parts",

@@ -15,7 +15,7 @@ use first_places::first_values;
 use indexmap::IndexMap;
 use std::alloc::{AllocError, Global};
 
-/// Returns the first place of each name among `others`.
+/// Returns, for each name of the list, its first place among `others`.
 fn places_of(
     alloc: Global,
     named: &[(u32, &[u8])],
@@ -107,7 +107,7 @@ fn pull_of_line(statement: &ChainStatement) -> Option<(&[u8], bool)>
     }
 }
 
-/// Returns the nets of the PULL lines, each with the value that it is pulled to.
+/// Returns the nets of the PULL lines, each with the value on its line.
 pub fn pulls_of<'a>(
     alloc: Global,
     lines: &'a [ChainLine],
@@ -123,7 +123,7 @@ pub fn pulls_of<'a>(
     Ok(pulls)
 }
 
-/// Returns a map from each net to the value of its first PULL line.
+/// Returns a map from each net of the list to the value of its first pair.
 pub fn pulls_by_net<'a>(
     alloc: Global,
     pulls: &[(&'a [u8], bool)],
@@ -133,11 +133,11 @@ pub fn pulls_by_net<'a>(
     first_values(alloc, pulls)
 }
 
-/// Returns the value that a net is pulled to.
+/// Returns the value that the map has for the net, or None if it has none.
 pub fn pull_of_net(pulls: &IndexMap<&[u8], bool>, net: &[u8]) -> Option<bool>
     ensures { result ≡ get_by (λ n. same_word net.now n.now) pulls.now }
 {
-    // An empty map is not searched: a look-up would hash the name first.
+    // A look-up would hash the name first, so an empty map is not searched.
     if pulls.is_empty() {
         return None;
     }
@@ -171,7 +171,7 @@ pub fn line_fault(
     pull_twice(alloc, &pulls)
 }
 
-/// Returns the names that have the role `naming` on the lines.
+/// Returns the names on the lines that have the role `naming`.
 pub fn names_in<'a>(
     alloc: Global,
     lines: &'a [ChainLine],

@@ -36,7 +36,7 @@ pub fn name_of(statement: &ChainStatement, naming: Naming) -> Option<&Name>
     }
 }
 
-/// Returns the names that have the role `naming` on the lines, each with the number of its line.
+/// Returns the names on the lines that have the role `naming`, each with the number of its line.
 pub fn named<'a>(
     alloc: Global,
     lines: &'a [ChainLine],
@@ -54,7 +54,7 @@ pub fn named<'a>(
     Ok(list)
 }
 
-/// Returns the names without their lines.
+/// Returns the names of the list, without the numbers of their lines.
 pub fn names_of<'a>(alloc: Global, named: &[(u32, &'a [u8])]) -> Result<Vec<&'a [u8]>, AllocError>
     ensures names { IfOk result (λ names. map (λ n. n.now) names.items ≡ names_of (map (λ n. (n.0, n.1.now)) named.now)) }
     ensures count { IfOk result (λ names. vec_len names ≡ length named.now) }
@@ -85,11 +85,11 @@ pub fn first_places_of<'a>(
     first_places(alloc, names)
 }
 
-/// Returns the place that the map has for this name.
+/// Returns the place that the map has for this name, or None if it has none.
 pub fn place_of(places: &IndexMap<&[u8], u32>, name: &[u8]) -> Option<u32>
     ensures { result ≡ get_by (λ n. same_word name.now n.now) places.now }
 {
-    // An empty map is not searched: a look-up would hash the name first.
+    // A look-up would hash the name first, so an empty map is not searched.
     if places.is_empty() {
         return None;
     }
@@ -118,7 +118,7 @@ pub fn places_among(
     requires { length others.now < 2 ^ 32 }
     ensures { IfOk result (λ places. places.items ≡ map (first_place same_word (map (λ n. n.now) others.now)) (map (λ n. n.now) names.now)) }
 {
-    // Without names to look up, `others` needs no map.
+    // If there are no names to look up, `others` needs no map.
     if names.is_empty() {
         return Ok(Vec::new(alloc));
     }
@@ -126,7 +126,8 @@ pub fn places_among(
     places_by(alloc, names, &known)
 }
 
-/// Returns the different names in the order of their first places, and the number of each of `names` in this order.
+/// Returns the different names in the order of their first places, and the number in this order of
+/// each of `names`.
 pub fn numbered_names<'a>(
     alloc: Global,
     names: &[&'a [u8]],

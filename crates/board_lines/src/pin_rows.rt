@@ -11,8 +11,9 @@ use indexmap::IndexMap;
 use std::alloc::{AllocError, Global};
 use std::marker::Model;
 
-/// The number of rows that are compared when a row with the same pins is searched for. On a board of many different devices
-/// few rows can be shared, and comparing every two rows would take too long.
+/// The number of rows that are compared in the search for a row with the same pins. On a board with
+/// many different devices, few rows can be shared, and comparing every two rows would take too
+/// long.
 const ROWS_COMPARED: usize = 16;
 
 /// Returns the port bits of a part. A part in BYPASS has no port bits.
@@ -40,7 +41,7 @@ fn put_pin<'a>(
     Ok(())
 }
 
-/// Returns a map from each pin to its first port bit.
+/// Returns a map from each pin to the first port bit with this pin.
 fn bits_by_pin<'a>(
     alloc: Global,
     bits: &'a [PortBit],
@@ -83,7 +84,7 @@ fn have_same_pins(a: &[PortBit], b: &[PortBit]) -> bool
     true
 }
 
-/// The pins of the port bits of a part. The value in contracts is the list of the pins.
+/// The pins of the port bits of a part. In contracts, the value is the list of the pins.
 #[derive(Drop)]
 pub struct PinRow<'a> {
     bits: &'a [PortBit],
@@ -113,14 +114,14 @@ impl<'a> PinRow<'a> {
         Ok(PinRow { bits, by_pin })
     }
 
-    /// Returns the first port bit with this pin.
+    /// Returns the first port bit with this pin, or None if no port bit has it.
     pub fn bit_of(&self, pin: &[u8]) -> Option<u32>
         ensures { result ≡ bit_of_pin self.now pin.now }
     {
         self.by_pin.get(&pin).copied()
     }
 
-    /// Returns true only if the port bits have the pins of this row.
+    /// Returns true only if the port bits have the pins of this row, in the same order.
     fn has_pins(&self, bits: &[PortBit]) -> bool
         ensures { result ≡ true → self.now ≡ pins_of_bits bits.now }
     {
@@ -128,7 +129,8 @@ impl<'a> PinRow<'a> {
     }
 }
 
-/// Returns the number of a row with these pins, if there is such a row among the first `ROWS_COMPARED` rows.
+/// Returns the number of a row with the pins of these port bits, if there is one among the first
+/// `ROWS_COMPARED` rows.
 fn row_among(rows: &[PinRow<'_>], bits: &[PortBit]) -> Option<usize>
     ensures { IfSome result (λ number. slice_get rows.now number ≡ Some (pins_of_bits bits.now)) }
 {
@@ -143,7 +145,8 @@ fn row_among(rows: &[PinRow<'_>], bits: &[PortBit]) -> Option<usize>
     None
 }
 
-/// Returns the number of a row with these pins. Adds a row if there is no such row among the first `ROWS_COMPARED` rows.
+/// Returns the number of a row with the pins of these port bits. Adds a row if there is none among
+/// the first `ROWS_COMPARED` rows.
 pub fn row_of<'a>(
     alloc: Global,
     rows: &mut Vec<PinRow<'a>>,

@@ -1,4 +1,5 @@
-// The place of each pin in the chain, which is found by the name of its part and then by the pin's own name.
+// The place of each pin in the chain, which is found by the name of the pin's part and then by the
+// pin's own name.
 ghost use Rattle.std.specs.Prelude.{◌≡◌, ◌≢◌, ◌<◌, ◌^◌, AllPairs, length, map, option_and_then, slice_get, IfOk, List, Option, Some, ℕ};
 ghost use Rattle.std.proofs.Common.{Bor};
 ghost use Rattle.indexmap.specs.IndexMap.{get_by};
@@ -58,7 +59,7 @@ fn rows_of<'a>(alloc: Global, parts: &'a [Part]) -> Result<PartRows<'a>, AllocEr
     Ok(PartRows { rows, numbers })
 }
 
-/// Returns the first port bit of part `part` that has the pin.
+/// Returns the first port bit of part `part` that has the pin. Looks it up in the part's row.
 fn bit_in(rows: &[PinRow<'_>], numbers: &[usize], part: u32, pin: &[u8]) -> Option<u32>
     ensures { result ≡ option_and_then (λ row. bit_of_pin row pin.now) (row_at rows.now numbers.now part) }
 {
@@ -71,7 +72,8 @@ fn bit_in(rows: &[PinRow<'_>], numbers: &[usize], part: u32, pin: &[u8]) -> Opti
     }
 }
 
-/// Returns the place of a pin, found by the number of the pin's part and the row of this part.
+/// Returns the place of a pin. Looks up the number of the pin's part by the part's name, and then
+/// the pin in the part's row.
 fn place_in(
     by_name: &IndexMap<&[u8], u32>,
     rows: &[PinRow<'_>],
@@ -89,10 +91,10 @@ fn place_in(
     }
 }
 
-/// The places of the pins of a chain's parts. The value in contracts is the list of the parts.
+/// The places of the pins of a chain's parts. In contracts, the value is the list of the parts.
 ///
-/// Most boards have many equal devices. One row of pins for each different device stays in the processor's cache, but one
-/// table of all pins does not.
+/// Most boards have many equal devices. A row of pins for each different device stays in the
+/// processor's cache, but one table of all pins does not.
 #[derive(Drop)]
 pub struct PinPlaces<'a> {
     parts: &'a [Part],
@@ -128,7 +130,7 @@ impl<'a> PinPlaces<'a> {
         })
     }
 
-    /// Returns the place of the pin in the chain.
+    /// Returns the place of the pin in the chain, or None if it has none.
     pub fn place_of_pin(&self, pin: &PinName<'_>) -> Option<PinAt>
         ensures { result ≡ place_of_pin (pin_places self.now) (lent_pin pin.now) }
     {

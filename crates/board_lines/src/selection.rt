@@ -14,7 +14,8 @@ use board_files::ChainFile;
 use bsdl_parser::Entity;
 use std::alloc::{AllocError, Global};
 
-/// Returns the number of each DEVICE line's entity, or the first fault of the chain.
+/// Returns the number of each DEVICE line's entity, or the first fault of the chain. The entities
+/// are numbered from 0.
 pub fn select(alloc: Global, chain: &ChainFile, entities: &[Entity]) -> Result<Vec<u32>, BoardFault>
     requires { length entities.now < 2 ^ 32 }
     ensures numbers { Gives board_told (λ numbers. numbers.items) (λ said. selection chain.now entities.now ≡ said) result }
@@ -52,7 +53,7 @@ fn numbers_among(
     answer(alloc, &parts, &devices, &places, entities)
 }
 
-/// Returns the number of each described part's entity, or the first fault.
+/// Returns the place of each DEVICE line's entity, or the first fault.
 #[tactic(auto, unfolding(crate::specs::Selection::answer))]
 fn answer(
     alloc: Global,
@@ -71,7 +72,7 @@ fn answer(
     }
 }
 
-/// Returns for each described part the place of its entity among the texts' entities.
+/// Returns the place of each DEVICE line's entity in the list of entities.
 fn entity_places(
     alloc: Global,
     devices: &[(u32, &[u8])],
@@ -150,7 +151,8 @@ fn chain_limit(parts: &[(u32, &[u8])]) -> Option<BoardFault>
     }
 }
 
-/// Returns the spot of the name at this place of the list. The word is always 1, since a refusal names a whole chain line.
+/// Returns the spot of the name at this place of the list. The spot's word is always 1, since a
+/// fault of a chain file names a whole line.
 pub fn spot_at(named: &[(u32, &[u8])], place: usize) -> Option<Spot>
     ensures { result ≡ spot_at (map (λ n. (n.0, n.1.now)) named.now) place }
 {

@@ -19,7 +19,8 @@ pub type NetWord<'a> = ((u32, PinName<'a>), Spot);
 /// The names of the nets in a net file.
 #[derive(Drop)]
 pub struct NetNames<'a> {
-    /// The names in the order of their first lines. A net's number is its place here.
+    /// The names in the order of their first lines. The number of a net is the place of its name in
+    /// this list.
     pub names: Vec<&'a [u8]>,
     /// The number of each line's net.
     pub numbers: Vec<u32>,
@@ -49,7 +50,7 @@ fn number_at(numbers: &[u32], place: usize) -> u32
     }
 }
 
-/// Adds the words of a line. The first pin of a line is its word 3.
+/// Appends the words of a line that name pins. The first pin of a line is word 3 of the line.
 fn push_line<'a>(
     words: &mut Vec<NetWord<'a>>,
     net: u32,
@@ -71,7 +72,7 @@ fn push_line<'a>(
     Ok(())
 }
 
-/// Returns the words that name pins in all lines. `numbers` has the number of each line's net.
+/// Returns the words of all lines that name pins. `numbers` has the number of each line's net.
 pub fn net_words<'a>(
     alloc: Global,
     numbers: &[u32],
@@ -90,7 +91,7 @@ pub fn net_words<'a>(
     Ok(words)
 }
 
-/// Returns the words, without the words that repeat a pin of the same net.
+/// Returns the words, without each word that repeats a pin of the same net.
 pub fn once_words<'a>(alloc: Global, words: &[NetWord<'a>]) -> Result<Vec<NetWord<'a>>, AllocError>
     ensures { IfOk result (λ kept. map lent_word kept.items ≡ once same_place (map lent_word words.now)) }
 {

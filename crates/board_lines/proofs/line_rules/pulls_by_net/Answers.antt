@@ -1,4 +1,4 @@
--- The map's keys are borrowed names.
+-- The keys of the map are borrowed names.
 use Rattle.std.proofs.Common.{◌∙◌}
 use Rattle.std.proofs.lemmas.Result.{IfOk-weaker}
 use Rattle.board_files.specs.Names.{same_word}

@@ -1,4 +1,4 @@
--- The keys are borrowed names.
+-- The names in the list are borrowed.
 use Rattle.std.proofs.Common.{◌∙◌}
 use Rattle.std.proofs.lemmas.Result.{IfOk-weaker}
 use Rattle.board_lines.proofs.NameLemmas.{first_repeat_lent}

@@ -1,4 +1,4 @@
--- The keys are borrowed names.
+-- The names in the list are borrowed.
 use Rattle.std.proofs.Common.{◌∙◌, map, ap}
 use Rattle.std.specs.Prelude.{unwrap_or}
 use Rattle.std.proofs.lemmas.Result.{IfOk-weaker}

@@ -1,4 +1,4 @@
--- The loop adds the part of one more line.
+-- Each step of the loop appends the part of one more line, if the line has one.
 use Rattle.std.proofs.Common.{sym, subst}
 use Rattle.std.specs.Prelude.{All}
 use Rattle.std.specs.Vec.Iter.{into_iter_items}

@@ -2,7 +2,8 @@ use Rattle.std.proofs.Common.{◌≡◌, ◌≤◌, ◌++◌, map, drop, vec_len
 use Rattle.board_lines.specs.ChainParts.{described_names}
 use Rattle.board_lines.proofs.parts.described_names.Given as goal
 
--- the names so far, followed by those of the remaining parts, are all names
+-- the names so far, followed by the names of the described parts among the remaining parts, are all
+-- names
 abbrev pub invariant-loop-part : goal.invariant-loop-part
 invariant-loop-part l = record {
   names : described_names l.parts ≡ map (λ n. n.now) l.names.items ++ described_names (drop l.part-index l.parts);

@@ -1,4 +1,5 @@
--- The loop goes from the last bit to the first, so all bits are in the map at its end.
+-- The loop goes from the last bit to the first, so the first bit with a pin replaces the later ones
+-- in the map.
 use Rattle.std.proofs.Common.{◌∙◌, arith}
 use Rattle.board_lines.proofs.PinLemmas.{bits_all, bits_step}
 use Rattle.board_lines.proofs.pin_rows.bits_by_pin.Goals as goal

@@ -5,7 +5,7 @@ use Rattle.board_files.specs.Names.{same_word}
 use Rattle.board_lines.specs.PinRows.{is_pin}
 use Rattle.board_lines.proofs.pin_rows.bits_by_pin.Given as goal
 
--- the map has, for each pin, the first of the port bits from `i` on with this pin
+-- for each pin, the map has the first of the port bits from `i` on with this pin
 abbrev pub invariant-loop-i : goal.invariant-loop-i
 invariant-loop-i l = record {
   within : l.i ≤ length l.bits;

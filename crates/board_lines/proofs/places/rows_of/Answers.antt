@@ -1,4 +1,4 @@
--- The loop adds one more part with its row.
+-- Each step of the loop adds one more part and the number of a row with its pins.
 use Rattle.std.proofs.Common.{ap, ◌∙◌, Some}
 use Rattle.board_lines.proofs.PinLemmas.{rows_step}
 use Rattle.board_lines.proofs.places.rows_of.Goals as goal

@@ -2,6 +2,6 @@ use Rattle.std.proofs.Common.{take}
 use Rattle.board_lines.specs.PinRows.{AreRows}
 use Rattle.board_lines.proofs.places.rows_of.Given as goal
 
--- each part so far has its row
+-- the row of each part visited so far has the pins of the part
 abbrev pub invariant-loop-part : goal.invariant-loop-part
 invariant-loop-part l = AreRows l.rows.items l.numbers.items (take l.part-index l.parts)

@@ -1,4 +1,4 @@
--- The code and the definition use the same names.
+-- The names of the entities in the code are the names in the definition.
 use Rattle.std.proofs.Common.{◌≡◌, map, ap, subst, ◌∙◌}
 use Rattle.answers.specs.Gives.{Gives}
 use Rattle.board_lines.specs.declared.names.Naming.TheVariants.{Part, Entity}

@@ -1,4 +1,4 @@
--- The code and the definition use the same names and places.
+-- The names and the places in the code are those in the definition.
 use Rattle.std.proofs.Common.{◌≡◌, map, subst, rules}
 use Rattle.answers.specs.Gives.{Gives}
 use Rattle.board_lines.specs.declared.names.Naming.TheVariants.{Part, Entity}

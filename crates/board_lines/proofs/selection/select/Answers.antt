@@ -1,4 +1,4 @@
--- If a chain is selected, it keeps the rules of a chain.
+-- If the selection finds no fault, the chain has 1 to 255 parts with different names.
 use Rattle.std.proofs.Common.{arith}
 use Rattle.std.proofs.lemmas.Result.{IfOk-weaker}
 use Rattle.board_lines.proofs.SelectLemmas.{selected_chain}

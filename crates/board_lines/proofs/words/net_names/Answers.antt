@@ -1,4 +1,4 @@
--- The number of each line's name is the number of the line's net.
+-- The number of the name on each line is the number of the line's net.
 use Rattle.std.proofs.Common.{◌∙◌, map, ap}
 use Rattle.lists.proofs.ListLemmas.{map-map}
 use Rattle.first_places.specs.Places.{number_in, once}

@@ -1,4 +1,4 @@
--- The loop adds the words of one more line.
+-- Each step of the loop appends the words of one more line.
 use Rattle.std.proofs.Common.{◌∙◌, ◌++◌, map, ap, sym}
 use Rattle.std.specs.Prelude.{slice_get, unwrap_or}
 use Rattle.board_lines.specs.NetWords.{lent_word, line_words, net_names, net_words}

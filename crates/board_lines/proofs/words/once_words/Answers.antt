@@ -1,4 +1,4 @@
--- The keys are borrowed words.
+-- The pins of the words are borrowed names.
 use Rattle.std.proofs.Common.{◌∙◌, map, ap}
 use Rattle.std.proofs.lemmas.Result.{IfOk-weaker}
 use Rattle.board_lines.specs.NetWords.{lent_word, same_place}

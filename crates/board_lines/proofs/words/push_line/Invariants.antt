@@ -2,7 +2,8 @@ use Rattle.std.proofs.Common.{◌≡◌, ◌+◌, ◌++◌, map, drop}
 use Rattle.board_lines.specs.NetWords.{lent_word, line_words}
 use Rattle.board_lines.proofs.words.push_line.Given as goal
 
--- the words so far, followed by those of the remaining pins, are all words
+-- the words so far, followed by the words of the remaining pins of the line, are all words; pin `j`
+-- of the line is word `j + 3`
 abbrev pub invariant-loop-pin : goal.invariant-loop-pin
 invariant-loop-pin l = record {
   number : l.word ≡ l.pin-index + 3;

@@ -1,4 +1,4 @@
--- The map of a row gives the first port bit of each pin of the row.
+-- The map of a row gives, for each pin of the row, the first port bit with this pin.
 use Rattle.std.proofs.Common.{ap, ◌∙◌}
 use Rattle.board_lines.specs.PinRows.{bit_of_pin}
 use Rattle.board_lines.proofs.pin_rows.PinRow.bit_of.Goals as goal

@@ -1,4 +1,4 @@
--- The number of the part and the part's row give the same place as the definition.
+-- A look-up in the row of the pin's part gives the same place as the definition.
 use Rattle.std.proofs.Common.{ap, ◌∙◌}
 use Rattle.indexmap.specs.IndexMap.{get_by}
 use Rattle.board_files.specs.Names.{same_word}
