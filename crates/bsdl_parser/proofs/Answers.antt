@@ -1,4 +1,4 @@
--- The answer to a text, given the result of its reader.
+-- The answer to a text, computed from the result of the grammar's reader.
 use Rattle.std.proofs.Common.{◌≡◌, ℕ, ◌+◌, ◌^◌, ◌<◌, Bool, true, false, List, [], ◌∷◌, ◌++◌, length, inl, inr, Result, Ok, Err, refl, sym, ◌∙◌, ap, subst, arith, append-nil, length-append, ◌&&◌, nat_eq}
 use Rattle.std.proofs.lemmas.Bool.Decides.{nat_tests}
 use Rattle.std.proofs.lemmas.Option.{IfSome_then}
@@ -22,7 +22,7 @@ use Rattle.bsdl_parser.proofs.Decided.{decides_file}
 use Rattle.bsdl_parser.proofs.AttributeKinds.{have_kinds}
 use Rattle.bsdl_parser.proofs.Sizes.{is_small}
 
--- a list that ends with `token` is split into `ys` and `rest` before `token` or earlier
+-- the list `xs ++ token` is also `ys ++ rest`, and `rest` begins at `token` or earlier
 pub record Halves (xs ys : List Lexeme) (token : Lexeme) (rest : List Lexeme) : Type 0 where
   pub middle : List Lexeme
   pub front : xs ≡ ys ++ middle
@@ -39,7 +39,8 @@ halves (x ∷ xs) (y ∷ ys) token r rest e =
 abbrev read : Reader Lexeme Entity
 read = reader_of file
 
--- If the next token makes a prefix of a file no longer a prefix, the reader stops at that token.
+-- If `before` is a prefix of a file, and `before` followed by `token` is not, the reader stops at
+-- `token`.
 stops_at : (before : List Lexeme) (token : Lexeme) (after : List Lexeme) → read before ≡ refused [] → (o : Outcome Lexeme Entity) → read (before ++ token ∷ []) ≡ o → (RunsOut o → ⊥)
     → IsLocalAt read (before ++ token ∷ []) o → read (before ++ token ∷ after) ≡ refused (token ∷ after)
 stops_at before token after e (found entity []) is more h = absurd (more refl)
@@ -62,7 +63,8 @@ stops_at before token after e (refused (r ∷ rest)) is more h =
         let again : read before ≡ refused (m ∷ middle) = ap read f ∙ h.again m rest middle (ap (λ t. t ∷ rest) same) in
         cc
 
--- the results that the reader can have at a stray token
+-- the two results that the reader can have if `token` is the first stray token: it refuses `token`
+-- inside a file, or it finds an entity in front of `token`
 pub data StrayRead (before : List Lexeme) (token : Lexeme) (after : List Lexeme) (o : Outcome Lexeme Entity) : Type 0 where
   inside : o ≡ refused (token ∷ after) → read before ≡ refused [] → StrayRead before token after o
   behind : (entity : Entity) → o ≡ found entity (token ∷ after) → read before ≡ found entity [] → StrayRead before token after o
@@ -78,7 +80,7 @@ stray_read tokens before token after h (refused rest) is out =
 pub is_stray_read : (tokens before : List Lexeme) (token : Lexeme) (after : List Lexeme) → IsStray tokens before token after → StrayRead before token after (read tokens)
 is_stray_read tokens before token after h = stray_read tokens before token after h (read before) refl (decides_file.cut before h.begins)
 
--- if the reader finds an entity, the next token is stray; if the reader refuses a token, that token is stray
+-- if the reader finds an entity and tokens are left, the first of them is the first stray token
 stray_behind : (tokens : List Lexeme) (entity : Entity) (token : Lexeme) (after : List Lexeme) (h : Reads read tokens entity (token ∷ after)) → IsStray tokens h.front token after
 stray_behind tokens entity token after h =
     let whole : read h.front ≡ found entity [] = ap read (sym (append-nil h.front)) ∙ h.again [] in
@@ -88,6 +90,7 @@ stray_behind tokens entity token after h =
       stray = λ k. let out : token ∷ [] ≡ [] = subst RunsOut (h.again (token ∷ [])) (decides_file.cut (h.front ++ token ∷ []) k) in cc;
     }
 
+-- if the reader refuses a token, this token is the first stray token
 stray_inside : (tokens : List Lexeme) (token : Lexeme) (after : List Lexeme) (h : Refuses read tokens (token ∷ after)) → IsStray tokens h.front token after
 stray_inside tokens token after h = record {
   split = h.split;
@@ -100,11 +103,11 @@ fault_is : (text : List ℕ) (tokens before : List Lexeme) (token : Lexeme) (aft
 fault_is text tokens before token after h true is starts = record { before = before; token = token; after = after; stray = h; line_is = refl; such = is refl }
 fault_is text tokens before token after h false is starts = inl (record { before = before; token = token; after = after; stray = h; line_is = refl; such = λ k. let e : false ≡ true = starts k in cc })
 
--- after a whole file, the word `package` begins a package text
+-- if the word `package` follows a whole file, it begins a package text
 starts_behind : (before : List Lexeme) (token : Lexeme) (entity : Entity) → read before ≡ found entity [] → is_package token ≡ true → StartsPackage before token
 starts_behind before token entity e word = record { word = word; place = inr (entity, decides_file.is_whole before entity e) }
 
--- inside a file, the word `package` begins a package text only if it is the first token
+-- if the tokens from `token` on are as many as all tokens, no token is in front of `token`
 no_front : (before after tokens : List Lexeme) (token : Lexeme) → tokens ≡ before ++ token ∷ after → nat_eq (length (token ∷ after)) (length tokens) ≡ true → before ≡ []
 no_front [] after tokens token e h = refl
 no_front (t ∷ before) after tokens token e h =
@@ -112,6 +115,7 @@ no_front (t ∷ before) after tokens token e h =
     let more : length ((t ∷ before) ++ token ∷ after) ≡ length (t ∷ before) + length (token ∷ after) = length-append (t ∷ before) (token ∷ after) in
     absurd (grind (arith, nat_tests))
 
+-- the word `package` begins a package text if it is the first token
 starts_inside : (before after tokens : List Lexeme) (token : Lexeme) → tokens ≡ before ++ token ∷ after → (is_package token && nat_eq (length (token ∷ after)) (length tokens)) ≡ true → StartsPackage before token
 starts_inside before after tokens token e h =
     let k = and_parts (is_package token) (nat_eq (length (token ∷ after)) (length tokens)) h in
@@ -142,7 +146,7 @@ judged_is text tokens (refused (token ∷ after)) is h =
     fault_is text tokens h.front token after (stray_inside tokens token after h) (is_package token && nat_eq (length (token ∷ after)) (length tokens))
     (starts_inside h.front after tokens token h.split) (is_start_inside h.front after tokens token h.split h.before)
 
--- the answer that `judged` computes from the reader's result is an answer of the text
+-- the answer that `judged` computes from the reader's result is an answer to the text
 pub is_answer : (text : List ℕ) (tokens : List Lexeme) → IsAnswer text tokens (judged text tokens (reader_of file tokens))
 is_answer text tokens = judged_is text tokens (read tokens) refl (decides_file.local tokens)
 
@@ -165,7 +169,7 @@ stray_is text tokens before token after h o (behind entity e whole) b starts is 
     let same : b ≡ is_package token = agree b (is_package token) (λ k. (is k).word) (λ k. starts (starts_behind before token entity whole k)) in
     ap (λ b. Err (fault_at b token.line)) same ∙ ap (judged text tokens) (sym e)
 
--- a text has no other answer
+-- each answer to a text is the one that `judged` computes from the reader's result
 pub one_answer : (text : List ℕ) (tokens : List Lexeme) (other : Result Entity ParseFault) → IsAnswer text tokens other → other ≡ judged text tokens (reader_of file tokens)
 one_answer text tokens (Ok entity) h = ap (judged text tokens) (sym (decides_file.whole tokens entity h))
 one_answer text tokens (Err (Expected line)) (inl h) =
@@ -176,7 +180,8 @@ one_answer text tokens (Err (Package line)) h =
     ap (λ n. Err (Package n)) h.line_is ∙ stray_is text tokens h.before h.token h.after h.stray (read tokens) (is_stray_read tokens h.before h.token h.after h.stray) true (λ k. refl) (λ e. h.such)
 one_answer text tokens (Err (Memory error)) h = absurd h
 
--- if a function returns what `judged` computes, its result is an answer of the text, and the only one
+-- if a function returns what `judged` computes from the reader's result, its result is an answer to
+-- the text
 pub answer_holds : (text : List ℕ) (tokens : List Lexeme) (result : Result Entity ParseFault) → Gives parse_told (λ entity. entity) (λ said. judged text tokens (reader_of file tokens) ≡ said) result → Gives parse_told (λ entity. entity) (IsAnswer text tokens) result
 answer_holds text tokens (Ok entity) e = subst (IsAnswer text tokens) e (is_answer text tokens)
 answer_holds text tokens (Err fault) e = IfSome_then (parse_told fault) e (λ f is. subst (IsAnswer text tokens) is (is_answer text tokens))
@@ -186,13 +191,14 @@ pub only_answer : (text : List ℕ) (tokens : List Lexeme) (result : Result Enti
 only_answer text tokens (Ok entity) e = λ other h. one_answer text tokens other h ∙ e
 only_answer text tokens (Err fault) e = IfSome_then (parse_told fault) e (λ f is other h. one_answer text tokens other h ∙ is)
 
--- tokens derive at most one entity
+-- a list of tokens derives at most one entity
 pub one_entity : (tokens : List Lexeme) (entity other : Entity) → Derives tokens entity → Derives tokens other → entity ≡ other
 one_entity tokens entity other h k =
     let both : ◌≡◌ {A = Outcome Lexeme Entity} (found entity []) (found other []) = sym (decides_file.whole tokens entity h) ∙ decides_file.whole tokens other k in
     cc
 
--- an entity that a function returns keeps the limits
+-- each attribute of an entity that the function returns has the kind of value that its number
+-- requires
 pub kinds_hold : (text : List ℕ) (tokens : List Lexeme) (result : Result Entity ParseFault) → Gives parse_told (λ entity. entity) (λ said. judged text tokens (reader_of file tokens) ≡ said) result → IfOk result HaveKinds
 kinds_hold text tokens (Ok entity) e = have_kinds tokens entity (answer_holds text tokens (Ok entity) e)
 kinds_hold text tokens (Err fault) e = tt

@@ -17,11 +17,11 @@ use Rattle.bsdl_parser.specs.Bsdl.{used, plain_value, port_value, clock_value, n
 use Rattle.bsdl_parser.specs.Answer.{Derives}
 use Rattle.bsdl_parser.specs.Entity.{is_among, HasKind, HaveKinds}
 
--- the fact is true of each value that the phrase derives
+-- `Fact` is true of each value that the phrase derives
 abbrev Yields : {A : Type 0} → Phrase A → (A → Type 0) → Type 0
 Yields g Fact = (n : ℕ) → Keeps (λ token. 0) g n (λ m a. Fact a)
 
--- an attribute with this number has a value of this form
+-- attributes with this number have values of this form
 abbrev FitsForm : ℕ → AttrForm → Type 0
 FitsForm number forms.Plain = number ≡ 1
 FitsForm number forms.Port = IsTrue (is_among (2 ∷ 3 ∷ 4 ∷ 5 ∷ 11 ∷ []) number)
@@ -58,7 +58,7 @@ used_fits name =
     last_fits true = refl
     last_fits false = tt
 
--- a value of this form has the kind of each number that has this form
+-- each value of this form has the right kind for each number whose attributes have this form
 value_kind : (form : AttrForm) → Yields (value_of form) (λ value. (number : ℕ) → FitsForm number form → HasKind number value)
 unfolding plain_value port_value clock_value number_value text_value
 value_kind forms.Plain n = keeps_in_turn keeps_nothing (λ _ _ _. keeps_in_turn keeps_nothing (λ _ _ _. keeps_in_turn keeps_nothing (λ _ _ _. keeps_done (λ number h. h))))

@@ -98,6 +98,7 @@ file_takes : EachTurnTakes file
 unfolding file
 file_takes = (tt, λ _. (tt, λ name. (tt, λ _. (item_takes, λ items. (tt, λ named. (close_takes named, λ _. tt))))))
 
--- if the file's reader finds a value, it is the value of the file; if it refuses tokens, they are not a prefix of a file
+-- if the file's reader finds a value, it is the value of the file; if the reader refuses the
+-- tokens, they derive no entity
 pub decides_file : Decides (production_of file) (reader_of file)
 decides_file = decides_grammar file file_takes

@@ -1,4 +1,5 @@
--- The names and texts of an entity are no longer than the text. Its lists have no more items than the text has bytes.
+-- The names and texts of an entity are no longer than the text, and its lists have no more items
+-- than the text has bytes.
 use Rattle.std.proofs.Common.{◌≡◌, ℕ, ◌+◌, ◌-◌, ◌<◌, ◌≤◌, List, [], ◌∷◌, ◌++◌, ◌^◌, ◌∙◌, length, map, drop, Bool, true, false, Option, Some, None, refl, ap, subst, arith, length-append, length-drop, length-take}
 use Rattle.std.proofs.lemmas.List.{length-map}
 use Rattle.std.proofs.lemmas.List.Elements.{All-nil, All-cons, All-weaker}
@@ -29,7 +30,7 @@ use Rattle.bsdl_parser.specs.Bsdl.{string_piece, string, fallback, generic, port
 use Rattle.bsdl_parser.specs.Answer.{Derives}
 use Rattle.bsdl_parser.specs.Entity.{HasShortText, IsSmall}
 
--- the cost of a name, which is at least one byte
+-- the cost of a name: its length, but at least 1
 abbrev pub cost : List ℕ → ℕ
 cost [] = 1
 cost (x ∷ xs) = length (x ∷ xs)
@@ -45,7 +46,8 @@ cost_some (x ∷ xs) = omega arith
 abbrev pub weight : Lexeme → ℕ
 weight token = cost token.spelled
 
--- the tokens of the phrase weigh at least as much as its value costs
+-- the tokens from which the phrase derives a value together weigh at least as much as the value
+-- costs
 abbrev Covers : {A : Type 0} → Phrase A → (A → ℕ) → Type 0
 Covers g cost_of = (n : ℕ) → Keeps weight g n (λ m a. n + cost_of a ≤ m)
 
@@ -66,7 +68,7 @@ text_cost n = keeps_place (λ token text e. (
     let fits : length token.spelled ≤ weight token = length-cost token.spelled in
     subst (λ xs. n + length xs ≤ n + weight token) same (omega arith)))
 
--- the tokens of a turn weigh at least as much as the items that it adds cost
+-- the tokens of a turn together weigh at least as much as the items that the turn adds cost
 abbrev AddsTo : {A : Type 0} → (List A → Phrase (Turn (List A) (List A))) → (List A → ℕ) → Type 0
 AddsTo {A} turn cost_of = (base : ℕ) (before : List A) (n : ℕ) → base + cost_of before ≤ n → Keeps weight (turn before) n (BehindTurn (λ m xs. base + cost_of xs ≤ m) (λ m xs. base + cost_of xs ≤ m))
 
@@ -153,7 +155,7 @@ value_covers forms.Clock n = keeps_in_turn (class_cost _ n) (λ port a ha. keeps
 value_covers forms.Number n = keeps_in_turn keeps_more (λ _ a ha. keeps_in_turn keeps_more (λ number b hb. keeps_in_turn keeps_more (λ _ c hc. keeps_done (omega arith))))
 value_covers forms.Text n = keeps_in_turn keeps_more (λ _ a ha. keeps_in_turn (string_cost _ a) (λ text b hb. keeps_done (omega arith)))
 
--- the cost of an attribute, which includes its first word
+-- the cost of an attribute: 1 for its first word, and the cost of its value
 abbrev attr_cost : Attr → ℕ
 attr_cost attr = 1 + value_cost attr.value
 
@@ -198,7 +200,7 @@ unfolding file
 file_cost n = keeps_in_turn keeps_more (λ _ a ha. keeps_in_turn (word_cost a) (λ name b hb. keeps_in_turn keeps_more (λ _ c hc.
     keeps_in_turn (keeps_turns (item_cost c) no_items c (omega arith)) (λ items d hd. keeps_in_turn keeps_more (λ _ e he. keeps_in_turn keeps_more (λ _ f hf. keeps_done (omega arith)))))))
 
--- a list has no more items than its items cost together
+-- if each item costs at least 1, a list has no more items than its items cost together
 some_each : {X : Type 0} (f : X → ℕ) → ((x : X) → 0 < f x) → (xs : List X) → length xs ≤ total f xs
 some_each f h [] = omega arith
 some_each f h (x ∷ xs) = let others : length xs ≤ total f xs = some_each f h xs in let first : 0 < f x = h x in omega arith
@@ -232,7 +234,7 @@ small entity h = record {
   attribute_texts = All-weaker (λ (one : Attr). attr_cost one < 2 ^ 32) (λ (one : Attr). HasShortText one.value) (λ one k. value_short one.value (omega arith)) entity.attributes (each_below attr_cost (2 ^ 32) entity.attributes (omega arith));
 }
 
--- the tokens of a text together weigh no more than the text has bytes
+-- a token of a text weighs as much as it has bytes
 token_weight : (text : List ℕ) (token : Token) → IsToken text token → weight (lexeme_of text token) ≡ token.«end» - token.start
 token_weight text token h =
     let some : token.start < token.«end» = some_bytes text token.start token.«end» token.kind h.form in
@@ -244,6 +246,8 @@ token_weight text token h =
     exact [] e some = omega arith
     exact (x ∷ xs) e some = e
 
+-- tokens that stand in order from byte `from` to byte `to` of a text together weigh at most `to -
+-- from`
 tokens_weight : (text : List ℕ) (tokens : List Token) (from to : ℕ) → Stand text from tokens to → from + total weight (lexemes text tokens) ≤ to
 tokens_weight text [] from to h = let order : from ≤ to = h.order in omega arith
 tokens_weight text (token ∷ tokens) from to h =
@@ -253,7 +257,7 @@ tokens_weight text (token ∷ tokens) from to h =
     let others : token.«end» + total weight (lexemes text tokens) ≤ to = tokens_weight text tokens token.«end» to h.2 in
     omega arith
 
--- if a text has fewer than 2^32 bytes, the entity that its tokens derive is small
+-- if a text has fewer than 2^32 bytes, and its tokens derive an entity, the entity is small
 pub is_small : (text : List ℕ) (tokens : List Token) (entity : Entity) → length text < 2 ^ 32 → AreTokens text tokens → Derives (lexemes text tokens) entity → IsSmall entity
 is_small text tokens entity short h derives =
     let covers : 0 + entity_cost entity ≤ 0 + total weight (lexemes text tokens) = (file_cost 0).kept (lexemes text tokens) entity derives in

@@ -1,4 +1,4 @@
--- A loop over turns stops where one of its turns stops.
+-- If one turn of a loop stops at a token, the loop stops at this token.
 use Rattle.std.proofs.Common.{◌≡◌, List}
 use Rattle.grammars.specs.Turn.{Turn}
 use Rattle.grammars.specs.inner.Reader.{Outcome}

@@ -8,7 +8,7 @@ use Rattle.bsdl_parser.specs.Lexeme.{Lexeme}
 use Rattle.bsdl_parser.specs.Places.{is_the_word}
 use Rattle.bsdl_parser.specs.Bsdl.{file}
 
--- the tokens are a whole file, and `entity` is its value
+-- the tokens are a whole file, whose value is `entity`
 abbrev pub Derives : List Lexeme → Entity → Type 0
 Derives tokens entity = (production_of file).Whole tokens entity
 
@@ -16,18 +16,20 @@ Derives tokens entity = (production_of file).Whole tokens entity
 abbrev pub BeginsFile : List Lexeme → Type 0
 BeginsFile tokens = (production_of file).Cut tokens
 
--- `token` is the first token with which the tokens are no longer a prefix of a file
+-- `before` is a prefix of some file, but `before` followed by `token` is not
 pub record IsStray (tokens before : List Lexeme) (token : Lexeme) (after : List Lexeme) : Type 0 where
   pub split : tokens ≡ before ++ token ∷ after
   pub begins : BeginsFile before
   pub stray : BeginsFile (before ++ token ∷ []) → ⊥
 
--- the token is the word `package`, at the start of the text or right after a whole file
+-- the token is the word `package`, and is either the first of the text or directly behind a whole
+-- file
 pub record StartsPackage (before : List Lexeme) (token : Lexeme) : Type 0 where
   pub word : IsTrue (is_the_word (codes "PACKAGE") token)
   pub place : (before ≡ []) ⊎ ((entity : Entity) × Derives before entity)
 
--- the first stray token is on this line, and `IsSuch` is true of it and the tokens before it
+-- the first stray token is on this line, and `IsSuch` is true of the tokens before it and of the
+-- token
 pub record StraysAt (tokens : List Lexeme) (line : ℕ) (IsSuch : List Lexeme → Lexeme → Type 0) : Type 0 where
   pub before : List Lexeme
   pub token : Lexeme
@@ -41,7 +43,7 @@ pub record IsUnfinished (tokens : List Lexeme) : Type 0 where
   pub begins : BeginsFile tokens
   pub no_entity : (entity : Entity) → Derives tokens entity → ⊥
 
--- The line of the last byte, or 1 for an empty text. Byte 10 belongs to the line that it ends.
+-- The line of the last byte, or 1 for an empty text. A line feed belongs to the line that it ends.
 abbrev pub last_line : List ℕ → ℕ
 last_line text = 1 + count_by (λ byte. byte == 10) (take (length text - 1) text)
 
@@ -55,7 +57,7 @@ abbrev pub IsAnswer : List ℕ → List Lexeme → Result Entity ParseFault → 
 IsAnswer text tokens (Ok entity) = Derives tokens entity
 IsAnswer text tokens (Err fault) = IsFault text tokens fault
 
--- the fault, unless it is a refusal of memory
+-- the fault, or None if memory ran out
 abbrev pub parse_told : ParseFault → Option ParseFault
 parse_told (Memory error) = None
 parse_told fault = Some fault

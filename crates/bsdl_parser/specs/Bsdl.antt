@@ -1,4 +1,5 @@
--- The grammar of a BSDL text, as far as it is used (IEEE 1149.1-2001, B.8). The comment above a production is its EBNF line.
+-- The grammar of a BSDL text, as far as an interconnect test needs it (IEEE 1149.1-2001, B.8). The
+-- comment above a production is its EBNF rule.
 use Rattle.std.specs.Prelude.{ℕ, List, [], ◌∷◌, ◌++◌, map, Bool, true, false, ◌&&◌, not, if◌then◌else◌, Option, Some, None, codes}
 use Rattle.std.specs.Str.{bytes_eq}
 use Rattle.board_defs.specs.declared.device.Mode.{Mode}
@@ -18,7 +19,7 @@ use Rattle.bsdl_parser.specs.declared.draft.AttrForm.TheVariants as forms
 use Rattle.grammars.specs.Values.{some_if}
 use Rattle.bsdl_parser.specs.Places.{Phrase, is_word, keyword, mark, either_word, either_mark, any_word, any_number, any_text, integer, mode, other_than, word_or_mark}
 
--- string = text { "&" text }, and the mark that follows it
+-- string = text { "&" text }, followed by the mark `close`
 unfoldable pub string_piece : List ℕ → List ℕ → Phrase (Turn (List ℕ) (List ℕ))
 string_piece close before = do
   piece ← any_text
@@ -191,7 +192,7 @@ text_value = do
   text ← string (codes ";")
   done (values.Text text)
 
--- used ";", after the attribute's name
+-- the value of a used attribute and its ";", after the attribute's name
 abbrev pub value_of : AttrForm → Phrase AttrValue
 value_of forms.Plain = plain_value
 value_of forms.Port = port_value
@@ -229,7 +230,7 @@ abbrev pub listed : {A : Type 0} → Option A → List A
 listed None = []
 listed (Some a) = a ∷ []
 
--- the items that have been read
+-- the items that the reader has read
 pub record Items : Type 0 where
   pub has_generic : Bool
   pub fallback : Option (List ℕ)
@@ -242,8 +243,9 @@ pub record Items : Type 0 where
 abbrev pub no_items : Items
 no_items = record { has_generic = false; fallback = None; has_port = false; ports = []; uses = []; constants = []; attributes = [] }
 
--- The kind of item that the word begins, if such an item may follow these. A file has at most one generic and one port item,
--- and `end` may come only after both.
+-- The kind of item that the word begins, or None if no such item may follow the items `before`. A
+-- file has at most one generic item and at most one port item, and `end` may follow only both of
+-- them.
 abbrev pub item_word : Items → List ℕ → Option ItemWord
 item_word before word =
     if bytes_eq word (codes "GENERIC") then some_if (not before.has_generic) words.Generic else
@@ -256,7 +258,7 @@ item_word before word =
 abbrev pub item_begin : Items → Phrase ItemWord
 item_begin before = place (λ token. if is_word token.kind then item_word before token.spelled else None)
 
--- an item after its first word, or the end of the items
+-- the rest of an item after its first word, or the end of the items
 unfoldable pub item_of : Items → ItemWord → Phrase (Turn Items Items)
 item_of before words.Generic = do
   text ← generic

@@ -1,4 +1,5 @@
--- Limits that every derived entity keeps.
+-- Properties of the entities that the grammar derives: the kind of each attribute's value and, for
+-- a text of fewer than 2^32 bytes, the sizes of names, texts and lists.
 use Rattle.std.specs.Prelude.{◌≡◌, ℕ, ◌^◌, ◌<◌, List, [], ◌∷◌, length, Bool, ◌==◌, IsTrue, All, IfSome}
 use Rattle.std.specs.List.{list_any}
 use Rattle.bsdl_parser.specs.declared.entity.AttrValue.{AttrValue}
@@ -8,18 +9,18 @@ use Rattle.bsdl_parser.specs.declared.entity.Entity.{Entity}
 abbrev pub is_among : List ℕ → ℕ → Bool
 is_among numbers number = list_any (λ k. k == number) numbers
 
--- the value has the kind that belongs to the attribute with this number
+-- an attribute with this number may have a value of this kind
 abbrev pub HasKind : ℕ → AttrValue → Type 0
 HasKind number values.Plain = number ≡ 1
 HasKind number (values.Port port) = IsTrue (is_among (2 ∷ 3 ∷ 4 ∷ 5 ∷ 11 ∷ []) number)
 HasKind number (values.Number value) = IsTrue (is_among (6 ∷ 9 ∷ []) number)
 HasKind number (values.Text text) = IsTrue (is_among (7 ∷ 8 ∷ 10 ∷ 12 ∷ 13 ∷ 14 ∷ []) number)
 
--- each attribute has a number from 1 to 14 and the kind of value that belongs to its number
+-- each attribute has a number from 1 to 14, and its value has the kind that this number requires
 abbrev pub HaveKinds : Entity → Type 0
 HaveKinds entity = All (λ attribute. HasKind attribute.number attribute.value) entity.attributes
 
--- the list has fewer than 2^32 bytes or items
+-- the list has fewer than 2^32 items
 abbrev pub IsShort : {X : Type 0} → List X → Type 0
 IsShort xs = length xs < 2 ^ 32
 
@@ -29,7 +30,8 @@ HasShortText (values.Port port) = IsShort port
 HasShortText (values.Number value) = Unit {0}
 HasShortText (values.Text text) = IsShort text
 
--- each list of the entity, and each name and text in it, has fewer than 2^32 bytes or items
+-- each list of the entity has fewer than 2^32 items, and each name and each text in it has fewer
+-- than 2^32 bytes
 pub record IsSmall (entity : Entity) : Type 0 where
   pub name : IsShort entity.name
   pub fallback : IfSome entity.fallback IsShort

@@ -1,11 +1,11 @@
--- The parts of a token that the grammar uses.
+-- A token as the grammar sees it.
 use Rattle.std.specs.Prelude.{ℕ, List, map}
 use Rattle.std.specs.List.{slice_range}
 use Rattle.std.specs.Char.{to_ascii_uppercase}
 use Rattle.bsdl_lexer.specs.declared.token.Token.{Token}
 use Rattle.bsdl_lexer.specs.declared.token.TokenKind.{TokenKind}
 
--- a token as the grammar sees it: its kind, its bytes in upper case, and its line
+-- the kind of a token, its bytes in upper case, and its line
 pub record Lexeme : Type 0 where
   pub kind : TokenKind
   pub spelled : List ℕ

@@ -1,4 +1,4 @@
--- The grammar of single tokens: which tokens fit a place, and their values.
+-- The grammars of single tokens: which tokens fit, and the value of a token that fits.
 use Rattle.std.specs.Prelude.{ℕ, ◌-◌, List, length, Bool, true, false, ◌&&◌, if◌then◌else◌, Option, Some, None, codes}
 use Rattle.std.specs.List.{slice_range}
 use Rattle.std.specs.Str.{bytes_eq}
@@ -36,7 +36,7 @@ is_the_word name token = is_word token.kind && bytes_eq token.spelled name
 abbrev pub is_the_mark : List ℕ → Lexeme → Bool
 is_the_mark name token = is_mark token.kind && bytes_eq token.spelled name
 
--- the word `name`, in which the case of letters does not matter
+-- the word `name`; the case of letters does not matter
 abbrev pub keyword : List ℕ → Phrase (Unit {0})
 keyword name = place (λ token. some_if (is_the_word name token) tt)
 

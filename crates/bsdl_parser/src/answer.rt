@@ -1,4 +1,4 @@
-//! Parses a text: returns its entity, or its first fault.
+//! Parses a text: returns the entity that it describes, or its first fault.
 ghost use Rattle.std.specs.Prelude.{◌≡◌, ◌<◌, ◌^◌, length, count_by, ◌==◌, Result, IfOk};
 ghost use Rattle.bsdl_lexer.specs.Tokens.{AreTokens};
 ghost use Rattle.answers.specs.Gives.{Gives};
@@ -72,13 +72,13 @@ fn judge(alloc: Global, text: &[u8], tokens: &[Token]) -> Result<Entity, ParseFa
 pub fn parse(alloc: Global, bytes: &[u8], tokens: &[Token]) -> Result<Entity, ParseFault>
     requires short { length bytes.now < 2 ^ 32 }
     requires tokens { AreTokens bytes.now tokens.now }
-    // On Ok, the tokens derive the entity. Otherwise the fault is that of the first token that does not fit, or of the
-    // missing rest of a file.
+    // On Ok, the tokens derive the entity. Otherwise the fault belongs to the first token that does
+    // not fit, or to the missing rest of a file.
     ensures answer { Gives parse_told (λ entity. entity) (IsAnswer bytes.now (lexemes bytes.now tokens.now)) result }
     // The definition allows no other answer.
     ensures only { Gives parse_told (λ entity. entity) (λ answer. (other : Result Entity ParseFault) → IsAnswer bytes.now (lexemes bytes.now tokens.now) other → other ≡ answer) result }
 
-    // Every returned entity keeps these limits.
+    // Every returned entity has values of the right kinds, and is small.
     ensures kinds { IfOk result HaveKinds }
     ensures small { IfOk result IsSmall }
 {

@@ -1,4 +1,4 @@
-//! Attribute items. Some attributes are used, and all others are skipped.
+//! Reads attribute items. Some attributes are used, and all others are skipped.
 ghost use Rattle.std.specs.Prelude.{◌≡◌, map};
 ghost use Rattle.std.specs.Char.{to_ascii_uppercase};
 ghost use Rattle.grammars.specs.Turn.{turn_of};
@@ -136,7 +136,7 @@ impl<'a> Cursor<'a> {
         }
     }
 
-    /// Skips one token. Returns false if it is the final `;`.
+    /// Skips one token. Returns false if the token is the final `;`.
     #[tactic(auto, unfolding(crate::specs::Bsdl::skipped_token))]
     fn skipped_token(&mut self) -> Result<bool, Stop>
         ensures { ReadsTokens (reader_of (skipped_token tt)) self.old self.new result (λ more. turn_of more tt) }

@@ -1,4 +1,4 @@
-//! A cursor over the tokens that are left, which reads them from the front.
+//! A cursor that reads the tokens of a text in order.
 ghost use Rattle.std.specs.Prelude.{◌≡◌, map, length};
 ghost use Rattle.std.specs.Char.{to_ascii_uppercase};
 ghost use Rattle.grammars.specs.Grammar.{reader_of};
@@ -14,14 +14,15 @@ use grammars::spells;
 use std::alloc::Global;
 use std::marker::Model;
 
-/// The facts about the next token that a fault needs: whether it is the word `package`, and its line.
+/// What a fault says about the next token: whether it is the word `package`, and its line.
 #[derive(Clone, Copy)]
 pub(crate) struct Front {
     pub is_package: bool,
     pub line: u32,
 }
 
-/// The tokens of a text that have not been read, and the allocator for the values that are made from them.
+/// The tokens of a text that the cursor has not read, and the allocator for the values that it
+/// makes from tokens.
 #[derive(Drop)]
 pub(crate) struct Cursor<'a> {
     alloc: Global,
@@ -172,7 +173,7 @@ impl<'a> Cursor<'a> {
         }
     }
 
-    /// Reads one of two words. Returns whether it is the first.
+    /// Reads one of two words. Returns whether it was the first.
     pub(crate) fn either_word(&mut self, first: &[u8], second: &[u8]) -> Result<bool, Stop>
         ensures { ReadsTokens (reader_of (places.either_word first.now second.now)) self.old self.new result (λ x. x) }
     {
@@ -189,7 +190,7 @@ impl<'a> Cursor<'a> {
         }
     }
 
-    /// Reads one of two marks. Returns whether it is the first.
+    /// Reads one of two marks. Returns whether it was the first.
     pub(crate) fn either_mark(&mut self, first: &[u8], second: &[u8]) -> Result<bool, Stop>
         ensures { ReadsTokens (reader_of (places.either_mark first.now second.now)) self.old self.new result (λ x. x) }
     {
@@ -206,7 +207,7 @@ impl<'a> Cursor<'a> {
         }
     }
 
-    /// Reads a word or the mark `name`. Returns whether it is a word.
+    /// Reads a word or the mark `name`. Returns whether it was a word.
     pub(crate) fn word_or_mark(&mut self, name: &[u8]) -> Result<bool, Stop>
         ensures { ReadsTokens (reader_of (places.word_or_mark name.now)) self.old self.new result (λ x. x) }
     {
@@ -223,7 +224,7 @@ impl<'a> Cursor<'a> {
         }
     }
 
-    /// Reads any token. Returns false if it is the mark `name`.
+    /// Reads any token. Returns false if the token was the mark `name`.
     pub(crate) fn other_than(&mut self, name: &[u8]) -> Result<bool, Stop>
         ensures { ReadsTokens (reader_of (places.other_than name.now)) self.old self.new result (λ x. x) }
     {

@@ -1,8 +1,8 @@
-//! The items of an entity that have been read, and the kinds of items.
+//! The items of an entity that a cursor has read, and the kinds of items.
 use crate::entity::{Attr, Constant, Port};
 use board_defs::Name;
 
-/// The items that have been read.
+/// The items that a cursor has read.
 #[derive(Drop)]
 pub(crate) struct Draft {
     pub has_generic: bool,
@@ -14,7 +14,7 @@ pub(crate) struct Draft {
     pub attributes: Vec<Attr>,
 }
 
-/// The kind of an item, which its first word decides, or the end of the items.
+/// The kind of an item, which the item's first word determines, or the end of the items.
 #[derive(Clone, Copy)]
 pub(crate) enum ItemWord {
     Generic,

@@ -1,16 +1,16 @@
 //! The contents of a BSDL text's entity. All names and texts are in upper case.
 use board_defs::{Items, Mode, Name};
 
-/// The range of a vector port: `left to right` or `left downto right`.
+/// The range of a vector port: `left to right` if `up` is true, and `left downto right` otherwise.
 #[derive(Clone, Copy, Debug, PartialEq, Eq)]
 pub struct Range {
     pub left: u32,
     pub right: u32,
-    /// True if the bounds have `to` between them, and false if they have `downto`.
+    /// True for `to`, and false for `downto`.
     pub up: bool,
 }
 
-/// A port of the logical port description. A port without a range has one bit.
+/// A port in the port item. A port without a range has one bit.
 #[derive(Drop)]
 pub struct Port {
     pub name: Name,
@@ -18,7 +18,7 @@ pub struct Port {
     pub range: Option<Range>,
 }
 
-/// A pin map. The name of the constant is the name of a package.
+/// A pin map. `name` is the name of the constant, which is the name of a package.
 #[derive(Drop)]
 pub struct Constant {
     pub name: Name,
@@ -28,7 +28,7 @@ pub struct Constant {
 /// The value of an attribute, as far as this program uses it.
 #[derive(Drop)]
 pub enum AttrValue {
-    /// The value of PIN_MAP, which can have no other value.
+    /// The value of PIN_MAP, which has only one possible value.
     Plain,
     /// The value of a TAP attribute: the name of its port.
     Port(Name),
@@ -51,7 +51,7 @@ pub struct Attr {
 #[derive(Drop)]
 pub struct Entity {
     pub name: Name,
-    /// The default of PHYSICAL_PIN_MAP, which is the package that is used if the caller names none.
+    /// The default of PHYSICAL_PIN_MAP: the package that is used if the caller does not name one.
     pub fallback: Option<Name>,
     pub ports: Items<Port>,
     /// The names of the packages in the `use` items.

@@ -1,12 +1,12 @@
-//! The reasons why a text describes no entity.
+//! The reasons for which a text describes no entity.
 use std::alloc::AllocError;
 use thiserror::Error;
 
-/// The first fault of a text that is not in the grammar, with its line.
+/// The first fault of a text that is not in the grammar, with the fault's line, or lack of memory.
 #[derive(Clone, Copy, Debug, PartialEq, Eq, Error)]
 pub enum ParseFault {
-    /// The token on this line does not continue any file of the grammar. Or the text ends inside a file, and this is
-    /// the last line of the text.
+    /// Either the token on this line does not continue any file of the grammar, or the text ends
+    /// inside a file and this is its last line.
     #[error("line {0}: not in the grammar")]
     Expected(u32),
     /// The word `package` is the first token of the text, or the first token after a whole file.

@@ -1,4 +1,4 @@
-//! Reading a whole file.
+//! Reads a whole file.
 ghost use Rattle.std.specs.Prelude.{◌≡◌};
 ghost use Rattle.grammars.specs.Grammar.{reader_of};
 ghost use Rattle.bsdl_parser.specs.inner.Reading.{ReadsTokens};
@@ -40,7 +40,7 @@ impl<'a> Cursor<'a> {
         if is_named { self.mark(b";") } else { Ok(()) }
     }
 
-    /// Reads a file at the front. Returns its entity.
+    /// Reads a file from the front of the tokens. Returns its entity.
     #[tactic(auto, unfolding(crate::specs::Bsdl::file))]
     pub(crate) fn file(&mut self) -> Result<Entity, Stop>
         ensures { ReadsTokens (reader_of file) self.old self.new result (λ entity. entity) }

@@ -1,4 +1,4 @@
-//! Reading the items of a file.
+//! Reads the items of a file.
 ghost use Rattle.std.specs.Prelude.{◌≡◌, map};
 ghost use Rattle.std.specs.Char.{to_ascii_uppercase};
 ghost use Rattle.grammars.specs.Turn.{turn_of};
@@ -109,7 +109,8 @@ impl<'a> Cursor<'a> {
         }
     }
 
-    /// Reads one item and adds it to `draft`. Returns false if the word `end` comes in place of an item.
+    /// Reads one item and adds it to `draft`. Returns false if it reads the word `end` instead of
+    /// an item.
     #[tactic(auto, unfolding(crate::specs::Bsdl::item, crate::specs::Bsdl::item_of))]
     fn item(&mut self, draft: &mut Draft) -> Result<bool, Stop>
         ensures { ReadsTokens (reader_of (item (items_of draft.old))) self.old self.new result (λ more. turn_of more (items_of draft.new)) }

@@ -1,4 +1,4 @@
-//! Reading the port item, which has groups of ports.
+//! Reads the port item, which consists of groups of ports.
 ghost use Rattle.std.specs.Prelude.{◌≡◌, ◌++◌, [], OnOk};
 ghost use Rattle.grammars.specs.Turn.{turn_of};
 ghost use Rattle.grammars.specs.Grammar.{turns, reader_of};
@@ -11,7 +11,7 @@ use crate::stop::Stop;
 use board_defs::{Mode, Name};
 use std::alloc::AllocError;
 
-/// Appends a port for each name.
+/// Appends a port with this mode and this range for each name.
 fn add_ports(
     ports: &mut Vec<Port>,
     names: Vec<Name>,

@@ -1,4 +1,4 @@
-//! Reading strings. A string is one string token, or several that are joined by `&`.
+//! Reads strings. A string is one string token, or several string tokens joined by `&`.
 ghost use Rattle.std.specs.Prelude.{◌≡◌, map};
 ghost use Rattle.std.specs.Char.{to_ascii_uppercase};
 ghost use Rattle.grammars.specs.Turn.{turn_of};
@@ -10,7 +10,7 @@ use crate::cursor::Cursor;
 use crate::stop::Stop;
 use board_defs::Name;
 
-/// Returns a name with these bytes, changed to upper case.
+/// Returns a name with these bytes in upper case.
 fn upper(mut content: Vec<u8>) -> Name
     ensures { result ≡ map to_ascii_uppercase content.items }
 {
@@ -29,7 +29,7 @@ impl<'a> Cursor<'a> {
         self.either_mark(b"&", close)
     }
 
-    /// Reads a string up to and including the mark `close`.
+    /// Reads a string and the mark `close` after it. Returns the string in upper case.
     pub(crate) fn string(&mut self, close: &[u8]) -> Result<Name, Stop>
         ensures { ReadsTokens (reader_of (string close.now)) self.old self.new result (λ name. name) }
     {

@@ -1,4 +1,6 @@
--- The lines of a net file as points: the labels of the points give the new names of the nets that links join.
+-- Lemmas about the graph whose points are the lines of a net file. An edge joins two lines that
+-- have the same name or that a LINK line joins. The label of a line is the first line that is
+-- joined with it, and the name on this line is the joined name of the first line's net.
 use Rattle.std.proofs.Common.{◌≡◌, ℕ, zero, suc, ◌+◌, ◌<◌, ◌≤◌, Bool, true, List, [], ◌∷◌, ◌++◌, length, map, drop, get_or, Option, Some, None, refl, sym, ap, subst, ◌∙◌, arith, true≢false, ◌⊎◌, inl, inr, append_assoc}
 use Rattle.std.specs.Prelude.{All, option_map, unwrap_or}
 use Rattle.std.specs.List.{cons_option, position_from}
@@ -23,11 +25,12 @@ use Rattle.series_parts.proofs.FindLemmas.{place_found, place_none, place_of_ite
 abbrev pub at : List Word → ℕ → Word
 at names i = get_or names i []
 
--- the names of the nets on the lines at the two ends of an edge
+-- the pair of the names on the two lines that an edge joins
 abbrev pub ends : List Word → ℕ × ℕ → Pair
 ends names e = (at names e.0, at names e.1)
 
--- after the edge of line `i`, the edges so far followed by those of the later names are still all edges
+-- if the edges so far, followed by the edges of the names from line `i` on, are all edges, the same
+-- is true from line `i + 1` on after the edge of line `i` is appended
 pub name_edges_step : (all : List Word) (i : ℕ) (name : Word) (first : ℕ) (done whole : Edges) → i < length all → name ≡ at all i → first ≡ unwrap_or (name_place all name) i →
     whole ≡ done ++ name_edges all i (drop i all) → whole ≡ (done ++ (i, first) ∷ []) ++ name_edges all (i + 1) (drop (i + 1) all)
 name_edges_step all i name first done whole within read is same =
@@ -60,7 +63,8 @@ cons_map : {A B : Type 0} (f : A → B) (o : Option A) (xs : List A) → cons_op
 cons_map f None xs = refl
 cons_map f (Some x) xs = refl
 
--- the pairs of nets that LINK lines join are the nets at the ends of the edges of these lines
+-- the pairs of nets that LINK lines join are the pairs of names at the ends of the edges of these
+-- lines
 pub links_ends : (nets : List NetLine) (chain : List ChainLine) → links nets chain ≡ map (ends (line_names nets)) (link_edges nets chain)
 links_ends nets [] = refl
 links_ends nets (line ∷ chain) =
@@ -72,7 +76,7 @@ place_within : {A : Type 0} (p : A → Bool) (xs : List A) (m : ℕ) → positio
 place_within p [] m h = cc h
 place_within p (x ∷ xs) m h = let r = place_found p 0 (x ∷ xs) x m h in let e : m ≡ 0 + r.0 = r.1 in let lt : r.0 < length (x ∷ xs) = r.2.within in omega arith
 
--- both ends of the edge are lines
+-- both ends of the edge are below `n`, the number of lines
 abbrev pub IsWithin : ℕ → ℕ × ℕ → Type 0
 IsWithin n e = (e.0 < n) × (e.1 < n)
 
@@ -95,7 +99,8 @@ link_edges_within nets chain e h =
     let r = filter_map_has (λ (line : ChainLine). edge_on nets line.statement) chain e h in
     subst (λ (n : ℕ). IsWithin n e) (sym (length-map nets (λ (line : NetLine). line.name))) (edge_on_within nets r.0.statement e r.2)
 
--- the edge is from one of these lines to the first line with its name; the first of `names` is on line `n`
+-- the edge leads from one of the lines, which are numbered from `n` on and have the names `names`,
+-- to the first line with its name
 abbrev NameEdge : List Word → ℕ → List Word → ℕ × ℕ → Type 0
 NameEdge all n names e = (k : ℕ) × (k < length names) × (e ≡ (n + k, unwrap_or (name_place all (at names k)) (n + k)))
 
@@ -115,7 +120,7 @@ has_name_edge all n [] k m lt e = absurd (omega arith)
 has_name_edge all n (name ∷ names) zero m lt e = let same : n ≡ m = omega arith in inl (ap (λ m. (m, unwrap_or (name_place all name) m)) same)
 has_name_edge all n (name ∷ names) (suc k) m lt e = inr (has_name_edge all (n + 1) names k m (omega arith) (omega arith))
 
--- the first line that has the name of line `k`, and the edge from line `k` to it
+-- `first` is the first line that has the name of line `k`, and there is an edge from line `k` to it
 record First (names : List Word) (k : ℕ) : Type 0 where
   first : ℕ
   edge : Has (name_edges names 0 names) (k, first)
@@ -148,7 +153,7 @@ is_name_edge names e h =
     let is : (r.0, f.first) ≡ e = ap (λ o. (r.0, unwrap_or o r.0)) (sym f.found) ∙ ap (λ m. (m, unwrap_or (name_place names (at names r.0)) m)) (sym here) ∙ sym r.2 in
     subst (IsNameEdge names) is (record { within = (lt, f.within); same = sym f.same })
 
--- each edge is between two lines with the same name, or is the edge of a LINK line
+-- each edge joins two lines with the same name, or is the edge of a LINK line
 pub edge_kind : (nets : List NetLine) (chain : List ChainLine) (e : ℕ × ℕ) → Has (edges nets chain) e → IsNameEdge (line_names nets) e ⊎ Has (link_edges nets chain) e
 edge_kind nets chain e h = by_part (has_append (name_edges (line_names nets) 0 (line_names nets)) (link_edges nets chain) e h)
   where
@@ -185,14 +190,16 @@ label_name nets chain labels h i j within_i within_j same =
     ∙ ap (λ k. get_or labels k 0) first
     ∙ sym (label_edge (edges nets chain) labels h (j, g.first) (has_left (name_edges names 0 names) (link_edges nets chain) (j, g.first) g.edge))
 
--- the two ends of each edge are lines, and have the same label
+-- both ends of each edge are lines, and they have the same label
 abbrev Labelled : ℕ → List ℕ → Edges → Type 0
 Labelled n labels es = (e : ℕ × ℕ) → Has es e → IsWithin n e × (get_or labels e.0 0 ≡ get_or labels e.1 0)
 
+-- lines with the same name have the same label
 abbrev OneLabel : List Word → List ℕ → Type 0
 OneLabel names labels = (i j : ℕ) → i < length names → j < length names → at names i ≡ at names j → get_or labels i 0 ≡ get_or labels j 0
 
--- if the links of these edges lead from one net to another, the lines of the two nets have the same label
+-- for these edges, `lead_labels` holds: if links lead from net `u` to net `v`, the lines of the two
+-- nets have the same label
 abbrev Rest : List Word → List ℕ → Edges → Type 0
 Rest names labels es = (u v : Word) → leads (map (ends names) es) u v ≡ true → (k l : ℕ) → k < length names → l < length names → at names k ≡ u → at names l ≡ v → get_or labels k 0 ≡ get_or labels l 0
 
@@ -204,7 +211,8 @@ lead_way names labels e es x y inside edge rest (forth q r) i j within_i within_
 lead_way names labels e es x y inside edge rest (back q r) i j within_i within_j is_x is_y =
     rest x (at names e.1) q i e.1 within_i inside.1 is_x refl ∙ sym edge ∙ rest (at names e.0) y r e.0 j inside.0 within_j refl is_y
 
--- if links lead from one net to another, the lines of these nets have the same label
+-- if lines with the same name have the same label, as do the two ends of each edge, and links lead
+-- from net `x` to net `y`, the lines of the two nets have the same label
 lead_labels : (names : List Word) (labels : List ℕ) (es : Edges) (x y : Word) → OneLabel names labels → Labelled (length names) labels es → leads (map (ends names) es) x y ≡ true →
     (i j : ℕ) → i < length names → j < length names → at names i ≡ x → at names j ≡ y → get_or labels i 0 ≡ get_or labels j 0
 lead_labels names labels [] x y one labelled p i j within_i within_j is_x is_y = one i j within_i within_j (is_x ∙ same_is x y p ∙ sym is_y)
@@ -214,7 +222,7 @@ lead_labels names labels (e ∷ es) x y one labelled p i j within_i within_j is_
 has_link : (nets : List NetLine) (chain : List ChainLine) (e : ℕ × ℕ) → Has (link_edges nets chain) e → Has (links nets chain) (ends (line_names nets) e)
 has_link nets chain e h = subst (λ (ps : List Pair). Has ps (ends (line_names nets) e)) (sym (links_ends nets chain)) (has_map (ends (line_names nets)) (link_edges nets chain) e h)
 
--- if edges join two points, links lead from the net of one to the net of the other
+-- if edges join two lines, links lead from the net of one line to the net of the other
 joined_leads : (nets : List NetLine) (chain : List ChainLine) (x y : ℕ) → Joined (edges nets chain) x y → leads (links nets chain) (at (line_names nets) x) (at (line_names nets) y) ≡ true
 joined_leads nets chain x y here = leads_self (links nets chain) (at (line_names nets) x)
 joined_leads nets chain x y (along {b = d} k e p) = by_kind (edge_kind nets chain (x, d) (has_at (edges nets chain) k (x, d) e)) (joined_leads nets chain d y p)
@@ -236,7 +244,7 @@ labels_agree nets chain labels h k i within_k within_i p =
     (λ e has. (link_edges_within nets chain e has, label_edge (edges nets chain) labels h e (has_right (name_edges (line_names nets) 0 (line_names nets)) (link_edges nets chain) e has)))
     (ap (λ ps. leads ps (at (line_names nets) k) (at (line_names nets) i)) (sym (links_ends nets chain)) ∙ p) k i within_k within_i refl refl
 
--- the joined name of a line's net is the name on the line that is the label
+-- the joined name of line `k`'s net is the name on the line that is the label of line `k`
 pub least_name : (nets : List NetLine) (chain : List ChainLine) (labels : List ℕ) → AreLabels (edges nets chain) labels → length labels ≡ length (line_names nets) → (k : ℕ) → k < length (line_names nets) →
     at (line_names nets) (get_or labels k 0) ≡ joined_name (links nets chain) (line_names nets) (at (line_names nets) k)
 unfolding joined_name
@@ -258,7 +266,8 @@ same_maps f g [] (y ∷ ys) d e count same = absurd (omega arith)
 same_maps f g (x ∷ xs) [] d e count same = absurd (omega arith)
 same_maps f g (x ∷ xs) (y ∷ ys) d e count same = ap (λ z. z ∷ map f xs) (same 0 (omega arith)) ∙ ap (λ zs. g y ∷ zs) (same_maps f g xs ys d e (omega arith) (λ k lt. same (suc k) (omega arith)))
 
--- the names on the lines that are the labels are the joined names of the nets on all lines
+-- the names on the lines that are the labels are, in order, the joined names of the nets of all
+-- lines
 pub least_names : (nets : List NetLine) (chain : List ChainLine) (labels : List ℕ) → AreLabels (edges nets chain) labels → length labels ≡ length (line_names nets) →
     map (at (line_names nets)) labels ≡ map (joined_name (links nets chain) (line_names nets)) (line_names nets)
 least_names nets chain labels h count =
@@ -269,7 +278,7 @@ absent_way names e es x y none inside rest (without q) = rest y q
 absent_way names e es x y none inside rest (forth q r) = absurd (none e.0 inside.0 (sym (rest (at names e.0) q)))
 absent_way names e es x y none inside rest (back q r) = absurd (none e.1 inside.1 (sym (rest (at names e.1) q)))
 
--- from a name that is on no line, links lead only to the same name
+-- links lead from a name that is on no line only to this name itself
 absent : (names : List Word) (es : Edges) (x y : Word) → ((i : ℕ) → i < length names → at names i ≡ x → ⊥) → ((e : ℕ × ℕ) → Has es e → IsWithin (length names) e) → leads (map (ends names) es) x y ≡ true → x ≡ y
 absent names [] x y none within p = same_is x y p
 absent names (e ∷ es) x y none within p = absent_way names e es x y none (within e (inl refl)) (λ v q. absent names es x v none (λ d has. within d (inr has)) q) (way (ends names e) (map (ends names) es) x y p)
@@ -294,13 +303,15 @@ renames_by nets chain least name is (Some m) e =
     let inside : m < length names = omega (arith, r.2.within, same) in
     ap (λ l. get_or l m name) is ∙ get_or-map f names m [] name inside ∙ ap (λ i. f (at names i)) same ∙ ap f (same_is (at names r.0) name r.2.passes)
 
--- the new names of the nets on the lines determine the joined name of every net
+-- if `least` has the joined names of the nets of all lines, in order, `renamed` gives the joined
+-- name of every net
 pub renames : (nets : List NetLine) (chain : List ChainLine) (least : List Word) (name : Word) → least ≡ map (joined_name (links nets chain) (line_names nets)) (line_names nets) →
     renamed (line_names nets) least name ≡ joined_name (links nets chain) (line_names nets) name
 unfolding renamed
 renames nets chain least name is = renames_by nets chain least name is (name_place (line_names nets) name) refl
 
--- the labels of the lines determine the joined name of every net
+-- if `least` has the names on the lines that are the labels, in order, `renamed` gives the joined
+-- name of every net
 pub new_names : (nets : List NetLine) (chain : List ChainLine) (names : List Word) (es : Edges) (labels : List ℕ) (least : List Word) → names ≡ line_names nets → es ≡ edges nets chain → AreLabels es labels → length labels ≡ length names →
     least ≡ map (at names) labels → (name : Word) → renamed names least name ≡ joined_name (links nets chain) names name
 new_names nets chain names es labels least is whole h count e name =
@@ -308,7 +319,7 @@ new_names nets chain names es labels least is whole h count e name =
     let all : least ≡ map (joined_name (links nets chain) (line_names nets)) (line_names nets) = e ∙ ap (λ ns. map (at ns) labels) is ∙ least_names nets chain labels labelled (count ∙ ap length is) in
     ap (λ ns. renamed ns least name) is ∙ renames nets chain least name all ∙ ap (λ ns. joined_name (links nets chain) ns name) (sym is)
 
--- renaming by the names that the code found gives the joined name of each net of a list
+-- if `renamed` gives the joined name of every net, it is the function `renaming`
 pub renaming_is : (nets : List NetLine) (chain : List ChainLine) (names least seen : List Word) → names ≡ line_names nets → seen ≡ least → ((name : Word) → renamed names least name ≡ joined_name (links nets chain) names name) →
     renamed names seen ≡ renaming chain nets
 renaming_is nets chain names least seen is same h =

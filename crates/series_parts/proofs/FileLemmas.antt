@@ -1,4 +1,4 @@
--- Joined files keep the properties of files.
+-- Joined files keep the properties of chain files and net files.
 use Rattle.std.proofs.Common.{List, [], ◌∷◌, map}
 use Rattle.std.specs.List.{AllByRecursion}
 use Rattle.std.proofs.lemmas.List.{length-map}

@@ -1,4 +1,4 @@
--- Joined points, and labels that take one more edge into account.
+-- Lemmas about points that edges join, and about labels when one more edge is added.
 use Rattle.std.proofs.Common.{◌≡◌, ◌≢◌, ◌⊎◌, ℕ, ◌+◌, ◌<◌, ◌≤◌, min, List, [], ◌∷◌, ◌++◌, Result, length, get_or, Some, refl, sym, ap, ◌∙◌, arith, subst, inl, inr}
 use Rattle.std.specs.Prelude.{slice_get, All, IfOk, Ok, Err}
 use Rattle.std.proofs.lemmas.Option.{slice_get_within, get_or_from_slice_get}
@@ -29,12 +29,13 @@ min_is : (a b : ℕ) → (min a b ≡ a) ⊎ (min a b ≡ a → ⊥) → (min a 
 min_is a b (inl e) = inl e
 min_is a b (inr ne) = inr (omega arith)
 
--- a point that is joined with two points is joined with the lower of them
+-- if a point is joined with two points, it is joined with the lower of them
 joined_min : (edges : Edges) (x a b : ℕ) → Joined edges x a → Joined edges x b → (min a b ≡ a) ⊎ (min a b ≡ b) → Joined edges x (min a b)
 joined_min edges x a b p q (inl e) = subst (λ (y : ℕ). Joined edges x y) (sym e) p
 joined_min edges x a b p q (inr e) = subst (λ (y : ℕ). Joined edges x y) (sym e) q
 
--- if an edge is added between points with the labels `a` and `b`, each point is joined with its new label
+-- if edges join the labels `a` and `b`, and `x` is joined with its label `v`, then `x` is joined
+-- with its label after `a` and `b` are merged
 lowered_joined : (edges : Edges) (x a b v : ℕ) → Joined edges x v → Joined edges a b → (v ≡ a) ⊎ (v ≡ a → ⊥) → (v ≡ b) ⊎ (v ≡ b → ⊥) → Joined edges x (lowered a b v)
 lowered_joined edges x a b v p edge (inl e) other =
     let first : Joined edges x a = subst (λ (y : ℕ). Joined edges x y) e p in
@@ -53,7 +54,8 @@ ends_more edges i a b k c d label edge old lt e (inl same) =
     ap (merged label a b) ca ∙ lowered_at (label a) (label b) (label a) (inl refl) ∙ sym (lowered_at (label a) (label b) (label b) (inr refl)) ∙ ap (merged label a b) (sym db)
 ends_more edges i a b k c d label edge old lt e (inr ne) = ap (lowered (label a) (label b)) (old k c d (omega arith) e)
 
--- if the labels take the first `i` edges into account, the merged labels take one more edge into account
+-- if the labels reflect the first `i` edges, and edge `i` joins `a` and `b`, the labels after the
+-- labels of `a` and `b` are merged reflect the first `i + 1` edges
 pub reflects_more : (edges : Edges) (i a b : ℕ) (old new : List ℕ) (label : ℕ → ℕ) → slice_get edges i ≡ Some (a, b) → Reflects edges i old label → IsLabelling new (merged label a b) → Reflects edges (i + 1) new (merged label a b)
 reflects_more edges i a b old new label edge h labelling =
     let between : Joined edges (label a) (label b) = joined_trans edges (label a) a (label b) (joined_sym edges a (label a) (h.joined a)) (along i edge (h.joined b)) in
@@ -63,7 +65,8 @@ reflects_more edges i a b old new label edge h labelling =
       ends = λ k c d lt e. ends_more edges i a b k c d label edge h.ends lt e (cases_eq k i);
     }
 
--- if each point is its own parent, the labels that are the points take no edge into account
+-- if each point is its own parent, the labelling that makes each point its own label reflects no
+-- edge
 pub reflects_none : (edges : Edges) (parents : List ℕ) → ((x : ℕ) → x < length parents → get_or parents x 0 ≡ x) → Reflects edges 0 parents (λ x. x)
 reflects_none edges parents own = record {
   labelling = record {
@@ -76,7 +79,8 @@ reflects_none edges parents own = record {
   ends = λ k a b lt e. absurd (omega arith);
 }
 
--- if labels take all edges into account, the list of these labels has the labels of the edges
+-- if a labelling reflects all edges, and the list has its value for each point, the list has the
+-- labels of the points
 pub labels_read : (edges : Edges) (parents labels : List ℕ) (label : ℕ → ℕ) → ((k a b : ℕ) → slice_get edges k ≡ Some (a, b) → (a < length labels) × (b < length labels)) →
     ((x : ℕ) → x < length labels → get_or labels x 0 ≡ label x) → Reflects edges (length edges) parents label → AreLabels edges labels
 labels_read edges parents labels label ends read h = record {
@@ -89,7 +93,8 @@ pushed_at : (xs : List ℕ) (r n x : ℕ) (label : ℕ → ℕ) → length xs �
 pushed_at xs r n x label count old new lt (inl e) = get_or_push xs r 0 x (count ∙ sym e) ∙ new ∙ ap label (sym e)
 pushed_at xs r n x label count old new lt (inr ne) = let low : x < n = omega arith in get_or_append_left xs (r ∷ []) 0 x (omega arith) ∙ old x low
 
--- if each item is the label of its place, so is each item once the next label is appended
+-- if item `y` of a list is the label of `y`, for each `y` below `n`, and the label of `n` is
+-- appended, the same is true for each `y` below `n + 1`
 pub pushed : (xs : List ℕ) (r n : ℕ) (label : ℕ → ℕ) → length xs ≡ n → ((y : ℕ) → y < n → get_or xs y 0 ≡ label y) → r ≡ label n → (x : ℕ) → x < n + 1 → get_or (xs ++ r ∷ []) x 0 ≡ label x
 pushed xs r n label count old new x lt = pushed_at xs r n x label count old new lt (cases_eq x n)
 
@@ -97,7 +102,8 @@ pub if_ok_both : {V E : Type 0} (P Q R : V → Type 0) → ((v : V) → P v → 
 if_ok_both P Q R f (Ok v) p q = f v p q
 if_ok_both P Q R f (Err e) p q = tt
 
--- the ends of each edge are points
+-- if the ends of each edge are below `count`, the ends of edge `k` are below `n`, which is equal to
+-- `count`
 pub ends_within : (edges : Edges) (n count : ℕ) → count ≡ n → All (λ e. (e.0 < count) × (e.1 < count)) edges → (k a b : ℕ) → slice_get edges k ≡ Some (a, b) → (a < n) × (b < n)
 ends_within edges n count same all k a b e =
     let read : get_or edges k (a, b) ≡ (a, b) = get_or_from_slice_get edges k (a, b) (a, b) e in

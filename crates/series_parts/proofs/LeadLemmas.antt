@@ -1,4 +1,4 @@
--- Nets that paths of links join: the laws of `leads`.
+-- Lemmas about `leads`, which says whether a path of links joins two nets.
 use Rattle.std.proofs.Common.{◌≡◌, true, ◌&&◌, ◌||◌, List, [], ◌∷◌, refl, sym, ap, ◌∙◌, ◌⊎◌, inl, inr}
 use Rattle.std.proofs.lemmas.Bool.{and_parts, and_from, or_cases, or_left, or_right}
 use Rattle.std.specs.Cmp.Lexicographic.{bytes_decides}
@@ -13,7 +13,8 @@ same_self a = (bytes_decides a a).1 refl
 pub same_is : (a b : Word) → same_word a b ≡ true → a ≡ b
 same_is a b e = (bytes_decides a b).0 e
 
--- if one link is put in front of others, links lead from `a` to `b` without the first link, along it, or back along it
+-- the ways in which links lead from `a` to `b` after `link` is put in front of the links: without
+-- it, along it from its first net to its second, or along it from its second net to its first
 pub data Way (link : Pair) (links : List Pair) (a b : Word) : Type 0 where
   without : leads links a b ≡ true → Way link links a b
   forth : leads links a link.0 ≡ true → leads links link.1 b ≡ true → Way link links a b
@@ -59,13 +60,13 @@ on link links a b c step (without q) = without (step c q)
 on link links a b c step (forth q r) = forth (step link.0 q) r
 on link links a b c step (back q r) = back (step link.1 q) r
 
--- a path may begin with a link that is taken from its first net to its second
+-- if `(a, b)` is a link and links lead from `b` to `c`, links lead from `a` to `c`
 pub leads_forth : (links : List Pair) (a b c : Word) → Has links (a, b) → leads links b c ≡ true → leads links a c ≡ true
 leads_forth [] a b c h p = absurd h
 leads_forth (link ∷ links) a b c (inl e) p = leads_by link links a c (forth_here link links a b c e (way link links b c p))
 leads_forth (link ∷ links) a b c (inr h) p = leads_by link links a c (on link links a b c (λ d q. leads_forth links a b d h q) (way link links b c p))
 
--- a path may begin with a link that is taken from its second net to its first
+-- if `(b, a)` is a link and links lead from `b` to `c`, links lead from `a` to `c`
 pub leads_back : (links : List Pair) (a b c : Word) → Has links (b, a) → leads links b c ≡ true → leads links a c ≡ true
 leads_back [] a b c h p = absurd h
 leads_back (link ∷ links) a b c (inl e) p = leads_by link links a c (back_here link links a b c e (way link links b c p))

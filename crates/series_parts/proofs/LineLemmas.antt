@@ -1,4 +1,4 @@
--- The properties of lines that joining does not change.
+-- Properties of the lines that joining does not change.
 use Rattle.std.proofs.Common.{◌≡◌, ℕ, false, cond, ◌||◌, List, [], ◌∷◌, map, Option, Some, None, refl, sym, ap, ◌∙◌}
 use Rattle.std.specs.Prelude.{find, Ok, unwrap_or}
 use Rattle.std.specs.List.{AllByRecursion, cons_option}
@@ -57,11 +57,11 @@ pub map_after : {A B : Type 0} (f : A → A) (g : A → B) → ((x : A) → g (f
 map_after f g same [] = refl
 map_after f g same (x ∷ xs) = ap (λ y. y ∷ map g (map f xs)) (same x) ∙ ap (λ ys. g x ∷ ys) (map_after f g same xs)
 
--- without links, each net keeps its name
 stays_by : (name : Word) (names : List Word) (o : Option Word) → find (leads [] name) names ≡ o → unwrap_or o name ≡ name
 stays_by name names None e = refl
 stays_by name names (Some w) e = sym (same_is name w (find_has (leads [] name) names w e).1)
 
+-- if there are no links, each net keeps its name
 name_stays : (names : List Word) (name : Word) → joined_name [] names name ≡ name
 unfolding joined_name
 name_stays names name = stays_by name names (find (leads [] name) names) refl

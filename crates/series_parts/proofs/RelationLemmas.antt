@@ -1,4 +1,5 @@
--- The files that `joined_chain` and `joined_nets` define are the joined files, and there are no others.
+-- The files that `joined_chain` and `joined_nets` return are joined files in the sense of the
+-- relation, and there are no others.
 use Rattle.std.proofs.Common.{◌≡◌, ℕ, zero, suc, ◌<◌, ◌≤◌, Bool, true, false, List, [], ◌∷◌, length, map, get_or, Option, Some, None, refl, sym, ap, subst, ◌∙◌, arith, true≢false, inl, inr}
 use Rattle.std.specs.Prelude.{Contains, slice_get, find, unwrap_or}
 use Rattle.std.proofs.lemmas.Option.{slice_get-get_or, slice_get_within, get_or_from_slice_get, some_pair_parts, none-some}
@@ -23,7 +24,7 @@ joined_trans chain nets a b c itself q = q
 joined_trans chain nets a b c (along {b = d} link p) q = along link (joined_trans chain nets d b c p q)
 joined_trans chain nets a b c (back {b = d} link p) q = back link (joined_trans chain nets d b c p q)
 
--- two nets are linked in the relation if and only if they are a pair of `links`
+-- if a LINK line joins two nets in the sense of the relation, the two nets are a pair in `links`
 has_of_link : (chain : List ChainLine) (nets : List NetLine) (a b : Word) → IsLink chain nets a b → Has (links nets chain) (a, b)
 has_of_link chain nets a b link =
     let line : ChainLine = record { line = link.line; statement = Link link.part link.first link.second } in
@@ -51,7 +52,7 @@ link_of_has chain nets p h =
     let s = has_place chain r.0 r.1 in
     link_at chain nets p.0 p.1 s.0 r.0.line r.0.statement s.1 r.2
 
--- two nets are joined in the relation if and only if `leads` is true of them
+-- if two nets are joined in the sense of the relation, `leads` is true of them
 pub joined_leads_to : (chain : List ChainLine) (nets : List NetLine) (a b : Word) → AreJoined chain nets a b → leads (links nets chain) a b ≡ true
 joined_leads_to chain nets a b itself = leads_self (links nets chain) a
 joined_leads_to chain nets a b (along {b = d} link p) = leads_forth (links nets chain) a d b (has_of_link chain nets a d link) (joined_leads_to chain nets d b p)
@@ -69,7 +70,7 @@ joined_by chain nets (link ∷ some) are a b h = by_way chain nets link some a b
 pub leads_joined : (chain : List ChainLine) (nets : List NetLine) (a b : Word) → leads (links nets chain) a b ≡ true → AreJoined chain nets a b
 leads_joined chain nets a b h = joined_by chain nets (links nets chain) (λ p has. link_of_has chain nets p has) a b h
 
--- the first item that passes, if some item passes
+-- this place of the list is the first whose item passes the test
 record Least {A : Type 0} (p : A → Bool) (xs : List A) (d : A) : Type 0 where
   place : ℕ
   within : place < length xs
@@ -97,7 +98,8 @@ le_by zero k f = omega arith
 le_by (suc m) zero f = absurd (f (omega arith))
 le_by (suc m) (suc k) f = let r : m ≤ k = le_by m k (λ lt. f (omega arith)) in omega arith
 
--- for a net on a line, the joined name is that of the first net on the lines that is joined with it
+-- if a net is on a line, its joined name is the name of the first net on the lines that is joined
+-- with it
 least_joined : (chain : List ChainLine) (nets : List NetLine) (name : Word) → Contains (line_names nets) name → IsLeastJoined chain nets name (joined_name (links nets chain) (line_names nets) name)
 unfolding joined_name
 least_joined chain nets name has =
@@ -123,7 +125,7 @@ kept_by : (chain : List ChainLine) (nets : List NetLine) (name : Word) → (Cont
 kept_by chain nets name none None e = kept_name nets chain name e
 kept_by chain nets name none (Some m) e = absurd (none (contains_found (line_names nets) name m e))
 
--- the renaming function replaces each name as the relation requires
+-- `renaming` replaces each name as the relation requires
 pub replaced : (chain : List ChainLine) (nets : List NetLine) (name : Word) → IsReplaced chain nets name (renaming chain nets name)
 replaced chain nets name = record {
   there = λ has. least_joined chain nets name has;
@@ -183,14 +185,16 @@ line_once chain nets old new h = let said = statement_once chain nets old.statem
 net_once : (chain : List ChainLine) (nets : List NetLine) (old new : NetLine) → IsJoinedNet chain nets old new → new ≡ joined_net (renaming chain nets) old
 net_once chain nets old new h = let name = replaced_once chain nets old.name new.name h.name in λ i. record { line = h.line i; name = name i; pins = h.pins i }
 
--- the files that the functions define are joined files
+-- the files that `joined_chain` and `joined_nets` return are joined files of the chain file and the
+-- net file
 pub files_joined : (chain : List ChainLine) (nets : List NetLine) → AreJoinedFiles chain nets (joined_chain chain nets) (joined_nets chain nets)
 files_joined chain nets = record {
   chain_lines = each_map (IsJoinedLine chain nets) (joined_line (renaming chain nets)) (λ line. record { line = refl; statement = statement_joined chain nets line.statement }) chain;
   net_lines = each_map (IsJoinedNet chain nets) (joined_net (renaming chain nets)) (λ line. record { line = refl; pins = refl; name = replaced chain nets line.name }) nets;
 }
 
--- there are no other joined files
+-- files that are joined files of the chain file and the net file are those that `joined_chain` and
+-- `joined_nets` return
 pub files_once : (chain : List ChainLine) (nets : List NetLine) (new_chain : List ChainLine) (new_nets : List NetLine) → AreJoinedFiles chain nets new_chain new_nets → (new_chain ≡ joined_chain chain nets) × (new_nets ≡ joined_nets chain nets)
 files_once chain nets new_chain new_nets h = (
   each_once (IsJoinedLine chain nets) (joined_line (renaming chain nets)) (λ old new r. line_once chain nets old new r) chain new_chain h.chain_lines,

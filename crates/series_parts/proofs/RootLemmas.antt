@@ -1,4 +1,4 @@
--- Labels do not change if the parent of a point is replaced by the parent's parent.
+-- Lemmas about the labels of points when the parent of a point is replaced.
 use Rattle.std.proofs.Common.{◌≡◌, ℕ, ◌<◌, ◌≤◌, ◌≢◌, ◌⊎◌, List, length, get_or, set, sym, ap, ◌∙◌, arith, subst, inl, inr}
 use Rattle.std.proofs.lemmas.List.{get_or-set_same, get_or-set_other, length-set}
 use Rattle.std.proofs.lemmas.Bool.{cases_eq}
@@ -7,7 +7,8 @@ use Rattle.series_parts.specs.inner.Roots.{IsLabelling, lowered, merged}
 abbrev pub AreLow : List ℕ → Type 0
 AreLow parents = (x : ℕ) → x < length parents → get_or parents x 0 ≤ x
 
--- the item at place `x` after `above` was written at place `at`
+-- the item at place `x` of a list after `above` is written at place `at`: `above` if the places are
+-- equal, and unchanged otherwise
 pub data Written (parents : List ℕ) (at above x : ℕ) : Type 0 where
   there : x ≡ at → get_or (set parents at above) x 0 ≡ above → Written parents at above x
   other : x ≢ at → get_or (set parents at above) x 0 ≡ get_or parents x 0 → Written parents at above x
@@ -29,7 +30,8 @@ low_written parents at above x le low (other ne value) = omega arith
 pub low-set : (parents : List ℕ) (at above : ℕ) → at < length parents → above ≤ at → AreLow parents → AreLow (set parents at above)
 low-set parents at above within le low x lt = low_written parents at above x le (low x (shorter parents at above x lt)) (written parents at above x within)
 
--- if a point gets a lower point with the same label as its parent, the labels stay labels
+-- if `above` and `at` have the same label, the parent of `x` still has the label of `x` after
+-- `above` becomes the parent of `at`
 parent_written : (parents : List ℕ) (at above x : ℕ) (label : ℕ → ℕ) → label above ≡ label at → label (get_or parents x 0) ≡ label x → Written parents at above x → label (get_or (set parents at above) x 0) ≡ label x
 parent_written parents at above x label same h (there e value) = ap label value ∙ same ∙ ap label (sym e)
 parent_written parents at above x label same h (other ne value) = ap label value ∙ h
@@ -49,7 +51,8 @@ labels-set parents at above label within le same own h = record {
 pub same_label : (parents : List ℕ) (at parent above : ℕ) (label : ℕ → ℕ) → at < length parents → parent < length parents → parent ≡ get_or parents at 0 → above ≡ get_or parents parent 0 → IsLabelling parents label → label above ≡ label at
 same_label parents at parent above label within inside p a h = ap label a ∙ h.parent parent inside ∙ ap label p ∙ h.parent at within
 
--- if a point is not its own parent, replacing its parent by the parent's parent keeps the labels
+-- if a point is not its own parent, the labels are still labels after its parent's parent becomes
+-- its parent
 pub labels-halved : (parents : List ℕ) (at parent above : ℕ) (label : ℕ → ℕ) → at < length parents → parent ≡ get_or parents at 0 → above ≡ get_or parents parent 0 → parent ≢ at → IsLabelling parents label → IsLabelling (set parents at above) label
 labels-halved parents at parent above label within p a ne h =
     let low : get_or parents at 0 ≤ at = h.low at within in
@@ -60,7 +63,8 @@ labels-halved parents at parent above label within p a ne h =
     let lt : above < at = omega arith in
     labels-set parents at above label within le (same_label parents at parent above label within inside p a h) (λ e. absurd (omega arith)) h
 
--- if a root gets a lower root as its parent, its class gets the label of the lower root
+-- if a root gets a lower root as its parent, the points that had the higher root as their label get
+-- the lower root as their label
 pub labels-linked : (parents : List ℕ) (low high : ℕ) (label f : ℕ → ℕ) → high < length parents → low < high → label low ≡ low → label high ≡ high → f high ≡ low → ((v : ℕ) → v ≢ high → f v ≡ v) → IsLabelling parents label → IsLabelling (set parents high low) (λ x. f (label x))
 labels-linked parents low high label f within lt own_low own_high lowers keeps h = record {
   low = low-set parents high low within (omega arith) h.low;
@@ -118,6 +122,6 @@ joined_first parents a b low high label within lt is_high is_low own_low own_hig
     (subst (λ (v : ℕ). IsLabelling (set parents high low) (λ x. lowered high v (label x))) is_low
     (labels-linked parents low high label (lowered high low) within lt own_low own_high (lowered_first high low lt) (λ v ne. lowered_keeps_first high low v lt ne) h))
 
--- if two points have the same root, an edge between them changes no label
+-- if two points have the same label, an edge between them changes no label
 pub joined_same : (parents : List ℕ) (a b : ℕ) (label : ℕ → ℕ) → label a ≡ label b → IsLabelling parents label → IsLabelling parents (merged label a b)
 joined_same parents a b label e h = relabelled parents label (merged label a b) (λ x. lowered_same (label a) (label b) (label x) e) h

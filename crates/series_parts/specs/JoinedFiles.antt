@@ -1,4 +1,4 @@
--- The nets that LINK lines join, and the joined files.
+-- The nets that LINK lines join, and the joined files of a chain file and a net file.
 use Rattle.std.specs.Prelude.{◌≡◌, ℕ, ◌≤◌, List, [], ◌∷◌, Some, slice_get, Contains}
 use Rattle.board_files.specs.declared.chain_file.ChainLine.{ChainLine}
 use Rattle.board_files.specs.declared.chain_file.ChainStatement.{ChainStatement}
@@ -7,7 +7,7 @@ use Rattle.board_files.specs.declared.net_file.NetLine.{NetLine}
 use Rattle.board_files.specs.Names.{line_names}
 use Rattle.series_parts.specs.Nets.{Word, net_of}
 
--- some LINK line has its first pin in net `a` and its second pin in net `b`
+-- on some LINK line, the first pin is in net `a` and the second pin is in net `b`
 pub record IsLink (chain : List ChainLine) (nets : List NetLine) (a b : Word) : Type 0 where
   pub place : ℕ
   pub line : ℕ
@@ -24,15 +24,15 @@ pub data AreJoined (chain : List ChainLine) (nets : List NetLine) : Word → Wor
   along : {a b c : Word} → IsLink chain nets a b → AreJoined chain nets b c → AreJoined chain nets a c
   back : {a b c : Word} → IsLink chain nets b a → AreJoined chain nets b c → AreJoined chain nets a c
 
--- `least` is the first net on the lines that is joined with `net`
+-- `least` is the first net on the lines of the net file that is joined with `net`
 pub record IsLeastJoined (chain : List ChainLine) (nets : List NetLine) (net least : Word) : Type 0 where
   pub joined : AreJoined chain nets net least
   pub place : ℕ
   pub stands : slice_get (line_names nets) place ≡ Some least
   pub first : (k : ℕ) (other : Word) → slice_get (line_names nets) k ≡ Some other → AreJoined chain nets net other → place ≤ k
 
--- The new name of a net is that of the first net on the lines that is joined with it. A net that is on no line keeps
--- its name.
+-- The new name of a net on a line is the name of the first net on the lines that is joined with it.
+-- A net that is on no line keeps its name.
 pub record IsReplaced (chain : List ChainLine) (nets : List NetLine) (old new : Word) : Type 0 where
   pub there : Contains (line_names nets) old → IsLeastJoined chain nets old new
   pub missing : (Contains (line_names nets) old → ⊥) → new ≡ old
@@ -61,7 +61,7 @@ Each R (x ∷ xs) [] = ⊥
 Each R [] (y ∷ ys) = ⊥
 Each R (x ∷ xs) (y ∷ ys) = R x y × Each R xs ys
 
--- the new files are the joined files of the old ones
+-- the new files are the joined files of the chain file and the net file
 pub record AreJoinedFiles (chain : List ChainLine) (nets : List NetLine) (new_chain : List ChainLine) (new_nets : List NetLine) : Type 0 where
   pub chain_lines : Each (IsJoinedLine chain nets) chain new_chain
   pub net_lines : Each (IsJoinedNet chain nets) nets new_nets

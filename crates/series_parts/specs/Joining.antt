@@ -12,14 +12,14 @@ use Rattle.board_files.specs.Names.{same_word, line_names}
 use Rattle.series_parts.specs.Nets.{Word, net_of}
 use Rattle.series_parts.specs.LinkPins.{missing_link_pin}
 
--- two nets that a LINK line joins
+-- the names of two nets that a LINK line joins
 abbrev pub Pair : Type 0
 Pair = Word × Word
 
 abbrev pub pair_of : Option Word → Option Word → Option Pair
 pair_of a b = option_and_then (λ a. option_map (λ b. (a, b)) b) a
 
--- the nets of the two pins of a LINK line, if both are in a net
+-- the nets of the two pins of a LINK line, if each pin is in a net
 abbrev pub link_on : List NetLine → ChainStatement → Option Pair
 link_on nets (Link part first second) = pair_of (net_of nets part first) (net_of nets part second)
 link_on nets (Device part entity pack) = None
@@ -31,13 +31,13 @@ link_on nets (Pull net value) = None
 abbrev pub links : List NetLine → List ChainLine → List Pair
 links nets chain = filter_map (λ line. link_on nets line.statement) chain
 
--- A path of these links, each of which may be taken in either direction, leads from one net to the other. The path either leaves out
--- the first link or takes it once.
+-- A path of these links, each of which may be taken in either direction, leads from net `a` to net
+-- `b`. The path either does not use the first link or uses it once.
 abbrev pub leads : List Pair → Word → Word → Bool
 leads [] a b = same_word a b
 leads (link ∷ links) a b = leads links a b || ((leads links a link.0 && leads links link.1 b) || (leads links a link.1 && leads links link.0 b))
 
--- the first net on the lines that is joined with this net, or the net itself if there is none
+-- the first of `names` that is joined with this net, or the net's own name if there is none
 unfoldable pub joined_name : List Pair → List Word → Word → Word
 joined_name links names name = unwrap_or (find (leads links name) names) name
 
@@ -55,7 +55,7 @@ joined_line rename line = record { line = line.line; statement = joined_statemen
 abbrev pub joined_net : (Word → Word) → NetLine → NetLine
 joined_net rename line = record { line = line.line; name = rename line.name; pins = line.pins }
 
--- the function that gives the new name of each net
+-- the function that returns the new name of a net
 abbrev pub renaming : List ChainLine → List NetLine → Word → Word
 renaming chain nets = joined_name (links nets chain) (line_names nets)
 
@@ -65,7 +65,7 @@ joined_chain chain nets = map (joined_line (renaming chain nets)) chain
 abbrev pub joined_nets : List ChainLine → List NetLine → List NetLine
 joined_nets chain nets = map (joined_net (renaming chain nets)) nets
 
--- the value if no pin is missing, otherwise the fault
+-- the value if no pin is missing, or otherwise the fault with the place of the missing pin
 abbrev pub unless : {V : Type 0} → Option Spot → V → Result V LinkFault
 unless None value = Ok value
 unless (Some spot) value = Err (NoLinkPin spot)
@@ -74,7 +74,7 @@ unless (Some spot) value = Err (NoLinkPin spot)
 abbrev pub joined_files : List ChainLine → List NetLine → Result Joined LinkFault
 joined_files chain nets = unless (missing_link_pin nets chain) (record { chain = joined_chain chain nets; nets = joined_nets chain nets })
 
--- the fault, unless it is a refusal of memory
+-- the fault, or None if memory ran out
 abbrev pub link_told : LinkFault → Option LinkFault
 link_told (Memory e) = None
 link_told fault = Some fault

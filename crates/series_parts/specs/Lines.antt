@@ -1,4 +1,4 @@
--- LINK lines, and the lines that are parts of the chain.
+-- LINK lines, and the lines that add a part to the chain.
 use Rattle.std.specs.Prelude.{Bool, true, false, List, filter}
 use Rattle.std.specs.List.{list_any}
 use Rattle.board_files.specs.declared.chain_file.ChainLine.{ChainLine}
@@ -24,6 +24,6 @@ is_chain_part (Supply net) = false
 is_chain_part (Pull net value) = false
 is_chain_part (Link part first second) = false
 
--- the DEVICE and BYPASS lines
+-- the DEVICE and BYPASS lines of a chain file
 abbrev pub chain_part_lines : List ChainLine → List ChainLine
 chain_part_lines chain = filter (λ line. is_chain_part line.statement) chain

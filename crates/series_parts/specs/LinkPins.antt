@@ -7,7 +7,7 @@ use Rattle.board_files.specs.declared.chain_file.ChainStatement.TheVariants.{Dev
 use Rattle.board_files.specs.declared.net_file.NetLine.{NetLine}
 use Rattle.series_parts.specs.Nets.{Word, net_of}
 
--- the first item if there is one, otherwise the second
+-- the first item if there is one, or otherwise the second
 infixr 20 ◌then◌
 abbrev pub ◌then◌ : {A : Type 0} → Option A → Option A → Option A
 None then after = after
@@ -16,7 +16,8 @@ None then after = after
 abbrev pub is_missing : List NetLine → Word → Word → Bool
 is_missing nets part pin = is_none (net_of nets part pin)
 
--- the place of the first pin of a LINK line that is in no net; the pins are words 3 and 4 of the line
+-- the place of the first of two pins of a LINK line that is in no net; the pins are words 3 and 4
+-- of line `n`
 abbrev pub missing_of : List NetLine → ℕ → Word → Word → Word → Option Spot
 missing_of nets n part first second =
     if is_missing nets part first then Some (record { line = n; word = 3 })
@@ -31,7 +32,7 @@ missing_on nets n (Inert part) = None
 missing_on nets n (Supply net) = None
 missing_on nets n (Pull net value) = None
 
--- the place of the first pin, among those of all LINK lines, that is in no net
+-- the place of the first pin of all LINK lines that is in no net
 abbrev pub missing_link_pin : List NetLine → List ChainLine → Option Spot
 missing_link_pin nets [] = None
 missing_link_pin nets (line ∷ lines) = missing_on nets line.line line.statement then missing_link_pin nets lines

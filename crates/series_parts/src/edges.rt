@@ -18,7 +18,8 @@ fn edge_of(first: Option<u32>, second: Option<u32>) -> Option<(usize, usize)>
     }
 }
 
-/// Returns the edge between the lines of two pins of a part. Returns None if a pin is on no line.
+/// Returns the edge between the first lines of two pins of a part. Returns None if one of the pins
+/// is on no line.
 #[tactic(auto, unfolding(crate::specs::inner::Edges::edge_between))]
 fn edge_between(pins: &Pins<'_>, part: &[u8], first: &[u8], second: &[u8]) -> Option<(usize, usize)>
     ensures { result ≡ edge_between pins.now part.now first.now second.now }
@@ -40,7 +41,8 @@ fn edge_on(pins: &Pins<'_>, statement: &ChainStatement) -> Option<(usize, usize)
     }
 }
 
-/// Appends the edge of each LINK line that has one.
+/// Appends the edges of the LINK lines, in order. A LINK line has no edge if one of its pins is on
+/// no line.
 fn push_link_edges(
     edges: &mut Vec<(usize, usize)>,
     pins: &Pins<'_>,
@@ -66,7 +68,7 @@ fn first_of(names: &Names<'_>, name: &[u8], place: usize) -> usize
     }
 }
 
-/// Returns the edges from each line to the first line with the same name.
+/// Returns an edge from each line to the first line with the same name.
 fn name_edges(alloc: Global, names: &Names<'_>) -> Result<Vec<(usize, usize)>, AllocError>
     ensures { IfOk result (λ edges. edges.items ≡ name_edges names.now 0 names.now) }
 {
@@ -78,7 +80,7 @@ fn name_edges(alloc: Global, names: &Names<'_>) -> Result<Vec<(usize, usize)>, A
     Ok(edges)
 }
 
-/// Returns the edges between lines whose nets have the same name or are joined by a LINK line.
+/// Returns the edges between lines that have the same name or that a LINK line joins.
 pub fn edges(
     alloc: Global,
     chain: &[ChainLine],

@@ -1,4 +1,4 @@
-// The lines of the files, with the new names of nets.
+// Copies of the lines of the files with the new names of nets.
 ghost use Rattle.std.specs.Prelude.{◌≡◌, map, IfOk};
 ghost use Rattle.series_parts.specs.inner.Edges.{renamed};
 ghost use Rattle.series_parts.specs.Joining.{joined_line, joined_net, joined_statement};
@@ -42,7 +42,7 @@ fn copy_pins(alloc: Global, pins: &[PinWord]) -> Result<Vec<PinWord>, AllocError
     Ok(copies)
 }
 
-/// Returns the new name of a net, given the new names on the lines.
+/// Returns the new name of a net. `least` has the new names of the nets on the lines.
 #[tactic(auto, unfolding(crate::specs::inner::Edges::renamed))]
 fn renamed<'a>(names: &Names<'_>, least: &[&'a [u8]], name: &'a [u8]) -> &'a [u8]
     ensures { result.now ≡ renamed names.now (map (λ n. n.now) least.now) name.now }

@@ -1,4 +1,4 @@
-// The joined files.
+// The joined files of a chain file and a net file.
 ghost use Rattle.std.specs.Prelude.{◌≡◌, IfOk};
 ghost use Rattle.series_parts.specs.JoinedFiles.{AreJoinedFiles};
 ghost use Rattle.answers.specs.Gives.{Gives};
@@ -20,7 +20,7 @@ pub struct Joined {
     pub nets: NetFile,
 }
 
-/// Returns the files with the new names of nets.
+/// Returns the files in which each net has its joined name.
 fn renamed_files(
     alloc: Global,
     chain: &ChainFile,
@@ -40,8 +40,8 @@ fn renamed_files(
     })
 }
 
-/// Returns the joined files of a chain file and a net file. If a pin of a LINK line is in no net, returns the place of
-/// the first such pin.
+/// Returns the joined files of a chain file and a net file. If a pin of a LINK line is in no net,
+/// the fault has the place of the first such pin.
 pub fn join(alloc: Global, chain: &ChainFile, nets: &NetFile) -> Result<Joined, LinkFault>
     ensures answer { Gives link_told (λ joined. joined) (λ answer. joined_files chain.now nets.now ≡ answer) result }
     ensures joined { IfOk result (λ joined. AreJoinedFiles chain.now nets.now joined.chain joined.nets) }

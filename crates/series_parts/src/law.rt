@@ -1,5 +1,5 @@
-//! Laws of joined files. Each function does nothing, and its contract is the law. A function whose proof needs a law
-//! calls that function.
+//! Laws of joined files. Each law is the contract of a function that does nothing. A function whose
+//! proof needs a law calls the law's function.
 ghost use Rattle.std.specs.Prelude.{◌≡◌, false, List, length, map, Ok};
 ghost use Rattle.std.specs.List.{AllByRecursion};
 ghost use Rattle.board_files.specs.ChainLines.{HasLength};
@@ -9,7 +9,8 @@ ghost use Rattle.series_parts.specs.JoinedFiles.{AreJoinedFiles};
 ghost use Rattle.series_parts.specs.Joining.{joined_chain, joined_files, joined_nets};
 ghost use Rattle.series_parts.specs.Lines.{chain_part_lines, has_link};
 
-/// The files that `joined_chain` and `joined_nets` define are the joined files, and there are no others.
+/// The files that `joined_chain` and `joined_nets` return are the joined files, and there are no
+/// others.
 pub fn joined_once()
     ensures joined { (chain : List ChainLine) (nets : List NetLine) → AreJoinedFiles chain nets (joined_chain chain nets) (joined_nets chain nets) }
     ensures once { (chain : List ChainLine) (nets : List NetLine) (new_chain : List ChainLine) (new_nets : List NetLine) → AreJoinedFiles chain nets new_chain new_nets → (new_chain ≡ joined_chain chain nets) × (new_nets ≡ joined_nets chain nets) }

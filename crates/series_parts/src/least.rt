@@ -1,4 +1,4 @@
-// The new names of the nets on the lines of a net file.
+// The joined names of the nets on the lines of a net file.
 ghost use Rattle.std.specs.Prelude.{◌≡◌, ◌<◌, ℕ, List, [], All, slice_index_or, length, map, IfOk};
 ghost use Rattle.board_files.specs.Names.{line_names};
 ghost use Rattle.series_parts.specs.inner.Edges.{renamed};
@@ -11,7 +11,7 @@ use crate::pins::Pins;
 use board_files::ChainLine;
 use std::alloc::{AllocError, Global};
 
-/// Returns the names on the lines at these places.
+/// Returns the names on the lines at these places, in order.
 fn names_at<'a>(
     alloc: Global,
     names: &Names<'a>,
@@ -27,7 +27,8 @@ fn names_at<'a>(
     Ok(found)
 }
 
-/// Returns, for each line, the name of the first net on the lines that is joined with the line's net.
+/// Returns the joined name of each line's net: the name of the first net on the lines that is
+/// joined with it.
 pub fn least_names<'a>(
     alloc: Global,
     chain: &[ChainLine],

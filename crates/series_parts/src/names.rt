@@ -12,7 +12,7 @@ use indexmap::IndexMap;
 use std::alloc::{AllocError, Global};
 use std::marker::Model;
 
-/// Returns a map from each name to the first line with that name.
+/// Returns a map from each name to the place of the first line with this name.
 fn name_places<'a>(alloc: Global, names: &[&'a [u8]]) -> Result<IndexMap<&'a [u8], u32>, AllocError>
     requires { length names.now < 2 ^ 32 }
     ensures { IfOk result (λ places. (q : Bor (List ℕ)) → get_by (λ n. same_word q.now n.now) places ≡ name_place (map (λ n. n.now) names.now) q.now) }
@@ -20,7 +20,7 @@ fn name_places<'a>(alloc: Global, names: &[&'a [u8]]) -> Result<IndexMap<&'a [u8
     first_places(alloc, names)
 }
 
-/// The names on the lines of a net file. The value in contracts is the list of these names.
+/// The names on the lines of a net file. In contracts, the value is the list of these names.
 #[derive(Drop)]
 pub struct Names<'a> {
     names: Vec<&'a [u8]>,
@@ -52,7 +52,7 @@ impl<'a> Names<'a> {
         Ok(Names { names, places })
     }
 
-    /// Returns the first line with this name, if there is one.
+    /// Returns the place of the first line with this name, if there is one.
     pub fn place_of(&self, name: &[u8]) -> Option<u32>
         ensures { result ≡ name_place self.now name.now }
     {
@@ -66,7 +66,7 @@ impl<'a> Names<'a> {
         self.names.len()
     }
 
-    /// Returns the name on line `place`.
+    /// Returns the name on the line at `place`.
     pub fn at(&self, place: usize) -> &'a [u8]
         requires { place < length self.now }
         ensures { slice_get self.now place ≡ Some result.now }

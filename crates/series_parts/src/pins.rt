@@ -1,4 +1,4 @@
-// The first line of each pin of the nets.
+// The first line on which each pin is.
 ghost use Rattle.std.specs.Prelude.{◌≡◌, ◌<◌, ◌^◌, ◌&&◌, if◌then◌else◌, length, IfOk, OnOk, List, ℕ, Some};
 ghost use Rattle.std.proofs.Common.{Bor};
 ghost use Rattle.indexmap.specs.IndexMap.{get_by};
@@ -14,7 +14,8 @@ use std::marker::Model;
 /// The key of a pin: the name of its part, and the pin's own name.
 type PinKey<'a> = (&'a [u8], &'a [u8]);
 
-/// Maps each of these pins to `place`, the place of its line. Replaces the place that the map had for the pin.
+/// Maps each of these pins to `place`, the place of their line. Replaces the place that the map had
+/// for a pin.
 fn put_pins<'a>(
     places: &mut IndexMap<PinKey<'a>, u32>,
     words: &'a [PinWord],
@@ -45,7 +46,7 @@ fn pin_places<'a>(
     Ok(places)
 }
 
-/// The pins on the lines of a net file. The value in contracts is the list of the lines.
+/// The pins on the lines of a net file. In contracts, the value is the list of the lines.
 #[derive(Drop)]
 pub struct Pins<'a> {
     lines: &'a [NetLine],
@@ -77,7 +78,7 @@ impl<'a> Pins<'a> {
         Ok(Pins { lines, places })
     }
 
-    /// Returns the first line with this pin, if there is one.
+    /// Returns the place of the first line with this pin, if there is one.
     pub fn place_of(&self, part: &[u8], pin: &[u8]) -> Option<u32>
         ensures { result ≡ pin_place self.now part.now pin.now }
     {

@@ -1,4 +1,4 @@
--- The answer to a text, given the result of the reader of a file.
+-- The answer to a text, computed from the result of the reader of a file.
 use Rattle.std.specs.Prelude.{ℕ, List, [], ◌∷◌, length, Bool, ◌&&◌, ◌==◌, if◌then◌else◌, Option, Some, None, Result, Ok, Err, codes}
 use Rattle.grammars.specs.inner.Reader.{Outcome, found, refused}
 use Rattle.bsdl_parser.specs.declared.cursor.Front.{Front}
@@ -12,7 +12,7 @@ use Rattle.bsdl_parser.specs.Answer.{last_line}
 abbrev pub is_package : Lexeme → Bool
 is_package token = is_the_word (codes "PACKAGE") token
 
--- the facts about the next token
+-- the facts about the first of these tokens, if there is one
 abbrev pub front_of : List Lexeme → Option Front
 front_of [] = None
 front_of (token ∷ after) = Some (record { is_package = is_package token; line = token.line })
@@ -20,12 +20,14 @@ front_of (token ∷ after) = Some (record { is_package = is_package token; line 
 abbrev pub fault_at : Bool → ℕ → ParseFault
 fault_at starts_package line = if starts_package then Package line else Expected line
 
--- the answer after a whole file; every further token is stray
+-- the answer if a whole file was found and these are the facts about the token behind it, which is
+-- stray
 abbrev pub behind_file : Entity → Option Front → Result Entity ParseFault
 behind_file entity None = Ok entity
 behind_file entity (Some front) = Err (fault_at front.is_package front.line)
 
--- The answer inside a file. There, the word `package` is the fault of a package text only if it is the first token.
+-- The answer if the text stops being a prefix of a file at this token, or if it ends inside a file.
+-- The word `package` begins a package text only if it is the first token.
 abbrev pub inside_file : List ℕ → Bool → Option Front → Result Entity ParseFault
 inside_file text is_first None = Err (Expected (last_line text))
 inside_file text is_first (Some front) = Err (fault_at (front.is_package && is_first) front.line)

@@ -1,4 +1,4 @@
--- The items that have been read, as contracts see them.
+-- The items that a cursor has read, as contracts see them.
 use Rattle.bsdl_parser.specs.declared.draft.Draft.{Draft}
 use Rattle.bsdl_parser.specs.Bsdl.{Items}
 

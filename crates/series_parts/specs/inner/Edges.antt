@@ -1,4 +1,5 @@
--- The lines of a net file as points, and edges between lines whose nets are joined.
+-- The graph of a net file: its points are the lines, and its edges join lines whose nets have the
+-- same name or are linked.
 use Rattle.std.specs.Prelude.{ℕ, ◌+◌, List, [], ◌∷◌, ◌++◌, filter_map, get_or, Option, Some, None, option_map, option_and_then, unwrap_or}
 use Rattle.std.specs.List.{position_from}
 use Rattle.first_places.specs.Places.{first_place}
@@ -10,22 +11,22 @@ use Rattle.board_files.specs.Names.{same_word, line_names}
 use Rattle.series_parts.specs.Nets.{Word, has_pin}
 use Rattle.series_parts.specs.inner.Labels.{Edges}
 
--- the first line with this name
+-- the place of the first line with this name
 abbrev pub name_place : List Word → Word → Option ℕ
 name_place names name = first_place same_word names name
 
--- the first line with this pin
+-- the place of the first line with this pin
 abbrev pub pin_place : List NetLine → Word → Word → Option ℕ
 pin_place nets part pin = position_from (has_pin part pin) 0 nets
 
 abbrev pub edge_of : Option ℕ → Option ℕ → Option (ℕ × ℕ)
 edge_of a b = option_and_then (λ a. option_map (λ b. (a, b)) b) a
 
--- the edge between the lines of two pins of a part, if both pins are on a line
+-- the edge between the first lines of two pins of a part, if each pin is on a line
 unfoldable pub edge_between : List NetLine → Word → Word → Word → Option (ℕ × ℕ)
 edge_between nets part first second = edge_of (pin_place nets part first) (pin_place nets part second)
 
--- the edge of a LINK line
+-- the edge between the lines of the two pins of a LINK line, or None for any other line
 abbrev pub edge_on : List NetLine → ChainStatement → Option (ℕ × ℕ)
 edge_on nets (Link part first second) = edge_between nets part first second
 edge_on nets (Device part entity pack) = None
@@ -37,7 +38,8 @@ edge_on nets (Pull net value) = None
 abbrev pub link_edges : List NetLine → List ChainLine → Edges
 link_edges nets chain = filter_map (λ line. edge_on nets line.statement) chain
 
--- the edges from each line to the first line with its name; the first of `names` is on line `n`
+-- an edge from each of these lines to the first line with its name; the lines are numbered from `n`
+-- on and have the names `names`
 abbrev pub name_edges : List Word → ℕ → List Word → Edges
 name_edges all n [] = []
 name_edges all n (name ∷ names) = (n, unwrap_or (name_place all name) n) ∷ name_edges all (n + 1) names
@@ -49,6 +51,6 @@ abbrev pub at_place : List Word → Word → Option ℕ → Word
 at_place least name None = name
 at_place least name (Some place) = get_or least place name
 
--- the new name of a net, given the new names on the lines
+-- the new name of a net, if `least` has the new names of the nets on the lines
 unfoldable pub renamed : List Word → List Word → Word → Word
 renamed names least name = at_place least name (name_place names name)

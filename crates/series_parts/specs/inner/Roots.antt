@@ -1,9 +1,10 @@
--- Classes of points as trees. The path from a point along the parents leads to the root of its class.
+-- Classes of points as trees. From each point, the path along the parents leads to the root of its
+-- class.
 use Rattle.std.specs.Prelude.{◌≡◌, ℕ, ◌<◌, ◌≤◌, ◌==◌, ◌||◌, min, List, length, Some, slice_get, slice_index, if◌then◌else◌}
 use Rattle.series_parts.specs.inner.Labels.{Edges, Joined}
 
--- `label` gives a label for each point. The label of a point is not higher than the point, and is equal to the label of the
--- point's parent. A point that is its own parent is its own label.
+-- `label` maps each point to its label. The label of a point is not higher than the point, and is
+-- equal to the label of the point's parent. A point that is its own parent is its own label.
 pub record IsLabelling (parents : List ℕ) (label : ℕ → ℕ) : Type 0 where
   pub low : (x : ℕ) → x < length parents → slice_index parents x ≤ x
   pub least : (x : ℕ) → label x ≤ x
@@ -18,7 +19,8 @@ lowered a b v = if (v == a) || (v == b) then min a b else v
 abbrev pub merged : (ℕ → ℕ) → ℕ → ℕ → ℕ → ℕ
 merged label a b x = lowered (label a) (label b) (label x)
 
--- the labels take the first `n` edges into account
+-- the labels reflect the first `n` edges: each point is joined with its label, and the two ends of
+-- each of these edges have the same label
 pub record Reflects (edges : Edges) (n : ℕ) (parents : List ℕ) (label : ℕ → ℕ) : Type 0 where
   pub labelling : IsLabelling parents label
   pub joined : (x : ℕ) → Joined edges x (label x)

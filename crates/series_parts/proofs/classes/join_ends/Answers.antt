@@ -1,4 +1,4 @@
--- The higher root gets the lower one as its parent.
+-- The higher of two roots gets the lower one as its parent.
 use Rattle.std.proofs.Common.{◌≡◌, ◌<◌, length, arith}
 use Rattle.series_parts.proofs.RootLemmas.{joined_first, joined_second, joined_same}
 use Rattle.series_parts.proofs.classes.join_ends.Goals as goal

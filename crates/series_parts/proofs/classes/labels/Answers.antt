@@ -1,4 +1,4 @@
--- The labels that were read take all edges into account.
+-- The labels that the loop reads reflect all edges.
 use Rattle.std.proofs.Common.{◌≡◌, length, vec_len, sym, ◌∙◌, arith}
 use Rattle.series_parts.proofs.JoinedLemmas.{labels_read, if_ok_both, ends_within}
 use Rattle.series_parts.proofs.classes.labels.Goals as goal

@@ -1,4 +1,4 @@
--- The ends of each edge are lines.
+-- Both ends of each edge are lines.
 use Rattle.std.proofs.Common.{◌≡◌, ◌<◌, ◌++◌, length, ap, sym, subst, ◌∙◌}
 use Rattle.std.specs.Prelude.{All}
 use Rattle.series_parts.specs.inner.Labels.{Edges}

@@ -1,4 +1,4 @@
--- Each step of the loop appends one more edge.
+-- Each step of the loop appends the edge of one more line.
 use Rattle.std.proofs.Common.{◌≡◌, ◌<◌, ◌+◌, [], drop, length, refl, arith, sym, ◌∙◌, ap, ◌++◌}
 use Rattle.std.proofs.lemmas.Option.{get_or_from_slice_get}
 use Rattle.series_parts.specs.inner.Edges.{name_edges, name_place}

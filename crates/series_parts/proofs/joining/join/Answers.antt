@@ -1,4 +1,4 @@
--- The files that the function returns are the joined files.
+-- The files that the function returns are the joined files of the chain file and the net file.
 use Rattle.std.proofs.Common.{◌≡◌, ap, sym, subst, List}
 use Rattle.board_files.specs.declared.chain_file.ChainLine.{ChainLine}
 use Rattle.board_files.specs.declared.net_file.NetLine.{NetLine}

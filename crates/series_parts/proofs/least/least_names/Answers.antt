@@ -1,4 +1,4 @@
--- The labels give the new name of every net.
+-- The names on the lines that are the labels give the joined name of every net.
 use Rattle.std.proofs.Common.{◌≡◌, length, map, ap, sym, ◌∙◌, Bor, List, ℕ}
 use Rattle.std.proofs.lemmas.Result.{IfOk-weaker}
 use Rattle.series_parts.specs.inner.Edges.{edges}

@@ -5,7 +5,7 @@ use Rattle.board_files.specs.Names.{same_word}
 use Rattle.series_parts.specs.Nets.{has_pin}
 use Rattle.series_parts.proofs.pins.pin_places.Given as goal
 
--- the map has the first lines of the pins on the lines from `i` on
+-- for each pin, the map has the first of the lines from `i` on with this pin
 abbrev pub invariant-loop-i : goal.invariant-loop-i
 invariant-loop-i l = record {
   within : l.i ≤ length l.lines;

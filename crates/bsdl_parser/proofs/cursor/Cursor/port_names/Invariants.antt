@@ -3,7 +3,7 @@ use Rattle.grammars.specs.Grammar.{turns, reader_of}
 use Rattle.bsdl_parser.specs.Bsdl.{port_name}
 use Rattle.bsdl_parser.proofs.cursor.Cursor.port_names.Given as goal
 
--- after the names so far, reading the rest of the tokens has the result of reading all tokens
+-- reading the rest of the tokens after the names so far has the same result as reading all tokens
 abbrev pub invariant-loop-names : goal.invariant-loop-names
 invariant-loop-names l = reader_of (turns port_name l.names.items) l.self ≡ reader_of (turns port_name []) l.fn.self
 

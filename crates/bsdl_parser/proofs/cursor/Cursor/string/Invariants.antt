@@ -4,7 +4,7 @@ use Rattle.grammars.specs.Grammar.{turns, reader_of}
 use Rattle.bsdl_parser.specs.Bsdl.{string_piece, string}
 use Rattle.bsdl_parser.proofs.cursor.Cursor.string.Given as goal
 
--- after the content so far, reading the rest of the tokens has the result of reading all tokens
+-- reading the rest of the tokens after the content so far has the same result as reading all tokens
 abbrev pub invariant-loop-content : goal.invariant-loop-content
 invariant-loop-content l = reader_of (turns (string_piece l.close) (map to_ascii_uppercase l.content.items)) l.self ≡ reader_of (string l.close) l.fn.self
 
