@@ -1,4 +1,4 @@
--- A text has exactly one answer, and reading the text step by step finds it.
+-- A text has exactly one answer, and reading the text in steps finds it.
 use Rattle.std.proofs.Common.{◌≡◌, ℕ, zero, suc, ◌+◌, ◌-◌, ◌<◌, ◌≤◌, List, [], ◌∷◌, ◌++◌, length, take, drop, Option, Some, None, Result, Ok, Err, ◌⊎◌, inl, inr, refl, sym, ◌∙◌, ap, subst, arith, append_assoc, append-nil, length-append, nat_eq}
 use Rattle.std.specs.Prelude.{IfSome}
 use Rattle.std.proofs.lemmas.Bool.{cases_lt}
@@ -16,18 +16,18 @@ use Rattle.bsdl_lexer.specs.inner.Steps.{token_of, step}
 use Rattle.bsdl_lexer.proofs.Places.{some_bytes}
 use Rattle.bsdl_lexer.proofs.Steps.{Found, next, at_end, open_text, no_token, line_behind, begins_found, step_finds, step_to_token, step_to_begin, step_to_end, step_to_open_text, step_to_byte}
 
--- steps from `place` on `line` find these tokens, and end at `to` on `last_line`
+-- steps that begin at `place` on `line` find these tokens, and end at `to` on `last_line`
 abbrev pub Walk : List ℕ → ℕ → ℕ → List Token → ℕ → ℕ → Type 0
 Walk text place line [] to last_line = (place ≡ to) × (line ≡ last_line)
 Walk text place line (token ∷ tokens) to last_line = (step text place line ≡ Ok (Some token)) × Walk text token.«end» token.line tokens to last_line
 
--- this is the answer if the step after the tokens has this result
+-- `answer` is the answer to a text if the step after its tokens has this result
 abbrev pub Ends : Result (Option Token) LexFault → List Token → Result (Unit {0}) LexFault → Type 0
 Ends (Ok None) tokens answer = answer ≡ Ok tt
 Ends (Ok (Some token)) tokens answer = (length tokens ≡ token_limit) × (answer ≡ Err (TooMany token.line))
 Ends (Err fault) tokens answer = answer ≡ Err fault
 
--- steps from the front of the text find these tokens and end with this answer
+-- steps that begin at the front of the text find these tokens and end with this answer
 pub record Lexed (text : List ℕ) (tokens : List Token) (answer : Result (Unit {0}) LexFault) : Type 0 where
   pub to : ℕ
   pub line : ℕ
@@ -43,7 +43,7 @@ pub record OnLine (text : List ℕ) (place line : ℕ) : Type 0 where
 pub at_start : (text : List ℕ) → OnLine text 0 1
 at_start text = record { within = omega arith; line_is = refl }
 
--- the token is the next one, after a gap
+-- the token is the next token of the text after `place`, with a gap or nothing between
 pub record IsNext (text : List ℕ) (place : ℕ) (token : Token) : Type 0 where
   pub gap : Separates text place token.start
   pub is : IsToken text token
@@ -67,7 +67,7 @@ is_next text place line token on e = go (step text place line) e (step_finds tex
     go _ e (open_text at s h) = cc
     go _ e (no_token at s h) = cc
 
--- the place at which a walk ends is on the line at which it ends
+-- if a walk begins at a place that is on its line, it ends at a place that is on its last line
 pub walk_line : (text : List ℕ) (tokens : List Token) (place line to last_line : ℕ) → OnLine text place line → Walk text place line tokens to last_line → OnLine text to last_line
 walk_line text [] place line to last_line on w = subst (λ n. OnLine text to n) w.1 (subst (λ n. OnLine text n line) w.0 on)
 walk_line text (token ∷ tokens) place line to last_line on w = walk_line text tokens token.«end» token.line to last_line (is_next text place line token on w.0).after w.1
@@ -81,12 +81,12 @@ walk_stands text (token ∷ tokens) place line to last_line stop on w s =
       walk_stands text tokens token.«end» token.line to last_line stop n.after w.1 s,
     )
 
--- if a walk is followed by a step that finds a token, the walk and this token together are a walk
+-- if the step after a walk finds a token, the walk followed by this token is a walk
 pub walk_on : (text : List ℕ) (tokens : List Token) (place line to last_line : ℕ) (token : Token) → Walk text place line tokens to last_line → step text to last_line ≡ Ok (Some token) → Walk text place line (tokens ++ token ∷ []) token.«end» token.line
 walk_on text [] place line to last_line token w e = (ap (λ n. step text n line) w.0 ∙ ap (step text to) w.1 ∙ e, (refl, refl))
 walk_on text (first ∷ tokens) place line to last_line token w e = (w.0, walk_on text tokens first.«end» first.line to last_line token w.1 e)
 
--- the tokens up to `stop` are those of a walk, which ends before the last gap
+-- a walk finds these tokens, and only a gap is between its end and `stop`
 record Walked (text : List ℕ) (place line : ℕ) (tokens : List Token) (stop : ℕ) : Type 0 where
   to : ℕ
   last_line : ℕ
@@ -100,7 +100,7 @@ walked text (token ∷ tokens) place line stop l h =
     let k : Walked text token.«end» token.line tokens stop = walked text tokens token.«end» token.line stop (line_behind text token h.1) h.2 in
     record { to = k.to; last_line = k.last_line; walk = (step_to_token text place line token h.0 h.1 l, k.walk); gap = k.gap; line_is = k.line_is }
 
--- the tokens and the answer that steps find are an answer of the text
+-- the tokens and the answer that steps find are an answer to the text
 pub lexed_answer : (text : List ℕ) (tokens : List Token) (answer : Result (Unit {0}) LexFault) → Lexed text tokens answer → IsAnswer text tokens answer
 lexed_answer text tokens answer h = go (step text h.to h.line) (step_finds text h.to h.line on.within on.line_is) h.ends
   where
@@ -119,13 +119,15 @@ lexed_answer text tokens answer h = go (step text h.to h.line) (step_finds text 
     go _ (open_text at s k) e = subst (IsAnswer text tokens) (sym e) (at, stops at s, k)
     go _ (no_token at s k) e = subst (IsAnswer text tokens) (sym e) (at, stops at s, k)
 
--- conversely, steps find every answer
+-- if a walk finds the tokens of an answer and the next step ends with the answer, steps find the
+-- answer
 ends_with : (text : List ℕ) (tokens : List Token) (answer : Result (Unit {0}) LexFault) (stop : ℕ) → length tokens ≤ token_limit → (w : Walked text 0 1 tokens stop) → (r : Result (Option Token) LexFault) → step text w.to w.last_line ≡ r → Ends r tokens answer → Lexed text tokens answer
 ends_with text tokens answer stop limit w r e ends = record { to = w.to; line = w.last_line; walk = w.walk; limit = limit; ends = subst (λ r. Ends r tokens answer) (sym e) ends }
 
 from_start : (text : List ℕ) (tokens : List Token) (stop : ℕ) → Stand text 0 tokens stop → Walked text 0 1 tokens stop
 from_start text tokens stop h = walked text tokens 0 1 stop refl h
 
+-- conversely, steps find each answer to the text
 pub answer_lexed : (text : List ℕ) (tokens : List Token) (answer : Result (Unit {0}) LexFault) → IsAnswer text tokens answer → Lexed text tokens answer
 answer_lexed text tokens (Ok done) h =
     let w : Walked text 0 1 tokens (length text) = from_start text tokens (length text) h.whole in
@@ -141,7 +143,8 @@ answer_lexed text tokens (Err (TooMany line)) (at, s, b, full) =
     ends_with text tokens (Err (TooMany line)) at s.limit w (Ok (Some (token_of at (line_of text at) (b.kind, (begins_found (drop at text) b).len)))) (step_to_begin text w.to at w.last_line w.gap b w.line_is) (full, ap (λ n. Err (TooMany n)) s.line_is)
 answer_lexed text tokens (Err (Memory error)) h = absurd h
 
--- two walks from the same place are the same, or one of them stops where the other continues
+-- two walks from the same place are equal, or one of them stops at a place from which the other
+-- continues
 data Compared (text : List ℕ) (tokens others : List Token) (to line to' line' : ℕ) : Type 0 where
   same : tokens ≡ others → to ≡ to' → line ≡ line' → Compared text tokens others to line to' line'
   first_stops : (token : Token) → step text to line ≡ Ok (Some token) → length tokens < length others → Compared text tokens others to line to' line'
@@ -162,7 +165,7 @@ compared text (t ∷ ts) (t' ∷ ts') place start_line to line to' line' w w' =
     let others : Walk text t.«end» t.line ts' to' line' = subst (λ (x : Token). Walk text x.«end» x.line ts' to' line') (sym is) w'.1 in
     longer text t t' ts ts' to line to' line' is (compared text ts ts' t.«end» t.line to line to' line' w.1 others)
 
--- if the step after the tokens of an answer finds a token, the tokens have reached the limit
+-- if the step after the tokens of an answer finds a token, the number of the tokens is the limit
 full_there : (tokens : List Token) (answer : Result (Unit {0}) LexFault) (token : Token) (r : Result (Option Token) LexFault) → r ≡ Ok (Some token) → Ends r tokens answer → length tokens ≡ token_limit
 full_there tokens answer token r e h = (subst (λ r. Ends r tokens answer) e h).0
 
@@ -188,12 +191,12 @@ one_answer text tokens others answer other h h' =
     let k' : Lexed text others other = answer_lexed text others other h' in
     one_lexed text tokens others answer other k k' (compared text tokens others 0 1 k.to k.line k'.to k'.line k.walk k'.walk)
 
--- a walk from the front of the text, over at most `token_limit` tokens
+-- a walk from the front of the text finds these tokens, of which there are at most `token_limit`
 pub record WalksTo (text : List ℕ) (tokens : List Token) (to line : ℕ) : Type 0 where
   pub walk : Walk text 0 1 tokens to line
   pub limit : length tokens ≤ token_limit
 
--- the tokens are the first tokens of an answer
+-- steps find an answer that begins with these tokens
 abbrev Completed : List ℕ → List Token → Type 0
 Completed text tokens = (more : List Token) × (answer : Result (Unit {0}) LexFault) × Lexed text (tokens ++ more) answer
 
@@ -234,7 +237,8 @@ are_first text tokens to line w =
 pub some_answer : (text : List ℕ) → (tokens : List Token) × (answer : Result (Unit {0}) LexFault) × IsAnswer text tokens answer
 some_answer text = let k = are_first text [] 0 1 (record { walk = (refl, refl); limit = omega arith }) in (k.more, k.answer, k.whole)
 
--- if the step after a walk ends the text or finds a fault, the tokens of the walk and this result are an answer
+-- if the step after a walk has the result `r`, and `r` ends the tokens of the walk with `answer`,
+-- this is an answer to the text
 ended : (text : List ℕ) (tokens : List Token) (to line : ℕ) (answer : Result (Unit {0}) LexFault) (r : Result (Option Token) LexFault) → WalksTo text tokens to line → step text to line ≡ r → Ends r tokens answer → IsAnswer text tokens answer
 ended text tokens to line answer r w e ends = lexed_answer text tokens answer (record { to = to; line = line; walk = w.walk; limit = w.limit; ends = subst (λ r. Ends r tokens answer) (sym e) ends })
 
@@ -253,13 +257,13 @@ ends_full text tokens to line token w e full = ended text tokens to line (Err (T
 pub ends_whole : (text : List ℕ) (tokens : List Token) (to line : ℕ) → WalksTo text tokens to line → Ok None ≡ step text to line → IsAnswer text tokens (Ok tt)
 ends_whole text tokens to line w e = ended text tokens to line (Ok tt) (Ok None) w (sym e) refl
 
--- if a function gives an answer for a text, it is the only answer for this text
+-- if a function returns an answer to a text, it is the only answer
 pub only_answer : (text : List ℕ) (tokens : List Token) (result : Result (Unit {0}) LexFault) → Gives lex_told (λ done. done) (IsAnswer text tokens) result
     → Gives lex_told (λ done. done) (λ answer. (others : List Token) (other : Result (Unit {0}) LexFault) → IsAnswer text others other → (others ≡ tokens) × (other ≡ answer)) result
 only_answer text tokens (Err fault) h = IfSome_then (lex_told fault) h (λ f is others other k. one_answer text others tokens other (Err f) k is)
 only_answer text tokens (Ok done) h = λ others other k. one_answer text others tokens other (Ok done) k h
 
--- a place is on a line whose number is at most one more than the place
+-- the number of a place's line is at most one more than the place
 pub few_lines : (text : List ℕ) (place line : ℕ) → OnLine text place line → line ≤ 1 + place
 few_lines text place line on =
     let count : line_feeds (take place text) ≤ length (take place text) = count_by-le-length (λ byte. nat_eq byte line_feed) (take place text) in
@@ -267,7 +271,7 @@ few_lines text place line on =
     let here : line ≡ 1 + line_feeds (take place text) = on.line_is in
     omega arith
 
--- the step after a walk finds the next token of the text
+-- if the step after a walk finds a token, it is the next token of the text
 pub next_of_walk : (text : List ℕ) (tokens : List Token) (to line : ℕ) (token : Token) → WalksTo text tokens to line → Ok (Some token) ≡ step text to line → IsNext text to token
 next_of_walk text tokens to line token w e = is_next text to line token (walk_line text tokens 0 1 to line (at_start text) w.walk) (sym e)
 

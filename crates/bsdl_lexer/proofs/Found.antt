@@ -1,4 +1,4 @@
--- The token that is found at the front has the form of its kind.
+-- If `token_at` finds a token at the front, the bytes there have the form of the token's kind.
 use Rattle.std.proofs.Common.{◌≡◌, ℕ, zero, suc, ◌+◌, ◌<◌, ◌≤◌, List, [], ◌∷◌, ◌++◌, length, take, drop, Bool, true, false, cond, ◌⊎◌, inl, inr, refl, sym, ◌∙◌, ap, subst, arith, length-drop, nat_eq, Option, Some, None, slice_get}
 use Rattle.std.proofs.Math.Seq.{take-add}
 use Rattle.std.proofs.lemmas.Bool.Decides.{nat_tests}
@@ -15,7 +15,8 @@ chosen : {A : Type 0} (b : Bool) (x y z : A) → cond b x y ≡ z → ((b ≡ tr
 chosen true x y z e = inl (refl, e)
 chosen false x y z e = inr (refl, e)
 
--- there are at least `len` bytes, and the first `len` of them have the form of this kind
+-- there are at least `len` bytes, the first `len` of them have the form of this kind, and no
+-- comment begins here
 pub record IsFront (left : List ℕ) (kind : TokenKind) (len : ℕ) : Type 0 where
   pub form : HasForm kind (take len left)
   pub within : len ≤ length left
@@ -27,7 +28,7 @@ digits_front [] n e h = absurd (let k : n ≡ 0 = e in grind (arith, nat_tests))
 digits_front (x ∷ xs) zero e h = cc
 digits_front (x ∷ xs) (suc n) e h = subst (λ m. list_all is_ascii_digit (take m (x ∷ xs)) ≡ true) (sym e) (passes is_ascii_digit (x ∷ xs))
 
--- the longest fraction at the front is empty or has the form of a fraction
+-- the longest fraction after a point is empty or has the form of a fraction
 fraction_digits : (others : List ℕ) (first : ℕ) (b : Bool) → nat_eq (prefix_len is_ascii_digit others) 0 ≡ b → first ≡ point → IsFraction (take (cond b 0 (1 + prefix_len is_ascii_digit others)) (first ∷ others))
 fraction_digits others first true e p = tt
 fraction_digits others first false e p =
@@ -38,11 +39,12 @@ fraction_first : (first : ℕ) (others : List ℕ) (b : Bool) → nat_eq first p
 fraction_first first others true e = fraction_digits others first (nat_eq (prefix_len is_ascii_digit others) 0) refl (grind (arith, nat_tests))
 fraction_first first others false e = tt
 
+-- the first `fraction_len` bytes are empty or have the form of a fraction
 fraction_front : (bytes : List ℕ) → IsFraction (take (fraction_len bytes) bytes)
 fraction_front [] = tt
 fraction_front (first ∷ others) = fraction_first first others (nat_eq first point) refl
 
--- the longest exponent at the front is empty or has the form of an exponent
+-- the longest exponent after a letter and a sign is empty or has the form of an exponent
 exponent_signed : (e s : ℕ) (others : List ℕ) (b : Bool) → nat_eq (prefix_len is_ascii_digit others) 0 ≡ b → is_exponent_letter e ≡ true → is_sign s ≡ true
     → IsExponent (take (cond b 0 (2 + prefix_len is_ascii_digit others)) (e ∷ s ∷ others))
 exponent_signed e s others true none h k = tt
@@ -70,6 +72,7 @@ exponent_first e others false h = tt
 exponent_first e [] true h = tt
 exponent_first e (s ∷ others) true h = exponent_sign e s others (is_sign s) refl h
 
+-- the first `exponent_len` bytes are empty or have the form of an exponent
 exponent_front : (bytes : List ℕ) → IsExponent (take (exponent_len bytes) bytes)
 exponent_front [] = tt
 exponent_front (e ∷ others) = exponent_first e others (is_exponent_letter e) refl
@@ -142,7 +145,7 @@ same_token k kind n len e =
     let same : first ≡ second = cc in
     (ap (λ (x : TokenKind × ℕ). x.0) same, ap (λ (x : TokenKind × ℕ). x.1) same)
 
--- the bytes at the front have the form of the kind that was found, up to the length that was found
+-- `IsFront` holds for any kind and length that are equal to the found ones
 same_front : (left : List ℕ) (k kind : TokenKind) (n len : ℕ) → IsFront left k n → some_token k n ≡ some_token kind len → IsFront left kind len
 same_front left k kind n len h e =
     let both = same_token k kind n len e in
@@ -168,6 +171,8 @@ closed_front others kind len n is (Some byte) at plain e = elim (chosen (nat_eq 
           no_comment = plain;
         }
 
+-- if `token_at` finds a token of this kind and length, the first `len` bytes have the form of the
+-- kind
 pub found_front : (left : List ℕ) (kind : TokenKind) (len : ℕ) → token_at left ≡ some_token kind len → IsFront left kind len
 found_front [] kind len e = cc
 found_front (first ∷ others) kind len e = elim (chosen (begins_comment (first ∷ others)) _ _ _ e) [

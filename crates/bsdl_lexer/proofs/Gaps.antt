@@ -1,4 +1,5 @@
--- The gap that is found at the front is the longest gap, and the only one after which no gap begins.
+-- The gap that `gap_len` finds at the front is a gap, and it is the only one behind which no gap
+-- begins.
 use Rattle.std.proofs.Common.{◌≡◌, ℕ, suc, ◌+◌, ◌≤◌, List, [], ◌∷◌, ◌++◌, length, take, drop, Bool, true, false, ◌&&◌, ◌||◌, not, ◌==◌, cond, IsTrue, ◌⊎◌, inl, inr, refl, sym, ◌∙◌, ap, subst, arith, append_assoc, append-nil, length-append, nat_eq}
 use Rattle.std.proofs.lemmas.Bool.Decides.{nat_tests}
 use Rattle.std.specs.List.{list_all}
@@ -9,7 +10,7 @@ use Rattle.bsdl_lexer.specs.inner.Lengths.{gap_len}
 abbrev pub stays : ℕ → Bool
 stays byte = not (byte == line_feed)
 
--- the rest of a comment, followed by a gap
+-- the bytes are the rest of a comment, followed by a gap
 record CommentRest (more rest : List ℕ) : Type 0 where
   words : List ℕ
   tail : List ℕ
@@ -21,7 +22,7 @@ abbrev GapOrRest : Bool → List ℕ → List ℕ → Type 0
 GapOrRest true more rest = CommentRest more rest
 GapOrRest false more rest = IsGap more rest
 
--- two dashes and the rest of a comment are a gap
+-- two dashes followed by the rest of a comment are a gap
 from_rest : (more rest : List ℕ) → CommentRest more rest → IsGap more (dash ∷ dash ∷ rest)
 from_rest more rest h = elim h.ends [
   | inl k ↦ (let same : rest ≡ h.words = h.split ∙ ap (λ xs. h.words ++ xs) k.0 ∙ append-nil h.words in
@@ -30,7 +31,8 @@ from_rest more rest h = elim h.ends [
       subst (λ xs. IsGap more (dash ∷ dash ∷ xs)) (sym same) (comment h.words k.0 h.free k.2))
 ]
 
--- the rest of a comment without its first dash is the rest of a comment
+-- if the rest of a comment begins with a dash, the bytes after the dash are also the rest of a
+-- comment
 behind_dash : (more rest : List ℕ) → CommentRest more (dash ∷ rest) → CommentRest more rest
 behind_dash more rest h = go h.words h.split h.free
   where
@@ -89,7 +91,8 @@ fronts (first ∷ others) false = front_false first others (fronts others) (is_b
 pub gap_front : (bytes : List ℕ) → IsGap (drop (gap_len false bytes) bytes) (take (gap_len false bytes) bytes)
 gap_front bytes = fronts bytes false
 
--- no gap begins after the gap that is found
+-- if no gap begins behind the gap that is found, in or outside a comment, the same is true with one
+-- more byte of a comment in front
 ends_gap_true : (others : List ℕ) → ((b : Bool) → begins_gap (drop (gap_len b others) others) ≡ false) → (b : Bool) → begins_gap (drop (gap_len (cond b false true) others) others) ≡ false
 ends_gap_true others each true = each false
 ends_gap_true others each false = each true
@@ -106,6 +109,7 @@ ends_gaps [] false = refl
 ends_gaps (first ∷ others) true = ends_gap_true others (ends_gaps others) (nat_eq first line_feed)
 ends_gaps (first ∷ others) false = ends_gap_false first others (ends_gaps others) (is_blank first) (begins_comment (first ∷ others)) refl refl
 
+-- no gap begins behind the gap that is found
 pub ends_gap : (bytes : List ℕ) → begins_gap (drop (gap_len false bytes) bytes) ≡ false
 ends_gap bytes = ends_gaps bytes false
 
@@ -123,7 +127,7 @@ gap_len-le-any (first ∷ others) false = cases (is_blank first) (begins_comment
 pub gap_len-le : (bytes : List ℕ) → gap_len false bytes ≤ length bytes
 gap_len-le bytes = gap_len-le-any bytes false
 
--- a gap after which no gap begins is the gap that is found
+-- if no gap begins at the front, the gap that is found there has length 0
 no_gap : (more : List ℕ) → begins_gap more ≡ false → gap_len false more ≡ 0
 no_gap [] e = refl
 no_gap (first ∷ others) e = cases (is_blank first) (begins_comment (first ∷ others)) e
@@ -142,6 +146,7 @@ through_words (w ∷ words) tail h = go (nat_eq w line_feed) h (λ k. through_wo
     go true h f = cc
     go false h f = let k : gap_len true (words ++ tail) ≡ length words + gap_len true tail = f h in omega arith
 
+-- if no gap begins behind a gap, its length is the length of the gap that is found
 pub only_gap : (more gap : List ℕ) → IsGap more gap → begins_gap more ≡ false → gap_len false (gap ++ more) ≡ length gap
 only_gap more _ nothing e = no_gap more e
 only_gap more _ (blank byte gap h k) e = rw h (ap suc (only_gap more gap k e))

@@ -1,4 +1,4 @@
--- A line ends only between tokens.
+-- Tokens have no line feeds, so lines end only between tokens.
 use Rattle.std.proofs.Common.{◌≡◌, ℕ, ◌+◌, List, [], ◌∷◌, ◌++◌, Bool, true, false, inl, inr, refl, ◌∙◌, ap, arith, nat_eq, cond, sym}
 use Rattle.std.proofs.lemmas.Bool.Decides.{nat_tests}
 use Rattle.std.proofs.lemmas.List.Sums.{sum_by-cons, sum_by-append}
@@ -56,7 +56,7 @@ exponent_none : (xs : List ℕ) → IsExponent xs → line_feeds xs ≡ 0
 exponent_none [] h = refl
 exponent_none (x ∷ xs) h = none_at is_exponent_letter x xs refl h.0 (signed_none xs h.1)
 
--- no line ends inside a token
+-- the bytes of a token have no line feed
 pub no_line_feeds : (kind : TokenKind) (bytes : List ℕ) → HasForm kind bytes → line_feeds bytes ≡ 0
 no_line_feeds Word [] h = absurd h
 no_line_feeds Word (x ∷ xs) h = none_at is_ascii_alphabetic x xs refl h.0 (none_in is_word_byte xs refl h.1)

@@ -1,4 +1,4 @@
--- A quote begins a string token or an open string.
+-- At a quote begins either a string token or an open string.
 use Rattle.std.proofs.Common.{◌≡◌, ℕ, suc, List, [], ◌∷◌, ◌++◌, Bool, true, false, cond, Option, Some, None, ◌⊎◌, inl, inr, refl, sym, ◌∙◌, ap, arith, nat_eq, slice_get, IsTrue}
 use Rattle.std.proofs.lemmas.Bool.Decides.{nat_tests}
 use Rattle.std.specs.List.{prefix_len, list_all}
@@ -9,7 +9,8 @@ use Rattle.bsdl_lexer.specs.Forms.{begins_gap, is_text_byte, line_feed, carriage
 use Rattle.bsdl_lexer.specs.Answer.{BeginsOpenText, EndsOpen}
 use Rattle.bsdl_lexer.specs.inner.Lengths.{token_at, closed_len}
 
--- the byte after the longest front of bytes that a string may have
+-- the byte behind the longest front of bytes that a string may have, or None if there is no such
+-- byte
 byte_behind : List ℕ → Option ℕ
 byte_behind others = slice_get others (prefix_len is_text_byte others)
 
@@ -46,7 +47,8 @@ line_end x h n = go (nat_eq x line_feed) refl
     go true e = inl (grind (arith, nat_tests))
     go false e = inr (grind (arith, nat_tests))
 
--- the bytes after a quote, up to the place where the string must be closed and is not
+-- the bytes after a quote are bytes that a string may have, followed by a line end or by the end of
+-- the text
 record Open (others : List ℕ) : Type 0 where
   inner : List ℕ
   more : List ℕ
@@ -88,7 +90,7 @@ begins_open others e =
     let k : Open others = open_front others (closed (byte_behind others) (prefix_len is_text_byte others) (sym (quote_at others) ∙ e)) in
     record { inner = k.inner; more = k.more; parts = ap (λ xs. quote ∷ xs) k.parts; allowed = k.allowed; is_open = k.is_open }
 
--- at an open string, no token and no gap begins
+-- no token begins at an open string
 pub open_no_token : (rest : List ℕ) → BeginsOpenText rest → token_at rest ≡ None
 open_no_token rest h = rw h.parts (quote_at (h.inner ++ h.more) ∙ not_closed (byte_behind (h.inner ++ h.more)) (prefix_len is_text_byte (h.inner ++ h.more)) (never_closed h.inner h.more h.allowed h.is_open))
 

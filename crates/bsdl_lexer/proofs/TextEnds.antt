@@ -1,4 +1,4 @@
--- The ends of strings. A string ends before the first quote, line feed or carriage return.
+-- The first quote, line feed or carriage return after the opening quote ends the bytes of a string.
 use Rattle.std.proofs.Common.{◌≡◌, ℕ, ◌||◌, ◌∙◌, Bool, true, false, List, length, refl, ap, arith, not, get_or}
 use Rattle.std.specs.Prelude.{◌==◌}
 use Rattle.std.specs.List.{prefix_len}
@@ -11,16 +11,16 @@ none_of_three : (a b c : Bool) → not (a || (b || c)) ≡ not ((a || b) || c)
 none_of_three true b c = refl
 none_of_three false b c = refl
 
--- a quote, a line feed or a carriage return ends a string
+-- a byte may be in a string if and only if it is not a quote, a line feed or a carriage return
 ends : (x : ℕ) → is_text_byte x ≡ not (is_byte3 34 10 13 x)
 ends x = none_of_three (x == 34) (x == 10) (x == 13)
 
--- if no byte ends the string, all bytes belong to it
+-- if none of the bytes ends the string, all of them belong to it
 pub no_end : (xs : List ℕ) → Nowhere (Passes (is_byte3 34 10 13) xs) 0 (length xs) → prefix_len is_text_byte xs ≡ length xs
 no_end xs nowhere =
     prefix_len_is is_text_byte xs (length xs) 0 (omega arith) (λ k within. ends (get_or xs k 0) ∙ not_from_false (is_byte3 34 10 13 (get_or xs k 0)) (false_from_ne_true (is_byte3 34 10 13 (get_or xs k 0)) (nowhere k (omega arith) within))) (λ within. absurd (omega arith))
 
--- the bytes before the first byte that ends the string belong to it
+-- if byte `k` is the first that ends the string, the `k` bytes before it belong to the string
 pub first_end : (xs : List ℕ) (k : ℕ) → NoneBefore (Passes (is_byte3 34 10 13) xs) 0 (length xs) k → Passes (is_byte3 34 10 13) xs k → prefix_len is_text_byte xs ≡ k
 first_end xs k before passes =
     prefix_len_is is_text_byte xs k 0 (omega (arith, before.high)) (λ j within. ends (get_or xs j 0) ∙ not_from_false (is_byte3 34 10 13 (get_or xs j 0)) (false_from_ne_true (is_byte3 34 10 13 (get_or xs j 0)) (before.before j (omega arith) within))) (λ within. ends (get_or xs k 0) ∙ ap not passes)

@@ -15,12 +15,14 @@ pub record BeginsToken (rest : List ℕ) : Type 0 where
   pub form : HasForm kind (take len rest)
   pub no_comment : begins_comment rest ≡ false
 
--- a string must be closed before these bytes: there are none, or the first is byte 10 or byte 13
+-- a string that is open here cannot be closed: there are no more bytes, or the next is byte 10 or
+-- byte 13
 abbrev pub EndsOpen : List ℕ → Type 0
 EndsOpen [] = Unit {0}
 EndsOpen (byte ∷ others) = (byte ≡ line_feed) ⊎ (byte ≡ carriage_return)
 
--- a quote, followed by bytes that a string may have, up to a place where the string must be closed and is not
+-- a quote, followed by bytes that a string may have, up to a place at which the string can no
+-- longer be closed
 pub record BeginsOpenText (rest : List ℕ) : Type 0 where
   pub inner : List ℕ
   pub more : List ℕ
@@ -28,7 +30,7 @@ pub record BeginsOpenText (rest : List ℕ) : Type 0 where
   pub allowed : IsTrue (list_all is_text_byte inner)
   pub is_open : EndsOpen more
 
--- the first byte begins no blank, comment, token or open string
+-- there is a first byte, and it begins no blank, comment, token or open string
 pub record BeginsNothing (rest : List ℕ) : Type 0 where
   pub first : ℕ
   pub others : List ℕ
@@ -37,13 +39,14 @@ pub record BeginsNothing (rest : List ℕ) : Type 0 where
   pub no_token : BeginsToken rest → ⊥
   pub no_text : first ≢ quote
 
--- the tokens and the gaps between them are the text up to `place`, which is on line `line`
+-- the text up to `place` consists of the tokens and of gaps, and `line` is the line of `place`
 pub record StopsAt (text : List ℕ) (tokens : List Token) (place line : ℕ) : Type 0 where
   pub before : Stand text 0 tokens place
   pub limit : length tokens ≤ token_limit
   pub line_is : line ≡ line_of text place
 
--- the first bad place is where the tokens and the gap after them end, and the fault says what is wrong there
+-- the text has a bad place behind the tokens and a gap, and the fault says what is wrong there and
+-- on which line
 abbrev pub IsFault : List ℕ → List Token → LexFault → Type 0
 IsFault text tokens (Byte line) = (place : ℕ) × StopsAt text tokens place line × BeginsNothing (drop place text)
 IsFault text tokens (OpenString line) = (place : ℕ) × StopsAt text tokens place line × BeginsOpenText (drop place text)
@@ -54,13 +57,13 @@ abbrev pub IsAnswer : List ℕ → List Token → Result (Unit {0}) LexFault →
 IsAnswer text tokens (Ok done) = AreTokens text tokens
 IsAnswer text tokens (Err fault) = IsFault text tokens fault
 
--- the tokens are the first tokens of the text's answer
+-- the text has an answer that begins with these tokens
 pub record AreFirst (text : List ℕ) (tokens : List Token) : Type 0 where
   pub answer : Result (Unit {0}) LexFault
   pub more : List Token
   pub whole : IsAnswer text (tokens ++ more) answer
 
--- the fault, unless it is a refusal of memory
+-- the fault, or None if memory ran out
 abbrev pub lex_told : LexFault → Option LexFault
 lex_told (Memory error) = None
 lex_told fault = Some fault

@@ -6,7 +6,7 @@ use Rattle.std.specs.Int.{is_in_range}
 use Rattle.bsdl_lexer.specs.declared.token.TokenKind.{TokenKind}
 use Rattle.bsdl_lexer.specs.declared.token.TokenKind.TheVariants.{Word, Number, Text, Mark}
 
--- the bytes that the forms use, by name
+-- the byte that ends a line
 abbrev pub line_feed : ℕ
 line_feed = 10
 
@@ -38,7 +38,8 @@ is_exponent_letter byte = byte == 69 || byte == 101
 abbrev pub is_sign : ℕ → Bool
 is_sign byte = byte == 43 || byte == 45
 
--- the byte may be between the quotes of a string: it is not a quote, byte 10 or byte 13
+-- the byte may be between the quotes of a string: it is not a quote, a line feed or a carriage
+-- return
 abbrev pub is_text_byte : ℕ → Bool
 is_text_byte byte = not (byte == quote || (byte == line_feed || byte == carriage_return))
 
@@ -111,7 +112,8 @@ abbrev pub begins_gap : List ℕ → Bool
 begins_gap [] = false
 begins_gap (first ∷ others) = is_blank first || begins_comment (first ∷ others)
 
--- Blanks and whole comments, which `more` follows. A comment ends with its line or with the text.
+-- Blanks and whole comments in front of the bytes `more`. A comment ends with its line or with the
+-- text.
 pub data IsGap (more : List ℕ) : List ℕ → Type 0 where
   nothing : IsGap more []
   blank : (byte : ℕ) (gap : List ℕ) → IsTrue (is_blank byte) → IsGap more gap → IsGap more (byte ∷ gap)

@@ -1,4 +1,4 @@
--- The tokens of a text. Places are byte numbers, counted from 0.
+-- The tokens of a text. A place in a text is a byte number, counted from 0.
 use Rattle.std.specs.Prelude.{◌≡◌, ℕ, ◌+◌, ◌<◌, ◌≤◌, List, [], ◌∷◌, length, take, drop, count_by, false, ◌==◌}
 use Rattle.std.specs.List.{slice_range}
 use Rattle.bsdl_lexer.specs.declared.token.Token.{Token}
@@ -19,8 +19,8 @@ pub record Separates (text : List ℕ) (from to : ℕ) : Type 0 where
   pub within : to ≤ length text
   pub gap : IsGap (drop to text) (slice_range text from to)
 
--- The token's range has the form of its kind. No longer range with the same start has the form of a token. No comment
--- begins at the start.
+-- The range of the token has the form of its kind. No longer range with the same start has the form
+-- of a token. No comment begins at the start. The line of the token is the line of its start.
 pub record IsToken (text : List ℕ) (token : Token) : Type 0 where
   pub within : token.end ≤ length text
   pub form : HasForm token.kind (slice_range text token.start token.end)
@@ -28,7 +28,8 @@ pub record IsToken (text : List ℕ) (token : Token) : Type 0 where
   pub no_comment : begins_comment (drop token.start text) ≡ false
   pub line : token.line ≡ line_of text token.start
 
--- Between the two places the text has these tokens, with optional blanks and comments before, between and after them.
+-- From place `from` to place `to`, the text consists of these tokens, with optional gaps before,
+-- between and after them.
 abbrev pub Stand : List ℕ → ℕ → List Token → ℕ → Type 0
 Stand text from [] to = Separates text from to
 Stand text from (token ∷ tokens) to = Separates text from token.start × IsToken text token × Stand text token.end tokens to
@@ -37,7 +38,7 @@ Stand text from (token ∷ tokens) to = Separates text from token.start × IsTok
 abbrev pub token_limit : ℕ
 token_limit = 1_048_576
 
--- `tokens` is the token list of the text
+-- these are all tokens of the text, and there are at most `token_limit` of them
 pub record AreTokens (text : List ℕ) (tokens : List Token) : Type 0 where
   pub whole : Stand text 0 tokens (length text)
   pub limit : length tokens ≤ token_limit

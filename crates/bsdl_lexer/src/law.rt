@@ -5,7 +5,8 @@ ghost use Rattle.bsdl_lexer.specs.declared.token.LexFault.{LexFault};
 ghost use Rattle.bsdl_lexer.specs.Tokens.{AreTokens};
 ghost use Rattle.bsdl_lexer.specs.Answer.{IsAnswer};
 
-/// A text has exactly one answer: all its tokens, or the tokens before its first bad place together with the fault.
+/// A text has exactly one answer: all its tokens, or the tokens before its first bad place together
+/// with the fault there.
 pub fn texts_have_one_answer()
     ensures some { (text : List ℕ) → (tokens : List Token) × (answer : Result (Unit {0}) LexFault) × IsAnswer text tokens answer }
     ensures one { (text : List ℕ) (tokens others : List Token) (answer other : Result (Unit {0}) LexFault) → IsAnswer text tokens answer → IsAnswer text others other → (tokens ≡ others) × (answer ≡ other) }

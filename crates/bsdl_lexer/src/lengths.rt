@@ -56,7 +56,7 @@ fn digits_len(bytes: &[u8]) -> usize
         .count()
 }
 
-// This loop is faster than a chain of iterators, and a text has many bytes in words.
+// A plain loop is faster here than a chain of iterators, and many bytes of a text are in words.
 fn word_len(bytes: &[u8]) -> usize
     ensures value { result ≡ prefix_len is_word_byte bytes.now }
     ensures within { result ≤ length bytes.now }
@@ -69,7 +69,7 @@ fn word_len(bytes: &[u8]) -> usize
     bytes.len()
 }
 
-// Strings have most of the bytes of a description, so this search tests many bytes at a time.
+// Most bytes of a description are in strings, so this search compares many bytes at a time.
 fn text_len(bytes: &[u8]) -> usize
     ensures value { result ≡ prefix_len is_text_byte bytes.now }
     ensures within { result ≤ length bytes.now }
@@ -80,8 +80,8 @@ fn text_len(bytes: &[u8]) -> usize
     }
 }
 
-/// Returns the number of digits at the front plus `front`, the number of bytes before them. Returns 0 if there are no
-/// digits.
+/// Returns `front`, the number of bytes in front of the digits, plus the number of digits. Returns
+/// 0 if there are no digits.
 fn digits_behind(front: usize, bytes: &[u8]) -> usize
     requires { front ≤ 2 }
     ensures value { result ≡ with_digits front bytes.now }
@@ -101,7 +101,8 @@ fn fraction_length(bytes: &[u8]) -> usize
     }
 }
 
-/// Returns the length of an exponent, given the bytes after its letter. Returns 0 if they are not an exponent.
+/// Returns the length of an exponent whose letter these bytes follow. Returns 0 if they are not an
+/// exponent.
 fn signed_length(bytes: &[u8]) -> usize
     ensures value { result ≡ signed_len bytes.now }
     ensures within { result ≤ 1 + length bytes.now }
@@ -139,8 +140,8 @@ fn number_length(bytes: &[u8]) -> usize
     whole + (fraction + exponent)
 }
 
-/// Returns the kind and the length of a string token, given the bytes after its first quote. Returns None if the string
-/// is not closed.
+/// Returns the kind and the length of a string token, whose bytes after the first quote these are.
+/// Returns None if the string is not closed.
 fn closed_text(bytes: &[u8]) -> Option<(TokenKind, usize)>
     ensures value { result ≡ closed_len (slice_get bytes.now (prefix_len is_text_byte bytes.now)) (prefix_len is_text_byte bytes.now) }
     ensures within { IfSome result (λ found. found.1 ≤ 1 + length bytes.now) }
@@ -177,8 +178,8 @@ pub(crate) fn token_found(bytes: &[u8]) -> Option<(TokenKind, usize)>
     }
 }
 
-/// Returns None if no gap continues at the front. Otherwise returns whether the byte after the first is inside a
-/// comment.
+/// Returns None if the gap does not continue with the first byte. Otherwise returns whether the
+/// next byte is inside a comment.
 fn gap_step(in_comment: bool, bytes: &[u8]) -> Option<bool>
     ensures { MatchOption result (gap_len in_comment bytes.now ≡ 0) (λ next. (0 < length bytes.now) × (gap_len in_comment bytes.now ≡ 1 + gap_len next (drop 1 bytes.now))) }
 {
@@ -198,7 +199,8 @@ fn gap_step(in_comment: bool, bytes: &[u8]) -> Option<bool>
     }
 }
 
-/// A gap, which consists of blanks and comments: its length in bytes, and the number of lines that end in it.
+/// A gap, which consists of blanks and comments: the gap's length in bytes, and the number of lines
+/// that end in it.
 #[derive(Clone, Copy)]
 pub(crate) struct Gap {
     pub length: usize,

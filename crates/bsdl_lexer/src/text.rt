@@ -23,8 +23,8 @@ fn fault_at(byte: u8, line: u32) -> LexFault
     }
 }
 
-/// Returns the token at the front of the bytes, or None if there are no bytes. The bytes begin at place `start` on line
-/// `line`.
+/// Returns the token at the front of the bytes, which begin at place `start` on line `line`.
+/// Returns None if there are no bytes.
 fn token_from(bytes: &[u8], start: usize, line: u32) -> Result<Option<Token>, LexFault>
     requires { start + length bytes.now < 2 ^ 32 }
     ensures { result ≡ step_at start line bytes.now }
@@ -94,15 +94,15 @@ fn add_tokens(bytes: &[u8], out: &mut Vec<Token>) -> Result<(), LexFault>
     Ok(())
 }
 
-/// Appends the tokens of the text to an empty list. A text may have any bytes.
+/// Appends the tokens of the text to `out`, which must be empty. A text may have any bytes.
 ///
-/// On a fault, `out` has the tokens before the first bad place. If memory is refused, `out` has the first tokens of
-/// that list.
+/// On a fault, `out` has the tokens before the first bad place. If memory runs out, `out` has the
+/// first tokens of the text.
 pub fn lex(bytes: &[u8], out: &mut Vec<Token>) -> Result<(), LexFault>
     requires short { length bytes.now < 2 ^ 32 }
     requires empty { out.old.items ≡ [] }
-    // On Ok, `out` has all tokens. Otherwise it has the tokens before the first bad place, and the fault has the kind
-    // and the line.
+    // On Ok, `out` has all tokens. Otherwise it has the tokens before the first bad place, and the
+    // fault has the kind of the bad place and its line.
     ensures answer { Gives lex_told (λ done. done) (IsAnswer bytes.now out.new.items) result }
     // The definition allows no other answer.
     ensures only { Gives lex_told (λ done. done) (λ answer. (tokens : List Token) (other : Result (Unit {0}) LexFault) → IsAnswer bytes.now tokens other → (tokens ≡ out.new.items) × (other ≡ answer)) result }

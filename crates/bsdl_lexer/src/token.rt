@@ -2,7 +2,7 @@
 use std::alloc::AllocError;
 use thiserror::Error;
 
-/// The kind of a token, which its form decides.
+/// The kind of a token, which the token's form determines.
 #[derive(Clone, Copy, Debug, PartialEq, Eq)]
 pub enum TokenKind {
     /// A letter, followed by letters, digits and `_`. Upper and lower case are the same.
@@ -15,8 +15,8 @@ pub enum TokenKind {
     Mark,
 }
 
-/// A token: the bytes `start..end` of the text. Bytes count from 0. `line` is the line of the first byte, counted from
-/// 1.
+/// A token: the bytes `start..end` of the text, counted from 0. `line` is the line of the first
+/// byte, counted from 1.
 #[derive(Clone, Copy, Debug, PartialEq, Eq)]
 pub struct Token {
     pub kind: TokenKind,
@@ -25,17 +25,18 @@ pub struct Token {
     pub line: u32,
 }
 
-/// The reason why a text is not a list of tokens, with the line of its first bad place.
+/// The reason for which a text is not a list of tokens, with the line of the text's first bad
+/// place, or lack of memory.
 #[derive(Clone, Copy, Debug, PartialEq, Eq, Error)]
 pub enum LexFault {
     /// A byte begins no blank, comment or token.
     #[error("line {0}: byte not allowed")]
     Byte(u32),
-    /// In a string, byte 10, byte 13 or the end of the input comes before the closing quote. The line is that of the
-    /// first quote.
+    /// In a string, byte 10, byte 13 or the end of the text comes before the closing quote. The
+    /// line is the line of the first quote.
     #[error("line {0}: string not closed")]
     OpenString(u32),
-    /// Another token follows the first `TOKEN_LIMIT` tokens. The line is that of this token.
+    /// Another token follows the first `TOKEN_LIMIT` tokens. The line is the line of that token.
     #[error("line {0}: too many tokens")]
     TooMany(u32),
     #[error("out of memory")]

@@ -1,4 +1,5 @@
--- A text that is not a code is empty, or has fewer symbols at its front than bytes.
+-- A text that is not a code is empty, or some byte in it is not a symbol, so that fewer symbols are
+-- at its front than it has bytes.
 use Rattle.std.proofs.Common.{◌≡◌, ℕ, ◌<◌, ◌^◌, Bool, true, false, ◌&&◌, cond, List, [], ◌∷◌, length, nat_lt, refl, ap, ◌∙◌, sym, arith}
 use Rattle.std.specs.List.{take_while, list_all}
 use Rattle.std.proofs.lemmas.List.Sums.{take_while-cons}

@@ -21,17 +21,17 @@ abbrev pub starts_blank : List ℕ → Bool
 starts_blank [] = false
 starts_blank (byte ∷ bytes) = is_blank byte
 
--- prepends this byte to the first piece
+-- the pieces with the byte in front of the first piece's bytes
 abbrev pub longer : ℕ → List (List ℕ) → List (List ℕ)
 longer byte [] = (byte ∷ []) ∷ []
 longer byte (piece ∷ pieces) = (byte ∷ piece) ∷ pieces
 
--- the piece is the end of the string, which is written as the empty piece
+-- the piece is the end of the string, which is the empty piece
 abbrev pub is_end : List ℕ → Bool
 is_end [] = true
 is_end (byte ∷ bytes) = false
 
--- The pieces of a text, the last of which is the end. Blanks separate pieces and belong to none.
+-- The pieces of a text, of which the last is the end. Blanks separate pieces and belong to none.
 unfoldable pub pieces : List ℕ → List (List ℕ)
 pieces [] = [] ∷ []
 pieces (byte ∷ bytes) =

@@ -1,5 +1,5 @@
--- The grammar of single pieces: which pieces fit a place, and their values. The case of letters does not matter, and names are in
--- upper case.
+-- The grammars of single pieces: which pieces fit, and the value of a piece that fits. The case of
+-- letters does not matter, and names are in upper case.
 use Rattle.std.specs.Prelude.{ℕ, ◌==◌, List, [], ◌∷◌, length, map, reverse, Bool, true, false, ◌&&◌, ◌||◌, if◌then◌else◌, Option, Some, None, nat_lt, codes}
 use Rattle.std.specs.List.{list_all}
 use Rattle.std.specs.Str.{bytes_eq}
@@ -32,7 +32,7 @@ comma = 44
 abbrev pub colon : ℕ
 colon = 58
 
--- the piece consists of this byte alone
+-- the piece is this single byte
 abbrev pub is_mark : ℕ → List ℕ → Bool
 is_mark byte [] = false
 is_mark byte (first ∷ []) = first == byte
@@ -55,7 +55,7 @@ is_word piece = starts_with_letter piece && list_all is_word_byte piece
 abbrev pub is_symbol : ℕ → Bool
 is_symbol byte = (byte == 48) || ((byte == 49) || (to_ascii_uppercase byte == 88))
 
--- the symbol of a character 0, 1 or X; X matches both bits
+-- the symbol of the character 0, 1 or X; X stands for either bit
 abbrev pub symbol_of : ℕ → Symbol
 symbol_of byte = if byte == 48 then Zero else if byte == 49 then One else Any
 
@@ -63,11 +63,12 @@ symbol_of byte = if byte == 48 then Zero else if byte == 49 then One else Any
 abbrev pub is_code : List ℕ → Bool
 is_code piece = nat_lt 0 (length piece) && list_all is_symbol piece
 
--- The code that the characters spell. The rightmost character is the bit nearest TDO, which is the first of a code.
+-- The code that the characters spell. The rightmost character is the symbol nearest TDO, which is
+-- the first symbol of the code.
 abbrev pub code_of : List ℕ → List Symbol
 code_of piece = map symbol_of (reverse piece)
 
--- the function of an entry, given its name in upper case
+-- the function with this name, which is in upper case
 abbrev pub role_of : List ℕ → Option Role
 role_of word =
     if bytes_eq word (codes "INPUT") then Some roles.Input else
@@ -80,7 +81,7 @@ role_of word =
     if bytes_eq word (codes "BIDIR") then Some roles.Bidir else
     some_if (bytes_eq word (codes "OBSERVE_ONLY")) roles.ObserveOnly
 
--- the word is the state of a disabled driver; in each of these states the driver does not drive
+-- the word is a disable result: the state of a driver that does not drive
 abbrev pub is_result : List ℕ → Bool
 is_result word =
     bytes_eq word (codes "Z") || (bytes_eq word (codes "WEAK0") || (bytes_eq word (codes "WEAK1") ||
@@ -118,7 +119,7 @@ pin_or_open = place (λ piece. if is_mark open_mark piece then Some None else so
 abbrev pub word_or_star : Part (Option (List ℕ))
 word_or_star = place (λ piece. if is_mark star piece then Some None else some_if (is_word piece) (Some (upper piece)))
 
--- an index, with its number as the value
+-- an index: a number of 1 to 9 digits
 abbrev pub index : Part ℕ
 index = place (λ piece. some_if (is_integer piece) (digits_value piece))
 

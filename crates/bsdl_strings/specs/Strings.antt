@@ -1,5 +1,6 @@
--- The grammars of the strings inside a BSDL text, as far as an interconnect test needs them (IEEE 1149.1b-1994 and IEEE 1149.1-2001,
--- Annex B), and the values of the strings. The comment above a production is its EBNF line.
+-- The grammars of the strings inside a BSDL text, as far as an interconnect test needs them (IEEE
+-- 1149.1b-1994 and IEEE 1149.1-2001, Annex B), and the values of the strings. The comment above a
+-- production is its EBNF rule.
 use Rattle.std.specs.Prelude.{◌≡◌, ℕ, ◌+◌, List, [], ◌∷◌, ◌++◌, length, Bool, true, false, Option, Some, None, IsTrue, ◌⊎◌}
 use Rattle.std.specs.List.{take_while}
 use Rattle.board_defs.specs.declared.device.Symbol.{Symbol}
@@ -21,8 +22,8 @@ use Rattle.bsdl_strings.specs.Places.{Part, mark, either_mark, comma_or_end, wor
 abbrev pub comma_or_close : Part Bool
 comma_or_close = either_mark comma close_mark
 
--- The pins of a map entry, after its first piece. If that piece is a pin, nothing more is read. If it is "(", this is pin { "," pin }
--- ")".
+-- The pins of a map entry after the first piece of its pins. If this piece is a pin, nothing more
+-- is read. If it is "(", the rest is pin { "," pin } ")".
 abbrev pub pins_of : Option (List ℕ) → Part (List (List ℕ))
 pins_of (Some name) = done (name ∷ [])
 pins_of None = list_of pin comma_or_close
@@ -44,7 +45,8 @@ opcode = do
   codes ← list_of code comma_or_close
   done (record { name = name; codes = codes })
 
--- The rest of a place, after the port name and the mark that follows it. After "(" this is index ")" ",". After "," nothing more is read.
+-- The rest of a place after its port name and the mark behind the name. After "(" the rest is index
+-- ")" ",". After "," nothing more is read.
 abbrev pub indexed : List ℕ → Bool → Part PortWord
 indexed name false = done (Plain name)
 indexed name true = do
@@ -53,7 +55,7 @@ indexed name true = do
   _ ← mark comma
   done (Index name i)
 
--- The rest of a place, after `*` or the port name.
+-- The rest of a place after `*` or the port name.
 abbrev pub place_of : Option (List ℕ) → Part PortWord
 place_of None = do
   _ ← mark comma
@@ -68,7 +70,8 @@ port_place = do
   first ← word_or_star
   place_of first
 
--- The rest of a control, after its first mark. After "," this is index "," value "," result ")". After ")" nothing more is read.
+-- The rest of a control after its first mark. After "," the rest is index "," value "," result ")".
+-- After ")" nothing more is read.
 abbrev pub control_of : Bool → Part (Option Control)
 control_of false = done None
 control_of true = do
@@ -86,7 +89,7 @@ control = do
   more ← comma_or_close
   control_of more
 
--- index "(" word ",", where the word is the name of the cell's kind, which is not used
+-- index "(" word ",", in which the word is the name of the cell's kind; this name is not used
 unfoldable pub cell : Part ℕ
 cell = do
   num ← index
@@ -106,7 +109,7 @@ entry = do
   ctl ← control
   done (record { num = num; port = port; role = role; safe = safe; ctl = ctl })
 
--- the rest of a compliance bit, after its port name and the mark that follows the name
+-- the rest of a compliance bit after its port name and the mark behind the name
 abbrev pub bit_behind : List ℕ → Option Bool → Part (PortWord × Bool)
 bit_behind name (Some more) = done (Plain name, more)
 bit_behind name None = do
@@ -115,14 +118,15 @@ bit_behind name None = do
   more ← comma_or_close
   done (Index name i, more)
 
--- bit = word | word "(" index ")", and the mark after it; the second value is true if this mark is a comma, so that another bit follows
+-- bit = word | word "(" index ")", followed by a mark; the second value is true if the mark is a
+-- comma, so that another bit follows
 unfoldable pub bit : Part (PortWord × Bool)
 bit = do
   name ← word
   next ← after_bit
   bit_behind name next
 
--- one bit, and the comma or the closing parenthesis after it
+-- one bit and the mark behind it, which is a comma if another bit follows
 unfoldable pub bit_turn : List PortWord → Part (Turn (List PortWord) (List PortWord))
 bit_turn before = do
   one ← bit
@@ -153,12 +157,13 @@ compliance = do
   patterns ← second_parenthesis
   done (record { ports = ports; patterns = patterns })
 
--- the string is a list of such entries, with these values
+-- the string is a list of these entries, separated by commas, and the values of the entries are
+-- `values`
 abbrev pub IsListOf : {A : Type 0} → Part A → List ℕ → List A → Type 0
 IsListOf entry text values = (production_of (list_of entry comma_or_end)).Whole (pieces text) values
 
--- The string is not a list of such entries, and goes wrong at entry `number`, counted from 1. Every entry before it is whole and is
--- followed by a comma.
+-- The string is not a list of these entries, and goes wrong at entry `number`, counted from 1. Each
+-- entry before it is whole and followed by a comma.
 abbrev pub IsNoListOf : {A : Type 0} → Part A → List ℕ → ℕ → Type 0
 IsNoListOf entry text number = GoesWrongAt entry comma_or_end number (pieces text)
 
@@ -186,7 +191,7 @@ IsBoundary text = IsListOf entry text
 abbrev pub IsNoBoundary : List ℕ → ℕ → Type 0
 IsNoBoundary text = IsNoListOf entry text
 
--- pattern = code, with no other characters: one or more of 0, 1 and X
+-- pattern = code, without any other characters: one or more of 0, 1 and X
 abbrev pub IsPattern : List ℕ → List Symbol → Type 0
 IsPattern text value = IsTrue (is_code text) × (value ≡ code_of text)
 

@@ -1,4 +1,4 @@
-//! Compliance strings, which have port bits in one parenthesis and patterns in another.
+//! Reads compliance strings, which have port bits in one parenthesis and patterns in another.
 ghost use Rattle.std.specs.Prelude.{◌<◌, [], IfOk, IfErr};
 ghost use Rattle.grammars.specs.inner.Reader.{found};
 ghost use Rattle.grammars.specs.Grammar.{reader_of};
@@ -34,7 +34,7 @@ fn bit_from(
     }
 }
 
-/// Reads a compliance bit and the mark after it. Returns the bit, and true if another bit follows.
+/// Reads a compliance bit and the mark behind it. Returns the bit, and whether another bit follows.
 #[tactic(auto, unfolding(crate::specs::Strings::bit))]
 fn bit(alloc: Global, text: &[u8]) -> Result<((PortWord, bool), &[u8]), Stop<'_>>
     ensures { ReadsPieces (λ x. found x.0 (pieces x.1.now)) result (reader_of any_bit (pieces text.now)) }
@@ -78,10 +78,11 @@ fn second_parenthesis(alloc: Global, text: &[u8]) -> Result<Items<Code>, Stop<'_
     Ok(patterns)
 }
 
-/// Returns the value of a compliance string: the port bits, and the patterns that they may have.
+/// Returns the value of a compliance string: the compliance bits, and the patterns that enable the
+/// test logic.
 ///
-/// Returns `StringFault::At` if the text is not a compliance string. The number is 2 if the text begins with a whole
-/// parenthesis of bits, and otherwise 1.
+/// Returns `StringFault::At` if the text is not a compliance string. The number is 2 if the text
+/// begins with a whole parenthesis of bits, and otherwise 1.
 pub fn compliance(alloc: Global, text: &[u8]) -> Result<Compliance, StringFault>
     ensures value { IfOk result (λ value. IsCompliance text.now value) }
     ensures fault { IfErr result (NamesEntry (IsNoCompliance text.now)) }

@@ -1,4 +1,4 @@
-//! The entries of pin maps, opcode strings and boundary registers, and their parts.
+//! Reads the entries of pin maps, opcode strings and boundary registers.
 ghost use Rattle.std.specs.Prelude.{◌≡◌, [], ◌∷◌, IfOk};
 ghost use Rattle.grammars.specs.inner.Reader.{found};
 ghost use Rattle.grammars.specs.Grammar.{reader_of};
@@ -62,7 +62,7 @@ pub(crate) fn map_entry(alloc: Global, text: &[u8]) -> Result<(MapEntry, &[u8]),
     Ok((MapEntry { port, pins }, rest))
 }
 
-/// Returns the pin `first`, or, if `first` is None, reads the pins of a group.
+/// Returns the pin `first`. If `first` is None, reads the pins of a group instead.
 fn pins_from(
     alloc: Global,
     first: Option<Name>,
@@ -94,8 +94,8 @@ pub(crate) fn opcode(alloc: Global, text: &[u8]) -> Result<(Opcode, &[u8]), Stop
     Ok((Opcode { name, codes }, rest))
 }
 
-/// Reads the rest of a place, after the port name and the mark that follows it. `opens` says whether this mark is an
-/// opening parenthesis.
+/// Reads the rest of a place after its port name and the mark behind the name. `opens` says whether
+/// this mark is an opening parenthesis.
 fn indexed(name: Name, opens: bool, text: &[u8]) -> Result<(PortWord, &[u8]), Stop<'_>>
     ensures { ReadsPieces (λ x. found x.0 (pieces x.1.now)) result (reader_of (index_after name opens) (pieces text.now)) }
 {
@@ -146,8 +146,8 @@ fn control_from(comes: bool, text: &[u8]) -> Result<(Option<Control>, &[u8]), St
     }
 }
 
-/// Reads the rest of an entry after the safe value, up to and including the closing parenthesis. Returns the control,
-/// if there is one.
+/// Reads the rest of an entry after its safe value, up to and including the closing parenthesis.
+/// Returns the control, if there is one.
 #[tactic(auto, unfolding(crate::specs::Strings::control))]
 fn control(text: &[u8]) -> Result<(Option<Control>, &[u8]), Stop<'_>>
     ensures { ReadsPieces (λ x. found x.0 (pieces x.1.now)) result (reader_of any_control (pieces text.now)) }

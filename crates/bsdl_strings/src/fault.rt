@@ -1,16 +1,18 @@
-//! The reasons why a string has no value.
+//! The reasons for which a string has no value.
 ghost use Rattle.std.specs.Prelude.{◌≡◌, alloc_error};
 ghost use Rattle.bsdl_strings.specs.declared.fault.StringFault.TheVariants.{Memory};
 
 use std::alloc::{AllocError, AllocFailed};
 use thiserror::Error;
 
-/// The reason why a string has no value: the entry at which the string leaves its grammar, or a refusal of memory.
+/// The reason for which a string has no value: the entry at which the string leaves its grammar, or
+/// lack of memory.
 #[derive(Clone, Copy, Debug, PartialEq, Eq, Error)]
 pub enum StringFault {
-    /// The number of the first wrong entry, counted from 1. Every entry before it is whole and is followed by a comma.
-    /// For a pattern, the number is the place of the first character that is not 0, 1 or X, counted from 1, or 1 if the
-    /// pattern is empty. For a compliance string, it is 1 for the first parenthesis and 2 for the rest.
+    /// The number of the first wrong entry, counted from 1. Each entry before it is whole and
+    /// followed by a comma. For a pattern, the number is the place of the first character that is
+    /// not 0, 1 or X, counted from 1, or 1 if the pattern is empty. For a compliance string, it is
+    /// 1 for the first parenthesis and 2 for the rest.
     #[error("entry {0}")]
     At(u32),
     #[error("out of memory")]

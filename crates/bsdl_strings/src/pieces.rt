@@ -1,4 +1,4 @@
-//! Reading the pieces of an inner string one at a time.
+//! Reads the pieces of an inner string one at a time.
 ghost use Rattle.std.specs.Prelude.{◌≡◌, [], ◌∷◌, length, MatchOption, IfSome, true, false, ◌≤◌};
 ghost use Rattle.std.specs.List.{take_while};
 ghost use Rattle.bsdl_strings.specs.Pieces.{is_blank, is_word_byte, starts_word, starts_blank, is_end, pieces};
@@ -46,7 +46,8 @@ fn word_piece(text: &[u8]) -> (&[u8], &[u8])
     text.split_at(word_bytes(text))
 }
 
-/// Returns the piece at the front and the text after it. Returns None at the end of the text.
+/// Returns the piece at the front and the text after it. Returns None if only the end of the text
+/// is left.
 #[tactic(auto, unfolding(crate::specs::Pieces::pieces))]
 pub(crate) fn next_piece(text: &[u8]) -> Option<(&[u8], &[u8])>
     ensures pieces { MatchOption result (pieces text.now ≡ [] ∷ []) (λ x. pieces text.now ≡ x.0.now ∷ pieces x.1.now) }
@@ -65,8 +66,8 @@ pub(crate) fn next_piece(text: &[u8]) -> Option<(&[u8], &[u8])>
     }
 }
 
-/// Returns the text after `mark` if the first byte is `mark`. If the result is None, the mark may still be the next
-/// piece, after blanks.
+/// Returns the text after `mark` if the first byte is `mark`. If the result is None, the next piece
+/// may still be the mark, behind blanks.
 #[inline]
 #[tactic(auto, unfolding(crate::specs::Pieces::pieces))]
 pub(crate) fn after_mark(text: &[u8], mark: u8) -> Option<&[u8]>

@@ -67,7 +67,7 @@ fn are_symbols(piece: &[u8]) -> bool
     piece.iter().all(|byte| fits_symbol(*byte))
 }
 
-/// Returns the number of characters at the front that are 0, 1 or X.
+/// Returns how many characters at the front are 0, 1 or X.
 pub(crate) fn leading_symbols(text: &[u8]) -> usize
     ensures count { result ≡ length (take_while is_symbol text.now) }
     ensures within { result ≤ length text.now }
@@ -95,8 +95,8 @@ pub(crate) fn code_from(alloc: Global, piece: &[u8]) -> Result<Code, AllocError>
     Ok(Code::from_vec(symbols_from(alloc, piece)?))
 }
 
-/// Like `code_from`, but for a piece of any length. A piece that is too long for a code is answered like a refusal of
-/// memory. No such piece occurs in a text of fewer than 2^32 bytes.
+/// Like `code_from`, but for a piece of any length. If a piece is too long for a code, returns an
+/// `AllocError`. A text of fewer than 2^32 bytes has no such piece.
 fn short_code_from(alloc: Global, piece: &[u8]) -> Result<Code, AllocError>
     ensures { IfOk result (λ code. code ≡ code_of piece.now) }
 {
@@ -120,7 +120,7 @@ pub(crate) fn mark(text: &[u8], byte: u8) -> Result<&[u8], Stop<'_>>
     }
 }
 
-/// Reads one of two marks. Returns whether it is the first.
+/// Reads one of two marks. Returns whether it was the first.
 pub(crate) fn either_mark(text: &[u8], first: u8, second: u8) -> Result<(bool, &[u8]), Stop<'_>>
     ensures { ReadsPieces (λ x. found x.0 (pieces x.1.now)) result (reader_of (either_of_marks first second) (pieces text.now)) }
 {
@@ -144,7 +144,7 @@ pub(crate) fn word(alloc: Global, text: &[u8]) -> Result<(Name, &[u8]), Stop<'_>
     }
 }
 
-/// Like `word`, but returns the letters unchanged, and so takes no memory.
+/// Like `word`, but returns the letters unchanged, and so allocates nothing.
 pub(crate) fn word_as_written(text: &[u8]) -> Result<(&[u8], &[u8]), Stop<'_>>
     ensures { ReadsPieces (λ x. found (upper x.0.now) (pieces x.1.now)) result (reader_of any_word (pieces text.now)) }
 {
@@ -288,8 +288,8 @@ fn names_result(piece: &[u8]) -> bool
         || spells(piece, b"KEEPER")
 }
 
-/// Reads the state of a disabled driver. All states that the grammar allows are states in which the driver does not
-/// drive.
+/// Reads a disable result, which is the state of a disabled driver. In all states that the grammar
+/// allows, the driver does not drive.
 pub(crate) fn result_of_disabling(text: &[u8]) -> Result<&[u8], Stop<'_>>
     ensures { ReadsPieces (λ rest. found tt (pieces rest.now)) result (reader_of result_word (pieces text.now)) }
 {
@@ -299,8 +299,8 @@ pub(crate) fn result_of_disabling(text: &[u8]) -> Result<&[u8], Stop<'_>>
     }
 }
 
-/// Reads the mark after the port name of a compliance bit. Returns None if an index follows. Otherwise returns whether
-/// another bit follows.
+/// Reads the mark behind the port name of a compliance bit. Returns None if an index follows.
+/// Otherwise returns whether another bit follows.
 pub(crate) fn mark_after_bit(text: &[u8]) -> Result<(Option<bool>, &[u8]), Stop<'_>>
     ensures { ReadsPieces (λ x. found x.0 (pieces x.1.now)) result (reader_of after_bit (pieces text.now)) }
 {

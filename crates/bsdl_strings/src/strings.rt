@@ -1,4 +1,4 @@
-//! Reading lists of entries, and patterns.
+//! Reads lists of entries, and patterns.
 ghost use Rattle.std.specs.Prelude.{◌≡◌, ◌<◌, ◌^◌, length, IfOk, IfErr};
 ghost use Rattle.bsdl_strings.specs.Faults.{fault_of, NamesEntry};
 ghost use Rattle.bsdl_strings.specs.Strings.{IsPinMap, IsNoPinMap, AreOpcodes, AreNoOpcodes, IsBoundary, IsNoBoundary, IsPattern, IsNoPattern};
@@ -11,7 +11,7 @@ use crate::values::{Entry, MapEntry, Opcode};
 use board_defs::Code;
 use std::alloc::Global;
 
-/// Returns the fault of a list for which reading stopped after `entries` whole entries.
+/// Returns the fault of a list if reading stopped after `entries` whole entries.
 pub(crate) fn fault(stop: Stop<'_>, entries: usize) -> StringFault
     requires { entries < 2 ^ 31 }
     ensures { result ≡ fault_of stop.entry entries }
@@ -108,11 +108,11 @@ pub fn boundary(alloc: Global, text: &[u8]) -> Result<Vec<Entry>, StringFault>
     }
 }
 
-/// Returns the code that a pattern spells. The rightmost character of the pattern is the bit nearest TDO. A pattern has
-/// no blanks, not even at its ends.
+/// Returns the code that a pattern spells. The rightmost character of the pattern is the symbol
+/// nearest TDO. A pattern has no blanks, not even at its ends.
 ///
-/// Returns `StringFault::At` if the text is not a pattern. The number is the place of the first character that is not
-/// 0, 1 or X, counted from 1, or 1 for an empty text.
+/// Returns `StringFault::At` if the text is not a pattern. The number is the place of the first
+/// character that is not 0, 1 or X, counted from 1, or 1 for an empty text.
 pub fn pattern(alloc: Global, text: &[u8]) -> Result<Code, StringFault>
     requires { length text.now < 2 ^ 32 }
     ensures value { IfOk result (λ code. IsPattern text.now code) }

@@ -5,7 +5,7 @@ use board_defs::{Code, Control, Items, Name, Role, Symbol};
 #[derive(Debug, Drop)]
 pub struct MapEntry {
     pub port: Name,
-    /// One pin for each bit of the port, in the order of the port's range from left to right.
+    /// A pin for each bit of the port, in the order of the port's range from left to right.
     pub pins: Items<Name>,
 }
 
@@ -19,7 +19,7 @@ pub struct Opcode {
 /// A port bit as a string names it.
 #[derive(Debug, Drop)]
 pub enum PortWord {
-    /// `*`, which is written in place of a port if the cell has none.
+    /// `*`, which stands in place of a port if the cell has none.
     Star,
     /// A port without an index.
     Plain(Name),
@@ -35,13 +35,13 @@ pub struct Entry {
     pub port: PortWord,
     /// The function of the entry.
     pub role: Role,
-    /// The value that the designer wants in the cell while no test uses the cell.
+    /// The value that the designer wants in the cell if no test uses the cell.
     pub safe: Symbol,
     /// The control cell and the disable value, if the entry has them.
     pub ctl: Option<Control>,
 }
 
-/// The compliance bits, which are port bits, and the patterns that they may have.
+/// The compliance bits, which are port bits, and the patterns that enable the test logic.
 #[derive(Debug, Drop)]
 pub struct Compliance {
     pub ports: Items<PortWord>,

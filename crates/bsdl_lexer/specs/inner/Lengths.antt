@@ -6,7 +6,8 @@ use Rattle.bsdl_lexer.specs.declared.token.TokenKind.{TokenKind}
 use Rattle.bsdl_lexer.specs.declared.token.TokenKind.TheVariants.{Word, Number, Text, Mark}
 use Rattle.bsdl_lexer.specs.Forms.{is_blank, is_word_byte, is_text_byte, is_mark, is_exponent_letter, is_sign, begins_comment, line_feed, quote, point}
 
--- the number of digits at the front plus `front`, the number of bytes before them; 0 if there are no digits
+-- `front`, the number of bytes in front of the digits, plus the number of digits; or 0 if there are
+-- no digits
 abbrev pub with_digits : ℕ → List ℕ → ℕ
 with_digits front bytes = if prefix_len is_ascii_digit bytes == 0 then 0 else front + prefix_len is_ascii_digit bytes
 
@@ -15,12 +16,13 @@ abbrev pub fraction_len : List ℕ → ℕ
 fraction_len [] = 0
 fraction_len (first ∷ others) = if first == point then with_digits 1 others else 0
 
--- the length of an exponent, given the bytes after its letter, or 0
+-- the length of an exponent whose letter these bytes follow, or 0 if they are not an exponent
 abbrev pub signed_len : List ℕ → ℕ
 signed_len [] = 0
 signed_len (first ∷ others) = if is_sign first then with_digits 2 others else with_digits 1 (first ∷ others)
 
--- the length of an exponent at the front, which is a letter, an optional sign and digits, or 0
+-- the length of an exponent at the front, which is a letter, an optional sign and digits; or 0 if
+-- there is none
 abbrev pub exponent_len : List ℕ → ℕ
 exponent_len [] = 0
 exponent_len (first ∷ others) = if is_exponent_letter first then signed_len others else 0
@@ -31,12 +33,13 @@ number_len bytes =
     let fraction = fraction_len (drop whole bytes) in
     whole + (fraction + exponent_len (drop fraction (drop whole bytes)))
 
--- the kind and the length of a string token with `inner` bytes between its quotes, given the byte after these
+-- the kind and the length of a string token with `inner` bytes between its quotes, or None if the
+-- byte behind these is not a quote
 abbrev pub closed_len : Option ℕ → ℕ → Option (TokenKind × ℕ)
 closed_len None inner = None
 closed_len (Some byte) inner = if byte == quote then Some (Text, suc (suc inner)) else None
 
--- the kind and the length of the token at the front
+-- the kind and the length of the token at the front, or None if no token begins there
 abbrev pub token_at : List ℕ → Option (TokenKind × ℕ)
 token_at [] = None
 token_at (first ∷ others) =
@@ -46,7 +49,7 @@ token_at (first ∷ others) =
     if first == quote then closed_len (slice_get others (prefix_len is_text_byte others)) (prefix_len is_text_byte others) else
     if is_mark first then Some (Mark, 1) else None
 
--- the length of the gap at the front; if `in_comment` is true, the gap begins inside a comment
+-- the length of the gap at the front; if `in_comment` is true, the front is inside a comment
 abbrev pub gap_len : Bool → List ℕ → ℕ
 gap_len in_comment [] = 0
 gap_len true (first ∷ others) = suc (gap_len (if first == line_feed then false else true) others)
