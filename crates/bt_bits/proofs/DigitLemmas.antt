@@ -1,4 +1,4 @@
--- Lemmas about bits that are kept in digits of four.
+-- Lemmas about bits that are kept in digits of four bits each.
 use Rattle.std.proofs.Common.{◌≡◌, ℕ, ◌+◌, ◌-◌, ◌*◌, ◌/◌, ◌%◌, ◌^◌, ◌<◌, ◌≤◌, zero, suc, Bool, true, false, not, List, [], ◌∷◌, ◌++◌, length, take, drop, get_or, set, replicate, refl, sym, ap, ◌∙◌, arith, eqb, length-set}
 use Rattle.std.specs.Prelude.{All, bit_and, ◌||◌, ◌==◌}
 use Rattle.std.specs.List.{list_all, list_any}
@@ -55,7 +55,7 @@ length-digits_of (a ∷ b ∷ []) = refl
 length-digits_of (a ∷ b ∷ c ∷ []) = refl
 length-digits_of (a ∷ b ∷ c ∷ d ∷ bits) = omega (arith, length-digits_of bits)
 
--- each digit is below 16
+-- each digit of a list of bits is below 16
 pub digits_of-below : (bits : List Bool) → All (λ x. x < 16) (digits_of bits)
 digits_of-below [] = All-nil (λ x. x < 16)
 digits_of-below (a ∷ []) =
@@ -92,7 +92,7 @@ or_rest false false true d rest = refl
 or_rest false false false true rest = refl
 or_rest false false false false rest = refl
 
--- some digit of bits is not 0 if and only if some bit is 1
+-- some digit of a list of bits is not 0 if and only if some bit is 1
 pub any_digit : (bits : List Bool) → list_any (λ x. not (x == 0)) (digits_of bits) ≡ list_any (λ bit. bit) bits
 any_digit [] = refl
 any_digit (a ∷ []) = ap (λ some. some || false) (some_of a false false false) ∙ or_rest a false false false false
@@ -102,7 +102,7 @@ any_digit (a ∷ b ∷ c ∷ d ∷ bits) =
     ap (λ some. some || list_any (λ x. not (x == 0)) (digits_of bits)) (some_of a b c d)
     ∙ ap (λ rest. (a || b || c || d) || rest) (any_digit bits) ∙ or_rest a b c d (list_any (λ bit. bit) bits)
 
--- taking the digits of bits and then the bits of these digits gives the same bits
+-- the bits of the digits of a list of bits, cut to the length of the list, are the list
 pub row_bits-digits_of : (bits : List Bool) → row_bits (length bits) (digits_of bits) ≡ bits
 unfolding row_bits
 row_bits-digits_of [] = refl
@@ -118,7 +118,7 @@ row_bits-digits_of (a ∷ b ∷ c ∷ d ∷ bits) =
     ∙ ap (λ x. a ∷ b ∷ c ∷ x ∷ take (length bits) (bits_of (digits_of bits))) (digit_bit-3 a b c d)
     ∙ ap (λ t. a ∷ b ∷ c ∷ d ∷ t) (row_bits-digits_of bits)
 
--- bit `i` is bit `i % 4` of digit `i / 4`
+-- bit `i` of a list is bit `i % 4` of digit `i / 4` of the list's digits
 pub digits_of-get : (bits : List Bool) (i : ℕ) → i < length bits → digit_bit (get_or (digits_of bits) (i / 4) 0) (i % 4) ≡ get_or bits i false
 digits_of-get [] i within = absurd (omega arith)
 digits_of-get (a ∷ []) zero within = digit_bit-0 a false false false
@@ -140,7 +140,7 @@ digits_of-get (a ∷ b ∷ c ∷ d ∷ bits) (suc (suc (suc (suc i)))) within =
     ap (λ p. digit_bit (get_or (digits_of (a ∷ b ∷ c ∷ d ∷ bits)) p 0) (suc (suc (suc (suc i))) % 4)) place
     ∙ ap (λ k. digit_bit (get_or (digits_of bits) (i / 4) 0) k) bit ∙ digits_of-get bits i (omega arith)
 
--- changing one bit changes one digit
+-- changing bit `i` of a list changes bit `i % 4` of digit `i / 4`, and no other digit
 pub digits_of-set : (bits : List Bool) (i : ℕ) (bit : Bool) → i < length bits → set (digits_of bits) (i / 4) (with_bit (get_or (digits_of bits) (i / 4) 0) (i % 4) bit) ≡ digits_of (set bits i bit)
 digits_of-set [] i bit within = absurd (omega arith)
 digits_of-set (a ∷ []) zero bit within = ap (λ x. x ∷ []) (with_bit-0 a false false false bit)
@@ -163,7 +163,7 @@ digits_of-set (a ∷ b ∷ c ∷ d ∷ bits) (suc (suc (suc (suc i)))) bit withi
     ∙ ap (λ k. digit_value a b c d ∷ set (digits_of bits) (i / 4) (with_bit (get_or (digits_of bits) (i / 4) 0) k bit)) at
     ∙ ap (λ t. digit_value a b c d ∷ t) (digits_of-set bits i bit (omega arith))
 
--- the digits of zeros are zeros
+-- the digits of a list of zero bits are all 0
 pub digits_of-zeros : (len : ℕ) → digits_of (replicate len false) ≡ replicate (digit_count len) 0
 digits_of-zeros zero = refl
 digits_of-zeros (suc zero) = refl
@@ -173,7 +173,8 @@ digits_of-zeros (suc (suc (suc (suc len)))) =
     let count : digit_count (suc (suc (suc (suc len)))) ≡ suc (digit_count len) = omega arith in
     ap (λ t. 0 ∷ t) (digits_of-zeros len) ∙ sym (ap (λ n. replicate n 0) count)
 
--- replacing a bit of a digit is subtracting the old bit and adding the new one, each times its place value
+-- if the value of bit `k` of a digit is subtracted and the value of the new bit is added, the
+-- result is the digit with bit `k` replaced
 pub with_bit-sum : (digit k from : ℕ) (bit : Bool) → k < 4 → digit < 256 → from ≡ bit_value bit → digit - bit_and digit (1 * 2 ^ k % 256) + from * 2 ^ k % 256 ≡ with_bit digit k bit
 with_bit-sum digit zero from bit few fits is = omega (arith, and_pow digit 0, bit_value-le bit)
 with_bit-sum digit (suc zero) from bit few fits is = omega (arith, and_pow digit 1, bit_value-le bit)
@@ -197,7 +198,8 @@ digits_of-append k (a ∷ b ∷ c ∷ d ∷ low) high whole =
     let fewer : length low ≡ 4 * (k - 1) = omega arith in
     ap (λ t. digit_value a b c d ∷ t) (digits_of-append (k - 1) low high fewer)
 
--- if the first `k` digits are filled and the next digit gets its value, the first `k + 1` digits are filled
+-- if the first `k` digits are right for the first `4 * k` bits, and digit `k` is set to the digit
+-- of the next four bits, the first `k + 1` digits are right
 pub filled_values-more : (bits : List Bool) (digits : List ℕ) (k d : ℕ) → k < length digits → 4 * k + 3 < length bits → take k digits ≡ digits_of (take (4 * k) bits) → d ≡ digit_value (get_or bits (4 * k) false) (get_or bits (4 * k + 1) false) (get_or bits (4 * k + 2) false) (get_or bits (4 * k + 3) false) → take (k + 1) (set digits k d) ≡ digits_of (take (4 * (k + 1)) bits)
 filled_values-more bits digits k d place within so_far is_d =
     let next : 4 * (k + 1) ≡ 4 * k + 4 = omega arith in
@@ -205,7 +207,8 @@ filled_values-more bits digits k d place within so_far is_d =
     take_more_set digits k d place ∙ ap (λ t. t ++ d ∷ []) so_far ∙ ap (λ x. digits_of (take (4 * k) bits) ++ x ∷ []) is_d
     ∙ sym (ap (λ n. digits_of (take n bits)) next ∙ ap digits_of (take_four bits (4 * k) within) ∙ digits_of-append k (take (4 * k) bits) _ whole)
 
--- if all digits but the last are filled and the last one gets the bits that are left, all digits are filled
+-- if all digits but the last are right, and the last digit is set to the digit of the bits that are
+-- left, all digits are right
 pub filled_values-top : (bits : List Bool) (digits : List ℕ) (w top : ℕ) → length digits ≡ w + 1 → 4 * w ≤ length bits → take w digits ≡ digits_of (take (4 * w) bits) → top ∷ [] ≡ digits_of (drop (4 * w) bits) → set digits w top ≡ digits_of bits
 filled_values-top bits digits w top sized few so_far is_top =
     let whole : length (take (4 * w) bits) ≡ 4 * w = length-take-le (4 * w) bits few in
@@ -222,7 +225,8 @@ bits_of-append [] high = refl
 bits_of-append (x ∷ low) high =
     ap (λ t. digit_bit x 0 ∷ digit_bit x 1 ∷ digit_bit x 2 ∷ digit_bit x 3 ∷ t) (bits_of-append low high)
 
--- the bits from `len` on are the last bits of the last digit
+-- if `len` is not a multiple of 4, the bits from `len` on are the bits of the last digit from bit
+-- `len % 4` on
 pub drop-bits_of : (digits : List ℕ) (len : ℕ) → length digits ≡ digit_count len → 0 < len % 4 → drop len (bits_of digits) ≡ drop (len % 4) (bits_of (get_or digits (len / 4) 0 ∷ []))
 drop-bits_of [] len sized some = absurd (omega arith)
 drop-bits_of (x ∷ []) zero sized some = absurd (omega arith)
@@ -244,7 +248,7 @@ pub drop-bits_of-whole : (digits : List ℕ) (len : ℕ) → length digits ≡ d
 drop-bits_of-whole digits len sized whole =
     drop_all len (bits_of digits) (omega (arith, length-bits_of digits))
 
--- a number below 2 is equal to the value of the test whether it is 1
+-- if a number is below 2, the value of the test whether it is 1 is the number itself
 pub bit_value-test : (n : ℕ) → n < 2 → bit_value (eqb n 1) ≡ n
 bit_value-test zero small = refl
 bit_value-test (suc zero) small = refl
@@ -262,7 +266,8 @@ other_zeros : (bit : Bool) (bits : List Bool) → list_all not (bit ∷ bits) �
 other_zeros false bits zeros = zeros
 other_zeros true bits zeros = absurd (false≢true zeros)
 
--- digits whose bits from len on are all 0 are the digits of their first len bits
+-- if the bits of digits from `len` on are all 0, the digits are the digits of their first `len`
+-- bits
 pub kept_digits : (digits : List ℕ) (len : ℕ) → All (λ x. x < 16) digits → length digits ≡ digit_count len → list_all not (drop len (bits_of digits)) ≡ true → digits ≡ digits_of (row_bits len digits)
 unfolding row_bits
 kept_digits [] zero below sized zeros = refl
@@ -290,7 +295,7 @@ kept_digits (x ∷ xs) (suc (suc (suc (suc len)))) below sized zeros =
     ap (λ t. x ∷ t) (kept_digits xs len (All-tail (λ x. x < 16) x xs below) (omega arith) zeros)
     ∙ sym (ap (λ v. v ∷ digits_of (take len (bits_of xs))) (digit_value-bits x (All-head (λ x. x < 16) x xs below)))
 
--- the digits of bits have these bits
+-- if the digits are the digits of a list of `len` bits, their first `len` bits are this list
 pub row_bits-is : (bits : List Bool) (len : ℕ) (digits : List ℕ) → length bits ≡ len → digits ≡ digits_of bits → row_bits len digits ≡ bits
 row_bits-is bits len digits sized is =
     sym (ap (λ n. row_bits n digits) sized) ∙ ap (row_bits (length bits)) is ∙ row_bits-digits_of bits
@@ -301,7 +306,8 @@ digits_of-row bits len digits sized is = record {
   values = is ∙ ap digits_of (sym (row_bits-is bits len digits sized is));
 }
 
--- if digits are those of `seen`, and `seen` is `bits`, they are the digits of `bits`
+-- if the digits are the digits of `seen`, and `seen` is equal to `bits`, they are the digits of
+-- `bits`
 pub seen_digits : (seen bits : List Bool) (len : ℕ) (digits : List ℕ) → AreDigitsOf seen len digits → seen ≡ bits → AreDigitsOf bits len digits
 seen_digits seen bits len digits are is = record {
   count = ap length (sym is) ∙ are.count;

@@ -1,4 +1,4 @@
--- Lemmas on bits as hexadecimal text.
+-- Lemmas about bits as hexadecimal text.
 use Rattle.std.proofs.Common.{◌≡◌, ℕ, ◌+◌, ◌<◌, zero, suc, Option, None, Some, Bool, false, cond, eq-eqb, option_and_then, List, [], ◌∷◌, ◌++◌, length, take, get_or, refl, ap, ◌∙◌, append_assoc, length-append, arith}
 use Rattle.std.proofs.lemmas.List.{take_more}
 use Rattle.bt_bits.specs.Hex.{hex_digit, hex_text, digit_count, digit_bits, text_bits, joined_bits, cut_to, field_bits}
@@ -25,7 +25,7 @@ text_bits-none [] i within bad = absurd (omega arith)
 text_bits-none (c ∷ cs) zero within bad = ap (joined_bits (text_bits cs)) bad ∙ joined_bits-none (text_bits cs)
 text_bits-none (c ∷ cs) (suc i) within bad = ap (λ o. joined_bits o (digit_bits c)) (text_bits-none cs i (omega arith) bad)
 
--- a field of the right length has the bits of its text, cut to its length
+-- if a field has as many digits as `len` bits need, it has the bits of its text, cut to `len` bits
 pub field_bits-sized : (len : ℕ) (text : List ℕ) → length text ≡ digit_count len → field_bits len text ≡ option_and_then (cut_to len) (text_bits text)
 field_bits-sized len text sized =
     ap (λ b. cond b (option_and_then (cut_to len) (text_bits text)) None) (eq-eqb (length text) (digit_count len) sized)

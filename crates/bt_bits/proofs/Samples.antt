@@ -1,9 +1,10 @@
--- Rows that are kept side by side, with values computed by hand.
+-- Samples of rows that are kept side by side, with values computed by hand.
 use Rattle.std.proofs.Common.{◌≡◌, true, false, [], ◌∷◌, get_or, refl, ap, arith}
 use Rattle.bt_bits.specs.Digits.{row_bits}
 use Rattle.bt_bits.specs.Stacks.{AreStacked, Stack, column_bit, digit_in, stacked}
 
--- Two words: the first has the digits 2, 5 and A for rows 0, 1 and 2, and the second has 1, 3 and 0. All other digits are 0.
+-- Two words. The first has the digits 2, 5 and A for rows 0, 1 and 2, and the second has the digits
+-- 1, 3 and 0. All other digits are 0.
 abbrev rows : Stack
 rows = record { words = 2642 ∷ 49 ∷ []; len = 6; room = 8 }
 
@@ -27,7 +28,8 @@ third = refl
 column : column_bit (record { word = 4354 }) 0 ∷ column_bit (record { word = 4354 }) 1 ∷ column_bit (record { word = 4354 }) 2 ∷ column_bit (record { word = 4354 }) 3 ∷ [] ≡ false ∷ false ∷ true ∷ true ∷ []
 column = refl
 
--- with six bits to a row, bit 2 of the second digit is past the end, so row 0 may not have the digit 4 in the second word
+-- if rows have six bits, bits 2 and 3 of a digit in the second word are past the end, so a row may
+-- not have the digit 4 there
 none_past_the_end : AreStacked 6 (2642 ∷ 52 ∷ []) → ⊥
 unfolding row_bits
 none_past_the_end are = let four : 4 ≡ 0 = ap (λ digits. get_or digits 1 0) (are 0 (omega arith)).values in absurd (omega (arith, four))

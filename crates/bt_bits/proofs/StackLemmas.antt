@@ -11,17 +11,18 @@ use Rattle.bt_bits.specs.inner.Digits.{with_bit}
 use Rattle.bt_bits.proofs.ColumnLemmas.{same_digit}
 use Rattle.bt_bits.proofs.DigitLemmas.{digits_of-row, digits_of-set, length-digits_of, row_bits-is}
 
--- there are as many words as a row has digits
+-- if words hold rows of `len` bits, there are as many words as a row has digits
 pub length-words : (len : ℕ) (words : List ℕ) → AreStacked len words → length words ≡ digit_count len
 length-words len words are =
     let first = are 0 (omega arith) in
     omega (arith, length-map words (digit_in 0), ap length first.values, length-digits_of (row_bits len (map (digit_in 0) words)), first.count)
 
--- words are stacked if, for each row, their digits are those of some `len` bits
+-- if, for each `j` below 16, the digits `j` of the words are the digits of a list of `len` bits,
+-- the words hold rows of `len` bits
 pub stacked_by : (len : ℕ) (words : List ℕ) (rows : ℕ → List Bool) → ((j : ℕ) → j < 16 → length (rows j) ≡ len) → ((j : ℕ) → j < 16 → map (digit_in j) words ≡ digits_of (rows j)) → AreStacked len words
 stacked_by len words rows sized are j less = digits_of-row (rows j) len (map (digit_in j) words) (sized j less) (are j less)
 
--- changing one word changes one digit of each row
+-- changing the word at a place changes the digit of each row at this place, and no other digit
 map_set : (f : ℕ → ℕ) (words : List ℕ) (place word : ℕ) → map f (set words place word) ≡ set (map f words) place (f word)
 map_set f [] place word = refl
 map_set f (w ∷ words) zero word = refl
@@ -32,7 +33,8 @@ map_get f [] place within = absurd (omega arith)
 map_get f (w ∷ words) zero within = refl
 map_get f (w ∷ words) (suc place) within = map_get f words place (omega arith)
 
--- if bit `i % 4` of each digit of a word changes, bit `i` of each row changes
+-- if bit `i % 4` of digit `j` of word `i / 4` is set to `bit`, the digits of row `j` are the digits
+-- of the row with bit `i` set to `bit`
 pub set_digits : (len i : ℕ) (words : List ℕ) (word j : ℕ) (bit : Bool) → AreStacked len words → i < len → j < 16 →
     digit_in j word ≡ with_bit (digit_in j (get_or words (i / 4) 0)) (i % 4) bit → map (digit_in j) (set words (i / 4) word) ≡ digits_of (set (row_bits len (map (digit_in j) words)) i bit)
 set_digits len i words word j bit are within less is =
@@ -50,12 +52,13 @@ set_row len i words word j bit are within less is =
     let row = row_bits len (map (digit_in j) words) in
     row_bits-is (set row i bit) len _ (length-set row i bit ∙ (are j less).count) (set_digits len i words word j bit are within less is)
 
--- a digit times the word in which each digit is 1 gives a word that has this digit for each row; the proof tests all cases
+-- if a digit is multiplied by the word in which each digit is 1, each digit of the product is this
+-- digit; the proof tests all cases
 digit_in-each : (digit j : ℕ) → digit < 16 → j < 16 → digit_in j (digit * 1229782938247303441) ≡ digit
 digit_in-each digit j small less =
     same_digit (digit * 1229782938247303441) digit (agree_below_at (λ d. agree_below (λ i. digit_in i (d * 1229782938247303441) == d) (λ _. true) 16) (λ _. true) 16 digit refl small) j less
 
--- words made from one row's digits have these digits for every row
+-- words that are made from the digits of one row in this way have these digits for each row
 pub digits_each : (digits : List ℕ) (j : ℕ) → All (λ x. x < 16) digits → j < 16 → map (digit_in j) (map (λ x. x * 1229782938247303441) digits) ≡ digits
 digits_each [] j small less = refl
 digits_each (x ∷ xs) j small less =

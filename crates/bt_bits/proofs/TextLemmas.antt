@@ -1,4 +1,4 @@
--- Lemmas about digits and their hexadecimal text.
+-- Lemmas about digits and the hexadecimal text of digits.
 use Rattle.std.proofs.Common.{◌≡◌, ℕ, ◌+◌, ◌-◌, ◌<◌, ◌≤◌, suc, subst, Some, None, Bool, true, false, not, cond, option_and_then, List, [], ◌∷◌, ◌++◌, length, take, drop, get_or, set, refl, sym, ap, ◌∙◌, append_assoc, length-append, length-drop, arith}
 use Rattle.std.specs.List.{list_all}
 use Rattle.std.proofs.lemmas.List.{append-nil, take_all, take_more, take_more_set, length-take-le, drop-set, take-append-drop, take_at, drop_at}
@@ -52,7 +52,9 @@ digits_text-take_more : (digits : List ℕ) (k : ℕ) → k < length digits → 
 digits_text-take_more digits k within =
     ap digits_text (take_more digits k 0 within) ∙ digits_text-append (take k digits) (get_or digits k 0 ∷ [])
 
--- if the last `k` characters of the text are filled and the one before them gets its value, the last `k + 1` are filled
+-- if the last `k` characters of the text are the text of the first `k` digits, and the character
+-- before them is set to the character of digit `k`, the last `k + 1` characters are the text of the
+-- first `k + 1` digits
 pub filled_more : (digits text : List ℕ) (n k d : ℕ) → n ≡ length text → k < n → k < length digits → drop (n - k) text ≡ digits_text (take k digits) → d ≡ digit_char (get_or digits k 0) → drop (n - (k + 1)) (set text (n - 1 - k) d) ≡ digits_text (take (k + 1) digits)
 filled_more digits text n k d is_n below within so_far is_d =
     let place : n - (k + 1) ≡ n - 1 - k = omega arith in
@@ -60,7 +62,8 @@ filled_more digits text n k d is_n below within so_far is_d =
     ap (λ i. drop i (set text (n - 1 - k) d)) place ∙ drop-set text (n - 1 - k) d (omega arith)
     ∙ ap (λ i. d ∷ drop i text) after ∙ ap (λ t. d ∷ t) so_far ∙ ap (λ x. x ∷ digits_text (take k digits)) is_d ∙ sym (digits_text-take_more digits k within)
 
--- a piece of the text of digits is the text of some of these digits
+-- `count` characters of the text of digits, from character `from` on, are the text of the `count`
+-- digits that end `from` digits before the last
 pub text_piece : (digits : List ℕ) (from count : ℕ) → from + count ≤ length digits → digits_text (take count (drop (length digits - from - count) digits)) ≡ take count (drop from (digits_text digits))
 text_piece digits from count within =
     let low : ℕ = length digits - from - count in
@@ -80,7 +83,8 @@ text_piece digits from count within =
 max_below : (a b : ℕ) → nat_lt (max a b) 16 ≡ (nat_lt b 16 && nat_lt a 16)
 max_below a b = grind arith
 
--- if one more digit is read to the left, its bits follow the bits that were read
+-- if the bytes behind place `at` have the bits of `digits`, and the byte at `at` has the bits of
+-- the digit `x`, the bytes from `at` on have the bits of `digits` followed by the bits of `x`
 read_more : (text : List ℕ) (at : ℕ) (digits : List ℕ) (x : ℕ) → at < length text → text_bits (drop (suc at) text) ≡ Some (bits_of digits) → digit_bits (get_or text at 0) ≡ Some (bits_of (x ∷ [])) → text_bits (drop at text) ≡ Some (bits_of (digits ++ x ∷ []))
 read_more text at digits x within so_far is =
     ap text_bits (drop-cons text at 0 within) ∙ ap (λ o. joined_bits o (digit_bits (get_or text at 0))) so_far
@@ -94,7 +98,8 @@ both false second b other e f g = f b
 is_below : (x : ℕ) → nat_lt x 16 ≡ true → x < 16
 is_below x small = grind arith
 
--- if the last `k` bytes of the text were read and the byte before them is read next, the last `k + 1` bytes were read
+-- if the last `k` bytes of the text were read, and the value `x` of the byte before them is stored
+-- as digit `k`, the last `k + 1` bytes are read
 pub read_digit : (text digits : List ℕ) (n k most x next : ℕ) → n ≡ length text → length digits ≡ n → k < n → next ≡ max x most → IsValueOf (get_or text (n - 1 - k) 0) x → AreRead text (n - k) (take k digits) (nat_lt most 16) → AreRead text (n - (k + 1)) (take (k + 1) (set digits k x)) (nat_lt next 16)
 read_digit text digits n k most x next is_n sized within is_next value so_far =
     let at : n - (k + 1) ≡ n - 1 - k = omega arith in
@@ -109,13 +114,14 @@ read_digit text digits n k most x next is_n sized within is_next value so_far =
     (λ none. none)
     (λ none. text_bits-none text (n - 1 - k) (omega arith) none))
 
--- if every byte was read, the whole text is read
+-- if the last `k` bytes were read, and the text has at most `k` bytes, the whole text is read
 pub read_whole : (text digits : List ℕ) (n k : ℕ) (all : Bool) → length digits ≡ n → n ≤ k → AreRead text (n - k) (take k digits) all → AreRead text 0 digits all
 read_whole text digits n k all sized whole read =
     let at : n - k ≡ 0 = omega arith in
     subst (λ i. AreRead text i digits all) at (subst (λ ds. AreRead text (n - k) ds all) (take_all k digits (omega arith)) read)
 
--- if all digits of a field were read, the field gives a row if and only if the bits above the row are 0
+-- if a field has as many digits as `len` bits need, and all of them were read, the field has a row
+-- of `len` bits if and only if all bits from `len` on are 0
 pub field_bits-read : (len : ℕ) (text digits : List ℕ) (cut : Bool) → length text ≡ digit_count len → text_bits text ≡ Some (bits_of digits) → cut ≡ list_all not (drop len (bits_of digits)) → MatchBool cut (field_bits len text ≡ Some (row_bits len digits)) (field_bits len text ≡ None)
 unfolding row_bits
 field_bits-read len text digits cut sized read is =
@@ -130,7 +136,8 @@ unfolding row_bits
 length-row_bits len digits sized =
     length-take-le len (bits_of digits) (omega (arith, length-bits_of digits))
 
--- the digits of a field that was read are those of its bits
+-- if no bit of the digits from bit `len` on is 1, the digits are the digits of their first `len`
+-- bits
 pub field_kept : (len : ℕ) (digits : List ℕ) (cut : Bool) → length digits ≡ digit_count len → All (λ x. x < 16) digits → cut ≡ list_all not (drop len (bits_of digits)) → OnTrue cut (AreDigitsOf (row_bits len digits) len digits)
 field_kept len digits false sized below is = tt
 field_kept len digits true sized below is = record {

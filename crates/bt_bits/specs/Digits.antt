@@ -1,4 +1,4 @@
--- Digits of four bits each, as a row keeps its bits.
+-- Digits of four bits each. A row keeps its bits in such digits.
 use Rattle.std.specs.Prelude.{ℕ, ◌+◌, ◌*◌, ◌/◌, ◌%◌, ◌^◌, ◌==◌, Bool, true, false, List, [], ◌∷◌, take}
 
 -- the value of a bit, 0 or 1
@@ -10,7 +10,8 @@ bit_value true = 1
 abbrev pub digit_value : Bool → Bool → Bool → Bool → ℕ
 digit_value a b c d = bit_value a + 2 * bit_value b + 4 * bit_value c + 8 * bit_value d
 
--- the digits of bits; the first four bits make the first digit, and missing bits are 0
+-- the digits of a list of bits; the first four bits make the first digit, and missing bits of the
+-- last digit are 0
 abbrev pub digits_of : List Bool → List ℕ
 digits_of [] = []
 digits_of (a ∷ []) = digit_value a false false false ∷ []
@@ -22,11 +23,11 @@ digits_of (a ∷ b ∷ c ∷ d ∷ bits) = digit_value a b c d ∷ digits_of bit
 abbrev pub digit_bit : ℕ → ℕ → Bool
 digit_bit value k = value / 2 ^ k % 2 == 1
 
--- the bits of digits
+-- the bits of a list of digits, four for each digit, the lowest first
 abbrev pub bits_of : List ℕ → List Bool
 bits_of [] = []
 bits_of (x ∷ xs) = digit_bit x 0 ∷ digit_bit x 1 ∷ digit_bit x 2 ∷ digit_bit x 3 ∷ bits_of xs
 
--- the first `len` bits of digits
+-- the first `len` bits of a list of digits
 unfoldable pub row_bits : ℕ → List ℕ → List Bool
 row_bits len digits = take len (bits_of digits)

@@ -1,4 +1,5 @@
--- Bits as hexadecimal text in the order of SVF: the rightmost digit holds the bits that are shifted first.
+-- Bits as hexadecimal text in the order of SVF: the rightmost digit has the bits that are shifted
+-- first.
 use Rattle.std.specs.Prelude.{ℕ, ◌+◌, ◌/◌, ◌==◌, Bool, true, false, not, ◌||◌, List, [], ◌∷◌, ◌++◌, length, take, drop, Option, Some, None, option_and_then, if◌then◌else◌}
 use Rattle.std.specs.List.{list_all}
 
@@ -21,7 +22,8 @@ hex_digit true false true true = 68
 hex_digit false true true true = 69
 hex_digit true true true true = 70
 
--- the hexadecimal text of bits. The first four bits make the rightmost digit, and missing bits are 0.
+-- the hexadecimal text of a list of bits; the first four bits make the rightmost digit, and missing
+-- bits are 0
 abbrev pub hex_text : List Bool → List ℕ
 hex_text [] = []
 hex_text (a ∷ []) = hex_digit a false false false ∷ []
@@ -29,7 +31,7 @@ hex_text (a ∷ b ∷ []) = hex_digit a b false false ∷ []
 hex_text (a ∷ b ∷ c ∷ []) = hex_digit a b c false ∷ []
 hex_text (a ∷ b ∷ c ∷ d ∷ bits) = hex_text bits ++ hex_digit a b c d ∷ []
 
--- the number of digits for `n` bits
+-- the number of hexadecimal digits that `n` bits need
 abbrev pub digit_count : ℕ → ℕ
 digit_count n = (n + 3) / 4
 
@@ -58,7 +60,7 @@ joined_bits None b = None
 joined_bits (Some a) None = None
 joined_bits (Some a) (Some b) = Some (a ++ b)
 
--- the bits of digits, or None if a byte is not a digit
+-- the bits of the text's digits, or None if a byte is not a digit
 abbrev pub text_bits : List ℕ → Option (List Bool)
 text_bits [] = Some []
 text_bits (c ∷ cs) = joined_bits (text_bits cs) (digit_bits c)
@@ -67,7 +69,7 @@ text_bits (c ∷ cs) = joined_bits (text_bits cs) (digit_bits c)
 abbrev pub cut_to : ℕ → List Bool → Option (List Bool)
 cut_to n bits = if list_all not (drop n bits) then Some (take n bits) else None
 
--- the `n` bits of a field, or None. A field has exactly the number of digits that `n` bits need, and its bits from `n`
--- on are 0.
+-- the `n` bits of a field, or None if the text is not such a field. A field has exactly as many
+-- digits as `n` bits need, and its bits from `n` on are 0.
 abbrev pub field_bits : ℕ → List ℕ → Option (List Bool)
 field_bits n digits = if length digits == digit_count n then option_and_then (cut_to n) (text_bits digits) else None

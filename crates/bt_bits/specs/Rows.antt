@@ -1,9 +1,10 @@
--- The value of a row of bits in contracts.
+-- The value of a row of bits, as contracts see it.
 use Rattle.std.specs.Prelude.{◌≡◌, ℕ, List, Bool, length, refl}
 use Rattle.std.specs.Coded.{Coded, code_by, coded×, coded_ℕ, coded_list, coded_bool}
 use Rattle.bt_bits.specs.Digits.{digits_of}
 
--- The bits of a row and the number of bits that the row has room for. The bit at place 0 is shifted first.
+-- The bits of a row, and the number of bits for which the row has room. The bit at place 0 is
+-- shifted first.
 pub record BitRow : Type 0 where
   pub bits : List Bool
   pub room : ℕ

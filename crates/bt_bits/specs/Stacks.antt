@@ -1,12 +1,12 @@
--- Rows of equal length that are kept side by side.
+-- Rows of equal length that are kept side by side in words.
 use Rattle.std.specs.Prelude.{ℕ, ◌*◌, ◌/◌, ◌%◌, ◌^◌, ◌<◌, Bool, List, map, refl}
 use Rattle.std.specs.Coded.{Coded, code_by, coded×, coded_ℕ, coded_list}
 use Rattle.bt_bits.specs.Digits.{digit_bit, row_bits}
 use Rattle.bt_bits.specs.Rows.{AreDigitsOf}
 use Rattle.bt_bits.specs.declared.stack.Column.{Column}
 
--- The words, the number of bits of each row, and the number of bits that each row has room for. A word has 64 bits: the digits of 16 rows
--- at one place, that of row 0 lowest.
+-- The words of a stack, the number of bits of each row, and the number of bits for which each row
+-- has room. A word has 64 bits: the digits of 16 rows at one place, with the digit of row 0 lowest.
 pub record Stack : Type 0 where
   pub words : List ℕ
   pub len : ℕ
@@ -23,7 +23,8 @@ digit_in j word = word / 2 ^ (4 * j) % 16
 abbrev pub stacked : Stack → ℕ → List Bool
 stacked stack j = row_bits stack.len (map (digit_in j) stack.words)
 
--- the words hold the digits of 16 rows of `len` bits each, and the unused bits of the last digits are 0
+-- the words have the digits of 16 rows of `len` bits each, and the unused bits of the last digits
+-- are 0
 abbrev pub AreStacked : ℕ → List ℕ → Type 0
 AreStacked len words = (j : ℕ) → j < 16 → AreDigitsOf (row_bits len (map (digit_in j) words)) len (map (digit_in j) words)
 

@@ -9,10 +9,10 @@ ghost use Rattle.bt_bits.specs.Rows.{AreDigitsOf};
 
 use crate::Line;
 
-// The value that marks a byte that is not a digit.
+// A value that no digit has. It marks a byte that is not a digit.
 const NO_VALUE: u8 = 16;
 
-// Returns the number of digits for `bits` bits.
+// Returns the number of digits that `bits` bits need.
 #[inline]
 pub fn digit_count(bits: usize) -> usize
     requires { bits < 2 ^ 63 }
@@ -37,7 +37,7 @@ pub fn has_one(digits: &[u8]) -> bool
     digits.iter().any(|digit| *digit != 0)
 }
 
-// Returns a digit with its bit `k` changed.
+// Returns the digit with its bit `k` replaced by `bit`.
 #[inline]
 pub fn with_bit(digit: u8, k: u32, bit: bool) -> u8
     requires { k < 4 }
@@ -56,7 +56,7 @@ fn value(a: bool, b: bool, c: bool, d: bool) -> u8
     low + 4 * high
 }
 
-// Returns the digit of one to three bits, which are those after the last whole group of four.
+// Returns the digit of one to three bits, which are left after the last whole group of four.
 fn top_value(bits: &[bool]) -> u8
     requires some { 0 < length bits.now }
     requires few { length bits.now < 4 }
@@ -70,7 +70,7 @@ fn top_value(bits: &[bool]) -> u8
     }
 }
 
-// Fills `digits` with the digits of the bits, four bits to a digit.
+// Fills `digits` with the digits of the bits, four bits for each digit.
 #[inline]
 fn fill_values(bits: &[bool], digits: &mut [u8])
     requires { length digits.old ≡ digit_count (length bits.now) }
@@ -86,7 +86,8 @@ fn fill_values(bits: &[bool], digits: &mut [u8])
     }
 }
 
-// Replaces the digits by those of `len` zero bits. The vector must have room for them.
+// Replaces the content of the vector by the digits of `len` zero bits. The vector must have room
+// for them.
 pub fn make_zeros(len: usize, digits: &mut Vec<u8>)
     requires few { len < 2 ^ 63 }
     requires room { digit_count len ≤ vec_capacity digits.old }
@@ -97,7 +98,7 @@ pub fn make_zeros(len: usize, digits: &mut Vec<u8>)
     digits.resize(digit_count(len), 0).unwrap();
 }
 
-// Replaces the digits by those of the bits. The vector must have room for them.
+// Replaces the content of the vector by the digits of the bits. The vector must have room for them.
 pub fn copy_bits(bits: &[bool], digits: &mut Vec<u8>)
     requires few { length bits.now < 2 ^ 63 }
     requires room { digit_count (length bits.now) ≤ vec_capacity digits.old }
@@ -108,7 +109,7 @@ pub fn copy_bits(bits: &[bool], digits: &mut Vec<u8>)
     fill_values(bits, digits);
 }
 
-// Returns the hexadecimal character of a value, in upper case.
+// Returns the hexadecimal character of a digit, in upper case.
 #[inline]
 fn digit_char(value: u8) -> u8
     requires { value < 16 }
@@ -134,7 +135,7 @@ pub fn fill_text(digits: &[u8], text: &mut [u8])
     }
 }
 
-// Appends `count` characters of the digits' text to the line. The first of them is character `from` of the text.
+// Appends `count` characters of the digits' text to the line, from character `from` of the text on.
 pub fn push_text(digits: &[u8], from: usize, count: usize, line: &mut Line)
     requires below { All (λ x. x < 16) digits.now }
     requires digits { from + count ≤ length digits.now }
@@ -145,8 +146,9 @@ pub fn push_text(digits: &[u8], from: usize, count: usize, line: &mut Line)
     line.push_digits(&digits[low..low + count]);
 }
 
-// Returns the value of a hexadecimal digit in either case, or 16 for any other byte. A match on ranges is used because the
-// compiler vectorizes it, and would not vectorize a table.
+// Returns the value of a hexadecimal digit in either case, or 16 for any other byte. The function
+// matches on ranges because the compiler vectorizes such a match. It would not vectorize a look-up
+// in a table.
 #[inline]
 fn value_of(c: u8) -> u8
     ensures { IsValueOf c result }
@@ -159,8 +161,8 @@ fn value_of(c: u8) -> u8
     }
 }
 
-// Fills `digits` with the values of the bytes, the rightmost byte first. Returns whether all bytes are digits. The loop also
-// goes on after a byte that is not a digit, so that it has only one exit.
+// Fills `digits` with the values of the bytes, the rightmost byte first. Returns whether all bytes
+// are digits. The loop does not stop at a byte that is not a digit, so that it has only one exit.
 fn fill_digits(text: &[u8], digits: &mut [u8]) -> bool
     requires { length digits.old ≡ length text.now }
     ensures { AreRead text.now 0 digits.new result }
@@ -189,7 +191,7 @@ fn is_digit_cut(digit: u8, count: usize) -> bool
     }
 }
 
-// Returns whether the bits from `len` on are all 0.
+// Returns whether the bits of the digits from bit `len` on are all 0.
 fn is_cut(digits: &[u8], len: usize) -> bool
     requires { length digits.now ≡ digit_count len }
     ensures { result ≡ list_all not (drop len (bits_of digits.now)) }
@@ -198,7 +200,8 @@ fn is_cut(digits: &[u8], len: usize) -> bool
     count == 0 || is_digit_cut(digits[len / 4], count)
 }
 
-// Reads the text as a field of `len` bits into `digits`. Returns whether the text is such a field.
+// Reads the text as a field of `len` bits, and fills `digits` with its digits. Returns whether the
+// text is such a field.
 pub fn fill_field(text: &[u8], len: usize, digits: &mut [u8]) -> bool
     requires text { length text.now ≡ digit_count len }
     requires places { length digits.old ≡ digit_count len }
@@ -208,8 +211,8 @@ pub fn fill_field(text: &[u8], len: usize, digits: &mut [u8]) -> bool
     fill_digits(text, digits) && is_cut(digits, len)
 }
 
-// Like `fill_field`, but replaces the content of a vector, which must have room for the digits. If the text is not such a
-// field, the digits become those of `len` zero bits.
+// Like `fill_field`, but replaces the content of a vector, which must have room for the digits. If
+// the text is not such a field, the new content is the digits of `len` zero bits.
 pub fn read_field(text: &[u8], len: usize, digits: &mut Vec<u8>) -> bool
     requires few { len < 2 ^ 63 }
     requires digits { length text.now ≡ digit_count len }

@@ -15,7 +15,7 @@ use std::alloc::{AllocError, Global};
 use std::marker::Model;
 use thiserror::Error;
 
-/// The reason why a text is not the hexadecimal field of a row.
+/// The reason for which a text is not the hexadecimal field of a row.
 #[derive(Clone, Copy, Debug, PartialEq, Eq, Error)]
 pub enum HexFault {
     /// The text has more or fewer digits than the bits need.
@@ -26,8 +26,8 @@ pub enum HexFault {
     Digit,
 }
 
-/// The bits of a register. The bit at place 0 is shifted first. A row never has more bits than its room. It allocates one byte for
-/// every four bits of the room when it is created.
+/// The bits of a register. The bit at place 0 is shifted first. A row never has more bits than its
+/// room. `with_room` allocates one byte for every four bits of the room.
 #[derive(Drop)]
 pub struct Row {
     // The digits of the bits. The first bit is the lowest bit of the first digit.
@@ -74,7 +74,7 @@ impl Row {
         self.len = len;
     }
 
-    /// Replaces the row's bits by these. There must be room for them.
+    /// Replaces the bits of the row by `bits`. There must be room for them.
     pub fn copy_from(&mut self, bits: &[bool])
         requires { length bits.now ≤ self.old.room }
         ensures bits { self.new.bits ≡ bits.now }
@@ -84,7 +84,7 @@ impl Row {
         self.len = bits.len() as u32;
     }
 
-    /// Replaces the row's bits by those of another row. There must be room for them.
+    /// Replaces the bits of the row by the bits of another row. There must be room for them.
     pub fn copy_row(&mut self, row: &Row)
         requires { length row.now.bits ≤ self.old.room }
         ensures bits { self.new.bits ≡ row.now.bits }
@@ -95,7 +95,8 @@ impl Row {
         self.len = row.len;
     }
 
-    /// Replaces the row's bits by those of row `number` of a stack. There must be room for them.
+    /// Replaces the bits of the row by the bits of row `number` of a stack. There must be room for
+    /// them.
     pub fn copy_stacked(&mut self, rows: &RowStack, number: u32)
         requires number { number < 16 }
         requires room { length (stacked rows.now number) ≤ self.old.room }
@@ -150,8 +151,9 @@ impl Row {
         self.digits[place] = with_bit(self.digits[place], i % 4, bit);
     }
 
-    /// Appends part of the row's hexadecimal field to the line, in upper case: `count` digits, from digit `from` on. Digits count
-    /// from the left, from 0. The rightmost digit of the field has the first four bits.
+    /// Appends part of the row's hexadecimal field to the line, in upper case: `count` digits, from
+    /// digit `from` on. Digits are counted from the left, from 0. The rightmost digit of the field
+    /// has the first four bits.
     pub fn put_hex(&self, from: u32, count: u32, line: &mut Line)
         requires digits { from + count ≤ digit_count (length self.now.bits) }
         requires room { length line.old + count ≤ 1024 }
@@ -160,9 +162,10 @@ impl Row {
         push_text(&self.digits, from as usize, count as usize, line);
     }
 
-    /// Reads `len` bits from a field of hexadecimal digits in either case. Refuses the field with `Length` if it does not have one
-    /// digit for every four bits, rounded up. Refuses a field of that length with `Digit` if a byte is not a digit or a bit from
-    /// `len` on is 1. After a refusal the row has `len` zeros.
+    /// Reads `len` bits from a field of hexadecimal digits in either case. Returns `Length` if the
+    /// field does not have exactly one digit for every four bits, rounded up. Returns `Digit` if a
+    /// field of this length has a byte that is not a digit, or a bit from `len` on that is 1. In
+    /// both cases, the row then has `len` zeros.
     pub fn read_hex(&mut self, text: &[u8], len: u32) -> Result<(), HexFault>
         requires { len ≤ self.old.room }
         ensures ok { OnOk result (field_bits len text.now ≡ Some self.new.bits) }
@@ -186,8 +189,8 @@ impl Row {
     }
 }
 
-/// Reads the field of a row of `len` bits into `digits`, by the rules of `Row::read_hex`. The first digit has the first four bits.
-/// After a refusal the digits are unspecified.
+/// Like `Row::read_hex`, but fills `digits` with the digits of the field. The first digit has the
+/// first four bits. On an error, the digits are unspecified.
 pub fn read_digits(text: &[u8], len: u32, digits: &mut [u8]) -> Result<(), HexFault>
     requires { length digits.old ≡ digit_count len }
     ensures ok { OnOk result (field_bits len text.now ≡ Some (row_bits len digits.new)) }

@@ -1,4 +1,5 @@
-// Rows of equal length that are kept side by side, so that one store sets a place in all of them.
+// Rows of equal length that are kept side by side, so that one store sets the bits of all rows at a
+// place.
 ghost use Rattle.std.specs.Prelude.{◌≡◌, ◌<◌, ◌≤◌, ◌*◌, ℕ, [], All, length, map, vec_capacity, IfOk, slice_set};
 ghost use Rattle.bt_bits.specs.Digits.{digit_bit};
 ghost use Rattle.bt_bits.specs.Stacks.{AreStacked, column_bit, digit_in, stacked};
@@ -12,7 +13,8 @@ use std::marker::Model;
 // A word in which each digit has only its lowest bit set.
 const LOWEST: u64 = 0x1111_1111_1111_1111;
 
-// Entry `d` has the four bits of the digit `d`, each as the lowest bit of a digit of its own.
+// Entry `d` spreads the four bits of `d` over four hex digits: bit `i` of `d` is the lowest bit of
+// digit `i`.
 const SPREAD: [u64; 16] = [
     0x0000, 0x0001, 0x0010, 0x0011, 0x0100, 0x0101, 0x0110, 0x0111, 0x1000, 0x1001, 0x1010, 0x1011,
     0x1100, 0x1101, 0x1110, 0x1111,
@@ -52,8 +54,8 @@ impl Column {
     }
 }
 
-// Fills `digits` with the digits of row `number`. The function takes slices because the compiler vectorizes such a loop over slices,
-// but not over vectors.
+// Fills `digits` with the digits of row `number`. The function takes slices because the compiler
+// vectorizes such a loop over slices, but not over vectors.
 fn fill_digits(words: &[u64], number: u32, digits: &mut [u8])
     requires number { number < 16 }
     requires places { length digits.old ≡ length words.now }
@@ -65,7 +67,8 @@ fn fill_digits(words: &[u64], number: u32, digits: &mut [u8])
     }
 }
 
-// Replaces the digits by those of row `number`. The vector must have room for them.
+// Replaces the content of the vector by the digits of row `number`. The vector must have room for
+// them.
 pub fn copy_digits(words: &[u64], number: u32, digits: &mut Vec<u8>)
     requires number { number < 16 }
     requires room { length words.now ≤ vec_capacity digits.old }
@@ -76,7 +79,8 @@ pub fn copy_digits(words: &[u64], number: u32, digits: &mut Vec<u8>)
     fill_digits(words, number, digits);
 }
 
-// Replaces the words by words in which every row has these digits. The vector must have room for them.
+// Replaces the content of the vector by words in which each row has these digits. The vector must
+// have room for them.
 fn spread_digits(digits: &[u8], words: &mut Vec<u64>)
     requires below { All (λ x. x < 16) digits.now }
     requires room { length digits.now ≤ vec_capacity words.old }
@@ -89,7 +93,7 @@ fn spread_digits(digits: &[u8], words: &mut Vec<u64>)
     }
 }
 
-// Returns the word with bit `k` of each digit replaced by the column's bit for that row.
+// Returns the word with bit `k` of each digit replaced by the column's bit for the digit's row.
 #[inline]
 fn with_column(word: u64, k: u32, column: Column) -> u64
     requires { k < 4 }
@@ -99,8 +103,8 @@ fn with_column(word: u64, k: u32, column: Column) -> u64
     (word & !mask) | ((column.word << k) & mask)
 }
 
-/// A stack of 16 rows of equal length, numbered from 0. The rows never have more bits than the room of the stack. The stack allocates
-/// eight bytes for every four bits of the room when it is created.
+/// A stack of 16 rows of equal length, numbered from 0. The rows never have more bits than the room
+/// of the stack. `with_room` allocates eight bytes for every four bits of the room.
 #[derive(Drop)]
 pub struct RowStack {
     // The word at a place has the digits of all rows at that place. Row 0 has the lowest digit.
@@ -153,7 +157,7 @@ impl RowStack {
         &self.words
     }
 
-    /// Replaces every row by this one. There must be room for it.
+    /// Replaces each row by `row`. There must be room for it.
     pub fn fill_with(&mut self, row: &Row)
         requires { length row.now.bits ≤ self.old.room }
         ensures rows { (j : ℕ) → j < 16 → stacked self.new j ≡ row.now.bits }
@@ -163,7 +167,7 @@ impl RowStack {
         self.len = row.len();
     }
 
-    /// Replaces the rows by those of another stack. There must be room for them.
+    /// Replaces the rows by the rows of another stack. There must be room for them.
     pub fn copy_from(&mut self, rows: &RowStack)
         requires { length (stacked rows.now 0) ≤ self.old.room }
         ensures rows { (j : ℕ) → j < 16 → stacked self.new j ≡ stacked rows.now j }

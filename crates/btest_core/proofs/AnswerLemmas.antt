@@ -1,4 +1,4 @@
--- Answers that are found step by step.
+-- Lemmas about the answer of two steps, of which the second takes the value of the first.
 use Rattle.std.proofs.Common.{inl, inr, Result, Ok, Err, refl}
 use Rattle.std.specs.Prelude.{IfSome}
 use Rattle.std.proofs.lemmas.Option.{IfSome_then}
@@ -10,10 +10,11 @@ pub gives_more : {U V : Type 0} (view : U → V) (P Q : Result V InputFault → 
 gives_more view P Q (Ok value) more is = more (Ok (view value)) is
 gives_more view P Q (Err fault) more is = IfSome_then (input_told fault) is (λ f. more (Err f))
 
--- if the first step gives a value, an answer of the next step for this value is an answer of the two steps together
+-- if the first step returns a value, an answer of the next step for this value is an answer of both
+-- steps together
 pub goes_on : {W U V : Type 0} (view : U → V) (first : Result W InputFault → Type 0) (next : W → Result V InputFault → Type 0) (value : W) (answer : Result U InputFault) → first (Ok value) → Gives input_told view (next value) answer → Gives input_told view (Follows first next) answer
 goes_on view first next value answer found is = gives_more view (next value) (Follows first next) answer (λ a n. inl (value, found, n)) is
 
--- if the first step gives a fault, this fault is the answer of the two steps together
+-- if the first step returns a fault, this fault is the answer of both steps together
 pub stops : {W V : Type 0} (first : Result W InputFault → Type 0) (next : W → Result V InputFault → Type 0) (fault : InputFault) → IfSome (input_told fault) (λ f. first (Err f)) → IfSome (input_told fault) (λ f. Follows first next (Err f))
 stops first next fault is = IfSome_then (input_told fault) is (λ f found. inr (f, found, refl))

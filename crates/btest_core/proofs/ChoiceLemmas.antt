@@ -1,4 +1,4 @@
--- The choices that a loop has yet to handle, and the devices of the choices so far.
+-- Lemmas about a loop that finds the device of each choice.
 use Rattle.std.proofs.Common.{inl, inr, ◌⊎◌, ◌≡◌, ℕ, ◌+◌, ◌<◌, ◌≤◌, List, [], ◌∷◌, ◌++◌, map, drop, length, zip, slice_index_or, slice_get, option_map, unwrap_or, zero, suc, Some, None, Ok, Err, ap, sym, refl, ◌∙◌, subst, append_assoc, arith, Option, option_copied}
 use Rattle.std.specs.List.{AllByRecursion, filter_map}
 use Rattle.std.proofs.lemmas.Slice.Zip.{length-zip}
@@ -18,7 +18,8 @@ use Rattle.btest_core.specs.declared.fault.InputFault.{InputFault}
 use Rattle.btest_core.specs.inner.Choices.{Lent, choices_of, AreOfChoices}
 use Rattle.btest_core.proofs.EachLemmas.{Completes, completes_all, completes_more, completes_fault, completes_end}
 
--- `front` has the devices of the first n choices, and the devices of the other choices complete the answer
+-- `front` has the devices of the first `n` choices; if the devices of the other choices are
+-- appended, it is the answer for all choices
 pub record Chooses (entities : List Entity) (choices : List Chosen) (n : ℕ) (front : List RawDevice) : Type 0 where
   pub completes : Completes (IsDeviceOf entities) choices (drop n choices) front
   pub devices : AreOfChoices entities choices front
@@ -29,7 +30,8 @@ chooses_none entities choices = record {
   devices = λ i choice device chosen there. absurd (none-some device there);
 }
 
--- if each device so far belongs to its choice, this is still so after the device of the next choice is added
+-- if each device of `front` belongs to the choice at its place, and `device` belongs to the next
+-- choice, the same is true of `front` with `device` appended
 of_more : (entities : List Entity) (choices : List Chosen) (front : List RawDevice) (device : RawDevice) → AreOfChoices entities choices front → ((choice : Chosen) → slice_get choices (length front) ≡ Some choice → IsDeviceOf entities choice (Ok device)) → AreOfChoices entities choices (front ++ device ∷ [])
 of_more entities [] front device are is i choice found chosen there = absurd (none-some choice chosen)
 of_more entities (first ∷ choices) [] device are is zero choice found chosen there = subst (λ d. IsDeviceOf entities choice (Ok d)) (ap (λ (o : Option RawDevice). unwrap_or o device) there) (is choice chosen)
@@ -37,11 +39,11 @@ of_more entities (first ∷ choices) [] device are is (suc i) choice found chose
 of_more entities (first ∷ choices) (d ∷ front) device are is zero choice found chosen there = are 0 choice found chosen there
 of_more entities (first ∷ choices) (d ∷ front) device are is (suc i) choice found chosen there = of_more entities choices front device (λ k. are (suc k)) is i choice found chosen there
 
--- the choices from place n on are the choice at place n and the choices after it
+-- the choices from place `n` on are the choice at place `n` followed by the choices after it
 left_at : (choices : List Chosen) (n : ℕ) → n < length choices → drop n choices ≡ slice_index_or choices n (0, None) ∷ drop (n + 1) choices
 left_at choices n within = let next : n + 1 ≡ suc n = omega arith in rw next (drop-cons choices n (0, None) within)
 
--- the choice at place `n` is the borrowed choice at this place, with its package as a list
+-- the choice at place `n` is the borrowed choice at this place without the borrow
 pub choice_at : (chosen : List Lent) (n : ℕ) (d : Lent) (choice : Chosen) → n < length chosen → slice_get (choices_of chosen) n ≡ Some choice → ((slice_index_or chosen n d).0, option_copied (slice_index_or chosen n d).1) ≡ choice
 choice_at chosen n d choice within there =
     let view : Lent → Chosen = λ lent. (lent.0, option_copied lent.1) in
@@ -62,26 +64,28 @@ chooses_fault entities choices n front fault within so_far is = completes_fault 
 pub chooses_all : (entities : List Entity) (choices : List Chosen) (n : ℕ) (front : List RawDevice) → length choices ≤ n → Chooses entities choices n front → EachOf (IsDeviceOf entities) choices (Ok front)
 chooses_all entities choices n front past so_far = completes_end (IsDeviceOf entities) choices front (subst (λ rest. Completes (IsDeviceOf entities) choices rest front) (drop_all n choices past) so_far.completes)
 
--- if one of two lists is empty, there are no pairs
+-- if one of two lists is empty, they give no pairs
 pub no_pairs : {A B : Type 0} (xs : List A) (ys : List B) → (length xs ≡ 0) ⊎ (length ys ≡ 0) → ◌≡◌ {A = List (A × B)} (zip xs ys) []
 no_pairs [] ys ended = refl
 no_pairs (x ∷ xs) [] ended = refl
 no_pairs (x ∷ xs) (y ∷ ys) (inl none) = absurd (omega (arith, none))
 no_pairs (x ∷ xs) (y ∷ ys) (inr none) = absurd (omega (arith, none))
 
--- mapping the second items of the pairs gives the pairs with the mapped second list
+-- applying `f` to the second item of each pair gives the same pairs as applying it to the second
+-- list
 pub zip_seconds : {A B C : Type 0} (f : B → C) (xs : List A) (ys : List B) → map (λ pair. (pair.0, f pair.1)) (zip xs ys) ≡ zip xs (map f ys)
 zip_seconds f [] ys = refl
 zip_seconds f (x ∷ xs) [] = refl
 zip_seconds f (x ∷ xs) (y ∷ ys) = ap (λ pairs. (x, f y) ∷ pairs) (zip_seconds f xs ys)
 
--- if the numbers are below n, the numbers of the pairs are below n
+-- if all numbers of the first list are below `n`, so is the number in each pair
 pub zip_firsts : {B : Type 0} (n : ℕ) (xs : List ℕ) (ys : List B) → AllByRecursion (λ x. x < n) xs → AllByRecursion (λ pair. pair.0 < n) (zip xs ys)
 zip_firsts n [] ys all = tt
 zip_firsts n (x ∷ xs) [] all = tt
 zip_firsts n (x ∷ xs) (y ∷ ys) all = (all.0, zip_firsts n xs ys all.1)
 
--- if later lines have as many packages as names of entities, so have one more line and the later lines together
+-- if the later lines give as many packages as they name entities, the same is true of this line and
+-- the later lines together
 count_more : (n : ℕ) (statement : ChainStatement) (lines : List ChainLine) → length (filter_map (λ line. package_in line.statement) lines) ≡ length (named EntityName lines) → length (filter_map (λ line. package_in line.statement) (record { line = n; statement = statement } ∷ lines)) ≡ length (named EntityName (record { line = n; statement = statement } ∷ lines))
 count_more n (DeviceLine part entity given) lines same = omega (arith, same)
 count_more n (Bypass part bits) lines same = same

@@ -1,14 +1,14 @@
--- The values of items that are found one after another.
+-- Lemmas about a loop that finds the value of each item of a list.
 use Rattle.std.proofs.Common.{◌≡◌, List, [], ◌∷◌, ◌++◌, Result, Ok, Err, ap, sym, refl, subst, inl, inr, append_assoc, append-nil}
 use Rattle.btest_core.specs.declared.fault.InputFault.{InputFault}
 use Rattle.btest_core.specs.Answers.{EachOf}
 
--- puts the values of `front` before the values of the answer
+-- the answer with the values of `front` in front of its own values, or the answer's fault
 abbrev pub behind : {B : Type 0} → List B → Result (List B) InputFault → Result (List B) InputFault
 behind front (Ok values) = Ok (front ++ values)
 behind front (Err fault) = Err fault
 
--- the values of `front` followed by an answer for the remaining items are an answer for all items
+-- each answer for the items `rest`, with the values of `front` in front, is an answer for all items
 abbrev pub Completes : {A B : Type 0} → (A → Result B InputFault → Type 0) → List A → List A → List B → Type 0
 Completes {A} {B} IsOf all rest front = (answer : Result (List B) InputFault) → EachOf IsOf rest answer → EachOf IsOf all (behind front answer)
 

@@ -1,4 +1,4 @@
--- The patterns of a chain in which every part is described.
+-- The patterns of a chain in which each part is described.
 use Rattle.std.proofs.Common.{◌≡◌, ◌<◌, ◌≤◌, ℕ, List, [], ◌∷◌, map, length, None, refl, arith}
 use Rattle.std.specs.Prelude.{All, IfSome}
 use Rattle.std.specs.List.{AllByRecursion}
@@ -34,7 +34,7 @@ described (line ∷ lines) none = described_more line.line line.statement lines 
 abbrev pub idents_of : List RawDevice → List Ident
 idents_of devices = map (λ device. device.idcode) devices
 
--- if a chain has no BYPASS line, it has 1 to 255 patterns
+-- if the lines of a selected chain have no BYPASS line, there are 1 to 255 patterns
 pub count_idents : (lines : List ChainLine) (devices : List RawDevice) → IsChain lines → length devices ≡ length (named EntityName lines) → first_bypass lines ≡ None → (0 < length (idents_of devices)) × (length (idents_of devices) ≤ most_parts)
 count_idents lines devices chain number none =
     let same : length (idents_of devices) ≡ length devices = length-map devices (λ (device : RawDevice). device.idcode) in
@@ -48,6 +48,6 @@ each_whole : (devices : List RawDevice) → AllByRecursion IsDevice devices → 
 each_whole [] all = tt
 each_whole (device ∷ devices) all = (all.0.codes.idcode_length, each_whole devices all.1)
 
--- each pattern of devices that keep the rules has 32 symbols
+-- if devices keep the rules of a device, each of their patterns has 32 symbols
 pub whole_idents : (devices : List RawDevice) → AllByRecursion IsDevice devices → All IsWhole (idents_of devices)
 whole_idents devices all = All-from_recursion IsWhole (idents_of devices) (each_whole devices all)

@@ -1,4 +1,4 @@
--- The properties of a chain file that joining keeps.
+-- The properties of a chain file that the joined chain file also has.
 use Rattle.std.proofs.Common.{◌≡◌, ℕ, List, [], ◌∷◌, map, Option, Some, None, Ok, refl, ap, subst}
 use Rattle.board_defs.specs.declared.spot.Spot.{Spot}
 use Rattle.board_files.specs.declared.chain_file.ChainLine.{ChainLine}
@@ -14,7 +14,7 @@ use Rattle.series_parts.specs.Nets.{Word}
 use Rattle.series_parts.proofs.FileLemmas.{same_lengths}
 use Rattle.series_parts.specs.Joining.{joined_line, joined_net, renaming, joined_chain, joined_nets, joined_files, unless}
 
--- the lines with new names of nets; each line keeps its part, its entity and its length
+-- the lines with the new names of nets
 abbrev renamed : (Word → Word) → List ChainLine → List ChainLine
 renamed rename lines = map (joined_line rename) lines
 

@@ -1,4 +1,4 @@
--- A selected chain has 1 to 255 instruction lengths of 2 to 255 bits.
+-- A selected chain has 1 to 255 instruction lengths, each of 2 to 255 bits.
 use Rattle.std.proofs.Common.{◌≡◌, ℕ, ◌≤◌, List, [], ◌∷◌, length, map, ap, arith}
 use Rattle.std.specs.List.{All, AllByRecursion}
 use Rattle.std.proofs.lemmas.List.{length-map}
@@ -26,7 +26,8 @@ each_length : (parts : List Part) → AllByRecursion (λ part. IsPart part.kind)
 each_length [] all = tt
 each_length (part ∷ parts) all = (in_bounds part.kind all.0, each_length parts all.1)
 
--- if parts have the names of a selected chain's lines, the instruction lengths of the parts are in bounds
+-- if the parts have the names on the lines of a selected chain and keep the rules of a part, there
+-- are 1 to 255 instruction lengths, each of 2 to 255 bits
 pub lengths_in_bounds : (lines : List ChainLine) (parts : List Part) → IsChain lines → map (λ part. part.name) parts ≡ names_of (named PartName lines) → All (λ part. IsPart part.kind) parts → AreLengths (map (λ part. instruction_length part.kind) parts)
 lengths_in_bounds lines parts chain names kinds =
     let lengths : length (map (λ (part : Part). instruction_length part.kind) parts) ≡ length parts = length-map parts (λ (part : Part). instruction_length part.kind) in

@@ -46,13 +46,16 @@ each_one : {A B : Type 0} (IsOf : A → Result B InputFault → Type 0) → ((it
 each_one IsOf ones [] = is_one (Ok [])
 each_one IsOf ones (item ∷ items) = follows_one (IsOf item) _ (ones item) (λ value. follows_one (EachOf IsOf items) _ (each_one IsOf ones items) (λ values. is_one (Ok (value ∷ values))))
 
--- the laws of lower crates that these proofs take as arguments: the tokens, the entity and the device of a text are unique
+-- The laws of lower crates that these proofs take as arguments: a text has at most one list of
+-- tokens and one lexer answer.
 abbrev pub OneLexed : Type 0
 OneLexed = (text : List ℕ) (tokens others : List Token) (answer other : Result (Unit {0}) LexFault) → lexer.IsAnswer text tokens answer → lexer.IsAnswer text others other → (tokens ≡ others) × (answer ≡ other)
 
+-- the tokens of a text have at most one parser answer
 abbrev pub OneParsed : Type 0
 OneParsed = (text : List ℕ) (tokens : List Lexeme) (answer other : Result Entity ParseFault) → parser.IsAnswer text tokens answer → parser.IsAnswer text tokens other → answer ≡ other
 
+-- an entity has at most one answer for each package
 abbrev pub OneChecked : Type 0
 OneChecked = (entity : Entity) (given : Option (List ℕ)) (answer other : Result RawDevice DeviceFault) → check.IsAnswer entity given answer → check.IsAnswer entity given other → answer ≡ other
 

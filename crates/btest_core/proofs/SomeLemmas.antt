@@ -45,7 +45,7 @@ some_each IsOf [] some = some_is (Ok [])
 some_each IsOf (item ∷ items) some =
     some_follows (IsOf item) _ some.0 (λ value is. some_follows (EachOf IsOf items) _ (some_each IsOf items some.1) (λ values are. some_is (Ok (value ∷ values))))
 
--- if P holds of everything, P holds of each item of a list
+-- if P holds of every value of a type, it holds of each item of a list
 each_is : {A : Type 0} (P : A → Type 0) → ((item : A) → P item) → (items : List A) → AllByRecursion P items
 each_is P is [] = tt
 each_is P is (item ∷ items) = (is item, each_is P is items)
@@ -54,17 +54,20 @@ each_more : {A : Type 0} (P Q : A → Type 0) → ((item : A) → P item → Q i
 each_more P Q more [] all = tt
 each_more P Q more (item ∷ items) all = (more item all.0, each_more P Q more items all.1)
 
--- the laws of lower crates that these proofs take as arguments: each text has an answer for its tokens, its entity and its device
+-- The laws of lower crates that these proofs take as arguments: each text has tokens and a lexer
+-- answer.
 abbrev pub SomeLexed : Type 0
 SomeLexed = (text : List ℕ) → (tokens : List Token) × (answer : Result (Unit {0}) LexFault) × lexer.IsAnswer text tokens answer
 
+-- the tokens of each text have a parser answer
 abbrev pub SomeParsed : Type 0
 SomeParsed = (text : List ℕ) (tokens : List Lexeme) → (answer : Result Entity ParseFault) × parser.IsAnswer text tokens answer
 
+-- each entity has an answer for each package
 abbrev pub SomeChecked : Type 0
 SomeChecked = (entity : Entity) (given : Option (List ℕ)) → (answer : Result RawDevice DeviceFault) × check.IsAnswer entity given answer
 
--- the law about selections, which these proofs take as an argument
+-- each number that the selection returns is the number of an entity
 abbrev pub SelectsWithin : Type 0
 SelectsWithin = (lines : List ChainLine) (entities : List Entity) (numbers : List ℕ) → selection lines entities ≡ Ok numbers → All (λ number. number < length entities) numbers
 

@@ -1,4 +1,4 @@
--- The texts that a loop has yet to read, and the entities of the texts so far.
+-- Lemmas about a loop that finds the entity of each text.
 use Rattle.std.proofs.Common.{◌≡◌, ℕ, ◌+◌, ◌<◌, ◌≤◌, List, [], ◌∷◌, map, drop, length, slice_index_or, ap, sym, ◌∙◌, subst, Vec, Global}
 use Rattle.std.specs.List.{enumerate_from}
 use Rattle.std.proofs.lemmas.List.{drop_all, at_drop_more}
@@ -9,11 +9,12 @@ use Rattle.btest_core.proofs.EachLemmas.{Completes}
 abbrev pub bytes_of : List (Vec ℕ Global) → List (List ℕ)
 bytes_of texts = map (λ text. text.items) texts
 
--- the texts from number n on, with their numbers
+-- the texts, each with its number; the numbers begin with `n`
 abbrev pub numbered : ℕ → List (Vec ℕ Global) → List (ℕ × List ℕ)
 numbered n texts = enumerate_from n (bytes_of texts)
 
--- the entities of `front` followed by an answer for the remaining texts are an answer for all texts
+-- each answer for the texts `rest`, with the entities of `front` in front, is an answer for all
+-- texts
 abbrev pub CompletesTexts : List (Vec ℕ Global) → List (ℕ × List ℕ) → List Entity → Type 0
 CompletesTexts texts rest front = Completes IsEntityOfText (numbered 0 texts) rest front
 

@@ -1,9 +1,10 @@
--- Answers that are found step by step. The first fault is the answer.
+-- The answer of several steps: the value of the last step, or the first fault.
 use Rattle.std.specs.Prelude.{◌≡◌, ◌⊎◌, List, [], ◌∷◌, Option, Some, None, Result, Ok, Err}
 use Rattle.btest_core.specs.declared.fault.InputFault.{InputFault}
 use Rattle.btest_core.specs.declared.fault.InputFault.TheVariants.{Memory}
 
--- the answer of two steps is the next step's answer for the value of the first step, or the first step's fault
+-- the answer of two steps: the answer of the next step for the first step's value, or the first
+-- step's fault
 abbrev pub Follows : {A B : Type 0} → (Result A InputFault → Type 0) → (A → Result B InputFault → Type 0) → Result B InputFault → Type 0
 Follows {A} first next answer =
     ((value : A) × first (Ok value) × next value answer) ⊎ ((fault : InputFault) × first (Err fault) × (answer ≡ Err fault))
@@ -12,12 +13,13 @@ Follows {A} first next answer =
 abbrev pub Is : {A : Type 0} → Result A InputFault → Result A InputFault → Type 0
 Is this answer = answer ≡ this
 
--- the answer for a list of items is the values of the items in order, or the fault of the first item that has one
+-- the answer for a list of items: the values of the items in order, or the fault of the first item
+-- that has a fault
 abbrev pub EachOf : {A B : Type 0} → (A → Result B InputFault → Type 0) → List A → Result (List B) InputFault → Type 0
 EachOf IsOf [] answer = Is (Ok []) answer
 EachOf IsOf (item ∷ items) answer = Follows (IsOf item) (λ value. Follows (EachOf IsOf items) (λ values. Is (Ok (value ∷ values)))) answer
 
--- the fault, or None for a refusal of memory, since no definition speaks of memory
+-- the fault, or None if memory ran out, since no definition speaks of memory
 abbrev pub input_told : InputFault → Option InputFault
 input_told (Memory error) = None
 input_told fault = Some fault

@@ -18,15 +18,17 @@ use Rattle.btest_core.specs.Answers.{Follows, Is}
 use Rattle.btest_core.specs.InputFaults.{in_file, in_link, in_board}
 use Rattle.btest_core.specs.DevicesRead.{AreDevices}
 
--- the answer is the instruction lengths of the parts in these lines of a chain file, in chain order, or the first fault
+-- the answer is the instruction lengths of the parts on these lines, in chain order, or the first
+-- fault
 abbrev pub AreFileLengths : List ChainLine → List (List ℕ) → Result (List ℕ) InputFault → Type 0
 AreFileLengths lines texts = Follows (AreDevices lines texts) (λ devices. Is (Ok (map (λ part. instruction_length part.kind) (chain_parts lines devices))))
 
--- the answer is the instruction lengths of the chain file in a text, or the first fault
+-- the answer is the instruction lengths of the parts in the chain file that the text contains, or
+-- the first fault
 abbrev pub AreChainLengths : List ℕ → List (List ℕ) → Result (List ℕ) InputFault → Type 0
 AreChainLengths chain texts = Follows (Is (in_file Chain (chain_lines chain))) (λ lines. AreFileLengths lines texts)
 
--- the answer is the board of these lines and devices, made from the joined files, or the first fault
+-- the answer is the board of the joined files and the devices, or the first fault
 abbrev pub IsJoinedBoard : List ChainLine → List NetLine → List RawDevice → Result RawBoard InputFault → Type 0
 IsJoinedBoard lines nets devices = Follows (Is (in_link (joined_files lines nets))) (λ joined. Is (in_board (board_of joined.chain joined.nets devices)))
 

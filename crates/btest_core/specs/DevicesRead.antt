@@ -14,7 +14,8 @@ use Rattle.btest_core.specs.Answers.{Follows, Is, EachOf}
 use Rattle.btest_core.specs.InputFaults.{in_board}
 use Rattle.btest_core.specs.TextsRead.{IsEntityOf, AreEntities}
 
--- the package that a DEVICE line gives, or `Some None` if the line gives no package; `None` for any other line
+-- the package on a DEVICE line, or `Some None` if the line has no package; `None` for any other
+-- line
 abbrev pub package_in : ChainStatement → Option (Option (List ℕ))
 package_in (DeviceLine part entity given) = Some given
 package_in (Bypass part bits) = None
@@ -23,16 +24,17 @@ package_in (Supply net) = None
 package_in (Pull net value) = None
 package_in (LinkLine part first second) = None
 
--- the number of a device's text, and the package if the line gives one
+-- a choice: the number of a text, and the package if the DEVICE line has one
 abbrev pub Chosen : Type 0
 Chosen = ℕ × Option (List ℕ)
 
--- the choices of the DEVICE lines, in order; `numbers` has the number of each line's text
+-- the choices of the DEVICE lines, in order; `numbers` has the number of the text for each of these
+-- lines
 abbrev pub chosen : List ChainLine → List ℕ → List Chosen
 chosen lines numbers = zip numbers (filter_map (λ line. package_in line.statement) lines)
 
--- The answer is the device of an entity in a package if this device keeps every rule. Otherwise it is the first rule or
--- string that fails, with the number of the text.
+-- The answer is the device of the entity in the chosen package if it breaks no rule. Otherwise the
+-- answer is the first rule or string that fails, with the number of the text.
 abbrev pub IsDeviceIn : Entity → Chosen → Result RawDevice InputFault → Type 0
 IsDeviceIn entity choice (Ok device) = IsSound entity choice.1 device
 IsDeviceIn entity choice (Err (Device text fault)) = (text ≡ choice.0) × IsFirst entity choice.1 fault
@@ -45,16 +47,16 @@ IsDeviceIn entity choice (Err (Link fault)) = ⊥
 IsDeviceIn entity choice (Err (NoIdent line)) = ⊥
 IsDeviceIn entity choice (Err (Memory error)) = ⊥
 
--- like `IsDeviceIn`, but for the entity whose number the choice gives
+-- like `IsDeviceIn`, but for the entity whose number is in the choice
 abbrev pub IsDeviceOf : List Entity → Chosen → Result RawDevice InputFault → Type 0
 IsDeviceOf entities choice answer = (entity : Entity) × (slice_get entities choice.0 ≡ Some entity) × IsDeviceIn entity choice answer
 
--- the answer is the devices of the DEVICE lines, in order, or the first fault. A fault of the selection among the entities
--- comes before the faults of the devices.
+-- the answer is the devices of the DEVICE lines, in order, or the first fault; a fault of the
+-- selection comes before the faults of the devices
 abbrev pub AreSelected : List ChainLine → List Entity → Result (List RawDevice) InputFault → Type 0
 AreSelected lines entities = Follows (Is (in_board (selection lines entities))) (λ numbers. EachOf (IsDeviceOf entities) (chosen lines numbers))
 
--- like `AreSelected`, but for the entities that the texts describe
+-- like `AreSelected`, but for the entities that these texts describe
 abbrev pub AreDevices : List ChainLine → List (List ℕ) → Result (List RawDevice) InputFault → Type 0
 AreDevices lines texts = Follows (AreEntities texts) (AreSelected lines)
 

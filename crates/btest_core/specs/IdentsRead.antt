@@ -1,4 +1,4 @@
--- The identification codes of a chain that texts denote.
+-- The patterns of the identification codes of a chain that texts denote.
 use Rattle.std.specs.Prelude.{ℕ, Bool, true, false, List, map, find, Option, Some, None, option_map, Result, Ok, Err}
 use Rattle.board_defs.specs.declared.device.Symbol.{Symbol}
 use Rattle.board_defs.specs.declared.device.RawDevice.{RawDevice}
@@ -12,11 +12,11 @@ use Rattle.btest_core.specs.Answers.{Follows, Is}
 use Rattle.btest_core.specs.InputFaults.{in_file}
 use Rattle.btest_core.specs.DevicesRead.{AreDevices}
 
--- the pattern of a device's identification code, if the device has one
+-- the pattern of a device's identification code, or None if the device has no such code
 abbrev pub Ident : Type 0
 Ident = Option (List Symbol)
 
--- the line is a BYPASS line, whose part has no description
+-- the line is a BYPASS line; the part on such a line has no description
 abbrev pub is_bypass : ChainStatement → Bool
 is_bypass (Bypass part bits) = true
 is_bypass (DeviceLine part entity given) = false
@@ -25,20 +25,21 @@ is_bypass (Supply net) = false
 is_bypass (Pull net value) = false
 is_bypass (LinkLine part first second) = false
 
--- the line number of the first part without a description
+-- the number of the first BYPASS line
 abbrev pub first_bypass : List ChainLine → Option ℕ
 first_bypass lines = option_map (λ line. line.line) (find (λ line. is_bypass line.statement) lines)
 
--- the patterns of these devices, or the fault of the first part without a description
+-- the patterns of these devices, or the fault of the first part without a description if there is
+-- such a part
 abbrev pub idents_unless : Option ℕ → List RawDevice → Result (List Ident) InputFault
 idents_unless None devices = Ok (map (λ device. device.idcode) devices)
 idents_unless (Some line) devices = Err (NoIdent line)
 
--- the answer is the patterns of the chain file's parts, in chain order, or the first fault; the fault of a part without a
--- description comes last
+-- the answer is the patterns of the devices on these lines, in chain order, or the first fault; the
+-- fault of a part without a description comes last
 abbrev pub AreFileIdents : List ChainLine → List (List ℕ) → Result (List Ident) InputFault → Type 0
 AreFileIdents lines texts = Follows (AreDevices lines texts) (λ devices. Is (idents_unless (first_bypass lines) devices))
 
--- like `AreFileIdents`, but for the chain file in a text
+-- like `AreFileIdents`, but for the lines of the chain file that the text contains
 abbrev pub AreIdents : List ℕ → List (List ℕ) → Result (List Ident) InputFault → Type 0
 AreIdents chain texts = Follows (Is (in_file Chain (chain_lines chain))) (λ lines. AreFileIdents lines texts)

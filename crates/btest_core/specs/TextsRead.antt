@@ -14,18 +14,18 @@ use Rattle.btest_core.specs.declared.fault.InputFault.{InputFault}
 use Rattle.btest_core.specs.declared.fault.InputFault.TheVariants.{Chain, Nets, Lex, Parse, Board, Device, Link, NoIdent, Memory}
 use Rattle.btest_core.specs.Answers.{EachOf}
 
--- the text's tokens derive the entity
+-- the text consists of tokens that derive the entity
 pub record IsEntity (text : List ℕ) (entity : Entity) : Type 0 where
   pub tokens : List Token
   pub are : AreTokens text tokens
   pub derives : Derives (lexemes text tokens) entity
 
--- `fault` is the fault of the text's first bad place, which comes after some tokens
+-- the text has a first bad place, and `fault` is the fault of this place
 pub record IsLexFault (text : List ℕ) (fault : LexFault) : Type 0 where
   pub tokens : List Token
   pub stops : lexer.IsFault text tokens fault
 
--- the text's tokens derive no entity, and `fault` says why
+-- the text consists of tokens that derive no entity, and `fault` says why
 pub record IsParseFault (text : List ℕ) (fault : ParseFault) : Type 0 where
   pub tokens : List Token
   pub are : AreTokens text tokens
@@ -43,7 +43,7 @@ IsTextFault text n (Link fault) = ⊥
 IsTextFault text n (NoIdent line) = ⊥
 IsTextFault text n (Memory error) = ⊥
 
--- the answer of BSDL text `n` is its entity, or its first fault
+-- the answer for BSDL text `n` is its entity, or its first fault
 abbrev pub IsEntityOf : List ℕ → ℕ → Result Entity InputFault → Type 0
 IsEntityOf text n (Ok entity) = IsEntity text entity
 IsEntityOf text n (Err fault) = IsTextFault text n fault
@@ -51,6 +51,7 @@ IsEntityOf text n (Err fault) = IsTextFault text n fault
 abbrev pub IsEntityOfText : ℕ × List ℕ → Result Entity InputFault → Type 0
 IsEntityOfText numbered = IsEntityOf numbered.1 numbered.0
 
--- the answer of texts is their entities, or the first fault of the first text that has a fault
+-- the answer for the texts is their entities in order, or the first fault of the first text that
+-- has a fault
 abbrev pub AreEntities : List (List ℕ) → Result (List Entity) InputFault → Type 0
 AreEntities texts = EachOf IsEntityOfText (enumerate_from 0 texts)

@@ -49,7 +49,8 @@ fn has_link(chain: &ChainFile) -> bool
     chain.lines().iter().any(|line| is_link(&line.statement))
 }
 
-// Returns the joined files. Frees the net file before a board is built, since the file and the board each hold a copy of all names.
+// Returns the joined files. Frees the net file before a board is built, since the net file and the
+// board each hold a copy of all names.
 fn joined_files(alloc: Global, chain: &ChainFile, nets: NetFile) -> Result<Joined, InputFault>
     ensures joined { Gives input_told (λ joined. joined) (Is (in_link (joined_files chain.now nets))) result }
     ensures kept { IfOk result (Kept chain.now nets) }
@@ -79,7 +80,8 @@ fn board_of(
     }
 }
 
-// Returns the board of devices and of files without LINK lines. Such files need no joining, so they aren't copied.
+// Returns the board of the devices and of files without LINK lines. Such files need no joining, so
+// they are not copied.
 fn unlinked_board(
     alloc: Global,
     chain: &ChainFile,
@@ -95,7 +97,7 @@ fn unlinked_board(
     board_of(alloc, chain, nets, devices)
 }
 
-// Returns the board of files and devices. Joins the files first.
+// Returns the board of the files and the devices. Joins the files first.
 fn joined_board(
     alloc: Global,
     chain: &ChainFile,
@@ -115,7 +117,7 @@ fn joined_board(
     }
 }
 
-// Returns the board of files and BSDL texts.
+// Returns the board of the files and the BSDL texts.
 fn files_board(
     alloc: Global,
     chain: &ChainFile,
@@ -132,9 +134,10 @@ fn files_board(
     }
 }
 
-/// Returns the board that a chain file, a net file and BSDL texts denote, or the first fault. The call looks for faults
-/// in this order: the chain file, the net file, the BSDL texts, the board rules on the chain, the devices of its DEVICE
-/// lines, the pins of its LINK lines, and the other board rules, which are tried on the joined files.
+/// Returns the board that a chain file, a net file and BSDL texts denote, or the first fault. Looks
+/// for faults in this order: the chain file, the net file, the BSDL texts, the board rules on the
+/// chain, the devices of its DEVICE lines, the pins of its LINK lines, and the other board rules,
+/// which are checked on the joined files.
 pub fn read_board(
     alloc: Global,
     chain: &[u8],

@@ -53,7 +53,8 @@ fn lengths_of(alloc: Global, file: &ChainFile, devices: Vec<Device>) -> Result<V
     Ok(lengths)
 }
 
-// Returns the instruction lengths of a chain file, or the first fault of the BSDL texts, the chain and its devices.
+// Returns the instruction lengths of the parts in a chain file, or the first fault of the BSDL
+// texts, the chain and its devices.
 fn file_lengths(alloc: Global, file: &ChainFile, bsdl: &[Vec<u8>]) -> Result<Vec<u32>, InputFault>
     requires each { All (λ text. length text.items < 2 ^ 32) bsdl.now }
     requires count { length bsdl.now < 2 ^ 32 }

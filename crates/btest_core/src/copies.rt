@@ -1,4 +1,5 @@
-// Copies of devices. For parts with the same entity and package, the entity is checked once, and then the device is copied.
+// Copies of devices. If several parts have the same entity and package, the entity is checked only
+// once, and its device is copied for the other parts.
 ghost use Rattle.std.specs.Prelude.{◌≡◌, IfOk};
 
 use board_defs::{Code, Device, Items, Name, PortBit, RawDevice};

@@ -22,8 +22,8 @@ use bsdl_parser::Entity;
 use device_check::{DeviceFault, device};
 use std::alloc::{AllocError, Global};
 
-/// Returns the device that a BSDL text describes in its default package, or the text's first fault. In the fault
-/// the text has the number 0.
+/// Returns the device that a BSDL text describes in its default package, or the text's first fault.
+/// The number of the text in the fault is 0.
 pub fn read_device(alloc: Global, bytes: &[u8]) -> Result<Device, InputFault>
     requires { length bytes.now < 2 ^ 32 }
     ensures { Gives input_told (λ device. device) (IsDeviceText bytes.now) result }
@@ -34,7 +34,7 @@ pub fn read_device(alloc: Global, bytes: &[u8]) -> Result<Device, InputFault>
     }
 }
 
-// Returns the device of an entity in a package, or the first rule or string that fails.
+// Returns the device of the entity in this package, or the first rule or string that fails.
 fn device_in(
     alloc: Global,
     entity: &Entity,
@@ -51,7 +51,8 @@ fn device_in(
     }
 }
 
-// Returns the device of the entity with number `text` in a package, or the first rule or string that fails.
+// Returns the device of entity number `text` in this package, or the first rule or string that
+// fails.
 fn device_of(
     alloc: Global,
     entities: &[Entity],
@@ -75,8 +76,8 @@ fn is_same_package(a: Option<&[u8]>, b: Option<&[u8]>) -> bool
     }
 }
 
-// Returns the first place before place `i` that has the same choice as place `i`, or None if no earlier place has that
-// choice.
+// Returns the first place before place `i` with the same choice as place `i`, or None if there is
+// no such place.
 fn earlier(chosen: &[(u32, Option<&[u8]>)], i: usize) -> Option<usize>
     requires { i < length chosen.now }
     ensures before { IfSome result (λ j. j < i) }
@@ -90,8 +91,8 @@ fn earlier(chosen: &[(u32, Option<&[u8]>)], i: usize) -> Option<usize>
     None
 }
 
-// Returns the device of the choice at place `i`. `devices` has the devices of the earlier choices. If an earlier choice is the same,
-// its device is copied.
+// Returns the device of the choice at place `i`. `devices` has the devices of the earlier choices.
+// If one of the earlier choices is the same, copies its device.
 fn next_device(
     alloc: Global,
     entities: &[Entity],
@@ -134,7 +135,8 @@ fn chosen_devices(
     Ok(devices)
 }
 
-// Returns the package that a DEVICE line gives, or `Some(None)` if the line gives no package. Returns `None` for any other line.
+// Returns the package on a DEVICE line, or `Some(None)` if the line has no package. Returns `None`
+// for any other line.
 fn package_in(statement: &ChainStatement) -> Option<Option<&[u8]>>
     ensures { option_map option_copied result ≡ package_in statement.now }
 {
@@ -157,7 +159,8 @@ fn packages<'a>(alloc: Global, lines: &'a [ChainLine]) -> Result<Vec<Option<&'a 
     Ok(list)
 }
 
-// Returns the choices of the DEVICE lines, in order: the number of a text, and the package if the line gives one.
+// Returns the choices of the DEVICE lines, in order. A choice is the number of a text, and the
+// package if the line has one.
 fn chosen<'a>(
     alloc: Global,
     lines: &'a [ChainLine],
@@ -185,7 +188,7 @@ fn zipped<'a>(
     Ok(list)
 }
 
-// Returns the numbers of the texts that the DEVICE lines select, in order.
+// Returns the number of the text that each DEVICE line selects, in order.
 fn numbers(alloc: Global, file: &ChainFile, entities: &[Entity]) -> Result<Vec<u32>, InputFault>
     requires { length entities.now < 2 ^ 32 }
     ensures numbers { Gives input_told (λ numbers. numbers.items) (Is (in_board (selection file.now entities.now))) result }
@@ -200,7 +203,8 @@ fn numbers(alloc: Global, file: &ChainFile, entities: &[Entity]) -> Result<Vec<u
     }
 }
 
-// Returns the devices of the DEVICE lines, in order. `numbers` has the number of each line's text.
+// Returns the devices of the DEVICE lines, in order. `numbers` has the number of the text for each
+// of these lines.
 fn devices_by(
     alloc: Global,
     lines: &[ChainLine],
@@ -234,8 +238,8 @@ fn selected_devices(
     }
 }
 
-/// Returns the devices of the DEVICE lines of a chain, in order, or the first fault, in this order: the texts,
-/// the board rules on the chain, and the devices.
+/// Returns the devices of the DEVICE lines of a chain, in order, or the first fault. Looks for
+/// faults in this order: the texts, the board rules on the chain, and the devices.
 pub(crate) fn devices(
     alloc: Global,
     file: &ChainFile,

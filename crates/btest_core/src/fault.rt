@@ -1,4 +1,4 @@
-// The reasons why texts denote nothing.
+// The reasons for which texts denote no device, no chain or no board.
 ghost use Rattle.std.specs.Prelude.{◌≡◌, alloc_error};
 ghost use Rattle.btest_core.specs.declared.fault.InputFault.TheVariants.{Memory};
 
@@ -11,7 +11,8 @@ use series_parts::LinkFault;
 use std::alloc::{AllocError, AllocFailed};
 use thiserror::Error;
 
-/// The first fault of the texts, or a refusal of memory. A refusal of memory of any kind is `Memory`.
+/// The first fault of the texts, or lack of memory. `Memory` stands for lack of memory in every
+/// crate.
 #[derive(Debug, Drop, Error)]
 pub enum InputFault {
     /// The chain file's first faulty line.
@@ -20,23 +21,24 @@ pub enum InputFault {
     /// The net file's first faulty line.
     #[error("{0}")]
     Nets(LineFault),
-    /// The first bad place of a BSDL text. Texts are numbered from 0 in the order in which they are given.
+    /// The first bad place of a BSDL text. The texts are numbered from 0 in the order in which the
+    /// caller gives them.
     #[error("{fault}")]
     Lex { text: u32, fault: LexFault },
-    /// The reason why the tokens of a BSDL text derive no entity.
+    /// The reason for which the tokens of a BSDL text derive no entity.
     #[error("{fault}")]
     Parse { text: u32, fault: ParseFault },
     /// The first board rule that fails.
     #[error("{0}")]
     Board(BoardFault),
-    /// The first rule or string of a device that fails, with the number of its text.
+    /// The first rule or string of a device that fails, with the number of the device's text.
     #[error("{fault}")]
     Device { text: u32, fault: DeviceFault },
     /// The first pin of a LINK line that is in no net.
     #[error("{0}")]
     Link(LinkFault),
-    /// The line of the chain file's first part without a description. What such a part selects after a
-    /// reset isn't known.
+    /// The number of the chain file's first BYPASS line. Its part has no description, so it is not
+    /// known which register the part selects after a reset.
     #[error("line {0}: part without a description")]
     NoIdent(u32),
     #[error("out of memory")]

@@ -1,4 +1,4 @@
-// The identification codes of a chain.
+// The patterns of the identification codes of a chain.
 ghost use Rattle.std.specs.Prelude.{◌≡◌, ◌<◌, ◌≤◌, ◌^◌, All, IfOk, IfSome, length, map};
 ghost use Rattle.board_defs.specs.Limits.{most_parts};
 ghost use Rattle.board_lines.specs.ChainParts.{IsChain};
@@ -26,7 +26,7 @@ fn ident_of(alloc: Global, device: &Device) -> Result<Option<Code>, AllocError>
     }
 }
 
-// Returns the patterns of these devices.
+// Returns the patterns of these devices, in order.
 fn idents_of(alloc: Global, devices: &[Device]) -> Result<Vec<Option<Code>>, AllocError>
     ensures idents { IfOk result (λ idents. idents.items ≡ map (λ device. device.idcode) devices.now) }
     ensures symbols { IfOk result (λ idents. All (λ ident. IfSome ident (λ code. length code ≡ 32)) idents.items) }
@@ -38,14 +38,14 @@ fn idents_of(alloc: Global, devices: &[Device]) -> Result<Vec<Option<Code>>, All
     Ok(idents)
 }
 
-// Returns whether the line is a BYPASS line, whose part has no description.
+// Returns whether the line is a BYPASS line. The part on such a line has no description.
 fn is_bypass(statement: &ChainStatement) -> bool
     ensures { result ≡ is_bypass statement.now }
 {
     matches!(statement, ChainStatement::Bypass { .. })
 }
 
-// Returns the line number of the first part without a description.
+// Returns the number of the first BYPASS line.
 fn first_bypass(lines: &[ChainLine]) -> Option<u32>
     ensures { result ≡ first_bypass lines.now }
 {
@@ -57,7 +57,8 @@ fn first_bypass(lines: &[ChainLine]) -> Option<u32>
     None
 }
 
-// Returns the patterns of the devices of a chain, or the fault of its first part without a description.
+// Returns the patterns of the devices, or the fault of the chain's first part without a
+// description.
 fn idents_unless_bypass(
     alloc: Global,
     file: &ChainFile,
@@ -75,7 +76,7 @@ fn idents_unless_bypass(
     }
 }
 
-// Returns the patterns of a chain file, or its first fault.
+// Returns the patterns of the devices in a chain file, or the first fault.
 fn file_idents(
     alloc: Global,
     file: &ChainFile,
@@ -93,11 +94,14 @@ fn file_idents(
     }
 }
 
-/// Returns the patterns of the identification codes of a chain's parts, in the order from TDI to TDO. There are 1 to 255
-/// entries. An entry has 32 symbols, or is `None` for a device without such a code. Otherwise returns the first fault, in
-/// this order: the chain file, the BSDL texts, the board rules on the chain, and the devices of its DEVICE lines. Without
-/// these faults, a BYPASS line is the fault `NoIdent`, with the number of the first such line, since it isn't known which
-/// register a part in BYPASS selects after a reset.
+/// Returns the patterns of the identification codes of a chain's parts, in the order from TDI to
+/// TDO. There are 1 to 255 items. An item is a pattern of 32 symbols, or `None` for a device
+/// without such a code.
+///
+/// Otherwise returns the first fault. Looks for faults in this order: the chain file, the BSDL
+/// texts, the board rules on the chain, and the devices of its DEVICE lines. If there is none of
+/// these faults, a BYPASS line is the fault `NoIdent`, with the number of the first such line,
+/// since it is not known which register a part in BYPASS selects after a reset.
 pub fn read_idents(
     alloc: Global,
     chain: &[u8],

@@ -1,4 +1,4 @@
-//! Laws of the definitions. Each is the contract of a function that does nothing.
+//! Laws of the definitions. Each law is the contract of a function that does nothing.
 ghost use Rattle.std.specs.Prelude.{◌≡◌, ◌<◌, ◌≤◌, ℕ, List, Result, Ok, All, IfSome, length};
 ghost use Rattle.board_defs.specs.Limits.{most_parts};
 ghost use Rattle.board_defs.specs.declared.board.RawBoard.{RawBoard};
@@ -16,7 +16,8 @@ use bsdl_lexer::law::texts_have_one_answer;
 use bsdl_parser::law::token_lists_have_one_answer;
 use device_check::law::{entities_have_one_answer, sound_devices_keep_rules};
 
-/// Texts have exactly one answer for a device, for a chain, for its identification codes, and for a board.
+/// Texts have exactly one answer for a device, for the instruction lengths of a chain, for its
+/// identification codes, and for a board.
 pub fn inputs_have_one_answer()
     ensures some_device { (text : List ℕ) → (answer : Result RawDevice InputFault) × IsDeviceText text answer }
     ensures some_chain { (chain : List ℕ) (texts : List (List ℕ)) → (answer : Result (List ℕ) InputFault) × AreChainLengths chain texts answer }
@@ -33,8 +34,9 @@ pub fn inputs_have_one_answer()
     selected_are_entities();
 }
 
-/// A device that a text denotes keeps the rules of a device, and a board that texts denote keeps the rules of a board. A chain
-/// has 1 to 255 entries for its identification codes, and each pattern has 32 symbols.
+/// A device that a text denotes keeps the rules of a device, and a board that texts denote keeps
+/// the rules of a board. The answer for the identification codes of a chain has 1 to 255 items, and
+/// each pattern among them has 32 symbols.
 pub fn inputs_keep_rules()
     ensures device { (text : List ℕ) (device : RawDevice) → IsDeviceText text (Ok device) → IsDevice device }
     ensures idents { (chain : List ℕ) (texts : List (List ℕ)) (idents : List Ident) → AreIdents chain texts (Ok idents)

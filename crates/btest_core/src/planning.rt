@@ -14,8 +14,8 @@ use scan_planner::Plan;
 use scan_planner::law::useful_planned;
 use std::alloc::{AllocError, Global};
 
-/// Returns the plan of the test that the board's passes make. The classes must be those of the board. A caller that
-/// has the pins of the board's nets calls `plan_by`.
+/// Returns the plan of the board's test. `classes` must be the classes of the board. A caller that
+/// has the pins of the board's nets calls `plan_by` instead.
 pub fn plan(alloc: Global, board: &Board, classes: &Classes) -> Result<Plan, AllocError>
     requires { AreClasses board.now classes.now }
     ensures plan { IfOk result (λ plan. IsPlanOf board.now plan) }

@@ -11,8 +11,8 @@ use bsdl_lexer::{LexFault, Token, lex};
 use bsdl_parser::{Entity, ParseFault, parse};
 use std::alloc::Global;
 
-/// Returns the entity that a BSDL text describes, or the text's first fault. `text` is the number of the text
-/// in this fault.
+/// Returns the entity that a BSDL text describes, or the text's first fault. `text` is the number
+/// of the text, which the fault has.
 pub fn read_entity(alloc: Global, bytes: &[u8], text: u32) -> Result<Entity, InputFault>
     requires { length bytes.now < 2 ^ 32 }
     ensures read { Gives input_told (λ entity. entity) (IsEntityOf bytes.now text) result }
@@ -27,7 +27,7 @@ pub fn read_entity(alloc: Global, bytes: &[u8], text: u32) -> Result<Entity, Inp
     }
 }
 
-// Returns the tokens of a BSDL text, or the text's first fault.
+// Returns the tokens of a BSDL text, or the fault of the text's first bad place.
 fn tokens_of(alloc: Global, bytes: &[u8], text: u32) -> Result<Vec<Token>, InputFault>
     requires { length bytes.now < 2 ^ 32 }
     ensures tokens { IfOk result (λ tokens. AreTokens bytes.now tokens.items) }

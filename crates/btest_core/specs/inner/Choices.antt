@@ -1,17 +1,17 @@
--- Choices whose package is borrowed, and devices that belong to the choices at the same places.
+-- Choices with borrowed packages, and lists of devices that belong to choices.
 use Rattle.std.specs.Prelude.{◌≡◌, ℕ, List, Option, Some, Ok, map, option_copied, slice_get}
 use Rattle.std.specs.Borrow.{Bor}
 use Rattle.board_defs.specs.declared.device.RawDevice.{RawDevice}
 use Rattle.bsdl_parser.specs.declared.entity.Entity.{Entity}
 use Rattle.btest_core.specs.DevicesRead.{Chosen, IsDeviceOf}
 
--- a choice with a borrowed package
+-- a choice whose package is borrowed
 abbrev pub Lent : Type 0
 Lent = ℕ × Option (Bor (List ℕ))
 
 abbrev pub choices_of : List Lent → List Chosen
 choices_of chosen = map (λ choice. (choice.0, option_copied choice.1)) chosen
 
--- each device belongs to the choice at the same place
+-- the device at each place belongs to the choice at the same place
 abbrev pub AreOfChoices : List Entity → List Chosen → List RawDevice → Type 0
 AreOfChoices entities choices devices = (i : ℕ) (choice : Chosen) (device : RawDevice) → slice_get choices i ≡ Some choice → slice_get devices i ≡ Some device → IsDeviceOf entities choice (Ok device)

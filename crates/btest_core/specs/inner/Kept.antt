@@ -1,4 +1,4 @@
--- The properties of a chain file that joining keeps.
+-- The properties of a chain file that the joined chain file also has.
 use Rattle.std.specs.Prelude.{◌≡◌, List}
 use Rattle.std.specs.List.{AllByRecursion}
 use Rattle.board_files.specs.declared.chain_file.ChainLine.{ChainLine}
@@ -9,7 +9,8 @@ use Rattle.board_lines.specs.Names.{named}
 use Rattle.board_lines.specs.declared.names.Naming.TheVariants.{Entity as EntityName}
 use Rattle.series_parts.specs.declared.joining.Joined.{Joined}
 
--- if the chain file has these properties, the joined chain file has them, too
+-- if the chain file has one of these properties, the joined chain file has it, too; and both name
+-- the same entities
 pub record Kept (chain : List ChainLine) (nets : List NetLine) (joined : Joined) : Type 0 where
   pub is_chain : IsChain chain → IsChain joined.chain
   pub lengths : AllByRecursion (λ line. HasLength line.statement) chain → AllByRecursion (λ line. HasLength line.statement) joined.chain

@@ -3,6 +3,6 @@ use Rattle.std.specs.List.{filter_map}
 use Rattle.btest_core.specs.DevicesRead.{package_in}
 use Rattle.btest_core.proofs.devices.packages.Given as goal
 
--- the packages so far, followed by those of the remaining lines, are all packages
+-- the packages so far, followed by the packages of the remaining lines, are all packages
 abbrev pub invariant-loop-line : goal.invariant-loop-line
 invariant-loop-line l = filter_map (λ line. package_in line.statement) l.lines ≡ map option_copied l.list.items ++ filter_map (λ line. package_in line.statement) (drop l.line-index l.lines)

@@ -1,6 +1,6 @@
 use Rattle.std.proofs.Common.{◌≡◌, ◌++◌, zip}
 use Rattle.btest_core.proofs.devices.zipped.Given as goal
 
--- the pairs so far, followed by those of the remaining items, are all pairs
+-- the pairs so far, followed by the pairs of the remaining items, are all pairs
 abbrev pub invariant-loop-number : goal.invariant-loop-number
 invariant-loop-number l = zip l.numbers l.packages ≡ l.list.items ++ zip l.number-iterator.a.rest.now l.number-iterator.b.rest.now
