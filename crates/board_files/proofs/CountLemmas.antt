@@ -1,4 +1,4 @@
--- Limits on the numbers of lines and words of a text.
+-- Limits on the number of lines of a text and on the number of words in a line.
 use Rattle.std.proofs.Common.{◌≡◌, ℕ, ◌+◌, ◌<◌, ◌≤◌, ◌^◌, Bool, true, false, cond, List, [], ◌∷◌, length, Result, Ok, Err, refl, sym, ap, ◌∙◌, subst, arith, min}
 use Rattle.std.specs.Prelude.{IfOk, filter, take_while, if◌then◌else◌, codes}
 use Rattle.std.specs.List.{AllByRecursion, slice_split, onto_first, prefix_len}
@@ -12,7 +12,7 @@ use Rattle.board_files.specs.Files.{HasFewPins, IsNetFile}
 use Rattle.board_files.specs.Reading.{◌>>=◌, line_then, lines_from}
 use Rattle.board_files.specs.NetLines.{pin_of, pins_of, net_of, net_line, net_lines}
 
--- the number of nonempty pieces, which is at most the number of bytes of the text
+-- the number of pieces that are not empty
 filled : List (List ℕ) → ℕ
 filled pieces = length (filter is_filled pieces)
 
@@ -46,7 +46,7 @@ few_words line =
     let taken = few_words_taken (filter is_filled (slice_split is_blank line)) in
     omega (arith, taken, few_filled is_blank line)
 
--- no piece is longer than the text
+-- no piece has more than `n` bytes
 AllWithin : ℕ → List (List ℕ) → Type 0
 AllWithin n pieces = AllByRecursion (λ piece. length piece ≤ n) pieces
 
@@ -74,7 +74,8 @@ unfolding AllWithin
 pieces_within p [] = (omega arith, tt)
 pieces_within p (x ∷ xs) = wider (1 + length xs) (length (x ∷ xs)) (slice_split p (x ∷ xs)) (omega arith) (within_by p x xs (p x) (pieces_within p xs))
 
--- a net line has at least two words more than pins
+-- if the later words give as many pins as there are words, the same is true of this word and the
+-- later words
 more_pins : (n : ℕ) (word : Word) (words : List Word) (pin : Result PinWord LineFault) (rest : Result (List PinWord) LineFault) (pins : List PinWord) → (pin >>= (λ p. rest >>= (λ ps. Ok (p ∷ ps)))) ≡ Ok pins → ((ps : List PinWord) → rest ≡ Ok ps → length ps ≡ length words) → length pins ≡ length (word ∷ words)
 more_pins n word words (Ok p) (Ok ps) pins is same =
     let here : p ∷ ps ≡ pins = cc in
@@ -104,6 +105,7 @@ net_pins n (name ∷ words) line is = by_test (is_word name) is
     by_test true found = omega (arith, line_pins n name words (pins_of n words) line found (count_pins n words))
     by_test false found = absurd cc
 
+-- a net line has exactly two words more than pins
 statement_pins : (n : ℕ) (words : List Word) (line : NetLine) → net_line n words ≡ Ok line → length line.pins + 2 ≡ length words
 statement_pins n [] line is = absurd cc
 statement_pins n (keyword ∷ words) line is = by_test (bytes_eq keyword (codes "NET")) is
@@ -155,7 +157,8 @@ counts_from n number (line ∷ lines) all values is =
     subst (λ (count : ℕ). HasCounts n count values) (sym (filled_cons line lines))
     (counts_more n number line (words_of line) (lines_from net_line (number + 1) lines) (filled lines) all.0 refl (counts_from n (number + 1) lines all.1) values is)
 
--- neither the number of net lines nor the number of words in a line exceeds the number of bytes in the text
+-- a net file has at most as many lines as the text has bytes, and each line has at most as many
+-- words
 pub net_counts : (text : List ℕ) (values : List NetLine) → net_lines text ≡ Ok values → HasCounts (length text) (length text) values
 net_counts text values is =
     let counts = counts_from (length text) 1 (slice_split is_newline text) (pieces_within is_newline text) values is in
@@ -167,7 +170,7 @@ few_pins n few (line ∷ lines) pins =
     let narrow : length line.pins + 2 ≤ n = pins.0 in
     (omega (arith, few, narrow), few_pins n few lines pins.1)
 
--- so the lines of a text with fewer than 2^32 bytes are a net file
+-- if a text has fewer than 2^32 bytes, its lines are the lines of a net file
 pub is_net_file : (text : List ℕ) (values : List NetLine) → length text < 2 ^ 32 → net_lines text ≡ Ok values → IsNetFile values
 is_net_file text values few is =
     let counts = net_counts text values is in

@@ -1,4 +1,4 @@
--- The lengths in BYPASS lines are in their range.
+-- The lengths on the BYPASS lines of a chain file are in range.
 use Rattle.std.proofs.Common.{◌≡◌, ℕ, ◌≤◌, Bool, true, false, ◌&&◌, List, [], ◌∷◌, length, nat_le, codes, Option, Some, None, Result, Ok, Err, refl, subst, arith}
 use Rattle.std.specs.Prelude.{IfOk, IfSome, if◌then◌else◌, ◌+◌}
 use Rattle.std.specs.List.{AllByRecursion, slice_split}
@@ -67,7 +67,7 @@ link_length : (n : ℕ) (words : Option (Word × Word × Word)) → IfOk (link_o
 link_length n None = tt
 link_length n (Some (part, first, second)) = kept (is_part part && is_symbol first && is_symbol second) (Link part (upper first) (upper second)) (WordFault n) tt
 
--- the first reading if the name is `word`, otherwise the second; so a statement is chosen name by name
+-- the reading `a` if the name of the statement is `word`, and the reading `b` otherwise
 abbrev choice : Word → List ℕ → Read → Read → Read
 choice name word a b = if bytes_eq name word then a else b
 
@@ -111,6 +111,6 @@ lines_lengths : (n : ℕ) (lines : List (List ℕ)) → IfOk (lines_from chain_l
 lines_lengths n [] = tt
 lines_lengths n (line ∷ lines) = then_lengths n (words_of line) (lines_from chain_line (n + 1) lines) (lines_lengths (n + 1) lines)
 
--- the length in each BYPASS line of a text is in its range
+-- the length on each BYPASS line of a chain file is in range
 pub lengths_of_text : (text : List ℕ) (lines : List ChainLine) → text_of chain_line text ≡ Ok lines → AllByRecursion (λ l. HasLength l.statement) lines
 lengths_of_text text lines said = subst (λ (r : Result (List ChainLine) LineFault). IfOk r AllLengths) said (lines_lengths 1 (slice_split is_newline text))

@@ -15,11 +15,12 @@ use Rattle.board_files.specs.Reading.{◌>>=◌, text_of}
 abbrev pub Read : Type 0
 Read = Result ChainStatement LineFault
 
--- the name of the package, or None for `-`, which means the default
+-- the name of the package, or None for `-`, which stands for the default package
 abbrev pub package_of : Word → Option Word
 package_of word = if bytes_eq word (codes "-") then None else Some (upper word)
 
--- the number that is spelled by the digits of `n` followed by these digits, or None if one of these is not a digit
+-- the number that the digits of `n` followed by these digits spell, or None if one of these bytes
+-- is not a digit
 abbrev pub decimal_from : ℕ → Word → Option ℕ
 decimal_from n [] = Some n
 decimal_from n (digit ∷ digits) = if is_ascii_digit digit then decimal_from (10 * n + (digit - 48)) digits else None
@@ -28,7 +29,7 @@ abbrev pub as_length : Option ℕ → Option ℕ
 as_length None = None
 as_length (Some n) = if nat_le 2 n && nat_le n most_instruction_bits then Some n else None
 
--- the number of 1 to 3 decimal digits, if it is from 2 to 255
+-- the number that 1 to 3 decimal digits spell, if it is from 2 to 255
 abbrev pub length_of : Word → Option ℕ
 length_of word = if nat_le (length word) 3 then as_length (decimal_from 0 word) else None
 
@@ -68,7 +69,7 @@ link_of n None = Err (Statement n)
 link_of n (Some (part, first, second)) =
     if is_part part && is_symbol first && is_symbol second then Ok (Link part (upper first) (upper second)) else Err (WordFault n)
 
--- the statement on line `n` that has this name and these words after it, or the fault
+-- the statement on line `n` with this name, which these words follow, or the fault of the line
 unfoldable pub statement_of : ℕ → Word → List Word → Read
 statement_of n name words =
     if bytes_eq name (codes "DEVICE") then device_of n (three_of words)
@@ -87,7 +88,7 @@ chain_line n (name ∷ words) = statement_of n name words >>= (λ said. Ok (reco
 abbrev pub chain_lines : List ℕ → Result (List ChainLine) LineFault
 chain_lines text = text_of chain_line text
 
--- the length in a BYPASS line is from 2 to 255 bits
+-- if the statement is BYPASS, its length is from 2 to 255 bits
 abbrev pub HasLength : ChainStatement → Type 0
 HasLength (Bypass part bits) = IsInstructionLength bits
 HasLength (Device part entity pack) = Unit {0}

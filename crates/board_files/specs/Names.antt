@@ -1,4 +1,4 @@
--- Names, and the names on the lines of a net file.
+-- Equality of names, and the names on the lines of a net file.
 use Rattle.std.specs.Prelude.{Bool, List, map, nat_eq}
 use Rattle.std.specs.Cmp.Lexicographic.{pointwise}
 use Rattle.text_lines.specs.Words.{Word}

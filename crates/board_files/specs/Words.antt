@@ -21,18 +21,20 @@ is_symbol word = is_word word && list_all is_symbol_byte word
 abbrev pub upper : Word → Word
 upper word = map to_ascii_uppercase word
 
--- The word, if there is exactly one. `two_of` and `three_of` do the same for two and three words.
+-- the word, if there is exactly one
 abbrev pub one_of : List Word → Option Word
 one_of (a ∷ []) = Some a
 one_of [] = None
 one_of (a ∷ b ∷ more) = None
 
+-- the two words, if there are exactly two
 abbrev pub two_of : List Word → Option (Word × Word)
 two_of (a ∷ b ∷ []) = Some (a, b)
 two_of [] = None
 two_of (a ∷ []) = None
 two_of (a ∷ b ∷ c ∷ more) = None
 
+-- the three words, if there are exactly three
 abbrev pub three_of : List Word → Option (Word × Word × Word)
 three_of (a ∷ b ∷ c ∷ []) = Some (a, b, c)
 three_of [] = None

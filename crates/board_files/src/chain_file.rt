@@ -1,4 +1,4 @@
-// Reading the chain file.
+// Reads a chain file.
 ghost use Rattle.std.specs.Prelude.{◌≡◌, ◌<◌, ◌≤◌, ◌^◌, List, map, length, vec_len, IfOk, IsTrue, Some, None, option_map, option_copied, codes, if◌then◌else◌};
 ghost use Rattle.std.specs.Str.{bytes_eq};
 ghost use Rattle.std.specs.List.{AllByRecursion};
@@ -16,13 +16,14 @@ use text_lines::{first_line, is_word, words};
 /// A statement of a chain file. Entity, package and pin names are in upper case.
 #[derive(Drop)]
 pub enum ChainStatement {
-    /// A part with a description. If no package is given, the default of the description is used.
+    /// A part with a description. If the package is None, the part is in the default package of its
+    /// description.
     Device {
         part: Name,
         entity: Name,
         package: Option<Name>,
     },
-    /// A part of which only the length of the instruction register is known. The length is from 2 to 255 bits.
+    /// A part of which only the length of the instruction register is known, from 2 to 255 bits.
     Bypass {
         part: Name,
         length: u32,
@@ -40,7 +41,7 @@ pub enum ChainStatement {
         net: Name,
         value: bool,
     },
-    /// A series part, which joins the nets of these two pins.
+    /// A series part, which joins the nets of its two pins.
     Link {
         part: Name,
         first: Name,
@@ -55,8 +56,8 @@ pub struct ChainLine {
     pub statement: ChainStatement,
 }
 
-/// A chain file. The value in contracts is the list of its lines. There are fewer than 2^32 lines, and the length in
-/// each BYPASS line is from 2 to 255 bits.
+/// A chain file. In contracts, the value is the list of its lines. There are fewer than 2^32 lines,
+/// and the length on each BYPASS line is from 2 to 255 bits.
 #[derive(Drop)]
 pub struct ChainFile {
     lines: Vec<ChainLine>,
@@ -92,8 +93,9 @@ impl ChainFile {
     }
 }
 
-/// Reads a chain file, which may have any bytes. Returns its lines, or the fault of the first line that is not a
-/// statement. If several faults apply to that line, the first of `Statement`, `Word` and `Number` is returned.
+/// Reads a chain file, which may have any bytes. Returns its lines, or the fault of the first
+/// faulty line. If several faults apply to this line, returns the first of `Statement`, `Word` and
+/// `Number` that applies.
 pub fn chain(alloc: Global, bytes: &[u8]) -> Result<ChainFile, LineFault>
     requires { length bytes.now < 2 ^ 32 }
     ensures read { Reads (λ file. file) result (chain_lines bytes.now) }
@@ -196,7 +198,8 @@ fn device(
     }
 }
 
-/// Returns the number that at most three digits spell, or None if a byte is not a digit. A word without bytes spells 0.
+/// Returns the number that at most three digits spell, or None if a byte is not a digit. An empty
+/// word gives 0.
 fn decimal(word: &[u8]) -> Option<u32>
     requires { length word.now ≤ 3 }
     ensures { result ≡ decimal_from 0 word.now }

@@ -1,4 +1,4 @@
-// Reading the net file.
+// Reads a net file.
 ghost use Rattle.std.specs.Prelude.{◌≡◌, ◌+◌, ◌<◌, ◌≤◌, ◌^◌, ◌∷◌, List, map, length, vec_len, IfOk, Option, Some, None};
 ghost use Rattle.std.specs.List.{AllByRecursion, before_first, after_first};
 ghost use Rattle.board_files.specs.Words.{is_dot};
@@ -13,7 +13,7 @@ use std::alloc::{AllocError, Global};
 use std::marker::Model;
 use text_lines::{cut_at, first_line, is_filled, is_word, words};
 
-/// A pin of a net: the name of its part, and the name of the pin in upper case.
+/// A pin of a net: the name of the pin's part, and the pin's own name in upper case.
 #[derive(Drop)]
 pub struct PinWord {
     pub part: Name,
@@ -28,8 +28,8 @@ pub struct NetLine {
     pub pins: Items<PinWord>,
 }
 
-/// A net file. The value in contracts is the list of its lines. There are fewer than 2^32 lines, and each line has
-/// fewer than 2^32 words.
+/// A net file. In contracts, the value is the list of its lines. There are fewer than 2^32 lines,
+/// and each line has fewer than 2^32 words.
 #[derive(Drop)]
 pub struct NetFile {
     lines: Vec<NetLine>,
@@ -77,8 +77,8 @@ pub fn line_names<'a>(alloc: Global, lines: &'a [NetLine]) -> Result<Vec<&'a [u8
     Ok(names)
 }
 
-/// Reads a net file. Returns its lines, or the fault of its first faulty line. Neither the number of lines nor the
-/// number of words in a line exceeds the number of bytes in the text.
+/// Reads a net file. Returns its lines, or the fault of the first faulty line. There are at most as
+/// many lines as the text has bytes, and a line has at most as many words.
 pub fn nets(alloc: Global, bytes: &[u8]) -> Result<NetFile, LineFault>
     requires { length bytes.now < 2 ^ 32 }
     ensures read { Reads (λ file. file) result (net_lines bytes.now) }
@@ -166,7 +166,8 @@ fn pin(alloc: Global, line: u32, word: &[u8]) -> Result<PinWord, LineFault>
     }
 }
 
-/// Returns the bytes before and after the first `.`. If there is no `.`, returns the whole word and no bytes.
+/// Returns the bytes before and after the first `.`. If there is no `.`, returns the whole word and
+/// an empty slice.
 fn cut(word: &[u8]) -> (&[u8], &[u8])
     ensures before { result.0.now ≡ before_first is_dot word.now }
     ensures after { result.1.now ≡ after_first is_dot word.now }

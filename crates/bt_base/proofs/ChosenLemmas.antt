@@ -1,4 +1,4 @@
--- Lemmas about the puts that are chosen to fail.
+-- Lemmas about the puts of a sink in memory that are chosen to fail.
 use Rattle.std.proofs.Common.{◌≡◌, ℕ, ◌≤◌, Bool, true, false, List, [], ◌∷◌, min, nat_eq, cond, refl, arith}
 use Rattle.std.specs.Prelude.{◌||◌}
 use Rattle.bt_base.specs.declared.memory.FailingPut.{FailingPut}
@@ -9,7 +9,7 @@ within_more : (failing : List FailingPut) (call most taken : ℕ) (same : Bool)
 within_more failing call most taken true rest = let less : allowed failing call (min most taken) ≤ min most taken = rest (min most taken) in omega arith
 within_more failing call most taken false rest = rest most
 
--- a put is never allowed more bytes than `most`
+-- the number of bytes that a put may take is at most `most`
 pub allowed_within : (failing : List FailingPut) (call most : ℕ) → allowed failing call most ≤ most
 allowed_within [] call most = omega arith
 allowed_within (f ∷ failing) call most = within_more failing call most f.taken (nat_eq f.call call) (λ m. allowed_within failing call m)

@@ -1,9 +1,9 @@
--- A lemma about the bytes that were read.
+-- A lemma about the bytes that a read took from a reader.
 use Rattle.std.proofs.Common.{◌≡◌, ℕ, List, length, take, Option, None, Some, IfSome, sym, ◌∙◌, ap, subst}
 use Rattle.std.proofs.Math.Seq.{take-append_seam}
 use Rattle.std.specs.Io.KnownBytes.{Consumes}
 
--- the bytes that were consumed are a prefix of the bytes that were left
+-- the `n` bytes that a read took are the first `n` bytes that the reader had left
 pub consumes_first : (left rest : Option (List ℕ)) (xs : List ℕ) (n : ℕ) → Consumes left rest xs → length xs ≡ n → IfSome left (λ l. xs ≡ take n l)
 consumes_first None rest xs n took long = tt
 consumes_first (Some l) None xs n took long = absurd took

@@ -1,4 +1,4 @@
--- A proof step that the proofs about `src/asked.rt` share. Assumes `Logic`.
+-- A proof step that is common to the proofs about `src/asked.rt`. It assumes `Logic`.
 use Rattle.std.proofs.Common.{List, [], ◌∷◌, refl}
 use seplogic.Ra.Ura.{Ura}
 use mir.Val.{Val, vstruct, vnil}

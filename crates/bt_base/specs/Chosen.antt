@@ -1,4 +1,4 @@
--- The puts that are chosen to fail.
+-- The puts of a sink in memory that are chosen to fail.
 use Rattle.std.specs.Prelude.{ℕ, ◌==◌, Bool, List, [], ◌∷◌, min, if◌then◌else◌}
 use Rattle.std.specs.List.{list_any}
 use Rattle.bt_base.specs.declared.memory.FailingPut.{FailingPut}
@@ -7,7 +7,7 @@ use Rattle.bt_base.specs.declared.memory.FailingPut.{FailingPut}
 abbrev pub is_chosen : ℕ → List FailingPut → Bool
 is_chosen call failing = list_any (λ f. f.call == call) failing
 
--- the number of bytes that put number `call` may take, out of `most`
+-- the number of bytes that put number `call` may take if the piece and the room allow `most` bytes
 abbrev pub allowed : List FailingPut → ℕ → ℕ → ℕ
 allowed [] call most = most
 allowed (f ∷ failing) call most = allowed failing call (if f.call == call then min most f.taken else most)

@@ -1,11 +1,11 @@
-//! The names that a store was asked for. Only proofs see these names. The list takes no memory, and its methods do
-//! nothing at run time.
+//! The names of the texts that were fetched from a store. Only proofs see these names. The list
+//! takes no memory, and its methods do nothing at run time.
 ghost use Rattle.std.specs.Prelude.{◌≡◌, ℕ, List, [], ◌∷◌, ◌++◌};
 ghost use Rattle.std.specs.Borrow.{ftrue};
 
 use std::marker::Model;
 
-/// The names of the fetches so far, in order.
+/// The names of the texts that were fetched so far, in order.
 #[derive(Drop)]
 pub(crate) struct Asked {
     pub ghost names: { List (List ℕ) },

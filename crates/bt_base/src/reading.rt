@@ -1,4 +1,4 @@
-//! Reads the rest of a reader.
+//! Reads all bytes that a reader has left.
 ghost use Rattle.std.specs.Prelude.{◌≡◌, ℕ, ◌+◌, ◌<◌, ◌≤◌, ◌||◌, [], length, take, OnOk, IfOk, IsErrOf, IfSome, is_err, false, Option, List};
 ghost use Rattle.std.specs.Io.{ReadsAtMost};
 ghost use Rattle.std.specs.Io.KnownBytes.{ReadConsumes};
@@ -44,8 +44,9 @@ impl<R: Read> Read for Watched<R> {
     }
 }
 
-/// Reads all bytes that the reader has left into an empty vector. If there are more than `cap`, reads `cap + 1` bytes
-/// and returns `TooLong`. Returns `Failed` if and only if a read fails.
+/// Reads all bytes that the reader has left into an empty vector. If there are more than `cap`
+/// bytes, reads `cap + 1` bytes and returns `TooLong`. Returns `Failed` if and only if a read
+/// fails.
 pub(crate) fn read_all<R: Read>(
     from: &mut Watched<R>,
     into: &mut Vec<u8>,
@@ -69,7 +70,8 @@ pub(crate) fn read_all<R: Read>(
     Err(FetchFault::TooLong)
 }
 
-// Makes one read of at most `most` bytes and appends the bytes. Returns how many were read, which is 0 only at the end.
+// Reads at most `most` bytes once, and appends them. Returns how many bytes it read. This number is
+// 0 only at the reader's end.
 fn read_some<R: Read>(
     from: &mut Watched<R>,
     into: &mut Vec<u8>,

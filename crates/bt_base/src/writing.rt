@@ -1,10 +1,10 @@
-//! Writes a piece to a writer, and flushes it.
+//! Writes a piece to a writer, and flushes the writer.
 ghost use Rattle.std.specs.Prelude.{◌≡◌, OnOk, true, false};
 ghost use Rattle.std.specs.Io.KnownBytes.{Appends, Keeps};
 
 use std::io;
 
-/// A writer that remembers whether everything written to it was flushed.
+/// A writer that remembers whether it was flushed after its last write.
 #[derive(Drop)]
 pub(crate) struct Flushed<W> {
     to: W,
@@ -38,7 +38,8 @@ impl<W: io::Write> Flushed<W> {
     }
 }
 
-/// Writes the whole piece and flushes the writer. If a write takes none of the remaining bytes, that is an error.
+/// Writes the whole piece and flushes the writer. A write that takes none of the remaining bytes is
+/// an error.
 pub(crate) fn write_whole<W: io::Write>(to: &mut Flushed<W>, piece: &[u8]) -> io::Result<()>
     ensures bytes { OnOk result (Appends (W.contents to.old.to) (W.contents to.new.to) piece.now) }
     ensures flushed { OnOk result (to.new.flushed ≡ true) }

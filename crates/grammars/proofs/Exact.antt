@@ -1,17 +1,17 @@
--- The reader of a production decides it: the reader finds the value of a list that has one, and runs out of tokens on a
--- prefix of such a list.
+-- A reader decides a production: it finds the value of each list that the production derives, and
+-- runs out of tokens exactly on the prefixes of such lists.
 use Rattle.std.proofs.Common.{◌≡◌, true, false, List, [], ◌∷◌, ◌++◌, Option, Some, None, IsSome, inl, inr, refl, sym, ◌∙◌, ap, subst, append_assoc, append-nil}
 use Rattle.grammars.specs.Production.{Production}
 use Rattle.grammars.specs.Production as production
 use Rattle.grammars.specs.inner.Reader.{Reader, Outcome, found, refused, after}
 use Rattle.grammars.specs.inner.Reader as reader
 
--- the reader has read all tokens
+-- no tokens are left after the outcome
 abbrev pub RunsOut : {T A : Type 0} → Outcome T A → Type 0
 RunsOut (found a rest) = rest ≡ []
 RunsOut (refused rest) = rest ≡ []
 
--- the reader finds the value `a` in the front of the tokens, whatever tokens follow that front
+-- the reader finds the value `a` in a front of the tokens, whatever tokens follow this front
 pub record Reads {T A : Type 0} (read : Reader T A) (tokens : List T) (a : A) (rest : List T) : Type 0 where
   pub front : List T
   pub split : tokens ≡ front ++ rest
@@ -52,7 +52,7 @@ decides_none = record {
   is_cut = λ tokens h. h;
 }
 
--- the answer of the reader of one token depends on no token after this one
+-- the outcome of the reader of one token does not depend on the tokens after this token
 local_value : {T A : Type 0} (value : T → Option A) (token : T) (tokens : List T) (v : Option A) → value token ≡ v
     → IsLocalAt (reader.place value) (token ∷ tokens) (reader.value_then v token tokens)
 local_value value token tokens (Some a) e = record { front = token ∷ []; split = refl; again = λ more. ap (λ v. reader.value_then v token more) e }
@@ -106,7 +106,8 @@ decides_place value = record {
   is_cut = is_cut_place value;
 }
 
--- if each of two readers depends only on the tokens that it reads, so does the reader that runs them in turn
+-- if the outcomes of two readers depend only on the tokens that they read, the same is true of the
+-- reader that runs them in turn
 local_second : {T A B : Type 0} (p : Reader T A) (q : A → Reader T B) (tokens : List T) (a : A) (mid : List T) → Reads p tokens a mid
     → (o : Outcome T B) → IsLocalAt (q a) mid o → IsLocalAt (reader.in_turn p q) tokens o
 local_second p q tokens a mid h (found b rest) k = record {
@@ -132,7 +133,8 @@ local_after p q each tokens (refused rest) h = record {
   again = λ token tail more e. ap (λ o. after o q) (h.again token tail more e);
 }
 
--- if the reader reads all of a list, it reads the same tokens in front of any more tokens
+-- if the reader finds a value in a whole list, it finds the same value in the list followed by any
+-- more tokens
 pub reads_on : {T A : Type 0} {p : Production T A} {r : Reader T A} → Decides p r → (front : List T) (a : A) → r front ≡ found a [] → (more : List T) → r (front ++ more) ≡ found a more
 reads_on {A} {p} {r} d front a e more =
     let h : Reads r front a [] = subst (λ o. IsLocalAt r front o) e (d.local front) in
@@ -147,7 +149,7 @@ nothing_left : {T A : Type 0} (r : Reader T A) (o : Outcome T A) → IsLocalAt r
 nothing_left r (found a rest) h = no_rest h.front rest h.split
 nothing_left r (refused rest) h = no_rest h.front rest h.split
 
--- a reader that is given no tokens runs out of tokens
+-- a reader that gets no tokens runs out of tokens
 pub runs_out : {T A : Type 0} {p : Production T A} {r : Reader T A} → Decides p r → RunsOut (r [])
 runs_out {A} {p} {r} d = nothing_left r (r []) (d.local [])
 

@@ -7,14 +7,14 @@ use Rattle.grammars.proofs.Turns.{Shrinks, keeps, decides_turns, shrinks_place, 
 use Rattle.grammars.specs.inner.Reader.{Outcome, after, found, refused}
 use Rattle.grammars.specs.inner.Reader as reader
 
--- the grammar derives only lists with at least one token
+-- each list that the grammar derives has at least one token
 abbrev pub TakesToken : {T A : Type 0} → Grammar T A → Type 0
 TakesToken (place value) = Unit {0}
 TakesToken (done a) = ⊥
 TakesToken (in_turn {A} p q) = TakesToken p ⊎ ((a : A) → TakesToken (q a))
 TakesToken (turns turn before) = ⊥
 
--- every turn of a repetition takes at least one token
+-- each turn of each repetition in the grammar takes at least one token
 abbrev pub EachTurnTakes : {T A : Type 0} → Grammar T A → Type 0
 EachTurnTakes (place value) = Unit {0}
 EachTurnTakes (done a) = Unit {0}
@@ -43,12 +43,14 @@ read_grammar (turns turn before) h = record {
 pub decides_grammar : {T A : Type 0} (g : Grammar T A) → EachTurnTakes g → Decides (production_of g) (reader_of g)
 decides_grammar g h = (read_grammar g h).decides
 
--- reading any number of turns is reading one turn and then any number of further turns
+-- reading any number of turns has the same outcome as reading one turn and then any number of
+-- further turns
 pub turn_at : {T S A : Type 0} (turn : S → Grammar T (Turn S A)) → ((s : S) → TakesToken (turn s) × EachTurnTakes (turn s)) → (s : S) (tokens : List T)
     → reader_of (turns turn s) tokens ≡ after (reader_of (turn s) tokens) (reader.follow (λ s. reader_of (turns turn s)))
 turn_at turn h s tokens = turns_once (λ s. reader_of (turn s)) (λ s. (read_grammar (turn s) (h s).1).shrinks (h s).0) s tokens
 
--- if another turn follows this one, reading the rest with the new state has the outcome of reading the whole
+-- if reading one turn leaves the state `s'` and another turn follows, reading the rest from the
+-- state `s'` has the same outcome as reading all tokens from the state `s`
 pub goes_on : {T S A : Type 0} (turn : S → Grammar T (Turn S A)) → ((s : S) → TakesToken (turn s) × EachTurnTakes (turn s)) → (s s' : S) (tokens rest : List T) (outcome : Outcome T A)
     → reader_of (turns turn s) tokens ≡ outcome → reader_of (turn s) tokens ≡ found (again s') rest → reader_of (turns turn s') rest ≡ outcome
 goes_on turn h s s' tokens rest outcome so_far e =

@@ -1,4 +1,5 @@
--- Facts about the values that a grammar derives and the weight of the tokens from which they are read.
+-- Facts about a value that a grammar derives and about the weight of the tokens from which it is
+-- derived.
 use Rattle.std.proofs.Common.{◌≡◌, ℕ, zero, suc, ◌+◌, ◌≤◌, List, [], ◌∷◌, ◌++◌, Option, Some, sym, ◌∙◌, ap, subst, arith}
 use Rattle.grammars.specs.Turn.{Turn, again, last}
 use Rattle.grammars.specs.Production.{Production, Follows}
@@ -13,8 +14,8 @@ pub total-append : {T : Type 0} (weight : T → ℕ) (xs ys : List T) → total 
 total-append weight [] ys = omega arith
 total-append weight (x ∷ xs) ys = let e : total weight (xs ++ ys) ≡ total weight xs + total weight ys = total-append weight xs ys in omega arith
 
--- The fact is true of every value of the production and a number. The number is `given` plus the weight of the tokens
--- from which the value is read.
+-- `Fact` is true of each value that the production derives, together with a number: `given` plus
+-- the weight of the tokens from which the value is derived.
 abbrev pub Kept : {T A : Type 0} → (T → ℕ) → Production T A → ℕ → (ℕ → A → Type 0) → Type 0
 Kept {T} {A} weight p given Fact = (tokens : List T) (a : A) → p.Whole tokens a → Fact (given + total weight tokens) a
 
@@ -51,7 +52,8 @@ keeps_in_turn {T} {A} {B} {weight} {p} {q} {given} {First} {Fact} first second =
   kept = kept_in_turn weight (production_of p) (λ a. production_of (q a)) given First Fact first.kept (λ a n h. (second a n h).kept);
 }
 
--- the fact after a turn: about the state if another turn follows, or about the value after the last turn
+-- what is true after a turn: `Before` of the state if another turn follows, or `Fact` of the value
+-- if this was the last turn
 abbrev pub BehindTurn : {S A : Type 0} → (ℕ → S → Type 0) → (ℕ → A → Type 0) → ℕ → Turn S A → Type 0
 BehindTurn Before Fact n (again s) = Before n s
 BehindTurn Before Fact n (last a) = Fact n a
@@ -74,10 +76,10 @@ keeps_turns {T} {S} {A} {weight} {turn} {Before} {Fact} h s n before = record {
   kept = λ tokens a whole. kept_up_to whole.0 weight (λ s. production_of (turn s)) Before Fact (λ s n b. (h s n b).kept) s n before tokens a whole.1;
 }
 
--- the fact that says nothing is true of every value
+-- a fact that says nothing is true of each value
 pub keeps_nothing : {T A : Type 0} {weight : T → ℕ} {g : Grammar T A} {given : ℕ} → Keeps weight g given (λ n a. Unit {0})
 keeps_nothing {T} {A} {weight} {g} {given} = record { kept = λ tokens a whole. tt }
 
--- the number is at least `given`, since the weight of tokens is never negative
+-- the number is at least `given`, since no token has a negative weight
 pub keeps_more : {T A : Type 0} {weight : T → ℕ} {g : Grammar T A} {given : ℕ} → Keeps weight g given (λ n a. given ≤ n)
 keeps_more {T} {A} {weight} {g} {given} = record { kept = λ tokens a whole. omega arith }

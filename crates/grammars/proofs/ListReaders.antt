@@ -1,4 +1,4 @@
--- A loop that reads a list entry by entry.
+-- Lemmas about a loop that reads a list entry by entry.
 use Rattle.std.proofs.Common.{◌≡◌, ℕ, zero, suc, ◌+◌, ◌*◌, ◌<◌, ◌≤◌, Bool, true, false, List, [], ◌∷◌, ◌++◌, length, inl, refl, sym, ◌∙◌, ap, subst, arith, length-append, zero-add}
 use Rattle.grammars.specs.Turn.{turn_of}
 use Rattle.grammars.specs.inner.Reader.{found, refused}
@@ -7,7 +7,8 @@ use Rattle.grammars.specs.Lists.{list_turn, list_of, Fronts, GoesWrongAt}
 use Rattle.grammars.proofs.Exact.{Reads, Decides, IsLocalAt, reads_on, front_alone}
 use Rattle.grammars.proofs.Grammars.{TakesToken, EachTurnTakes, read_grammar, decides_grammar, goes_on, ends, stops, turn_shrinks}
 
--- the entries of the list and the tokens between them can be read
+-- each entry and each mark after an entry takes at least one token, and so does each turn of a
+-- repetition in them
 pub record CanRead {T A : Type 0} (entry : Grammar T A) (more : Grammar T Bool) : Type 0 where
   pub takes : TakesToken entry
   pub takes_mark : TakesToken more
@@ -21,7 +22,7 @@ list_takes can before = (inl can.takes, (can.entries, λ one. (can.marks, λ ano
 pub each_takes : {T A : Type 0} {entry : Grammar T A} {more : Grammar T Bool} → CanRead entry more → EachTurnTakes (list_of entry more)
 each_takes can = λ before. list_takes can before
 
--- the tokens begin with a list that the grammar derives with the value `a`, and `rest` follows it
+-- the tokens consist of a front that the grammar derives with the value `a`, and of `rest`
 pub record ReadFront {T A : Type 0} (g : Grammar T A) (tokens : List T) (a : A) (rest : List T) : Type 0 where
   pub front : List T
   pub split : tokens ≡ front ++ rest
@@ -33,7 +34,8 @@ read_front {T} g h tokens a rest e =
     let k : Reads (reader_of g) tokens a rest = subst (λ o. IsLocalAt (reader_of g) tokens o) e (d.local tokens) in
     record { front = k.front; split = k.split; whole = d.is_whole k.front a (front_alone (reader_of g) tokens a rest k) }
 
--- a front that the grammar derives is what the reader finds
+-- if the grammar derives a front of the tokens with the value `a`, the reader finds `a` and leaves
+-- the tokens after the front
 pub found_front : {T A : Type 0} (g : Grammar T A) → EachTurnTakes g → (tokens front back : List T) (a : A) → tokens ≡ front ++ back → (production_of g).Whole front a → reader_of g tokens ≡ found a back
 found_front g h tokens front back a split whole =
     let d : Decides (production_of g) (reader_of g) = decides_grammar g h in
@@ -63,12 +65,12 @@ front_after {T} {A} {entry} {more} can n one tokens mid rest e f h =
     let last : h.next.back ≡ rest = cc (here, f) in
     subst (λ ts. Fronts entry more n ts) last h.next.next.1
 
--- the state of the loop after it has read the entries `before`, with `rest` still to be read
+-- the state of the loop after it has read the entries `before` and has `rest` left to read
 pub record Progress {T A : Type 0} (entry : Grammar T A) (more : Grammar T Bool) (tokens rest : List T) (before : List A) : Type 0 where
   pub reads : reader_of (turns (list_turn entry more) before) rest ≡ reader_of (list_of entry more) tokens
   pub stand : (n : ℕ) → Fronts entry more n rest → Fronts entry more (n + length before) tokens
   pub only : (n : ℕ) → Fronts entry more (n + length before) tokens → Fronts entry more n rest
-  -- each entry and the token after it take at least two tokens
+  -- each entry together with the mark after it takes at least two tokens
   pub fewer : 2 * length before + length rest ≤ length tokens
 
 takes_token : {T A : Type 0} (g : Grammar T A) → EachTurnTakes g → TakesToken g → (tokens : List T) (a : A) (rest : List T) → reader_of g tokens ≡ found a rest → length rest < length tokens
@@ -131,7 +133,7 @@ pub stops_after_entry : {T A : Type 0} {entry : Grammar T A} {more : Grammar T B
 stops_after_entry {T} {A} {entry} {more} can tokens here mid rest before one so_far e f =
     stops (list_turn entry more) (list_takes can) before here rest (reader_of (list_of entry more) tokens) so_far.reads (turn_stops_later entry more before one here mid rest e f)
 
--- a list that the reader refused has no value
+-- if the reader refuses the tokens, the grammar derives no value from them
 pub no_value : {T A : Type 0} (g : Grammar T A) → EachTurnTakes g → (tokens rest : List T) → reader_of g tokens ≡ refused rest → (a : A) → (production_of g).Whole tokens a → ⊥
 no_value g h tokens rest e a whole =
     let k : reader_of g tokens ≡ found a [] = (decides_grammar g h).whole tokens a whole in
@@ -171,13 +173,13 @@ wrong_after_entry {T} {A} {entry} {more} can tokens here mid rest before one so_
         let k : reader_of more mid ≡ found h.next.value h.next.back = subst (λ ts. reader_of more ts ≡ found h.next.value h.next.back) same second in
         cc (k, f)
 
--- fewer tokens are left after each turn
+-- each turn of the loop leaves fewer tokens
 pub shorter : {T A : Type 0} {entry : Grammar T A} {more : Grammar T Bool} → CanRead entry more → (here mid rest : List T) (before : List A) (one : A) (another : Bool)
     → reader_of entry here ≡ found one mid → reader_of more mid ≡ found another rest → length rest < length here
 shorter {T} {A} {entry} {more} can here mid rest before one another e f =
     turn_shrinks (list_turn entry more) (list_takes can) before (turn_of another (before ++ one ∷ [])) here rest (turn_again entry more before one another here mid rest e f)
 
--- if the reader reads all of a list, the grammar derives the list with that value and no other
+-- if the reader finds a value in all of the tokens, the grammar derives this value from them
 pub value_of_list : {T A : Type 0} (g : Grammar T A) → EachTurnTakes g → (tokens : List T) (a : A) → reader_of g tokens ≡ found a [] → (production_of g).Whole tokens a
 value_of_list g h tokens a e = (decides_grammar g h).is_whole tokens a e
 

@@ -1,4 +1,5 @@
--- Grammars over tokens `T`. A grammar derives lists of tokens, and gives each of these lists a value.
+-- Grammars over tokens of type `T`. A grammar derives lists of tokens, and gives each of these
+-- lists a value.
 use Rattle.std.specs.Prelude.{Option}
 use Rattle.grammars.specs.Turn.{Turn}
 use Rattle.grammars.specs.Production.{Production}
@@ -7,11 +8,11 @@ use Rattle.grammars.specs.inner.Reader.{Reader}
 use Rattle.grammars.specs.inner.Reader as reader
 
 pub data Grammar (T : Type 0) : Type 0 → Type 1 where
-  -- one token, which fits if the function gives a value for it
+  -- one token; it fits if the function gives a value for it
   place : {A : Type 0} → (T → Option A) → Grammar T A
-  -- no token, with the given value
+  -- no token, with this value
   done : {A : Type 0} → A → Grammar T A
-  -- a part, followed by a part that depends on the first one's value
+  -- a part, followed by a part that depends on the value of the first
   in_turn : {A B : Type 0} → Grammar T A → (A → Grammar T B) → Grammar T B
   -- any number of turns, each of which begins with the state that the turn before it left
   turns : {S A : Type 0} → (S → Grammar T (Turn S A)) → S → Grammar T A

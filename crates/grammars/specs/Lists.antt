@@ -1,10 +1,10 @@
--- Lists of entries, and the number of the entry at which tokens cease to be a list.
+-- Lists of entries, and the number of the entry at which tokens stop being a list.
 use Rattle.std.specs.Prelude.{◌≡◌, ℕ, zero, suc, ◌+◌, Bool, true, List, [], ◌∷◌, ◌++◌}
 use Rattle.grammars.specs.Turn.{Turn, turn_of}
 use Rattle.grammars.specs.Production.{Follows}
 use Rattle.grammars.specs.Grammar.{Grammar, done, turns, production_of, ◌>>=◌}
 
--- an entry, and a token that says whether another entry follows
+-- an entry, and a mark that says whether another entry follows
 unfoldable pub list_turn : {T A : Type 0} → Grammar T A → Grammar T Bool → List A → Grammar T (Turn (List A) (List A))
 list_turn entry goes_on before = do
   one ← entry
@@ -14,13 +14,14 @@ list_turn entry goes_on before = do
 abbrev pub list_of : {T A : Type 0} → Grammar T A → Grammar T Bool → Grammar T (List A)
 list_of entry goes_on = turns (list_turn entry goes_on) []
 
--- the tokens begin with `n` whole entries, each followed by a token that says that another entry follows
+-- the tokens begin with `n` whole entries, and the mark after each of them says that another entry
+-- follows
 abbrev pub Fronts : {T A : Type 0} → Grammar T A → Grammar T Bool → ℕ → List T → Type 0
 Fronts entry goes_on zero tokens = Unit {0}
 Fronts entry goes_on (suc n) tokens = Follows (production_of entry) (λ one mid. Follows (production_of goes_on) (λ more rest. (more ≡ true) × Fronts entry goes_on n rest) mid) tokens
 
--- The tokens are not a list, and go wrong at entry `number`, counted from 1. All earlier entries are whole, and each is followed by
--- a token that says that another entry follows.
+-- The tokens are not a list, and go wrong at entry `number`, counted from 1. All earlier entries
+-- are whole, and the mark after each of them says that another entry follows.
 pub record GoesWrongAt {T A : Type 0} (entry : Grammar T A) (goes_on : Grammar T Bool) (number : ℕ) (tokens : List T) : Type 0 where
   pub no_value : (values : List A) → (production_of (list_of entry goes_on)).Whole tokens values → ⊥
   pub whole : ℕ

@@ -1,5 +1,5 @@
--- The productions of a grammar. `Whole` says which token lists have which values. `Cut` says which lists are prefixes of
--- such a list.
+-- The productions of grammars. `Whole` says which lists of tokens are derived, with which values.
+-- `Cut` says which lists are prefixes of such a list.
 use Rattle.std.specs.Prelude.{◌≡◌, ℕ, zero, suc, List, [], ◌∷◌, ◌++◌, Option, Some, IsSome, ◌⊎◌}
 use Rattle.grammars.specs.Turn.{Turn, again, last}
 
@@ -7,24 +7,24 @@ pub record Production (T A : Type 0) : Type 1 where
   pub Whole : List T → A → Type 0
   pub Cut : List T → Type 0
 
--- the tokens are a cut of one token's place: there is no token, or one token that fits
+-- the tokens are a prefix of a single token that fits: there is no token, or one token that fits
 abbrev pub CutsPlace : {T A : Type 0} → (T → Option A) → List T → Type 0
 CutsPlace value [] = Unit {0}
 CutsPlace value (token ∷ []) = IsSome (value token)
 CutsPlace value (token ∷ next ∷ tokens) = ⊥
 
--- one token, which fits if `value` gives a value for it
+-- one token; it fits if `value` gives a value for it
 abbrev pub place : {T A : Type 0} → (T → Option A) → Production T A
 place {T} value = record {
   Whole = λ tokens a. (token : T) × (tokens ≡ token ∷ []) × (value token ≡ Some a);
   Cut = CutsPlace value;
 }
 
--- no token, with the given value
+-- no token, with this value
 abbrev pub done : {T A : Type 0} → A → Production T A
 done a = record { Whole = λ tokens b. (tokens ≡ []) × (b ≡ a); Cut = λ tokens. tokens ≡ [] }
 
--- a production that derives nothing, and of which only the empty list is a cut
+-- a production that derives nothing; only the empty list is a cut of it
 abbrev pub none : {T A : Type 0} → Production T A
 none = record { Whole = λ tokens a. ⊥; Cut = λ tokens. tokens ≡ [] }
 
@@ -37,15 +37,16 @@ pub record Follows {T A : Type 0} (p : Production T A) (Next : A → List T → 
   pub first : p.Whole front value
   pub next : Next value back
 
--- A part, followed by a part that depends on the first one's value. A cut is a cut of the first part, or a whole first part
--- followed by a cut of the second.
+-- A part, followed by a part that depends on the value of the first. A cut is either a cut of the
+-- first part, or a whole first part followed by a cut of the second.
 abbrev pub in_turn : {T A B : Type 0} → Production T A → (A → Production T B) → Production T B
 in_turn p q = record {
   Whole = λ tokens b. Follows p (λ a back. (q a).Whole back b) tokens;
   Cut = λ tokens. p.Cut tokens ⊎ Follows p (λ a back. (q a).Cut back) tokens;
 }
 
--- the production after a turn: another turn, or nothing
+-- what follows a turn: the production `next` if another turn follows, or no token after the last
+-- turn
 abbrev pub follow : {T S A : Type 0} → (S → Production T A) → Turn S A → Production T A
 follow next (again s) = next s
 follow next (last a) = done a

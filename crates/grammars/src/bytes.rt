@@ -18,7 +18,7 @@ pub fn is_short_number(bytes: &[u8]) -> bool
     !bytes.is_empty() && bytes.len() <= 9 && are_digits(bytes)
 }
 
-/// Returns the value of a decimal number. The bytes must be 1 to 9 decimal digits.
+/// Returns the number that decimal digits spell. There must be 1 to 9 digits.
 pub fn decimal_of(digits: &[u8]) -> u32
     requires { IsTrue (is_integer digits.now) }
     ensures { result ≡ digits_value digits.now }
@@ -39,7 +39,7 @@ fn each_agrees(bytes: &[u8], name: &[u8]) -> bool
         .all(|(byte, letter)| byte.to_ascii_uppercase() == *letter)
 }
 
-/// Returns whether the bytes, changed to upper case, are `name`.
+/// Returns whether the bytes in upper case are `name`.
 #[tactic(auto, using(crate::proofs::Spelled::differs))]
 pub fn spells(bytes: &[u8], name: &[u8]) -> bool
     ensures { result ≡ bytes_eq (upper bytes.now) name.now }

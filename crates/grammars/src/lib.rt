@@ -1,7 +1,8 @@
-//! Grammars as data: the token lists that they derive, the values of these lists, and the prefixes of such lists. A law
-//! says that reading from left to right decides all three.
+//! Grammars as data: the token lists that they derive, the values of these lists, and the prefixes
+//! of such lists. A law says that a reader that reads from left to right decides all three.
 //!
-//! The crate has definitions (`specs/`), their laws (`proofs/`), and functions on the bytes of one token (`bytes`).
+//! The crate has definitions (`specs/`), their laws (`proofs/`), and functions on the bytes of one
+//! token (`bytes`).
 #![tactic(auto)]
 
 mod bytes;

@@ -1,8 +1,9 @@
--- Readers, which read tokens from left to right.
+-- Readers that read tokens from left to right.
 use Rattle.std.specs.Prelude.{ℕ, zero, suc, List, [], ◌∷◌, length, Option, Some, None}
 use Rattle.grammars.specs.Turn.{Turn, again, last}
 
--- The outcome of reading: a value and the tokens after it, or the tokens from the first that does not fit.
+-- The outcome of reading: a value and the tokens after it, or the tokens from the first that does
+-- not fit on.
 pub data Outcome (T A : Type 0) : Type 0 where
   found : A → List T → Outcome T A
   refused : List T → Outcome T A
@@ -10,7 +11,7 @@ pub data Outcome (T A : Type 0) : Type 0 where
 abbrev pub Reader : Type 0 → Type 0 → Type 0
 Reader T A = List T → Outcome T A
 
--- the outcome of reading on with `next` after a value was found
+-- the outcome of running the reader `next` on the rest if a value was found, or the refusal
 abbrev pub after : {T A B : Type 0} → Outcome T A → (A → Reader T B) → Outcome T B
 after (found a rest) next = next a rest
 after (refused rest) next = refused rest
@@ -40,6 +41,7 @@ abbrev pub turns_up_to : {T S A : Type 0} → ℕ → (S → Reader T (Turn S A)
 turns_up_to zero turn before = none
 turns_up_to (suc n) turn before = in_turn (turn before) (follow (turns_up_to n turn))
 
--- a limit on the turns, one more than there are tokens, which is always enough
+-- reads any number of turns, as turns up to a limit that is one more than the number of tokens and
+-- so is never reached
 unfoldable pub turns : {T S A : Type 0} → (S → Reader T (Turn S A)) → S → Reader T A
 turns turn before tokens = turns_up_to (suc (length tokens)) turn before tokens

@@ -1,4 +1,4 @@
--- The file is read one line at a time.
+-- The code reads the file one line at a time.
 use Rattle.std.proofs.Common.{◌≡◌, ◌+◌, ◌<◌, ◌≤◌, ◌^◌, ◌++◌, ◌∷◌, [], length, map, ap, ◌∙◌, sym, Ok, rules, arith}
 use Rattle.std.specs.Prelude.{option_copied}
 use Rattle.std.proofs.lemmas.List.{length-map, length_push}

@@ -1,4 +1,4 @@
--- A list of names holds no data at run time, so threads may share it.
+-- A list of names owns nothing at run time, so several threads may share it.
 use denote.Param.Send.{IsSync, owning_send, part_keyless}
 use Rattle.bt_base.specs.contracts.asked.Asked.{the_row, the_type}
 
