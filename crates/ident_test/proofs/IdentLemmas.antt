@@ -1,4 +1,4 @@
--- The identity test passes if and only if each code fits its pattern.
+-- The identity test passes if and only if the code of each part fits the part's pattern.
 use Rattle.std.proofs.Common.{◌≡◌, ◌≢◌, ℕ, zero, suc, ◌^◌, ◌<◌, Bool, true, false, ◌&&◌, List, [], ◌∷◌, length, map, Option, Some, None, refl, sym, ◌∙◌, ap, subst, arith}
 use Rattle.std.specs.Prelude.{cond, slice_get}
 use Rattle.std.proofs.Math.Bool.{and-true}
@@ -29,7 +29,7 @@ use Rattle.ident_test.specs.IdentTest.{ArePatterns, IsIdentTest, EachRunTells}
 use Rattle.ident_test.proofs.LengthLemmas.{AllWhole, whole_by, bits_least, bits_most}
 use Rattle.ident_test.proofs.ResetLemmas.{AllSelected, head_selects}
 
--- a bit passes if and only if it fits its symbol
+-- the comparison of a bit at TDO passes if and only if the bit fits the symbol
 bit_fits : (symbol : Symbol) (bit : Bool) → bit_passes (wanted symbol) bit ≡ fits symbol bit
 bit_fits Zero true = refl
 bit_fits Zero false = refl
@@ -37,7 +37,7 @@ bit_fits One true = refl
 bit_fits One false = refl
 bit_fits Any bit = refl
 
--- a code passes if and only if it fits its pattern
+-- the comparison of the bits of a code passes if and only if the code fits the pattern
 code_passes : (pattern : List Symbol) (code : List Bool) → scan_passes (map symbol_bit pattern) code ≡ code_fits pattern code
 code_passes [] code = refl
 code_passes (symbol ∷ pattern) [] = refl
@@ -45,12 +45,13 @@ code_passes (symbol ∷ pattern) (bit ∷ code) =
     ap (λ (b : Bool). b && scan_passes (map symbol_bit pattern) code) (bit_fits symbol bit)
     ∙ ap (λ (b : Bool). fits symbol bit && b) (code_passes pattern code)
 
--- the instruction of a part after a reset: IDCODE if it has a pattern, and BYPASS otherwise
+-- the instruction that a part selects after a reset: IDCODE if it has a pattern, and BYPASS
+-- otherwise
 abbrev selects : Option (List Symbol) → Instruction
 selects (Some pattern) = Idcode
 selects None = Bypass
 
--- a part with a pattern has IDCODE after a reset, and any other part has BYPASS
+-- a coded part selects IDCODE after a reset if it has a pattern, and BYPASS otherwise
 coded_at : (pattern : Option (List Symbol)) (part : TestLogic) → IsCoded pattern part → part.at_reset ≡ Some (selects pattern)
 coded_at (Some pattern) part h = h.0
 coded_at None part h = h
@@ -59,7 +60,8 @@ no_other : (pattern : Option (List Symbol)) (i : Instruction) → i ≡ selects 
 no_other (Some pattern) i e h = let z : Idcode ≡ Other = sym e ∙ h in cc z
 no_other None i e h = let z : Bypass ≡ Other = sym e ∙ h in cc z
 
--- so after a reset each part selects a register of the model
+-- if each part of a chain is coded and has the instruction that it selects after a reset, each part
+-- selects a register that the model of the chain has
 selecting : (patterns : List (Option (List Symbol))) (ps : List ChainPart) → AllIn RunTestIdle ps → AllSelected ps → AreCoded patterns (logics ps) →
     AllSelectingIn RunTestIdle ps
 selecting [] [] idle selected coded = tt
@@ -70,7 +72,8 @@ selecting (pattern ∷ patterns) (p ∷ ps) idle selected coded = (
   selecting patterns ps idle.1 selected.1 coded.1,
 )
 
--- the bits that one part loads are as many as its pattern has, and pass if and only if the code fits
+-- the part loads as many bits as the scan has for it, and the comparison of these bits passes if
+-- and only if the code fits the pattern
 record Loads (pattern : Option (List Symbol)) (part : TestLogic) (loaded : List Bool) : Type 0 where
   size : length (map symbol_bit (register_pattern pattern)) ≡ length loaded
   passes : scan_passes (map symbol_bit (register_pattern pattern)) loaded ≡ part_fits pattern part
@@ -89,10 +92,12 @@ first_whole : (pattern : Option (List Symbol)) (patterns : List (Option (List Sy
 first_whole (Some pattern) patterns h = ((h.0, tt), h.1)
 first_whole None patterns h = (tt, h)
 
--- the scan bits of the registers of all parts, and the registers that the parts load
+-- the scan bits for the register of each part
 abbrev all_bits : List (Option (List Symbol)) → List (List ScanBit)
 all_bits patterns = map (λ part. map symbol_bit (register_pattern part)) patterns
 
+-- each part loads as many bits as the scan has for it, and the comparison of all bits passes if and
+-- only if all codes fit
 record ChainLoads (patterns : List (Option (List Symbol))) (parts : List TestLogic) (loaded : List (List Bool)) : Type 0 where
   sizes : map length (all_bits patterns) ≡ map length loaded
   passes : scan_passes (ident_bits patterns) (joined loaded) ≡ all_fit patterns parts
@@ -147,7 +152,7 @@ module _ (patterns : List (Option (List Symbol))) (are : ArePatterns patterns) w
   sized : AllSized scans
   sized = ((some_bits, few_bits), tt)
 
-  -- a run of the identity test on any chain of parts with these patterns
+  -- facts about a run of the identity test on any chain of coded parts with these patterns
   module _ (wiring : Wiring) (parts : List TestLogic) (coded : AreCoded patterns parts) (chain : List ChainPart) (choices : Choices)
       (start : IsChainOf parts chain) where
     abbrev headed : List ChainPart
@@ -189,7 +194,8 @@ ident_test patterns are = record {
   fails = λ wiring parts coded fit chain choices start. decides patterns are wiring parts coded chain choices start ∙ fit;
 }
 
--- described parts with assigned codes of 32 bits are coded
+-- if the pattern is the device's and the assigned code has 32 bits, the described part with this
+-- code is coded
 one_coded : (pattern : Option (List Symbol)) (device : RawDevice) (code : List Bool) → device.idcode ≡ pattern → length code ≡ 32 →
     IsCoded pattern (coded_by pattern code (test_logic (Described device)))
 one_coded (Some pattern) device code is size = (refl, size)
@@ -201,7 +207,8 @@ devices_coded [] codes sizes = tt
 devices_coded (device ∷ devices) codes sizes =
     (one_coded device.idcode device (codes 0) refl (sizes 0), devices_coded devices (λ k. codes (suc k)) (λ k. sizes (suc k)))
 
--- each part has its own code
+-- the part of a device has the code that is assigned to it, and the registers and instruction codes
+-- of the device
 coded_alone : (pattern : Option (List Symbol)) (device : RawDevice) (code : List Bool) → device.idcode ≡ pattern → HasCode device code (coded_by pattern code (test_logic (Described device)))
 coded_alone (Some pattern) device code is = record {
   ir_length = refl;
@@ -226,14 +233,15 @@ codes_assigned (first ∷ devices) codes zero device is =
     (coded_by first.idcode (codes 0) (test_logic (Described first)), refl, subst (λ (d : RawDevice). HasCode d (codes 0) (coded_by first.idcode (codes 0) (test_logic (Described first)))) same (coded_alone first.idcode first (codes 0) refl))
 codes_assigned (first ∷ devices) codes (suc k) device is = codes_assigned devices (λ n. codes (suc n)) k device is
 
--- the code of a part does not change which instruction a code means
+-- the identification code of a part does not change what an instruction code means to the part
 pub codes_keep_instructions : (device : RawDevice) (code : List Bool) (part : TestLogic) → HasCode device code part → (bits : List Bool) → instruction_of part bits ≡ instruction_of (test_logic (Described device)) bits
 codes_keep_instructions device code part has bits =
     let given = test_logic (Described device) in
     ap (λ (extest : Option (List Bool)). cond (all_ones bits) Bypass (cond (is_code extest bits) Extest (cond (is_code part.preload bits) Sample Other))) has.extest
     ∙ ap (λ (preload : Option (List Bool)). cond (all_ones bits) Bypass (cond (is_code given.extest bits) Extest (cond (is_code preload bits) Sample Other))) has.preload
 
--- if a test passes when all codes fit and fails otherwise, each run shows whether all codes fit
+-- if the text is an identity test for these patterns, each run of it passes if and only if all
+-- codes fit
 pub each_run_tells : (patterns : List (Option (List Symbol))) (text : List ℕ) → IsIdentTest patterns text → EachRunTells patterns text
 each_run_tells patterns text test clocks wiring parts chain choices means coded start = by_fit (all_fit patterns parts) refl
   where

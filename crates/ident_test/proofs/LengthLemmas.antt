@@ -4,7 +4,7 @@ use Rattle.std.proofs.lemmas.List.{length-map}
 use Rattle.board_defs.specs.declared.device.Symbol.{Symbol}
 use Rattle.ident_test.specs.Patterns.{symbol_bit, register_pattern, ident_bits}
 
--- each pattern has 32 symbols
+-- each item that is a pattern has 32 symbols
 abbrev pub AllWhole : List (Option (List Symbol)) → Type 0
 AllWhole [] = Unit {0}
 AllWhole (None ∷ patterns) = AllWhole patterns
@@ -31,7 +31,7 @@ bits_most [] h = omega arith
 bits_most (None ∷ patterns) h = omega (arith, length-ident_bits None patterns, bits_most patterns h)
 bits_most (Some pattern ∷ patterns) h = omega (arith, length-ident_bits (Some pattern) patterns, h.0, bits_most patterns h.1)
 
--- rows with room for 8,160 bits have room for the scan
+-- if there are at most 255 parts and each pattern has 32 symbols, the scan has at most 8,160 bits
 pub room_of : (patterns : List (Option (List Symbol))) → All (λ pattern. IfSome pattern (λ code. length code ≡ 32)) patterns → length patterns ≤ 255 →
     length (ident_bits patterns) ≤ 8160
 room_of patterns each few = omega (arith, bits_most patterns (whole_by patterns each), few)

@@ -1,5 +1,5 @@
--- After the head of a text, each part has the instruction that it selects in Test-Logic-Reset, if that instruction is
--- known.
+-- After the head of a test's text, each part has the instruction that it selects in
+-- Test-Logic-Reset, if that instruction is known.
 use Rattle.std.proofs.Common.{◌≡◌, ℕ, suc, Bool, true, false, List, [], ◌∷◌, map, Option, Some, refl, sym, ◌∙◌, ap, subst}
 use Rattle.tap_defs.specs.declared.tap.TapState.{TapState}
 use Rattle.tap_defs.specs.declared.tap.TapState.TheVariants.{TestLogicReset, RunTestIdle}
@@ -14,7 +14,7 @@ use Rattle.tap_defs.proofs.board.CalmLemmas.{reset_current}
 use Rattle.tap_defs.proofs.chain.HeadLemmas.{part_tap, run_resets}
 use Rattle.tap_defs.proofs.chain.MoveLemmas.{moved_to, chain_moves}
 
--- each part has the instruction that it selects in Test-Logic-Reset, if that is known
+-- each part has the instruction that it selects in Test-Logic-Reset, if that instruction is known
 abbrev pub AllSelected : List ChainPart → Type 0
 AllSelected [] = Unit {0}
 AllSelected (p ∷ ps) = ((i : Instruction) → p.logic.at_reset ≡ Some i → p.state.current ≡ i) × AllSelected ps
@@ -36,7 +36,8 @@ moved_selected : (t : TapState) (ps : List ChainPart) → AllSelected ps → All
 moved_selected t [] h = tt
 moved_selected t (p ∷ ps) h = (h.0, moved_selected t ps h.1)
 
--- after five clocks with TMS 1, each part has the instruction that it selects in Test-Logic-Reset, if that is known
+-- after five clocks with TMS at 1, each part has the instruction that it selects in
+-- Test-Logic-Reset, if that instruction is known
 reset_selects : (wiring : Wiring) (choices : Choices) (ps : List ChainPart) → AllSelected (run wiring reset_clocks choices ps)
 unfolding run
 reset_selects wiring choices ps =
@@ -44,7 +45,8 @@ reset_selects wiring choices ps =
     let choice : Choice = choices 4 in
     chain_selects before (pins_at wiring choice before) choice.parts true (clock_tdi (plain true) choice) (run_resets wiring choices ps)
 
--- the sixth clock changes no instruction, so this is still so after the head
+-- after the six clocks of the head, each part still has this instruction, since the sixth clock
+-- changes no instruction
 pub head_selects : (wiring : Wiring) (choices : Choices) (ps : List ChainPart) → AllSelected (run wiring head_clocks choices ps)
 unfolding run
 head_selects wiring choices ps =

@@ -1,4 +1,4 @@
--- Texts and runs of the identity test on small chains.
+-- Samples of the text of the identity test, and of its runs on small chains.
 use Rattle.std.proofs.Common.{◌≡◌, Bool, true, false, List, [], ◌∷◌, ◌++◌, map, replicate, Option, Some, None, refl}
 use Rattle.std.specs.Prelude.{codes}
 use Rattle.std.specs.Fmt.{digits}
@@ -14,7 +14,7 @@ use Rattle.tap_defs.proofs.chain.SampleRun.{choices, no_wiring, pausing, shiftin
 use Rattle.ident_test.specs.Patterns.{ident_scan, ident_text}
 use Rattle.ident_test.specs.CodedParts.{AreCoded, all_fit}
 
--- the pattern XXXX0001001000110100000000000111, as symbols from the one nearest TDO on
+-- the pattern XXXX0001001000110100000000000111; the first symbol is nearest TDO
 abbrev known_part : List Symbol
 known_part =
     One ∷ One ∷ One ∷ Zero ∷ Zero ∷ Zero ∷ Zero ∷ Zero ∷ Zero ∷ Zero ∷ Zero ∷ Zero
@@ -30,12 +30,12 @@ turned_text : ident_text (None ∷ Some known_part ∷ []) ≡ sample_text (code
 unfolding svf_text digits
 turned_text = refl
 
--- if no bit is compared, only the field TDI is printed
+-- if the scan compares no bit, its text has only the field TDI
 unknown_text : ident_text (Some (replicate 32 Any) ∷ []) ≡ sample_text (codes "SDR 32 TDI (00000000);" ∷ [])
 unfolding svf_text digits
 unknown_text = refl
 
--- patterns of a part with the short pattern 0X1 and a part without a pattern
+-- the patterns of a part with the short pattern 0X1 and of a part without a pattern
 abbrev patterns : List (Option (List Symbol))
 patterns = Some (One ∷ Any ∷ Zero ∷ []) ∷ None ∷ []
 
@@ -45,7 +45,8 @@ coded code = record { ir_length = 4; boundary_length = 0; extest = None; preload
 abbrev bypassed : TestLogic
 bypassed = record { ir_length = 2; boundary_length = 0; extest = None; preload = None; at_reset = Some Bypass; idcode = [] }
 
--- a chain before the test; its two parts are in different TAP states and have different instructions
+-- a chain before the test; its two parts are in different TAP states and have different
+-- instructions, and the first has this code
 abbrev two : List Bool → List ChainPart
 two code =
     record { logic = coded code; state = record pausing { identification = on ∷ on ∷ on ∷ [] } }
@@ -63,7 +64,7 @@ start = record {
 abbrev clocks : List Clock
 clocks = test_clocks (ident_scan patterns ∷ [])
 
--- the bypass bit leaves first, and then the code, lowest bit first
+-- the bit of the bypass register leaves the chain first, and then the code, lowest bit first
 reads : tdos no_wiring clocks choices (two (on ∷ off ∷ off ∷ [])) ≡
     (on ∷ off ∷ off ∷ off ∷ off ∷ off ∷ [])
     ++ (off ∷ off ∷ off ∷ []) ++ (off ∷ on ∷ off ∷ off ∷ []) ++ (off ∷ off ∷ [])
@@ -71,38 +72,42 @@ reads : tdos no_wiring clocks choices (two (on ∷ off ∷ off ∷ [])) ≡
 unfolding tdos
 reads = refl
 
--- the codes 001 and 011 fit 0X1
+-- whether the test passes on the chain whose first part has this code
 abbrev outcome : List Bool → Bool
 outcome code = run_passes clocks (tdos no_wiring clocks choices (two code))
 
+-- the code 001 fits 0X1
 low_fits : outcome (on ∷ off ∷ off ∷ []) ≡ true
 unfolding tdos
 low_fits = refl
 
+-- the code 011 fits 0X1
 high_fits : outcome (on ∷ on ∷ off ∷ []) ≡ true
 unfolding tdos
 high_fits = refl
 
--- the codes 101 and 000 do not fit 0X1
+-- the code 101 does not fit 0X1
 first_differs : outcome (on ∷ off ∷ on ∷ []) ≡ false
 unfolding tdos
 first_differs = refl
 
+-- the code 000 does not fit 0X1
 last_differs : outcome (off ∷ off ∷ off ∷ []) ≡ false
 unfolding tdos
 last_differs = refl
 
--- the definition `all_fit` says the same of the four codes
+-- `all_fit` gives the same results for the four codes
 all_told : map (λ code. all_fit patterns (coded code ∷ bypassed ∷ []))
     ((on ∷ off ∷ off ∷ []) ∷ (on ∷ on ∷ off ∷ []) ∷ (on ∷ off ∷ on ∷ []) ∷ (off ∷ off ∷ off ∷ []) ∷ [])
     ≡ true ∷ true ∷ false ∷ false ∷ []
 all_told = refl
 
--- Parts with patterns are coded whatever their lengths, with or without instruction codes, and even if the code does not fit the
--- pattern.
+-- a code of 32 zeros, which does not fit the pattern
 abbrev zeros : List Bool
 zeros = replicate 32 off
 
+-- Parts are coded whatever their register lengths are, with or without instruction codes, and even
+-- if the code does not fit the pattern.
 coded_whatever : AreCoded (Some known_part ∷ Some known_part ∷ None ∷ None ∷ [])
     (coded zeros
     ∷ record { ir_length = 2; boundary_length = 9; extest = Some (off ∷ off ∷ []); preload = Some (on ∷ off ∷ []); at_reset = Some Idcode; idcode = zeros }

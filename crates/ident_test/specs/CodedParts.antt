@@ -7,20 +7,20 @@ use Rattle.board_defs.specs.declared.device.RawDevice.{RawDevice}
 use Rattle.tap_defs.specs.chain.TestLogic.{TestLogic, Bypass, Idcode}
 use Rattle.tap_defs.specs.board.OnBoard.{test_logic}
 
--- A described part with a pattern selects IDCODE in Test-Logic-Reset, and its identification code has 32 bits. A part without a
--- pattern selects BYPASS.
+-- A described part that has a pattern selects IDCODE in Test-Logic-Reset, and its identification
+-- code has 32 bits. A described part that has no pattern selects BYPASS.
 abbrev pub IsCoded : Option (List Symbol) → TestLogic → Type 0
 IsCoded (Some pattern) part = (part.at_reset ≡ Some Idcode) × (length part.idcode ≡ 32)
 IsCoded None part = part.at_reset ≡ Some Bypass
 
--- the parts of a chain are coded, each with its pattern
+-- there are as many parts as patterns, and each part is coded with the pattern at its place
 abbrev pub AreCoded : List (Option (List Symbol)) → List TestLogic → Type 0
 AreCoded [] [] = Unit {0}
 AreCoded [] (part ∷ parts) = ⊥
 AreCoded (pattern ∷ patterns) [] = ⊥
 AreCoded (pattern ∷ patterns) (part ∷ parts) = IsCoded pattern part × AreCoded patterns parts
 
--- the bit fits the symbol; X fits 0 and 1
+-- the bit fits the symbol; each bit fits X
 abbrev pub fits : Symbol → Bool → Bool
 fits Zero bit = not bit
 fits One bit = bit
@@ -41,12 +41,13 @@ abbrev pub all_fit : List (Option (List Symbol)) → List TestLogic → Bool
 all_fit (pattern ∷ patterns) (part ∷ parts) = part_fits pattern part && all_fit patterns parts
 all_fit _ _ = true
 
--- The part with a known code. If there is a pattern, the part selects IDCODE in Test-Logic-Reset, and has this code.
+-- The part with this code. If there is a pattern, the part selects IDCODE in Test-Logic-Reset and
+-- has this code. Otherwise the part is unchanged.
 abbrev pub coded_by : Option (List Symbol) → List Bool → TestLogic → TestLogic
 coded_by (Some pattern) code part = record part { at_reset = Some Idcode; idcode = code }
 coded_by None code part = part
 
--- the parts of a chain of described devices, in which part `k` has code `k` if its device has a pattern
+-- the parts of a chain of described devices; part `k` has code `k` if its device has a pattern
 abbrev pub coded_parts : List RawDevice → (ℕ → List Bool) → List TestLogic
 coded_parts [] codes = []
 coded_parts (device ∷ devices) codes = coded_by device.idcode (codes 0) (test_logic (Described device)) ∷ coded_parts devices (λ k. codes (suc k))

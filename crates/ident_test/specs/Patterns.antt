@@ -16,19 +16,21 @@ wanted Any = None
 abbrev pub symbol_bit : Symbol → ScanBit
 symbol_bit symbol = record { tdi = false; expect = wanted symbol }
 
--- the symbols that are expected of a part's register: those of its pattern, or the 0 that a bypass register loads in Capture-DR
+-- the symbols that the scan expects from a part's register: the pattern, or the 0 that a bypass
+-- register loads in Capture-DR
 abbrev pub register_pattern : Option (List Symbol) → List Symbol
 register_pattern (Some pattern) = pattern
 register_pattern None = Zero ∷ []
 
--- the bits of all parts' registers, joined for a scan; the parts are in the order from TDI to TDO
+-- the scan bits for the registers of all parts, joined in the order of the chain; the parts are in
+-- the order from TDI to TDO
 abbrev pub ident_bits : List (Option (List Symbol)) → List ScanBit
 ident_bits patterns = joined (map (λ part. map symbol_bit (register_pattern part)) patterns)
 
--- the data scan with these bits
+-- the data scan of the identity test
 abbrev pub ident_scan : List (Option (List Symbol)) → Scan
 ident_scan patterns = record { ir = false; bits = ident_bits patterns }
 
--- the text of the identity test of described parts with these IDCODE patterns
+-- the text of the identity test of described parts with these patterns
 abbrev pub ident_text : List (Option (List Symbol)) → List ℕ
 ident_text patterns = svf_text (ident_scan patterns ∷ [])

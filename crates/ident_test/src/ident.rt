@@ -14,8 +14,8 @@ use bt_bits::{Line, Row};
 use svf_writer::{write_head, write_scan, write_tail};
 use tap_defs::{ScanRows, Shape};
 
-// Returns the symbols that are expected of a part's register: the pattern of its identification code, or the 0 of the bypass
-// register if the part has no pattern.
+// Returns the symbols that the scan expects from a part's register: the pattern of its
+// identification code, or the 0 of the bypass register if the part has no pattern.
 fn register_pattern(part: &Option<Code>) -> &[Symbol]
     ensures { result.now ≡ register_pattern part.now }
 {
@@ -25,7 +25,8 @@ fn register_pattern(part: &Option<Code>) -> &[Symbol]
     }
 }
 
-// Returns the number of bits of the part's register. An identification register has 32 (IEEE 1149.1-1990, section 11).
+// Returns the number of bits of the part's register. An identification register has 32 bits (IEEE
+// 1149.1-1990, section 11).
 fn register_bits(part: &Option<Code>) -> u32
     requires { IfSome part.now (λ code. length code ≡ 32) }
     ensures value { result ≡ length (register_pattern part.now) }
@@ -57,14 +58,14 @@ fn expects_one(symbol: Symbol) -> bool
     matches!(symbol, Symbol::One)
 }
 
-// Returns whether a bit with this symbol is compared.
+// Returns whether the scan compares a bit with this symbol.
 fn is_compared(symbol: Symbol) -> bool
     ensures { result ≡ is_some (wanted symbol) }
 {
     !matches!(symbol, Symbol::Any)
 }
 
-// Sets the expected bits and the mask of one register, whose lowest bit is at position `at`.
+// Sets the expected bits and the mask bits of one register, whose lowest bit is at position `at`.
 fn set_register(at: u32, pattern: &[Symbol], tdo: &mut Row, mask: &mut Row)
     requires few { at + length pattern.now ≤ most_bits }
     requires tdo { at + length pattern.now ≤ length tdo.old.bits }
@@ -82,7 +83,7 @@ fn set_register(at: u32, pattern: &[Symbol], tdo: &mut Row, mask: &mut Row)
     }
 }
 
-// Sets the expected bits and the mask of each register, beginning with the last part.
+// Sets the expected bits and the mask bits of each register, from the last part to the first.
 fn set_registers(parts: &[Option<Code>], tdo: &mut Row, mask: &mut Row)
     requires few { length (ident_bits parts.now) ≤ most_bits }
     requires tdo { tdo.old.bits ≡ replicate (length (ident_bits parts.now)) false }
@@ -138,13 +139,15 @@ fn put_scan<K: Sink>(
     write_scan(shape, rows.tdi, rows.tdo, rows.mask, line, out)
 }
 
-/// Writes the identity test of described parts with these IDCODE patterns, in the order from TDI to TDO. The text is a reset,
-/// one data scan and another reset. In the scan, a part with a pattern has 32 bits, of which those with a 0 or 1 in the pattern
-/// are compared. Any other part has one bit, which is compared with the 0 of its bypass register.
+/// Writes the identity test of described parts with these IDCODE patterns, in the order from TDI to
+/// TDO. The text is a reset, one data scan and another reset. The scan has 32 bits for a part with
+/// a pattern, and compares each bit for which the pattern has 0 or 1. It has one bit for any other
+/// part, and compares this bit with the 0 of the bypass register.
 ///
-/// There must be 1 to 255 parts, each pattern must have 32 symbols, and the rows must have room for the scan. The call takes no
-/// memory. The rows and the line are scratch space, and their contents are unspecified afterwards. The call fails only if the
-/// sink fails, which has then taken a prefix of the text.
+/// There must be 1 to 255 parts, each pattern must have 32 symbols, and the rows must have room for
+/// the scan. The call allocates nothing. The rows and the line are scratch space, and their
+/// contents are unspecified afterwards. The call fails only if the sink fails. The sink has then
+/// taken a prefix of the text.
 pub fn write_ident<K: Sink>(
     parts: &[Option<Code>],
     tdi: &mut Row,

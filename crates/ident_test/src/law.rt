@@ -1,4 +1,5 @@
-//! Laws of the identity test. Each is the contract of a function that does nothing: a caller knows the law after calling it.
+//! Laws of the identity test. Each law is the contract of a function that does nothing. A caller
+//! knows the law after calling the function.
 ghost use Rattle.std.specs.Prelude.{◌≡◌, ℕ, Bool, List, Option, Some, length, map, slice_get};
 ghost use Rattle.board_defs.specs.declared.device.RawDevice.{RawDevice};
 ghost use Rattle.board_defs.specs.declared.device.Symbol.{Symbol};
@@ -9,13 +10,15 @@ ghost use Rattle.ident_test.specs.CodedParts.{AreCoded, HasCode, coded_parts};
 ghost use Rattle.ident_test.specs.IdentTest.{ArePatterns, EachRunTells, IsIdentTest};
 ghost use Rattle.ident_test.specs.Patterns.{ident_text};
 
-/// The text of the identity test passes on every chain whose codes fit their patterns, and fails on every chain with a code
-/// that does not fit. This is so from any state, and whatever the pins capture.
+/// The text of the identity test passes on each chain whose codes all fit their patterns, and fails
+/// on each chain with a code that does not fit. The chain may be in any state, and the pins may
+/// capture anything.
 pub fn ident_tests()
     ensures { (patterns : List (Option (List Symbol))) → ArePatterns patterns → IsIdentTest patterns (ident_text patterns) }
 {}
 
-/// If every code has 32 bits, described devices with these codes are parts with the patterns of the devices.
+/// If each code has 32 bits, the parts of described devices with these codes are coded with the
+/// patterns of the devices.
 pub fn parts_coded()
     ensures { (devices : List RawDevice) (codes : ℕ → List Bool) → ((k : ℕ) → length (codes k) ≡ 32) → AreCoded (map (λ device. device.idcode) devices) (coded_parts devices codes) }
 {}
@@ -25,17 +28,20 @@ pub fn each_run_tells()
     ensures { (patterns : List (Option (List Symbol))) (text : List ℕ) → IsIdentTest patterns text → EachRunTells patterns text }
 {}
 
-/// Under an assignment of codes, each part has its own code and the registers and instruction codes of its device.
+/// If codes are assigned to described devices, part `k` has code `k` if its device has a pattern,
+/// and the registers and instruction codes of its device.
 pub fn codes_assigned()
     ensures { (devices : List RawDevice) (codes : ℕ → List Bool) (k : ℕ) (device : RawDevice) → slice_get devices k ≡ Some device → (part : TestLogic) × (slice_get (coded_parts devices codes) k ≡ Some part) × HasCode device (codes k) part }
 {}
 
-/// A part with a code takes each instruction code as its device does.
+/// A part with a code interprets each instruction code like the part of its device without the
+/// code.
 pub fn codes_keep_instructions()
     ensures { (device : RawDevice) (code : List Bool) (part : TestLogic) → HasCode device code part → (bits : List Bool) → instruction_of part bits ≡ instruction_of (test_logic (Described device)) bits }
 {}
 
-/// A part with a code has registers of the same lengths as its device. If the device has a pattern, the part has the code.
+/// A part with a code has registers of the same lengths as the part of its device. If the device
+/// has a pattern, the part has the code.
 pub fn codes_keep_lengths()
     ensures instruction { (device : RawDevice) (code : List Bool) (part : TestLogic) → HasCode device code part → part.ir_length ≡ (test_logic (Described device)).ir_length }
     ensures boundary { (device : RawDevice) (code : List Bool) (part : TestLogic) → HasCode device code part → part.boundary_length ≡ (test_logic (Described device)).boundary_length }

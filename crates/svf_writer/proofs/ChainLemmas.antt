@@ -1,4 +1,4 @@
--- Lemmas about the rows of the chain test.
+-- Lemmas about the rows of the two scans of the chain test.
 use Rattle.std.proofs.Common.{◌≡◌, ℕ, ◌+◌, ◌-◌, ◌*◌, ◌<◌, ◌≤◌, zero, suc, Bool, true, false, List, [], ◌∷◌, ◌++◌, length, get_or, set, drop, map, replicate, sum, is_some, unwrap_or, refl, sym, ap, ◌∙◌, append_assoc, length-append, arith}
 use Rattle.std.proofs.lemmas.List.{append-nil, set_at, set-append_right, length-replicate, length-map, map-append, replicate_more, replicate-append-replicate, drop_more}
 use Rattle.std.proofs.lemmas.List.Sums.{sum_by-cons, sum_by-le, sum_by-take-drop}
@@ -13,14 +13,16 @@ use Rattle.tap_defs.specs.chain.ChainScans.{marks, compared, chain_scans}
 use Rattle.tap_defs.proofs.chain.RowLemmas.{tdi_bits-code_bits, tdi_bits-compared}
 use Rattle.svf_writer.specs.inner.Chain.{bypass_bits, mark_bits, marked}
 
--- if `m` equal bits follow the bits `done`, writing at the place after `done` changes the first of the `m` bits
+-- if `m` equal bits follow the bits `done`, writing `y` at the place after `done` changes the first
+-- of the `m` bits to `y`
 set_first : (done : List Bool) (at m : ℕ) (x y : Bool) → length done ≡ at → 0 < m → set (done ++ replicate m x) at y ≡ done ++ y ∷ replicate (m - 1) x
 set_first done at zero x y is_at some = absurd (omega arith)
 set_first done at (suc m) x y is_at some =
     let less : suc m - 1 ≡ m = omega arith in
     set_at done x (replicate m x) y at is_at ∙ ap (λ k. done ++ y ∷ replicate k x) (sym less)
 
--- if a row begins with ones, writing a one after them makes it begin with one more
+-- if a row has `at` ones followed by zeros, writing a one at place `at` gives `at + 1` ones
+-- followed by zeros
 pub ones_more : (len at : ℕ) → at < len → set (replicate at true ++ replicate (len - at) false) at true ≡ replicate (at + 1) true ++ replicate (len - (at + 1)) false
 ones_more len at within =
     let less : len - at - 1 ≡ len - (at + 1) = omega arith in
@@ -29,7 +31,7 @@ ones_more len at within =
     ∙ sym (append_assoc (replicate at true) (true ∷ []) (replicate (len - (at + 1)) false))
     ∙ ap (λ t. t ++ replicate (len - (at + 1)) false) (replicate_more at true)
 
--- bits that are shifted in without a comparison expect 0 in the row of TDO
+-- bits that are shifted in without a comparison have 0 in the row of TDO
 sent_tdo : (n : ℕ) → tdo_bits (map sent (replicate n true)) ≡ replicate n false
 sent_tdo zero = refl
 sent_tdo (suc n) = ap (λ t. false ∷ t) (sent_tdo n)
@@ -52,7 +54,7 @@ bypass_mask (suc (suc n)) long =
     let rest : n ≡ suc (suc n) - 2 = omega arith in
     ap (λ t. true ∷ true ∷ t) (sent_mask n) ∙ ap (λ k. true ∷ true ∷ replicate k false) rest
 
--- the row of TDI has only ones
+-- the row of TDI of the instruction scan has only ones
 pub bypass_bits-tdi : (lengths : List ℕ) → tdi_bits (bypass_bits lengths) ≡ replicate (sum lengths) true
 bypass_bits-tdi [] = refl
 bypass_bits-tdi (n ∷ lengths) =
@@ -65,7 +67,8 @@ bypass_bits-tdi (n ∷ lengths) =
 pub length-bypass_bits : (lengths : List ℕ) → length (bypass_bits lengths) ≡ sum lengths
 length-bypass_bits lengths = sym (length-map (bypass_bits lengths) (λ b. b.tdi)) ∙ ap length (bypass_bits-tdi lengths) ∙ length-replicate (sum lengths) true
 
--- after the bits of one more part are set, the row of TDO has the expected bits of the parts so far
+-- if the row of TDO has the expected bits of the parts so far, followed by zeros, it has the
+-- expected bits of one more part as well after a one is written at the part's lowest bit
 pub tdo_step : (rest : List ℕ) (n at total : ℕ) (bits : List Bool) → 2 ≤ n → at ≡ sum rest → at + n ≤ total → bits ≡ tdo_bits (bypass_bits rest) ++ replicate (total - at) false → set bits at true ≡ tdo_bits (bypass_bits (n ∷ rest)) ++ replicate (total - (at + n)) false
 tdo_step rest n at total bits long is_at within so_far =
     let done : List Bool = tdo_bits (bypass_bits rest) in
@@ -99,7 +102,7 @@ set_after n i k bits is_i =
     let less : i - n ≡ k = omega arith in
     set-append_right (replicate n false) bits n i true (length-replicate n false) (omega arith) ∙ ap (λ j. replicate n false ++ set bits j true) less
 
--- a row of zeros in which the marks are set has the marks between zeros
+-- setting the marks at place `at` in a row of zeros gives `at` zeros, the marks, and zeros
 pub marked-zeros : (at rest : ℕ) → marked at (replicate (at + (8 + rest)) false) ≡ replicate at false ++ (marks ++ replicate rest false)
 marked-zeros at rest =
     let here : at ≡ at + 0 = omega arith in
@@ -112,7 +115,7 @@ marked-zeros at rest =
     ∙ ap (λ t. set t (at + 7) true) (set_after at (at + 5) 5 (set (set zeros 0 true) 2 true) refl)
     ∙ set_after at (at + 7) 7 (set (set (set zeros 0 true) 2 true) 5 true) refl
 
--- if all bits are compared, the row of TDO has the expected bits
+-- if all bits of a scan are compared, its row of TDO is the list of expected bits
 compared_tdo : (ins out : List Bool) → length ins ≡ length out → tdo_bits (compared ins out) ≡ out
 compared_tdo [] [] same = refl
 compared_tdo [] (o ∷ out) same = absurd (omega arith)
@@ -124,7 +127,7 @@ compared_mask [] out same = refl
 compared_mask (i ∷ ins) [] same = absurd (omega arith)
 compared_mask (i ∷ ins) (o ∷ out) same = ap (λ t. true ∷ t) (compared_mask ins out (omega arith))
 
--- the row of TDI and the row of TDO of the data scan have the same length
+-- the bits that the data scan shifts in are as many as the bits that it expects
 same_length : (parts : ℕ) → length (marks ++ replicate parts false) ≡ length (replicate parts false ++ marks)
 same_length parts = omega (arith, length-append marks (replicate parts false), length-append (replicate parts false) marks, length-replicate parts false)
 
@@ -141,7 +144,8 @@ mark_bits-mask parts =
     let long : parts + 8 ≡ length (marks ++ replicate parts false) = omega (arith, length-append marks (replicate parts false), length-replicate parts false) in
     ap (λ k. replicate k true) long ∙ sym (compared_mask (marks ++ replicate parts false) (replicate parts false ++ marks) (same_length parts))
 
--- the lengths from part `i - 1` on are the length of this part followed by the lengths from part `i` on
+-- the lengths from part `i - 1` on are the length of part `i - 1` followed by the lengths from part
+-- `i` on
 pub drop_before : (lengths : List ℕ) (i : ℕ) → 0 < i → i ≤ length lengths → drop (i - 1) lengths ≡ get_or lengths (i - 1) 0 ∷ drop i lengths
 drop_before lengths i some within =
     let next : i - 1 + 1 ≡ i = omega arith in
@@ -154,7 +158,8 @@ sum_before lengths i some within =
 pub sum_drop : (lengths : List ℕ) (i : ℕ) → sum (drop i lengths) ≤ sum lengths
 sum_drop lengths i = omega (arith, sum_by-take-drop (λ (x : ℕ). x) lengths i)
 
--- the row has room for the instruction register of part `i - 1`
+-- if `at` is the sum of the lengths from part `i` on, a row with a bit for each instruction bit has
+-- room for part `i - 1` at place `at`
 pub room_before : (lengths : List ℕ) (i at : ℕ) → 0 < i → i ≤ length lengths → at ≡ sum (drop i lengths) → at + get_or lengths (i - 1) 0 ≤ sum lengths
 room_before lengths i at some within is_at = omega (arith, sum_before lengths i some within, sum_drop lengths (i - 1))
 
@@ -162,7 +167,7 @@ any_one : (a b : List Bool) → list_any (λ bit. bit) (a ++ true ∷ b) ≡ tru
 any_one [] b = refl
 any_one (x ∷ a) b = ap (λ t. x || t) (any_one a b) ∙ or-true x
 
--- some bit of each part is compared
+-- if there is a part and each length is at least 2, the instruction scan compares some bit
 pub bypass_bits-compared : (lengths : List ℕ) → 0 < length lengths → All (λ n. 2 ≤ n) lengths → list_any (λ bit. bit) (mask_bits (bypass_bits lengths)) ≡ true
 bypass_bits-compared [] some each = absurd (omega arith)
 bypass_bits-compared (n ∷ lengths) some each =
@@ -170,7 +175,7 @@ bypass_bits-compared (n ∷ lengths) some each =
     ∙ ap (λ t. mask_bits (bypass_bits lengths) ++ t) (bypass_mask n (each 0 0 (omega arith))))
     ∙ any_one (mask_bits (bypass_bits lengths)) (true ∷ replicate (n - 2) false)
 
--- if there is at least one part, the instruction scan shifts at least one bit in
+-- if there is a part and each length is at least 2, the instruction scan has at least one bit
 pub sum_some : (lengths : List ℕ) → 0 < length lengths → All (λ n. 2 ≤ n) lengths → 0 < sum lengths
 sum_some [] some each = absurd (omega arith)
 sum_some (n ∷ lengths) some each = omega (arith, sum_by-cons (λ (x : ℕ). x) n lengths, each 0 0 (omega arith))
@@ -186,10 +191,11 @@ length-bypass_tdi lengths = ap length (bypass_bits-tdi lengths) ∙ length-repli
 pub sum_at_most : (lengths : List ℕ) → All IsInstructionLength lengths → sum lengths ≤ length lengths * 255
 sum_at_most lengths each = sum_by-le (λ (x : ℕ). x) 255 lengths (λ k d within. (each k d within).1)
 
--- the two scans of the chain test
+-- the instruction scan of the chain test
 abbrev pub bypass_scan : List ℕ → Scan
 bypass_scan lengths = record { ir = true; bits = bypass_bits lengths }
 
+-- the data scan of the chain test
 abbrev pub mark_scan : ℕ → Scan
 mark_scan parts = record { ir = false; bits = mark_bits parts }
 

@@ -1,4 +1,4 @@
--- Lemmas about scans and their rows.
+-- Lemmas about scans and the rows of their bits.
 use Rattle.std.proofs.Common.{◌≡◌, ℕ, ◌+◌, ◌<◌, ◌≤◌, suc, Bool, true, false, cond, ltb, List, [], ◌∷◌, ◌++◌, length, get_or, None, Some, is_some, unwrap_or, refl, sym, ap, subst, inl, inr, ◌∙◌, append_assoc, length-append, arith}
 use Rattle.std.proofs.lemmas.List.{length-map}
 use Rattle.std.proofs.lemmas.Bool.{lt-ltb, le-ltb, cases_lt}
@@ -17,13 +17,15 @@ masked_bit o true masked = refl
 masked_bit false false masked = refl
 masked_bit true false masked = let bad : false ≡ true = masked refl in absurd cc
 
--- the rows of a scan that was made from rows are those rows
+-- if a scan is made from rows of equal length, its row of TDI is the given row
 pub tdi_bits-scan_bits : (tdi tdo mask : List Bool) → length tdo ≡ length tdi → length mask ≡ length tdi → tdi_bits (scan_bits tdi tdo mask) ≡ tdi
 tdi_bits-scan_bits [] tdo mask o m = refl
 tdi_bits-scan_bits (i ∷ is) [] mask o m = absurd (omega arith)
 tdi_bits-scan_bits (i ∷ is) (o' ∷ os) [] o m = absurd (omega arith)
 tdi_bits-scan_bits (i ∷ is) (o' ∷ os) (m' ∷ ms) o m = ap (λ t. i ∷ t) (tdi_bits-scan_bits is os ms (omega arith) (omega arith))
 
+-- if a scan is made from rows of equal length and MASK has a 1 wherever TDO has one, its row of TDO
+-- is the given row
 pub tdo_bits-scan_bits : (tdi tdo mask : List Bool) → length tdo ≡ length tdi → length mask ≡ length tdi → IsMasked tdo mask → tdo_bits (scan_bits tdi tdo mask) ≡ tdo
 tdo_bits-scan_bits [] [] mask o m masked = refl
 tdo_bits-scan_bits [] (o' ∷ os) mask o m masked = absurd (omega arith)
@@ -33,12 +35,12 @@ tdo_bits-scan_bits (i ∷ is) (o' ∷ os) (m' ∷ ms) o m masked =
     ap (λ b. b ∷ tdo_bits (scan_bits is os ms)) (masked_bit o' m' (masked 0))
     ∙ ap (λ t. o' ∷ t) (tdo_bits-scan_bits is os ms (omega arith) (omega arith) (λ k. masked (suc k)))
 
--- a scan compares some bit if and only if its row of MASK has a 1
+-- the row of MASK of a scan has a 1 if and only if the scan compares some bit
 pub list_any-mask_bits : (bits : List ScanBit) → list_any (λ bit. bit) (mask_bits bits) ≡ compares bits
 list_any-mask_bits [] = refl
 list_any-mask_bits (b ∷ bits) = ap (λ t. is_some b.expect || t) (list_any-mask_bits bits)
 
--- wherever the row of TDO has a 1, the row of MASK has a 1
+-- wherever the row of TDO of a scan has a 1, the row of MASK has a 1
 pub IsMasked-rows : (bits : List ScanBit) → IsMasked (tdo_bits bits) (mask_bits bits)
 IsMasked-rows bits = one_masked bits
 
@@ -48,7 +50,8 @@ compares-scan_bits tdi tdo mask o m = sym (list_any-mask_bits (scan_bits tdi tdo
 pub length-scan_bits : (tdi tdo mask : List Bool) → length tdo ≡ length tdi → length mask ≡ length tdi → length (scan_bits tdi tdo mask) ≡ length tdi
 length-scan_bits tdi tdo mask o m = sym (length-map (scan_bits tdi tdo mask) (λ b. b.tdi)) ∙ ap length (tdi_bits-scan_bits tdi tdo mask o m)
 
--- the conditions on the rows of a scan that is written: equal lengths, MASK wherever TDO has a 1, and the right flag
+-- the conditions on the rows of a written scan: equal lengths, MASK has a 1 wherever TDO has one,
+-- and `compare` says whether MASK has a 1
 pub record Written (tdi tdo mask : List Bool) (compare : Bool) : Type 0 where
   pub same_tdo : length tdo ≡ length tdi
   pub same_mask : length mask ≡ length tdi
@@ -90,7 +93,8 @@ fields_text-lines : (tdi tdo mask : List Bool) (compare : Bool) → fields_text 
 fields_text-lines tdi tdo mask true = simp append_assoc
 fields_text-lines tdi tdo mask false = simp append_assoc
 
--- if the statement of a scan fits into one line, this line is its text
+-- if the command and the fields of a scan together have at most 80 characters, the text of the scan
+-- is one line with both
 pub scan_text-short : (ir : Bool) (tdi tdo mask : List Bool) (compare : Bool) → Written tdi tdo mask compare → length (command_text ir tdi) + fields_length compare (digit_count (length tdi)) ≤ 80 → scan_text (scan_of ir tdi tdo mask) ≡ command_text ir tdi ++ (fields_text false tdi tdo mask compare ++ 10 ∷ [])
 scan_text-short ir tdi tdo mask compare w short =
     let fits : ltb 80 (length (form false (scan_of ir tdi tdo mask))) ≡ false =
@@ -99,7 +103,8 @@ scan_text-short ir tdi tdo mask compare w short =
     ∙ ap (λ t. t ++ 10 ∷ []) (form-rows false ir tdi tdo mask compare w)
     ∙ append_assoc (command_text ir tdi) (fields_text false tdi tdo mask compare) (10 ∷ [])
 
--- if the statement of a scan does not fit into one line, its text is the command followed by the fields in lines of their own
+-- if the command and the fields of a scan together have more than 80 characters, the text of the
+-- scan is the command followed by the fields, each in lines of its own
 pub scan_text-long : (ir : Bool) (tdi tdo mask : List Bool) (compare : Bool) → Written tdi tdo mask compare → 80 < length (command_text ir tdi) + fields_length compare (digit_count (length tdi)) → scan_text (scan_of ir tdi tdo mask) ≡ (command_text ir tdi ++ 10 ∷ []) ++ fields_lines tdi tdo mask compare
 scan_text-long ir tdi tdo mask compare w more =
     let long : ltb 80 (length (form false (scan_of ir tdi tdo mask))) ≡ true =
@@ -110,7 +115,8 @@ scan_text-long ir tdi tdo mask compare w more =
     ∙ ap (λ t. command_text ir tdi ++ t) (fields_text-lines tdi tdo mask compare)
     ∙ sym (append_assoc (command_text ir tdi) (10 ∷ []) (fields_lines tdi tdo mask compare))
 
--- if the fields fit into the line of the command, this line with the fields is the text of the scan
+-- if the line has the command and the fields fit into it, the line followed by the fields is the
+-- text of the scan
 pub line_short : (ir : Bool) (tdi tdo mask : List Bool) (compare : Bool) (line : List ℕ) → Written tdi tdo mask compare → line ≡ command_text ir tdi → length line + fields_length compare (digit_count (length tdi)) ≤ 80 → line ++ (fields_text false tdi tdo mask compare ++ 10 ∷ []) ≡ scan_text (scan_of ir tdi tdo mask)
 line_short ir tdi tdo mask compare line w begun short =
     ap (λ t. t ++ (fields_text false tdi tdo mask compare ++ 10 ∷ [])) begun
@@ -119,14 +125,15 @@ line_short ir tdi tdo mask compare line w begun short =
 not_short : (n : ℕ) → (n ≤ 80 → false ≡ true) → 80 < n
 not_short n refused = elim (cases_lt 80 n) [ inl more ↦ more | inr short ↦ (let bad : false ≡ true = refused short in absurd cc) ]
 
--- if the fields do not fit into the line of the command, the command and the fields in lines of their own are the text of the scan
+-- if the line has the command and the fields do not fit into it, the line followed by the fields in
+-- lines of their own is the text of the scan
 pub line_long : (ir : Bool) (tdi tdo mask : List Bool) (compare : Bool) (line : List ℕ) → Written tdi tdo mask compare → line ≡ command_text ir tdi → (length line + fields_length compare (digit_count (length tdi)) ≤ 80 → false ≡ true) → (line ++ 10 ∷ []) ++ fields_lines tdi tdo mask compare ≡ scan_text (scan_of ir tdi tdo mask)
 line_long ir tdi tdo mask compare line w begun refused =
     ap (λ t. (t ++ 10 ∷ []) ++ fields_lines tdi tdo mask compare) begun
     ∙ sym (scan_text-long ir tdi tdo mask compare w
     (subst (λ t. 80 < length t + fields_length compare (digit_count (length tdi))) begun (not_short (length line + fields_length compare (digit_count (length tdi))) refused)))
 
--- rows that have the bits of a scan give this scan, and wherever TDO has a 1, MASK has a 1
+-- if three rows have the bits of a scan, the scan made from these rows has the same bits
 pub scan_of_rows : (bits : List ScanBit) (tdi tdo mask : List Bool) → tdi ≡ tdi_bits bits → tdo ≡ tdo_bits bits → mask ≡ mask_bits bits → scan_bits tdi tdo mask ≡ bits
 scan_of_rows bits tdi tdo mask is_tdi is_tdo is_mask =
     ap (λ t. scan_bits t tdo mask) is_tdi ∙ ap (λ t. scan_bits (tdi_bits bits) t mask) is_tdo ∙ ap (scan_bits (tdi_bits bits) (tdo_bits bits)) is_mask

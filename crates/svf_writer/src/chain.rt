@@ -14,10 +14,10 @@ use bt_base::{PutFault, Sink};
 use bt_bits::{Line, Row};
 use tap_defs::{ScanRows, Shape};
 
-// The number of bits of A5, the marks that the data scan shifts.
+// The number of bits of A5. The data scan shifts these bits as marks.
 const MARKS: u32 = 8;
 
-// Replaces the row's bits by `len` ones.
+// Replaces the bits of the row by `len` ones.
 fn fill_ones(len: u32, row: &mut Row)
     requires { len ≤ row.old.room }
     ensures bits { row.new.bits ≡ replicate len true }
@@ -29,7 +29,8 @@ fn fill_ones(len: u32, row: &mut Row)
     }
 }
 
-// Sets the bits of the marks A5 that are 1. The lowest bit of A5 is at position `at`. No other bit changes.
+// Sets the bits of the row at which A5 has a 1, if the lowest bit of A5 is at position `at`. No
+// other bit changes.
 fn set_marks(at: u32, row: &mut Row)
     requires few { at ≤ most_parts }
     requires bits { at + 8 ≤ length row.old.bits }
@@ -42,7 +43,8 @@ fn set_marks(at: u32, row: &mut Row)
     row.set(at + 7, true);
 }
 
-// Fills the rows of the data scan of `parts` parts. The marks are shifted in, and are expected `parts` bits later at TDO.
+// Fills the rows of the data scan of `parts` parts. The scan shifts the marks in, and expects them
+// at TDO `parts` bits later.
 fn fill_marks(parts: u32, rows: &mut ScanRows)
     requires few { parts ≤ most_parts }
     requires room { EachHasRoom (λ room. parts + 8 ≤ room) rows.old }
@@ -56,7 +58,8 @@ fn fill_marks(parts: u32, rows: &mut ScanRows)
     fill_ones(parts + MARKS, rows.mask);
 }
 
-// Sets the compared bits of one part's instruction register, which are 01 in the two lowest bits. The lowest bit is at position `at`.
+// Sets the compared bits of one part's instruction register. Its lowest bit is at position `at`,
+// and the two lowest bits are expected to be 01.
 fn set_capture(at: u32, tdo: &mut Row, mask: &mut Row)
     requires few { at ≤ most_bits }
     requires tdo { at + 2 ≤ length tdo.old.bits }
@@ -71,7 +74,8 @@ fn set_capture(at: u32, tdo: &mut Row, mask: &mut Row)
     mask.set(at + 1, true);
 }
 
-// Sets the compared bits of the instruction registers of all parts, beginning with the last part.
+// Sets the compared bits of the instruction registers of all parts, from the last part to the
+// first.
 fn set_captures(lengths: &[u32], tdo: &mut Row, mask: &mut Row)
     requires each { All (λ n. 2 ≤ n) lengths.now }
     requires total { sum lengths.now ≤ most_bits }
@@ -89,7 +93,7 @@ fn set_captures(lengths: &[u32], tdo: &mut Row, mask: &mut Row)
     }
 }
 
-// Returns the number of instruction bits of all parts together.
+// Returns the sum of the instruction lengths of all parts.
 fn bits_of(lengths: &[u32]) -> u32
     requires { sum lengths.now ≤ most_bits }
     ensures { result ≡ sum lengths.now }
@@ -97,7 +101,8 @@ fn bits_of(lengths: &[u32]) -> u32
     lengths.iter().sum()
 }
 
-// Fills the rows of the instruction scan. Ones are shifted in, and each part must give 01.
+// Fills the rows of the instruction scan. The scan shifts ones in, and expects 01 from the two
+// lowest bits of each part.
 fn fill_codes(lengths: &[u32], rows: &mut ScanRows)
     requires each { All (λ n. 2 ≤ n) lengths.now }
     requires total { sum lengths.now ≤ most_bits }
@@ -174,14 +179,16 @@ fn write_scans<K: Sink>(
     write_marks(lengths.len() as u32, rows, line, out)
 }
 
-/// Writes the two scans of the chain test for parts with these instruction lengths, in the order from TDI to TDO. The first
-/// scan shifts ones, which mean BYPASS, into every instruction register, and compares the 01 that each register loads in
-/// Capture-IR (IEEE 1149.1-1990, section 6). The second scan shifts A5 through the bypass registers. With `n` parts, A5 is
-/// expected at TDO `n` bits later.
+/// Writes the two scans of the chain test for parts with these instruction lengths, in the order
+/// from TDI to TDO. The first scan shifts ones, which mean BYPASS, into every instruction register,
+/// and compares the 01 that each register loads in Capture-IR (IEEE 1149.1-1990, section 6). The
+/// second scan shifts A5 through the bypass registers. With `n` parts, it expects A5 at TDO `n`
+/// bits later.
 ///
-/// There must be 1 to 255 parts with lengths from 2 to 255 bits, and the rows must have room for both scans. The call takes
-/// no memory. The rows and the line are scratch space, and their contents are unspecified afterwards. The call fails only if
-/// the sink fails, which has then taken a prefix of the text.
+/// There must be 1 to 255 parts with lengths from 2 to 255 bits, and the rows must have room for
+/// both scans. The call allocates nothing. The rows and the line are scratch space, and their
+/// contents are unspecified afterwards. The call fails only if the sink fails. The sink has then
+/// taken a prefix of the text.
 pub fn write_chain<K: Sink>(
     lengths: &[u32],
     tdi: &mut Row,

@@ -13,13 +13,14 @@ use bt_base::{PutFault, Sink};
 use bt_bits::{Line, Row};
 use tap_defs::Shape;
 
-// The largest number of characters of a scan statement that is written in one line, without the line feed.
+// The largest number of characters in the line of a scan statement that is one line, without the
+// line feed.
 const MAX_SHORT: usize = 80;
 
-// The largest number of digits in a line of a longer statement.
+// The largest number of digits in a line of a longer scan statement.
 const LINE_DIGITS: u32 = 64;
 
-// Begins a line with the command and the length of a scan.
+// Begins the line of a scan statement with the command and the length of the scan.
 #[tactic(auto, using(bt_bits::proofs::DecimalLemmas::decimal_is_short))]
 fn begin(ir: bool, tdi: &Row, line: &mut Line)
     ensures text { line.new ≡ command_text ir tdi.now.bits }
@@ -30,7 +31,7 @@ fn begin(ir: bool, tdi: &Row, line: &mut Line)
     line.push_number(u64::from(tdi.len()));
 }
 
-// Returns the number of hexadecimal digits of a row's field.
+// Returns the number of hexadecimal digits in the field of a row.
 fn digit_count(row: &Row) -> u32
     requires { length row.now.bits ≤ most_bits }
     ensures { result ≡ digit_count (length row.now.bits) }
@@ -38,7 +39,7 @@ fn digit_count(row: &Row) -> u32
     row.len().div_ceil(4)
 }
 
-// Appends a field's label and its digits.
+// Appends a label and the digits of a row to the line.
 fn push_field(label: &[u8], row: &Row, line: &mut Line)
     requires bits { length row.now.bits ≤ most_bits }
     requires room { length line.old + length label.now + digit_count (length row.now.bits) ≤ 1024 }
@@ -49,7 +50,7 @@ fn push_field(label: &[u8], row: &Row, line: &mut Line)
     row.put_hex(0, digit_count(row), line);
 }
 
-// Appends the fields of a scan to the line of its command, and a line feed.
+// Appends the fields of a scan and a line feed to the line with the command.
 fn push_fields(compare: bool, tdi: &Row, tdo: &Row, mask: &Row, line: &mut Line)
     requires bits { length tdi.now.bits ≤ most_bits }
     requires tdo { length tdo.now.bits ≡ length tdi.now.bits }
@@ -65,7 +66,7 @@ fn push_fields(compare: bool, tdi: &Row, tdo: &Row, mask: &Row, line: &mut Line)
     line.push(b");\n");
 }
 
-// Returns the number of characters of a scan's fields in one line.
+// Returns the number of characters of a scan's fields if they are in one line.
 fn fields_length(compare: bool, digits: u32) -> usize
     requires { digits ≤ most_bits }
     ensures { result ≡ fields_length compare digits }
@@ -78,7 +79,8 @@ fn fields_length(compare: bool, digits: u32) -> usize
     }
 }
 
-// Appends 64 digits of the row's field, from digit `from` on, and a line feed to the line. Puts the line and empties it.
+// Appends 64 digits of the row's field, from digit `from` on, and then a line feed to the line.
+// Puts the line and empties it.
 fn put_full_line<K: Sink>(
     row: &Row,
     from: u32,
@@ -98,7 +100,7 @@ fn put_full_line<K: Sink>(
     done
 }
 
-// Returns whether the fields of a scan fit into the line that has its command.
+// Returns whether the fields of a scan fit into the line with its command.
 fn has_room(compare: bool, tdi: &Row, line: &Line) -> bool
     requires { length tdi.now.bits ≤ most_bits }
     ensures { IsTrue result ↔ (length line.now + fields_length compare (digit_count (length tdi.now.bits)) ≤ 80) }
@@ -106,7 +108,7 @@ fn has_room(compare: bool, tdi: &Row, line: &Line) -> bool
     line.len() + fields_length(compare, digit_count(tdi)) <= MAX_SHORT
 }
 
-// Writes a field in lines of its own: the label, the digits in lines of 64, and `end`.
+// Writes a field in lines of its own: the label, the digits, at most 64 in a line, and `end`.
 fn put_field<K: Sink>(
     label: &[u8],
     row: &Row,
@@ -132,7 +134,7 @@ fn put_field<K: Sink>(
     out.put(line.bytes())
 }
 
-// Writes the fields of a scan with compared bits, each in lines of its own.
+// Writes the fields of a scan that compares some bit, each in lines of its own.
 fn put_compared<K: Sink>(
     tdi: &Row,
     tdo: &Row,
@@ -173,7 +175,8 @@ fn put_fields<K: Sink>(
     }
 }
 
-// Ends and writes the line of the command, and then writes the fields of a scan that is too long for one line.
+// Ends and writes the line with the command, and then writes the fields, for a scan that does not
+// fit into one line.
 fn put_lines<K: Sink>(
     compare: bool,
     tdi: &Row,
@@ -194,12 +197,14 @@ fn put_lines<K: Sink>(
     put_fields(compare, tdi, tdo, mask, line, out)
 }
 
-/// Writes the statement of a scan (SVF Revision E, SIR and SDR). A statement of at most 80 characters is in one line. A longer
-/// one has its command in one line, and each field in lines of at most 64 digits. Each put writes one line.
+/// Writes the statement of a scan (SVF Revision E, SIR and SDR). A statement of at most 80
+/// characters is one line. A longer statement has its command in one line, and each field in lines
+/// of at most 64 digits. Each put writes one line.
 ///
-/// The rows must have the same length, from 1 to 65,535 bits. `shape.compare` must say whether the mask has a 1. Wherever TDO
-/// has a 1, the mask must have a 1. The call takes no memory. The line is scratch space, and its content is unspecified
-/// afterwards. The call fails only if the sink fails, which has then taken a prefix of the text.
+/// The rows must have the same length, from 1 to 65,535 bits. `shape.compare` must say whether the
+/// mask has a 1. Wherever TDO has a 1, the mask must have a 1. The call allocates nothing. The line
+/// is scratch space, and its content is unspecified afterwards. The call fails only if the sink
+/// fails. The sink has then taken a prefix of the text.
 pub fn write_scan<K: Sink>(
     shape: Shape,
     tdi: &Row,

@@ -4,14 +4,15 @@ use Rattle.tap_defs.specs.chain.Scan.{ScanBit}
 use Rattle.tap_defs.specs.chain.Codes.{instructs}
 use Rattle.tap_defs.specs.chain.ChainScans.{marks, compared}
 
--- the bits of a scan that shifts a code of ones, which means BYPASS, into each part
+-- the bits of a scan that shifts ones, the code of BYPASS, into the instruction register of each
+-- part
 abbrev pub bypass_bits : List ℕ → List ScanBit
 bypass_bits lengths = (instructs (map (λ n. replicate n true) lengths)).bits
 
--- the bits of a scan that shifts the marks in and expects them at TDO after one bit for each part
+-- the bits of a scan that shifts the marks in and expects them at TDO `parts` bits later
 abbrev pub mark_bits : ℕ → List ScanBit
 mark_bits parts = compared (marks ++ replicate parts false) (replicate parts false ++ marks)
 
--- the bits with the marks set at position `at` and the positions above it
+-- the bits after the ones of the marks are set; the lowest bit of the marks is at position `at`
 abbrev pub marked : ℕ → List Bool → List Bool
 marked at bits = slice_set (slice_set (slice_set (slice_set bits at true) (at + 2) true) (at + 5) true) (at + 7) true
