@@ -1,18 +1,19 @@
--- Lemmas which say that each code from 1 to `2 ^ w - 2` has a 0 bit and a 1 bit, and that two different codes differ in some bit.
+-- Lemmas about codes below `2 ^ w`: those from 1 to `2 ^ w - 2` have a 0 bit and a 1 bit, and two
+-- different codes differ in some bit.
 use Rattle.std.proofs.Common.{◌≡◌, ◌≢◌, ℕ, zero, suc, ◌+◌, ◌/◌, ◌%◌, ◌^◌, ◌<◌, ◌≤◌, ◌⊎◌, inl, inr, refl, ◌∙◌, sym, arith}
 use Rattle.std.specs.Int.{bit_at}
 use Rattle.std.proofs.lemmas.Nat.Bits.{bit_at-suc, bit_at_lowest}
 use Rattle.std.proofs.Math.Nat.{pow-suc}
 use Rattle.std.proofs.lemmas.Bool.{cases_eq}
 
--- some bit of the code below the width has this value
+-- some bit of the code `c` below bit `w` has the value `v`
 abbrev pub HasBit : ℕ → ℕ → ℕ → Type 0
 HasBit c w v = (j : ℕ) × (j < w) × (bit_at c j ≡ v)
 
 shifted : (c w v : ℕ) → HasBit (c / 2) w v → HasBit c (suc w) v
 shifted c w v h = (suc h.0, omega (arith, h.1), bit_at-suc c h.0 ∙ h.2)
 
--- half of a code needs one bit less
+-- if a code has `w + 1` bits, half of it has `w` bits
 half_below : (c w : ℕ) → c < 2 ^ suc w → c / 2 < 2 ^ w
 half_below c w h = omega (arith, pow-suc 2 w, h)
 
@@ -34,7 +35,7 @@ has_zero (suc w) c fits = by_parity (c % 2) refl (λ odd. shifted c w 0 (has_zer
     by_parity (suc zero) e ih = ih e
     by_parity (suc (suc r)) e ih = absurd (omega (arith, e))
 
--- the codes differ in some bit below the width
+-- the codes `c` and `d` differ in some bit below bit `w`
 abbrev pub Differ : ℕ → ℕ → ℕ → Type 0
 Differ c d w = (j : ℕ) × (j < w) × (bit_at c j ≢ bit_at d j)
 

@@ -1,9 +1,10 @@
-//! A law which says that codes of the right width can be told apart. It is the contract of a function that does nothing: a caller knows the
-//! law after calling this function.
+//! A law that says that codes of the right width differ. The law is the contract of a function that
+//! does nothing. A caller knows the law after calling the function.
 ghost use Rattle.std.specs.Prelude.{◌≡◌, ◌≢◌, ℕ, ◌+◌, ◌^◌, ◌<◌, ◌≤◌};
 ghost use Rattle.std.specs.Int.{bit_at};
 
-/// If `2 ^ width` is at least `n + 2`, each code from 1 to `n` has a 0 bit and a 1 bit, and every two of these codes differ in some bit.
+/// If `2 ^ width` is at least `n + 2`, each code from 1 to `n` has a 0 bit and a 1 bit below bit
+/// `width`, and every two of these codes differ in some bit below bit `width`.
 pub fn codes_tell()
     ensures zero { (n width : ℕ) → n + 2 ≤ 2 ^ width → (c : ℕ) → 1 ≤ c → c ≤ n → (j : ℕ) × (j < width) × (bit_at c j ≡ 0) }
     ensures one { (n width : ℕ) → n + 2 ≤ 2 ^ width → (c : ℕ) → 1 ≤ c → c ≤ n → (j : ℕ) × (j < width) × (bit_at c j ≡ 1) }

@@ -7,8 +7,8 @@ ghost use Rattle.std.specs.Int.{bit_at};
 
 pub mod law;
 
-/// Returns the number of bits of the codes from 1 to `n`. This is the smallest number for which no code has only zeros or
-/// only ones.
+/// Returns the number of bits of the codes from 1 to `n`. This is the smallest number of bits for
+/// which no code has only zeros or only ones.
 pub fn width(n: u32) -> u32
     requires { n ≤ 16382 }
     ensures enough { n + 2 ≤ 2 ^ result }

@@ -99,7 +99,7 @@ impl<T: Copy> Few<T> {
         self.kept.as_slice().len()
     }
 
-    /// Appends an item. If memory is refused, the list is unspecified.
+    /// Appends an item. If memory runs out, the content of the list is unspecified.
     pub fn push(&mut self, alloc: Global, item: T) -> Result<(), AllocError>
         ensures { OnOk result (self.new ≡ self.old ++ item ∷ []) }
     {

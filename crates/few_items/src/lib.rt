@@ -1,5 +1,5 @@
-//! Lists that allocate no memory for up to two items. A board has a list for each of its tens of thousands of port bits and nets,
-//! and most of these lists have one or two items.
+//! Lists that allocate no memory for up to two items. A board has a list for each of its tens of
+//! thousands of port bits and nets, and most of these lists have one or two items.
 #![tactic(auto)]
 
 mod few;

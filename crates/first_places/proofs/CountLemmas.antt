@@ -1,4 +1,4 @@
--- The number of a key among the distinct keys of a list.
+-- Lemmas about the number of a key among the different keys of a list.
 use Rattle.std.proofs.Common.{◌≡◌, ℕ, zero, suc, ◌+◌, ◌<◌, ◌≤◌, Bool, true, false, cond, not, ◌||◌, List, [], ◌∷◌, ◌++◌, length, map, take, get_or, Some, refl, sym, ap, ◌∙◌, append_assoc, arith}
 use Rattle.std.specs.Prelude.{unwrap_or}
 use Rattle.std.specs.List.{list_any, position_from, position_or_len}
@@ -6,7 +6,8 @@ use Rattle.std.specs.Cmp.{IsEquivalence}
 use Rattle.std.proofs.lemmas.List.{map-append, take_more}
 use Rattle.first_places.specs.Places.{first_place, number_in}
 
--- if some key of the first list passes, the first key that passes is in this list
+-- if some key of the list `front` passes, the search in `front ++ back` finds the first key of
+-- `front` that passes
 found_early : {K : Type 0} (p q : K → Bool) → ((k : K) → p k ≡ q k) → (n : ℕ) (front back : List K) → list_any q front ≡ true → position_from p n (front ++ back) ≡ Some (n + position_or_len q front)
 found_early p q same n [] back e = cc e
 found_early {K} p q same n (k ∷ front) back e =
@@ -17,7 +18,7 @@ found_early {K} p q same n (k ∷ front) back e =
     by_test rest true t = let here : n ≡ n + 0 = omega arith in ap Some here
     by_test rest false t = let there : n + 1 + position_or_len q front ≡ n + (1 + position_or_len q front) = omega arith in rest t ∙ ap Some there
 
--- if no key of the first list passes and the next key does, the next key is found
+-- if no key of the list `front` passes and the next key passes, the search finds the next key
 found_next : {K : Type 0} (p q : K → Bool) → ((k : K) → p k ≡ q k) → (n : ℕ) (front : List K) (k : K) (back : List K) → list_any q front ≡ false → p k ≡ true →
     position_from p n (front ++ k ∷ back) ≡ Some (n + position_or_len q front)
 found_next p q same n [] k back e passes = let here : n ≡ n + 0 = omega arith in ap (λ b. cond b (Some n) (position_from p (n + 1) back)) passes ∙ ap Some here
@@ -36,7 +37,9 @@ found_at eq laws kept rest x false e =
     let start : 0 + position_or_len (eq x) kept ≡ position_or_len (eq x) kept = omega arith in
     ap (position_from (λ k. eq k x) 0) (append_assoc kept (x ∷ []) rest) ∙ found_next (λ k. eq k x) (eq x) (λ k. laws.symm k x) 0 kept x rest (sym e) (laws.refl x) ∙ ap Some start
 
--- the next key gets its number among the distinct keys, if the keys that were kept are the distinct keys so far
+-- if the first `i` keys have their numbers, and the keys kept so far are the different keys among
+-- them, the first `i + 1` keys have their numbers after the number of key `i` among the kept keys
+-- is appended
 pub number_step : {K : Type 0} (eq : K → K → Bool) → IsEquivalence eq → (keys : List K) (i : ℕ) (x : K) (old kept rest all : List K) (was : Bool) (number : ℕ) (before after : List ℕ) → i < length keys → get_or keys i x ≡ x →
     was ≡ list_any (eq x) old → kept ≡ cond was old (old ++ x ∷ []) → all ≡ kept ++ rest → number ≡ position_or_len (eq x) old →
     before ≡ map (number_in eq all) (take i keys) → after ≡ before ++ number ∷ [] → after ≡ map (number_in eq all) (take (i + 1) keys)

@@ -1,4 +1,4 @@
--- The items that a walk over a list has seen, and the later items that it keeps.
+-- Lemmas about a loop that goes through a list and keeps the items that equal no earlier item.
 use Rattle.std.proofs.Common.{◌≡◌, ℕ, suc, ◌+◌, ◌<◌, ◌≤◌, Bool, true, false, cond, ◌||◌, List, [], ◌∷◌, ◌++◌, length, take, drop, get_or, Option, Some, None, refl, sym, ap, ◌∙◌, append_assoc, arith}
 use Rattle.std.proofs.lemmas.List.{drop_more, take_more}
 use Rattle.std.proofs.lemmas.List.Folds.{list_any-append}
@@ -17,13 +17,14 @@ either true false = refl
 either false true = refl
 either false false = refl
 
--- after one more item, the flag says whether one of the items seen so far passes the test
+-- if the old flag says whether one of the first `i` items passes the test, the new flag says so for
+-- the first `i + 1` items
 pub seen_step : {I : Type 0} (test : I → Bool) (items : List I) (i : ℕ) (x : I) (new old : Bool) → i < length items → get_or items i x ≡ x →
     old ≡ list_any test (take i items) → new ≡ cond (test x) true old → new ≡ list_any test (take (i + 1) items)
 seen_step test items i x new old within read was now =
     now ∙ ap (cond (test x) true) was ∙ sym (either (list_any test (take i items)) (test x)) ∙ sym (list_any-append test (take i items) (x ∷ [])) ∙ ap (list_any test) (seen_more items i x within read)
 
--- an item that equals no earlier item is kept
+-- if item `i` equals no earlier item, it is the next item that is kept
 pub once_new : {I : Type 0} (eq : I → I → Bool) (items : List I) (i : ℕ) (x : I) (done all : List I) → i < length items → get_or items i x ≡ x →
     list_any (λ s. eq s x) (take i items) ≡ false → all ≡ done ++ once_from eq (take i items) (drop i items) →
     all ≡ (done ++ x ∷ []) ++ once_from eq (take (i + 1) items) (drop (i + 1) items)
@@ -33,7 +34,7 @@ once_new eq items i x done all within read fresh same =
     ∙ ap (λ s. done ++ x ∷ once_from eq s (drop (i + 1) items)) (seen_more items i x within read)
     ∙ sym (append_assoc done (x ∷ []) (once_from eq (take (i + 1) items) (drop (i + 1) items)))
 
--- an item that equals an earlier item is left out
+-- if item `i` equals an earlier item, it is not kept
 pub once_old : {I : Type 0} (eq : I → I → Bool) (items : List I) (i : ℕ) (x : I) (done all : List I) → i < length items → get_or items i x ≡ x →
     list_any (λ s. eq s x) (take i items) ≡ true → all ≡ done ++ once_from eq (take i items) (drop i items) →
     all ≡ done ++ once_from eq (take (i + 1) items) (drop (i + 1) items)
@@ -55,7 +56,7 @@ repeated_old eq items i x all within read there same =
     same ∙ ap (repeated_from eq (take i items)) (cut_at items i x within read)
     ∙ ap (λ b. cond b (Some x) (repeated_from eq (take i items ++ x ∷ []) (drop (i + 1) items))) there
 
--- an item is kept unless it was seen
+-- item `i` is kept if and only if it equals no earlier item
 pub once_step : {I : Type 0} (eq : I → I → Bool) (items : List I) (i : ℕ) (x : I) (done kept all : List I) (was : Bool) → i < length items → get_or items i x ≡ x →
     was ≡ list_any (λ s. eq s x) (take i items) → kept ≡ cond was done (done ++ x ∷ []) → all ≡ done ++ once_from eq (take i items) (drop i items) →
     all ≡ kept ++ once_from eq (take (i + 1) items) (drop (i + 1) items)
@@ -68,7 +69,7 @@ few : {I : Type 0} (was : Bool) (kept : List I) (i : I) (n : ℕ) → length kep
 few true kept i n within = omega arith
 few false kept i n within = omega arith
 
--- a list has no more distinct items than items
+-- a list has at least as many items as different items
 pub once_few : {I : Type 0} (eq : I → I → Bool) (seen items : List I) → length (once_from eq seen items) ≤ length items
 once_few eq seen [] = omega arith
 once_few eq seen (i ∷ items) = few (list_any (λ s. eq s i) seen) (once_from eq (seen ++ i ∷ []) items) i (length items) (once_few eq (seen ++ i ∷ []) items)
@@ -92,6 +93,7 @@ whole_from {I} eq fine h seen (i ∷ items) e = by_test (whole_from eq fine h (s
         ap (λ b. cond b (once_from fine (seen ++ i ∷ []) items) (i ∷ once_from fine (seen ++ i ∷ []) items)) (none_finer (λ s. eq s i) (λ s. fine s i) (λ s. h s i) seen t)
         ∙ ap (λ (v : List I). i ∷ v) (rest k)
 
--- if no item is repeated, all items are kept, even with an equality that makes fewer items equal
+-- if `eq` finds no repeated item, `once` with `fine` keeps all items, if two items that differ by
+-- `eq` also differ by `fine`
 pub unrepeated : {I : Type 0} (eq fine : I → I → Bool) → ((a b : I) → eq a b ≡ false → fine a b ≡ false) → (items : List I) → first_repeated eq items ≡ None → once fine items ≡ items
 unrepeated eq fine h items e = whole_from eq fine h [] items e

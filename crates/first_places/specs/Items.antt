@@ -1,8 +1,8 @@
 -- The first item of a list that breaks a rule, and the lowest number that has a property.
 use Rattle.std.specs.Prelude.{◌≡◌, ℕ, zero, suc, ◌+◌, ◌<◌, List, [], ◌∷◌, ◌++◌, length, Bool, true, false, if◌then◌else◌, Option, Some, None}
 
--- The number of the first item that breaks the rule, counted from 1. `breaks` gets the items before an item, and the
--- item.
+-- The number of the first of `items` that breaks the rule, if numbers are counted from 1 and the
+-- items `before` are counted as well. `breaks` gets the items before an item, and the item.
 abbrev pub first_from : {A : Type 0} → (List A → A → Bool) → List A → List A → Option ℕ
 first_from breaks before [] = None
 first_from breaks before (item ∷ items) = if breaks before item then Some (length before + 1) else first_from breaks (before ++ item ∷ []) items
@@ -10,7 +10,7 @@ first_from breaks before (item ∷ items) = if breaks before item then Some (len
 abbrev pub first_break : {A : Type 0} → (List A → A → Bool) → List A → Option ℕ
 first_break breaks items = first_from breaks [] items
 
--- no item breaks the rule
+-- no item of the list breaks the rule
 abbrev pub Holds : {A : Type 0} → (List A → A → Bool) → List A → Type 0
 Holds {A} breaks items = (front : List A) (item : A) (back : List A) → items ≡ front ++ item ∷ back → breaks front item ≡ false
 
@@ -24,12 +24,14 @@ pub record BreaksFirst {A : Type 0} (breaks : List A → A → Bool) (items : Li
   pub breaks_it : breaks before item ≡ true
   pub held : Holds breaks before
 
--- no item breaks the rule, or this is the number of the first item that does
+-- if there is a number, it is the number of the first item that breaks the rule; if there is none,
+-- no item breaks the rule
 abbrev pub IsFound : {A : Type 0} → (List A → A → Bool) → List A → Option ℕ → Type 0
 IsFound breaks items None = Holds breaks items
 IsFound breaks items (Some number) = BreaksFirst breaks items number
 
--- the lowest of the `count` numbers from `from` on that has the property
+-- the lowest of the `count` numbers from `from` on that has the property, or None if none of them
+-- has it
 abbrev pub least_from : (ℕ → Bool) → ℕ → ℕ → Option ℕ
 least_from is from zero = None
 least_from is from (suc count) = if is from then Some from else least_from is (suc from) count
@@ -37,17 +39,18 @@ least_from is from (suc count) = if is from then Some from else least_from is (s
 abbrev pub least_below : (ℕ → Bool) → ℕ → Option ℕ
 least_below is bound = least_from is 0 bound
 
--- no number below the bound has the property, or this is the lowest number that has it
+-- if there is a number, it is the lowest below the bound that has the property; if there is none,
+-- no number below the bound has it
 abbrev pub IsLeast : (ℕ → Bool) → ℕ → Option ℕ → Type 0
 IsLeast is bound None = (n : ℕ) → n < bound → is n ≡ false
 IsLeast is bound (Some least) = (least < bound) × (is least ≡ true) × ((n : ℕ) → n < least → is n ≡ false)
 
--- the first item if there is one, otherwise the second
+-- the first item if there is one, or otherwise the second
 abbrev pub or_else : {A : Type 0} → Option A → Option A → Option A
 or_else (Some found) other = Some found
 or_else None other = other
 
--- the item if the rule is broken, otherwise None
+-- the item if the rule is broken, or None otherwise
 abbrev pub broken_by : {A : Type 0} → A → Bool → Option A
 broken_by item true = Some item
 broken_by item false = None

@@ -1,5 +1,5 @@
--- The rules on instruction codes and patterns. The first symbol of a code is nearest TDO. Where one exact code is needed, X counts as
--- 0.
+-- The rules on instruction codes and patterns. The first symbol of a code is nearest TDO. If a rule
+-- needs one exact code, X counts as 0.
 use Rattle.std.specs.Prelude.{ℕ, ◌==◌, zip, List, [], ◌∷◌, length, map, replicate, Bool, true, false, ◌&&◌, ◌||◌, not, if◌then◌else◌, Option, Some, None, codes, find, option_and_then}
 use Rattle.std.specs.List.{list_any, list_all}
 use Rattle.std.specs.Str.{bytes_eq}
@@ -20,12 +20,12 @@ is_called name op = bytes_eq op.name name
 abbrev pub breaks_opcode : ℕ → List Opcode → Opcode → Bool
 breaks_opcode ir before op = list_any (is_called op.name) before || not (list_all (has_length ir) op.codes)
 
--- V5: the number of the first wrong opcode, counted from 1. An opcode is wrong if an earlier one has its name, or if one of its codes
--- does not have the length of an instruction.
+-- V5: the number of the first wrong opcode, counted from 1. An opcode is wrong if an earlier opcode
+-- has the same name, or if one of its codes does not have as many bits as the instruction register.
 unfoldable pub v5 : ℕ → List Opcode → Option ℕ
 v5 ir ops = first_break (breaks_opcode ir) ops
 
--- the symbol can be 1; X matches both bits
+-- the symbol matches a 1; X matches both bits
 abbrev pub fits_one : Symbol → Bool
 fits_one One = true
 fits_one Any = true
@@ -46,7 +46,8 @@ opcode name ops = find (is_called name) ops
 abbrev pub first_code : List ℕ → List Opcode → Option (List Symbol)
 first_code name ops = option_and_then (λ op. first_of op.codes) (opcode name ops)
 
--- the first code of PRELOAD if the description follows the 2001 edition and lists this instruction, otherwise the first code of SAMPLE
+-- the first code of PRELOAD if the description follows the 2001 edition and lists PRELOAD, or
+-- otherwise the first code of SAMPLE
 abbrev pub preload_code : Edition → List Opcode → Option (List Symbol)
 preload_code Old ops = first_code (codes "SAMPLE") ops
 preload_code Of2001 ops = or_else (first_code (codes "PRELOAD") ops) (first_code (codes "SAMPLE") ops)
@@ -57,7 +58,8 @@ is_all_ones code = list_all bit_of code
 abbrev pub is_all_zeros : List Symbol → Bool
 is_all_zeros code = not (list_any bit_of code)
 
--- the code can be a preload code: it does not have only ones, and in the old edition it does not have only zeros
+-- there is a code, some symbol of it counts as 0, and in the old edition some symbol of it counts
+-- as 1
 abbrev pub may_preload : Edition → Option (List Symbol) → Bool
 may_preload edition None = false
 may_preload Old (Some code) = not (is_all_zeros code) && not (is_all_ones code)
@@ -67,7 +69,7 @@ abbrev pub same_bit : Bool → Bool → Bool
 same_bit true bit = bit
 same_bit false bit = not bit
 
--- the codes are equal if X counts as 0
+-- the codes have the same length and the same bits, if X counts as 0
 abbrev pub same_code : List Symbol → List Symbol → Bool
 same_code a b = (length a == length b) && list_all (λ pair. same_bit (bit_of pair.0) (bit_of pair.1)) (zip a b)
 
@@ -75,12 +77,12 @@ abbrev pub is_same : List Symbol → Option (List Symbol) → Bool
 is_same code None = false
 is_same code (Some other) = same_code code other
 
--- EXTEST is listed, its code is not all ones, and its code is not the preload code
+-- there is an EXTEST code, some symbol of it counts as 0, and it is not the preload code
 abbrev pub may_extest : Option (List Symbol) → Option (List Symbol) → Bool
 may_extest None preload = false
 may_extest (Some code) preload = not (is_all_ones code) && not (is_same code preload)
 
--- the instruction is not listed, or one of its codes fits in every symbol
+-- the instruction is not listed, or all symbols of one of its codes pass the test `fits`
 abbrev pub has_code : (Symbol → Bool) → Option Opcode → Bool
 has_code fits None = true
 has_code fits (Some op) = list_any (λ code. list_all fits code) op.codes
@@ -96,7 +98,7 @@ v6 edition ops =
     if not (extest_holds edition ops) then Some 2 else
     if has_code fits_one (opcode (codes "BYPASS") ops) then None else Some 3
 
--- the two bits nearest TDO are 01
+-- the two symbols nearest TDO are 01
 abbrev pub ends_in_01 : List Symbol → Bool
 ends_in_01 (One ∷ Zero ∷ symbols) = true
 ends_in_01 symbols = false
@@ -105,8 +107,8 @@ abbrev pub may_be_idcode : Option (List Symbol) → Bool
 may_be_idcode None = true
 may_be_idcode (Some code) = has_length 32 code
 
--- V7: 1 if the capture pattern does not have the length of an instruction or its two bits nearest TDO are not 01; 2 if there is an
--- IDCODE pattern that does not have 32 bits
+-- V7: 1 if the capture pattern does not have `ir` symbols or its two symbols nearest TDO are not
+-- 01; otherwise 2 if there is an IDCODE pattern that does not have 32 symbols
 unfoldable pub v7 : ℕ → List Symbol → Option (List Symbol) → Option ℕ
 v7 ir capture idcode =
     if not (has_length ir capture && ends_in_01 capture) then Some 1 else
@@ -126,8 +128,8 @@ settled_code (Some code) = map settled code
 unfoldable pub preload : Edition → List Opcode → List Symbol
 preload edition ops = settled_code (preload_code edition ops)
 
--- The EXTEST code, with 0 in place of each X. In the old edition it has only zeros. In the 2001 edition it is the first code that is
--- listed.
+-- The EXTEST code, with 0 in place of each X. In the old edition it has only zeros. In the 2001
+-- edition it is the first code that the description lists.
 unfoldable pub extest : Edition → ℕ → List Opcode → List Symbol
 extest Old ir ops = replicate ir Zero
 extest Of2001 ir ops = settled_code (first_code (codes "EXTEST") ops)

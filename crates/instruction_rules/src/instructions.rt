@@ -208,8 +208,9 @@ fn can_be_idcode(idcode: &Option<Code>) -> bool
     }
 }
 
-/// Checks rule V7. Returns the first wrong pattern. Number 1 is the capture pattern, which must have `ir` bits, of
-/// which the two nearest TDO are 01. Number 2 is the IDCODE pattern, which must have 32 bits if there is one.
+/// Checks rule V7. Returns the number of the first wrong pattern. Pattern 1 is the capture pattern,
+/// which must have `ir` symbols, of which the two nearest TDO are 01. Pattern 2 is the IDCODE
+/// pattern, which must have 32 symbols if there is one.
 #[tactic(auto, unfolding(crate::specs::Instructions::v7))]
 pub fn wrong_pattern(ir: u32, capture: &Code, idcode: &Option<Code>) -> Option<u32>
     ensures { result ≡ v7 ir capture.now idcode.now }
@@ -229,8 +230,8 @@ fn are_long(length: u32, codes: &[Code]) -> bool
     codes.iter().all(|code| is_long(length, code))
 }
 
-/// Checks rule V5. Returns the number of the first wrong opcode, counted from 1. An opcode is wrong if an earlier one
-/// has its name, or if one of its codes does not have `ir` bits.
+/// Checks rule V5. Returns the number of the first wrong opcode, counted from 1. An opcode is wrong
+/// if an earlier opcode has the same name, or if one of its codes does not have `ir` symbols.
 #[tactic(auto, unfolding(crate::specs::Instructions::v5))]
 pub fn wrong_opcode(alloc: Global, ir: u32, ops: &[Opcode]) -> Result<Option<u32>, AllocError>
     requires { length ops.now < 2 ^ 32 }
@@ -264,7 +265,8 @@ fn settled_symbols(alloc: Global, symbols: &[Symbol]) -> Result<Vec<Symbol>, All
     symbols.iter().map(|symbol| settle(*symbol)).collect(alloc)
 }
 
-/// Returns a copy of the code with 0 in place of each X. Without a code, returns a code without symbols.
+/// Returns a copy of the code with 0 in place of each X. If there is no code, returns a code
+/// without symbols.
 fn settled_code(alloc: Global, code: Option<&Code>) -> Result<Code, AllocError>
     ensures { IfOk result (λ copy. copy ≡ settled_code (option_copied code.entry)) }
 {
@@ -274,8 +276,8 @@ fn settled_code(alloc: Global, code: Option<&Code>) -> Result<Code, AllocError>
     }
 }
 
-/// Returns the preload code, with 0 in place of each X. In the 2001 edition this is the first code of PRELOAD if that
-/// instruction is listed. Otherwise it is the first code of SAMPLE.
+/// Returns the preload code, with 0 in place of each X. In the 2001 edition this is the first code
+/// of PRELOAD if the description lists that instruction. Otherwise it is the first code of SAMPLE.
 #[tactic(auto, unfolding(crate::specs::Instructions::preload))]
 pub fn preload(alloc: Global, edition: Edition, ops: &[Opcode]) -> Result<Code, AllocError>
     ensures { IfOk result (λ code. code ≡ preload edition ops.now) }
@@ -283,8 +285,8 @@ pub fn preload(alloc: Global, edition: Edition, ops: &[Opcode]) -> Result<Code, 
     settled_code(alloc, preload_code(edition, ops))
 }
 
-/// Returns the EXTEST code, with 0 in place of each X. In the old edition it has only zeros. In the 2001 edition it is
-/// the first code that is listed.
+/// Returns the EXTEST code, with 0 in place of each X. In the old edition it has only zeros. In the
+/// 2001 edition it is the first code that the description lists.
 #[tactic(auto, unfolding(crate::specs::Instructions::extest))]
 pub fn extest(alloc: Global, edition: Edition, ir: u32, ops: &[Opcode]) -> Result<Code, AllocError>
     ensures { IfOk result (λ code. code ≡ extest edition ir ops.now) }

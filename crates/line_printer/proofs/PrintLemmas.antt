@@ -1,4 +1,4 @@
--- Lemmas about texts that are printed in pieces, whole or cut short.
+-- Lemmas about texts that are printed in pieces, of which the last may be cut short.
 use Rattle.std.proofs.Common.{◌≡◌, ℕ, ◌+◌, ◌-◌, ◌<◌, min, List, [], ◌∷◌, ◌++◌, length, take, refl, sym, ap, ◌∙◌, append_assoc, append-nil, arith, subst, Result, Ok, Err, IsErr, true, false, inl, inr, map, drop, Bor, get_or}
 use Rattle.std.proofs.Math.Seq.{take-add}
 use Rattle.std.proofs.lemmas.List.{drop_more, take_more, take-append-drop}
@@ -15,7 +15,8 @@ prints_from {T} {E} {old} {new} {p} {q} {l} {a} {r} same prints = subst (λ t. P
 pub prints_to : {T E : Type 0} {old new : Shown} {p l m a : List ℕ} {r : Result T E} → l ≡ m → Prints old new p l a r → Prints old new p m a r
 prints_to {T} {E} {old} {new} {p} {l} {m} {a} {r} same prints = subst (λ t. Prints old new p t a r) same prints
 
--- if nothing is put and the text is appended to the line, the contract holds with any value in the Ok
+-- if nothing is put and the text is appended to the line, the contract of printing the text holds,
+-- whatever value the Ok has
 pub prints_none : {T E : Type 0} {old : Shown} {p l a : List ℕ} (x : T) → l ≡ p ++ a → Prints {T = T} {E = E} old old p l a (Ok x)
 prints_none x holds = record { whole = inl (refl, holds); cut = tt; later = omega arith; cause = tt }
 
@@ -29,7 +30,7 @@ still_move m v l p a b first second = second ∙ ap (λ t. t ++ b) first ∙ app
 move_still : (u m l p a b : List ℕ) → u ++ m ≡ p ++ a → l ≡ m ++ b → u ++ l ≡ p ++ (a ++ b)
 move_still u m l p a b first second = ap (λ t. u ++ t) second ∙ sym (append_assoc u m b) ∙ ap (λ t. t ++ b) first ∙ append_assoc p a b
 
--- if two texts are appended in turn, their concatenation is appended
+-- if the text `a` and then the text `b` go through the line, `a ++ b` goes through the line
 moves_twice : {old mid new : Shown} (p m l a b : List ℕ) → Moves old mid p m a → Moves mid new m l b → Moves old new p l (a ++ b)
 moves_twice {old} {mid} {new} p m l a b (inl (same, holds)) (inl (same', holds')) = inl (same' ∙ same, holds' ∙ ap (λ t. t ++ b) holds ∙ append_assoc p a b)
 moves_twice {old} {mid} {new} p m l a b (inl (same, holds)) (inr (v, takes, holds')) =
@@ -39,14 +40,15 @@ moves_twice {old} {mid} {new} p m l a b (inr (u, takes, holds)) (inl (same, hold
 moves_twice {old} {mid} {new} p m l a b (inr (u, takes, holds)) (inr (v, takes', holds')) =
     inr (u ++ v, takes_twice takes takes', two_moves u m v l p a b holds holds')
 
--- if the second text was cut short, the two texts together were cut short
+-- if `a` goes through the line and the put of `b` is cut short, the put of `a ++ b` is cut short
 cut_second : {old mid new : Shown} (p m a b : List ℕ) (k : ℕ) → Moves old mid p m a → Takes mid new (take k (m ++ b)) → (n : ℕ) × Takes old new (take n (p ++ (a ++ b)))
 cut_second {old} {mid} {new} p m a b k (inl (same, holds)) takes =
     (k, takes_same (ap (take k) (ap (λ t. t ++ b) holds ∙ append_assoc p a b)) (subst (λ s. Takes s new (take k (m ++ b))) same takes))
 cut_second {old} {mid} {new} p m a b k (inr (u, first, holds)) takes =
     (length u + k, takes_same (take-append-past k u (m ++ b) ∙ ap (take (length u + k)) (sym (append_assoc u m b) ∙ ap (λ t. t ++ b) holds ∙ append_assoc p a b)) (takes_twice first takes))
 
--- if the first call returned Ok and a second call prints the rest of the text, the two calls print the whole text
+-- if a first call prints `a` and returns Ok, and a second call prints `b`, both calls together
+-- print `a ++ b`
 pub prints_ok : {T U E F : Type 0} {old mid new : Shown} {p m l a b : List ℕ} {r : Result T E} {x : T} {s : Result U F} → Prints old mid p m a r → r ≡ Ok x → Prints mid new m l b s → Prints old new p l (a ++ b) s
 prints_ok {T} {U} {E} {F} {old} {mid} {new} {p} {m} {l} {a} {b} {r} {x} {s} first ok second = after s second
   where
@@ -67,7 +69,8 @@ prints_ok {T} {U} {E} {F} {old} {mid} {new} {p} {m} {l} {a} {b} {r} {x} {s} firs
       cause = rose_after first.later second.cause;
     }
 
--- if the first call returned Err, an Err of the whole call meets the contract for the whole text
+-- if the call that prints `a` returns Err, and the whole call also returns Err, the whole call
+-- meets the contract of printing `a ++ b`
 pub prints_err : {T U E F : Type 0} {old new : Shown} {p m l a : List ℕ} {r : Result T E} {e : E} {s : Result U F} → (b : List ℕ) → Prints old new p m a r → r ≡ Err e → IsErr s → Prints old new p l (a ++ b) s
 prints_err {T} {U} {E} {F} {old} {new} {p} {m} {l} {a} {r} {e} {s} b first err is = by s is
   where
@@ -83,7 +86,7 @@ prints_err {T} {U} {E} {F} {old} {new} {p} {m} {l} {a} {r} {e} {s} b first err i
       cause = cut.cause;
     }
 
--- if the call returned Ok, the contract holds with any value in the Ok
+-- if a call prints a text and returns Ok, the contract also holds for an Ok with any other value
 pub prints_done : {T U E F : Type 0} {old new : Shown} {p l a : List ℕ} {r : Result T E} {x : T} {y : U} → Prints old new p l a r → r ≡ Ok x → Prints {T = U} {E = F} old new p l a (Ok y)
 prints_done {T} {U} {E} {F} {old} {new} {p} {l} {a} {r} {x} {y} prints ok = record {
   whole = (subst (λ (q : Result T E). Prints old new p l a q) ok prints).whole;
@@ -92,7 +95,8 @@ prints_done {T} {U} {E} {F} {old} {new} {p} {l} {a} {r} {x} {y} prints ok = reco
   cause = tt;
 }
 
--- a put of the line's whole content prints the text
+-- if a call puts the line's content followed by the text, and the line is then empty, the call
+-- prints the text
 pub prints_put : {T E : Type 0} {old new : Shown} {p l a b : List ℕ} {r : Result T E} → Puts old new b r → b ≡ p ++ a → l ≡ [] → Prints old new p l a r
 prints_put {T} {E} {old} {new} {p} {l} {a} {b} {r} put same empty = by r put
   where
@@ -110,7 +114,8 @@ prints_put {T} {E} {old} {new} {p} {l} {a} {b} {r} put same empty = by r put
       cause = put.cause;
     }
 
--- if a text that is not empty was printed from an empty line and the line is empty again, the text was put
+-- if a call prints a text that is not empty, and the line is empty before and after it, the call
+-- puts the text
 pub puts_of : {T E : Type 0} {old new : Shown} {c : ℕ} {a : List ℕ} {r : Result T E} → Prints old new [] [] (c ∷ a) r → Puts old new (c ∷ a) r
 puts_of {T} {E} {old} {new} {c} {a} {r} prints = by r prints
   where
@@ -130,7 +135,7 @@ lent-append : (a b : List (Bor (List ℕ))) → map (λ p. p.now) (a ++ b) ≡ m
 lent-append [] b = refl
 lent-append (x ∷ a) b = ap (λ t. x.now ∷ t) (lent-append a b)
 
--- the pieces before a place followed by the piece at this place are the pieces up to and including this place
+-- the first `i` pieces followed by piece `i` are the first `i + 1` pieces
 pub whole-more : (pieces : List (Bor (List ℕ))) (i : ℕ) (d : Bor (List ℕ)) → i < length pieces
     → whole (map (λ p. p.now) (take i pieces)) ++ (get_or pieces i d).now ≡ whole (map (λ p. p.now) (take (i + 1) pieces))
 whole-more pieces i d within =
@@ -138,7 +143,7 @@ whole-more pieces i d within =
     ∙ sym (ap (λ l. whole (map (λ p. p.now) l)) (take_more pieces i d within) ∙ ap whole (lent-append (take i pieces) (get_or pieces i d ∷ []))
     ∙ whole-append (map (λ p. p.now) (take i pieces)) ((get_or pieces i d).now ∷ []))
 
--- the pieces before a place, the piece at this place and the pieces after it are all pieces
+-- the first `i` pieces, piece `i` and the pieces after it are all pieces
 pub whole-split : (pieces : List (Bor (List ℕ))) (i : ℕ) (d : Bor (List ℕ)) → i < length pieces
     → whole (map (λ p. p.now) (take i pieces)) ++ ((get_or pieces i d).now ++ whole (map (λ p. p.now) (drop (i + 1) pieces))) ≡ whole (map (λ p. p.now) pieces)
 whole-split pieces i d within =
@@ -146,6 +151,7 @@ whole-split pieces i d within =
     sym (ap (λ l. whole (map (λ p. p.now) l)) cut ∙ ap whole (lent-append (take i pieces) (get_or pieces i d ∷ drop (i + 1) pieces))
     ∙ whole-append (map (λ p. p.now) (take i pieces)) ((get_or pieces i d).now ∷ map (λ p. p.now) (drop (i + 1) pieces)))
 
--- the text before a place followed by the next `count` bytes is the text up to the end of these bytes
+-- the first `at` bytes of a text followed by its next `count` bytes are its first `at + count`
+-- bytes
 pub taken_more : (at count : ℕ) (text : List ℕ) → take at text ++ take (at + count - at) (drop at text) ≡ take (at + count) text
 taken_more at count text = let same : at + count - at ≡ count = omega arith in ap (λ n. take at text ++ take n (drop at text)) same ∙ sym (take-add at count text)

@@ -1,4 +1,5 @@
--- Lemmas about the texts of items that are written in turn: the texts written so far, followed by the texts that are left, are the whole.
+-- Lemmas about a loop that writes the texts of items in turn: printing the texts that are left
+-- completes the whole text.
 use Rattle.std.proofs.Common.{◌≡◌, ℕ, ◌+◌, ◌<◌, ◌≤◌, List, [], ◌++◌, length, get_or, drop, refl, sym, ap, ◌∙◌, Result, Ok, Err, IsErr}
 use Rattle.std.specs.List.{flat_map}
 use Rattle.std.proofs.lemmas.List.{drop_more, drop_all}

@@ -1,24 +1,26 @@
--- The contract of a call that prints a text through a line.
+-- The contract of a call that prints a text, which goes through a line to a sink.
 use Rattle.std.specs.Prelude.{◌≡◌, ◌⊎◌, ℕ, ◌≤◌, List, [], ◌∷◌, ◌++◌, take, Result, OnOk, OnErr}
 use Rattle.std.specs.List.{flat_map}
 use Rattle.bt_base.specs.Counts.{Rose}
 use Rattle.bt_base.specs.Puts.{Shown, Takes}
 
--- the bytes of the pieces, in order
+-- the bytes of all pieces, in order
 abbrev pub whole : List (List ℕ) → List ℕ
 whole pieces = flat_map (λ piece. piece) pieces
 
--- the line of these pieces, with its line feed
+-- the line that consists of these pieces and a line feed
 abbrev pub line_of : List (List ℕ) → List ℕ
 line_of pieces = whole pieces ++ 10 ∷ []
 
--- The line held `before`, a text was appended, and the line now holds `after`. Either nothing was put, and `after` is `before` with
--- the text. Or bytes were put, and these bytes followed by `after` are `before` with the text.
+-- The text went through the line, which had the bytes `before` and then has the bytes `after`.
+-- Either nothing was put, and `after` is `before` followed by the text. Or the bytes `put` were
+-- put, and `put` followed by `after` is `before` followed by the text.
 abbrev pub Moves : Shown → Shown → List ℕ → List ℕ → List ℕ → Type 0
 Moves old new before after text =
     ((new ≡ old) × (after ≡ before ++ text)) ⊎ ((put : List ℕ) × Takes old new put × (put ++ after ≡ before ++ text))
 
--- On Ok the whole text was put or is in the line. On Err the sink's fault count rose, and a prefix of the line and the text was put.
+-- On Ok, the whole text was put or is in the line. On Err, the sink's fault count rose, and a
+-- prefix of the line's bytes followed by the text was put.
 pub record Prints {T E : Type 0} (old new : Shown) (before after text : List ℕ) (result : Result T E) : Type 0 where
   pub whole : OnOk result (Moves old new before after text)
   pub cut : OnErr result ((k : ℕ) × Takes old new (take k (before ++ text)))

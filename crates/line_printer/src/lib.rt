@@ -1,4 +1,4 @@
-//! Writing text line by line. The text of a line goes through a `Line`, whatever its length.
+//! Writes text line by line. The text of a line goes through a `Line`, whatever its length is.
 #![tactic(auto)]
 
 mod printing;

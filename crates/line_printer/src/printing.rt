@@ -1,4 +1,4 @@
-// Printing lines of any length.
+// Prints lines of any length.
 ghost use Rattle.std.specs.Prelude.{◌≡◌, ◌<◌, ℕ, List, [], ◌∷◌, ◌++◌, length, map, OnOk};
 ghost use Rattle.bt_base.specs.Puts.{Puts};
 ghost use Rattle.line_printer.specs.Prints.{Prints, line_of, whole};
@@ -6,7 +6,7 @@ ghost use Rattle.line_printer.specs.Prints.{Prints, line_of, whole};
 use bt_base::{PutFault, Sink};
 use bt_bits::{Line, MAX_LINE};
 
-// If the line is full, writes the line's bytes and empties the line.
+// Puts the bytes of the line and empties it if the line is full.
 fn make_room<K: Sink>(line: &mut Line, out: &mut K) -> Result<(), PutFault>
     ensures text { Prints (K.shown out.old) (K.shown out.new) line.old line.new [] result }
     ensures room { OnOk result (length line.new < 1024) }
@@ -33,8 +33,9 @@ fn print_parts<K: Sink>(text: &[u8], line: &mut Line, out: &mut K) -> Result<(),
     Ok(())
 }
 
-/// Appends a text to the line. When the line is full and more bytes follow, its bytes are put and the line is emptied.
-/// On an error of the sink, a prefix of the line and the text was put. There are no other errors.
+/// Appends a text to the line. If the line is full and more bytes follow, puts the bytes of the
+/// line and empties it. Fails only if the sink fails. A prefix of the line's bytes followed by the
+/// text was put then.
 #[inline]
 pub fn print<K: Sink>(text: &[u8], line: &mut Line, out: &mut K) -> Result<(), PutFault>
     ensures { Prints (K.shown out.old) (K.shown out.new) line.old line.new text.now result }
@@ -47,7 +48,7 @@ pub fn print<K: Sink>(text: &[u8], line: &mut Line, out: &mut K) -> Result<(), P
     print_parts(text, line, out)
 }
 
-/// Appends pieces to the line in order, like `print`.
+/// Appends pieces to the line in order, each like `print`.
 pub fn print_all<K: Sink>(pieces: &[&[u8]], line: &mut Line, out: &mut K) -> Result<(), PutFault>
     ensures { Prints (K.shown out.old) (K.shown out.new) line.old line.new (whole (map (λ p. p.now) pieces.now)) result }
 {
@@ -57,7 +58,7 @@ pub fn print_all<K: Sink>(pieces: &[&[u8]], line: &mut Line, out: &mut K) -> Res
     Ok(())
 }
 
-/// Begins a new line with these pieces. The former content of the line is dropped.
+/// Begins a new line with these pieces. The old content of the line is lost.
 pub fn begin_line<K: Sink>(pieces: &[&[u8]], line: &mut Line, out: &mut K) -> Result<(), PutFault>
     ensures { Prints (K.shown out.old) (K.shown out.new) [] line.new (whole (map (λ p. p.now) pieces.now)) result }
 {
@@ -74,8 +75,8 @@ pub fn end_line<K: Sink>(line: &mut Line, out: &mut K) -> Result<(), PutFault>
     out.put(line.bytes())
 }
 
-/// Writes the line of these pieces, in one put if the line has at most `MAX_LINE` bytes with its line feed. The former
-/// content of `line` is dropped.
+/// Writes a line that consists of these pieces and a line feed. If it has at most `MAX_LINE` bytes,
+/// writes it in one put. The old content of `line` is lost.
 pub fn put_line<K: Sink>(pieces: &[&[u8]], line: &mut Line, out: &mut K) -> Result<(), PutFault>
     ensures { Prints (K.shown out.old) (K.shown out.new) [] [] (line_of (map (λ p. p.now) pieces.now)) result }
 {

@@ -1,4 +1,5 @@
--- Lemmas about truth values. Proofs cite std for its lemmas (`and_parts`, `not-true`, `false_from_ne_true`, `or-false`, ..).
+-- Lemmas about truth values that std does not have (std has `and_parts`, `not-true`,
+-- `false_from_ne_true`, `or-false` and others).
 use Rattle.std.proofs.Common.{◌≡◌, ℕ, suc, ◌<◌, ◌==◌, Bool, true, false, not, ◌&&◌, ◌||◌, refl, sym, arith}
 use Rattle.std.proofs.lemmas.Bool.{both_ways, eq-eqb, ne_eqb}
 
@@ -7,7 +8,8 @@ same_truth true b f g = sym (f refl)
 same_truth false true f g = g refl
 same_truth false false f g = refl
 
--- no truth value is both true and false; `both_ways` of std takes the two proofs in the other order
+-- No truth value is both true and false. This is `both_ways` of std with the two proofs in the
+-- other order.
 pub clash : (b : Bool) → b ≡ true → b ≡ false → ⊥
 clash b yes_b no_b = both_ways b no_b yes_b
 
@@ -32,7 +34,7 @@ or_swap true true c = refl
 or_swap true false c = refl
 or_swap false b c = refl
 
--- the equality test is true of a number and itself
+-- the test of equality is true of a number and itself
 pub eqb_refl : (n : ℕ) → (n == n) ≡ true
 eqb_refl n = eq-eqb n n refl
 

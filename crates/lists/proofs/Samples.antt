@@ -1,8 +1,8 @@
--- A small table of lists, and items that are added to it.
+-- Samples of a small table of lists, to which items are added.
 use Rattle.std.proofs.Common.{◌≡◌, ℕ, List, [], ◌∷◌, Some, None, refl}
 use Rattle.lists.specs.Rows.{noted}
 
--- three lists, one of which has an item
+-- a table of three lists, of which the second has one item
 abbrev rows : List (List ℕ)
 rows = [] ∷ (7 ∷ []) ∷ [] ∷ []
 

@@ -1,7 +1,7 @@
--- A table of lists, to which one item is added.
+-- Adding an item to a table of lists.
 use Rattle.std.specs.Prelude.{ℕ, List, [], ◌∷◌, ◌++◌, Option, Some, None, slice_set, slice_index_or}
 
--- appends the item to the list at `place`, or leaves the lists unchanged if there is no such place
+-- the table with the item appended to the list at `place`, or unchanged if there is no such place
 abbrev pub noted : {A : Type 0} → List (List A) → Option ℕ → A → List (List A)
 noted rows None item = rows
 noted rows (Some place) item = slice_set rows place (slice_index_or rows place [] ++ item ∷ [])

@@ -1,4 +1,5 @@
--- The items at which pieces begin, and a fact about all items that follows from the facts about each piece.
+-- Lemmas about the first items of pieces, and about facts about all items that follow from facts
+-- about the items of each piece.
 use Rattle.std.proofs.Common.{◌≡◌, ℕ, zero, suc, ◌+◌, ◌*◌, ◌/◌, ◌<◌, ◌≤◌, inl, inr, List, [], ◌∷◌, length, Result, Ok, Err, sym, ap, ◌∙◌, refl, append-nil, subst, arith}
 use Rattle.std.specs.Prelude.{slice_index_or}
 use Rattle.std.proofs.Math.Nat.{div-mul-le_self, mul-div_left, mul-le-mul_right}
@@ -9,11 +10,11 @@ use Rattle.side_by_side.specs.Pieces.{GivesTogether, IsOfPieces, piece_of, piece
 times_less : (p q m : ℕ) → p ≤ q → p * m ≤ q * m
 times_less p q m less = mul-le-mul_right m less
 
--- a piece with a higher number begins no earlier
+-- if `p` is at most `q`, piece `p` does not begin after piece `q`
 start_rises : (items pieces p q : ℕ) → 0 < pieces → p ≤ q → piece_start items pieces p ≤ piece_start items pieces q
 start_rises items pieces p q some less = le-div (p * items / pieces) (q * items) pieces some (omega (arith, div-mul-le_self (p * items) pieces, times_less p q items less))
 
--- the first piece begins with the first item, and no item is left after the last piece
+-- piece 0 begins with item 0
 pub start_first : (items pieces : ℕ) → piece_start items pieces 0 ≡ 0
 start_first items pieces = grind arith
 
@@ -24,7 +25,7 @@ only_answer : {A : Type 0} (P : ℕ → A → Type 0) (answer : A) (number : ℕ
 only_answer P answer zero none less holds = holds
 only_answer P answer (suc number) none less holds = absurd (omega (arith, less))
 
--- the answer of a single piece is the joined answer
+-- if there is only one piece, its answer is the joined answer
 pub of_one_piece : {V T E : Type 0} (view : V → List T) (Gives : Piece → Result V E → Type 0) (IsRefusal : E → Type 0) (items : ℕ) (answer : Result V E) →
     Gives (piece_of items 1 0) answer → GivesTogether view Gives IsRefusal items 1 answer
 of_one_piece view Gives IsRefusal items (Ok v) gives =
@@ -32,9 +33,10 @@ of_one_piece view Gives IsRefusal items (Ok v) gives =
 of_one_piece view Gives IsRefusal items (Err fault) gives =
     inr (record { answers = Err fault ∷ []; count = refl; each = λ number none less. only_answer (λ n answer. Gives (piece_of items 1 n) answer) (Err fault) number none less gives; is = refl })
 
--- `Says from to said` is a statement about the items `from..to`
+-- `Says from to said` is a statement about the answer `said` for the items `from..to`
 module _ {T E : Type 0} (items : ℕ) (Says : ℕ → ℕ → Result (List T) E → Type 0) where
-  -- the statement is true of an empty range and an empty list; if it is true of two neighboring ranges, it is true of the two together
+  -- the statement is true of an empty range and an empty list; if it is true of each of two
+  -- neighboring ranges, it is true of the joined range and the joined answers
   pub record IsOfRanges : Type 0 where
     pub nothing : (i : ℕ) → Says i i (Ok [])
     pub both : (from middle to : ℕ) (said later : Result (List T) E) → from ≤ middle → middle ≤ to → to ≤ items → Says from middle said → Says middle to later → Says from to (said_then said later)
@@ -43,7 +45,8 @@ module _ {T E : Type 0} (items : ℕ) (Says : ℕ → ℕ → Result (List T) E 
     abbrev start : ℕ → ℕ
     start number = piece_start items pieces number
 
-    -- if the statement is true of each piece from piece `k` on, it is true of all their items and the joined answers
+    -- if the statement is true of each piece from piece `k` on, it is true of the items of these
+    -- pieces and their joined answers
     from_piece : (answers : List (Result V E)) (k : ℕ) → k + length answers ≡ pieces → ((i : ℕ) (none : Result V E) → i < length answers → Says (start (k + i)) (start (k + i + 1)) (seen view (slice_index_or answers i none))) → Says (start k) items (together view answers)
     from_piece [] k count each =
         let last : k ≡ pieces = omega (arith, count) in
@@ -56,7 +59,8 @@ module _ {T E : Type 0} (items : ℕ) (Says : ℕ → ℕ → Result (List T) E 
         from_piece answers (k + 1) (omega (arith, count)) (λ i none less. subst (λ (n : ℕ). Says (start n) (start (n + 1)) (seen view (slice_index_or answers i none))) (omega arith) (each (suc i) none (omega (arith, less)))) in
         ranges.both (start k) (start (k + 1)) items (seen view answer) (together view answers) low high (omega arith) here behind
 
-    -- if a statement is true of each piece's items, it is true of all items
+    -- if the statement is true of the items and the answer of each piece, and of a fault of memory,
+    -- it is true of all items and the result
     pub of_pieces : (Gives : Piece → Result V E → Type 0) (IsRefusal : E → Type 0) (result : Result V E) →
         ((number : ℕ) (answer : Result V E) → number < pieces → Gives (piece_of items pieces number) answer → Says (start number) (start (number + 1)) (seen view answer)) →
         ((fault : E) → IsRefusal fault → Says 0 items (Err fault)) → GivesTogether view Gives IsRefusal items pieces result → Says 0 items (seen view result)

@@ -1,11 +1,11 @@
--- The items of a range `from..to`.
+-- Lemmas about the items of a range `from..to`.
 use Rattle.std.proofs.Common.{◌≡◌, ℕ, ◌+◌, ◌-◌, ◌<◌, ◌≤◌, List, [], ◌∷◌, ◌++◌, length, get_or, take, drop, sym, ap, ◌∙◌, arith}
 use Rattle.std.proofs.Math.Seq.{take-add, take-length}
 use Rattle.std.proofs.lemmas.List.{drop_more, drop-drop}
 use Rattle.side_by_side.specs.Pieces.{items_between}
 
 module _ {X : Type 0} (items : List X) where
-  -- the items of a range are those of its two parts, joined
+  -- the items of `from..to` are the items of `from..middle` followed by the items of `middle..to`
   pub range_sum : (from middle to : ℕ) → from ≤ middle → middle ≤ to → items_between items from to ≡ items_between items from middle ++ items_between items middle to
   range_sum from middle to low high =
       let sum : to - from ≡ (middle - from) + (to - middle) = omega arith in

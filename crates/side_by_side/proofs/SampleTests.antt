@@ -2,7 +2,8 @@
 use Rattle.std.proofs.Common.{◌≡◌, ℕ, List, [], ◌∷◌, Result, Ok, Err, refl}
 use Rattle.side_by_side.specs.Pieces.{items_between, piece_start, together}
 
--- ten items in four pieces, which have 2, 3, 2 and 3 items
+-- ten items in four pieces, which have 2, 3, 2 and 3 items: the first item of each piece, and the
+-- number of all items
 starts : piece_start 10 4 0 ∷ piece_start 10 4 1 ∷ piece_start 10 4 2 ∷ piece_start 10 4 3 ∷ piece_start 10 4 4 ∷ [] ≡ 0 ∷ 2 ∷ 5 ∷ 7 ∷ 10 ∷ []
 starts = refl
 
@@ -21,6 +22,6 @@ lists = refl
 faults : all_of (Ok (1 ∷ []) ∷ Err 7 ∷ Ok (2 ∷ []) ∷ Err 8 ∷ []) ≡ Err 7
 faults = refl
 
--- without answers, the result is the empty list
+-- if there are no answers, the result is the empty list
 none : all_of [] ≡ Ok []
 none = refl

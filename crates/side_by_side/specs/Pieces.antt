@@ -1,8 +1,9 @@
--- The joined result of the pieces of a list of items.
+-- The pieces of a list of items, and the joined result of the answers for the pieces.
 use Rattle.std.specs.Prelude.{◌≡◌, ℕ, ◌+◌, ◌*◌, ◌/◌, ◌<◌, ◌⊎◌, ◌-◌, List, [], ◌∷◌, ◌++◌, length, take, drop, slice_index_or, Result, Ok, Err}
 use Rattle.side_by_side.specs.declared.pieces.Piece.{Piece}
 
--- the number of the piece's first item. The numbers of items of any two pieces differ by at most one.
+-- The number of the first item of piece `number`. The numbers of items in any two pieces differ by
+-- at most one.
 abbrev pub piece_start : ℕ → ℕ → ℕ → ℕ
 piece_start items pieces number = number * items / pieces
 
@@ -13,34 +14,35 @@ piece_of items pieces number = record { number = number; first = piece_start ite
 abbrev pub items_between : {X : Type 0} → List X → ℕ → ℕ → List X
 items_between items from to = take (to - from) (drop from items)
 
--- the list followed by the list of a later answer, or the fault if the later answer is one
+-- `list` followed by the list of the later answer, or the later answer's fault
 abbrev pub after : {T E : Type 0} → List T → Result (List T) E → Result (List T) E
 after list (Ok later) = Ok (list ++ later)
 after list (Err fault) = Err fault
 
--- the joined lists of two answers, or the first fault
+-- the list of the first answer followed by the list of the later answer, or the first fault
 abbrev pub said_then : {T E : Type 0} → Result (List T) E → Result (List T) E → Result (List T) E
 said_then (Ok list) later = after list later
 said_then (Err fault) later = Err fault
 
--- applies `view` to an Ok value, which gives a list
+-- the answer with `view` applied to its Ok value, which gives a list
 abbrev pub seen : {V T E : Type 0} → (V → List T) → Result V E → Result (List T) E
 seen view (Ok v) = Ok (view v)
 seen view (Err fault) = Err fault
 
--- the joined lists of the answers in order, or the first fault
+-- the lists of the answers, joined in order, or the first fault
 abbrev pub together : {V T E : Type 0} → (V → List T) → List (Result V E) → Result (List T) E
 together view [] = Ok []
 together view (answer ∷ later) = said_then (seen view answer) (together view later)
 
--- each of the pieces has an answer that `Gives` allows, and these answers, joined, are `said`
+-- each piece has an answer that `Gives` allows, and the joined answers of all pieces are `said`
 pub record IsOfPieces {V T E : Type 0} (view : V → List T) (Gives : Piece → Result V E → Type 0) (items pieces : ℕ) (said : Result (List T) E) : Type 0 where
   pub answers : List (Result V E)
   pub count : length answers ≡ pieces
   pub each : (number : ℕ) (none : Result V E) → number < pieces → Gives (piece_of items pieces number) (slice_index_or answers number none)
   pub is : together view answers ≡ said
 
--- the result is the joined answers of all pieces, or memory was refused
+-- the result is the joined answers of all pieces, or a fault for which `IsRefusal` is true, since
+-- memory ran out
 abbrev pub GivesTogether : {V T E : Type 0} → (V → List T) → (Piece → Result V E → Type 0) → (E → Type 0) → ℕ → ℕ → Result V E → Type 0
 GivesTogether view Gives IsRefusal items pieces (Ok all) = IsOfPieces view Gives items pieces (Ok (view all))
 GivesTogether view Gives IsRefusal items pieces (Err fault) = IsRefusal fault ⊎ IsOfPieces view Gives items pieces (Err fault)

@@ -1,10 +1,11 @@
-//! A law on how items are shared among pieces. It is the contract of a function that does nothing: a caller knows the law after calling
-//! it.
+//! A law about how items are shared among pieces. The law is the contract of a function that does
+//! nothing. A caller knows the law after calling the function.
 ghost use Rattle.std.specs.Prelude.{◌≡◌, ℕ, ◌+◌, ◌-◌, ◌*◌, ◌<◌, ◌≤◌};
 ghost use Rattle.side_by_side.specs.Pieces.{piece_of};
 
-/// Each piece begins where the piece before it ends. The first piece begins with the first item, and the last piece ends with the last.
-/// The numbers of items of any two pieces differ by at most one. Piece `number` begins at item `number * items / pieces`, rounded down.
+/// Each piece begins where the piece before it ends. The first piece begins with the first item,
+/// and the last piece ends with the last item. The numbers of items in any two pieces differ by at
+/// most one. Piece `number` begins at item `number * items / pieces`, rounded down.
 pub fn pieces_share()
     ensures number { (items pieces number : ℕ) → (piece_of items pieces number).number ≡ number }
     ensures first { (items pieces : ℕ) → (piece_of items pieces 0).first ≡ 0 }

@@ -1,4 +1,4 @@
-// The pieces of a list of items, and joining their results.
+// The pieces of a list of items, and the joining of the pieces' results.
 ghost use Rattle.std.specs.Prelude.{◌≡◌, ◌⊎◌, ◌<◌, ◌≤◌, Ok, Err, MatchResult, alloc_error};
 ghost use Rattle.side_by_side.specs.Pieces.{GivesTogether, piece_of, piece_start, together};
 
@@ -13,7 +13,8 @@ pub struct Piece {
     pub end: u64,
 }
 
-// Returns the number of the piece's first item. If `number` is the number of pieces, returns the number of items.
+// Returns the number of the first item of piece `number`. If `number` is the number of pieces,
+// returns the number of items.
 fn piece_start(items: u64, pieces: u32, number: u32) -> u64
     requires some { 0 < pieces }
     requires number { number ≤ pieces }
@@ -38,7 +39,7 @@ fn piece_of(items: u64, pieces: u32, number: u32) -> Piece
     }
 }
 
-// Joins the answers' lists in order, or returns the first fault.
+// Joins the lists of the answers in order. Returns the first fault if there is one.
 fn together<T: Drop, E: From<AllocError> + Drop>(
     alloc: Global,
     answers: Vec<Result<Vec<T>, E>>,
@@ -55,11 +56,12 @@ fn together<T: Drop, E: From<AllocError> + Drop>(
     Ok(all)
 }
 
-/// Cuts the items into `pieces` pieces, does the work on each piece, and joins the resulting lists in order. Returns the fault of the
-/// first piece that has one. If memory is refused for the pieces themselves, that refusal may be returned in place of any other fault.
+/// Cuts the items into `pieces` pieces, does the work on each piece, and joins the resulting lists
+/// in order. Returns the fault of the first piece that has a fault. If memory for the pieces
+/// themselves runs out, the call may return this fault instead.
 ///
-/// The numbers of items of any two pieces differ by at most one. The pieces run side by side. If there is only one piece, its list is
-/// returned unchanged and needs no more memory.
+/// The numbers of items in any two pieces differ by at most one. The pieces run side by side. If
+/// there is only one piece, its list is returned unchanged and needs no more memory.
 pub fn in_pieces<
     R: Threads + Sync,
     T: Send + Drop,

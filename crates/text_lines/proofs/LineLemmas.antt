@@ -1,4 +1,4 @@
--- Cutting a text into lines, and a line into words.
+-- Lemmas about cutting a text into lines, and a line into words.
 use Rattle.std.proofs.Common.{◌≡◌, ℕ, ◌+◌, ◌<◌, ◌≤◌, Bool, true, false, cond, List, [], ◌∷◌, length, Option, Some, None, refl, ap, ◌∙◌, arith, not, map, subst, take, drop, get_or, suc, sym, ◌-◌, length-drop}
 use Rattle.std.specs.Prelude.{IfSome, IfNone, option_map, filter, take_while, ◌==◌}
 use Rattle.memchr.specs.Find.{Nowhere, NoneBefore, Passes}
@@ -9,17 +9,18 @@ use Rattle.std.proofs.lemmas.List.Splits.{slice_split-cons_yes, slice_split-cons
 use Rattle.std.proofs.lemmas.List.{take_rest, length-take-le}
 use Rattle.std.proofs.lemmas.Bool.{false≢true, not_from_false, false_from_ne_true}
 
--- if no byte passes, the position is the length of the list
+-- if no byte passes the test, `position_or_len` is the length of the list
 pub no_place : (p : ℕ → Bool) (xs : List ℕ) → Nowhere (Passes p xs) 0 (length xs) → position_or_len p xs ≡ length xs
 no_place p xs nowhere =
     prefix_len_is (λ x. not (p x)) xs (length xs) 0 (omega arith) (λ k within. not_from_false (p (get_or xs k 0)) (false_from_ne_true (p (get_or xs k 0)) (nowhere k (omega arith) within))) (λ within. absurd (omega arith))
 
--- if byte `k` passes and no byte before it does, `k` is the position of the first passing byte
+-- if byte `k` passes the test and no byte before it does, `position_or_len` is `k`
 pub first_place : (p : ℕ → Bool) (xs : List ℕ) (k : ℕ) → NoneBefore (Passes p xs) 0 (length xs) k → Passes p xs k → position_or_len p xs ≡ k
 first_place p xs k before passes =
     prefix_len_is (λ x. not (p x)) xs k 0 (omega (arith, before.high)) (λ j within. not_from_false (p (get_or xs j 0)) (false_from_ne_true (p (get_or xs j 0)) (before.before j (omega arith) within))) (λ within. ap not passes)
 
--- if byte `k` is the first that passes, the bytes before it and the bytes after it are the parts of the cut
+-- if byte `k` is the first that passes, the bytes before it and the bytes behind it are the two
+-- parts of the cut
 pub cut_there : (p : ℕ → Bool) (xs : List ℕ) (k : ℕ) → (NoneBefore (Passes p xs) 0 (length xs) k × Passes p xs k) → IsCut p xs (Some (take k xs, take (length xs - (k + 1)) (drop (k + 1) xs)))
 cut_there p xs k (before, passes) =
     let place = first_place p xs k before passes in (
@@ -28,7 +29,7 @@ cut_there p xs k (before, passes) =
       take_rest xs (k + 1) ∙ sym (ap (λ n. drop (n + 1) xs) place),
     )
 
--- the two parts together are no longer than the text
+-- the two parts of a cut together are no longer than the text
 pub cut_within : (p : ℕ → Bool) (text before behind : List ℕ) → IsCut p text (Some (before, behind)) → length before + length behind ≤ length text
 cut_within p text before behind (place, first, rest) =
     omega (arith, place, ap length first, ap length rest, length-take-le (position_or_len p text) text (omega arith), length-drop (position_or_len p text + 1) text)
@@ -37,7 +38,7 @@ split_behind : (p : ℕ → Bool) (x : ℕ) (xs : List ℕ) (b : Bool) → cond 
 split_behind p x xs true e ih = absurd (omega arith)
 split_behind p x xs false e ih = let same : position_or_len p xs ≡ length xs = omega arith in ap (onto_first x) (ih same)
 
--- if no byte passes, splitting the list gives only the list itself
+-- if no byte passes, the list is split into only one piece, which is the list itself
 pub split_whole : (p : ℕ → Bool) (xs : List ℕ) → position_or_len p xs ≡ length xs → slice_split p xs ≡ xs ∷ []
 split_whole p [] h = refl
 split_whole p (x ∷ xs) h = split_behind p x xs (p x) (h ∙ omega arith) (split_whole p xs)
@@ -48,7 +49,8 @@ unfolding words_of
 words_of_empty [] h = refl
 words_of_empty (b ∷ bs) h = absurd (omega arith)
 
--- the number of bytes of the text that is left, plus one, or 0 if no text is left; it falls with each line
+-- one more than the number of bytes that are left, or 0 if no text is left; this number falls with
+-- each line
 abbrev pub text_left : Option (List ℕ) → ℕ
 text_left None = 0
 text_left (Some text) = 1 + length text
@@ -58,7 +60,7 @@ unfolding words_of
 no_words view [] e h = omega arith
 no_words view (w ∷ ws) e h = cc e
 
--- a line with words has bytes
+-- a line that has words has bytes
 pub has_bytes : {A : Type 0} (view : A → List ℕ) (words : List A) (line : List ℕ) → map view words ≡ words_of line → 0 < length words → 0 < length line
 has_bytes view words [] e h = absurd (no_words view words e h)
 has_bytes view words (b ∷ bs) e h = omega arith
@@ -66,7 +68,8 @@ has_bytes view words (b ∷ bs) e h = omega arith
 pub at_some : {A : Type 0} (P : A → Type 0) (o : Option A) (x : A) → o ≡ Some x → IfSome o P → P x
 at_some P o x e h = subst (λ v. IfSome v P) e h
 
--- if a text and the line number are within a bound, so are the rest of the text and the number of the next line
+-- if the number of a line plus the length of the text from this line on is at most `1 + b`, the
+-- same is true of the next line
 pub next_place : {A : Type 0} (view : A → List ℕ) (r : Option A) (line text : List ℕ) (n b : ℕ) → IfSome r (λ rest. length line + length (view rest) + 1 ≡ length text) → n + length text ≤ 1 + b → IfSome r (λ rest. n + 1 + length (view rest) ≤ 1 + b)
 next_place view None line text n b h place = tt
 next_place view (Some rest) line text n b h place = omega arith
@@ -75,15 +78,18 @@ pub line_within : {A : Type 0} (view : A → List ℕ) (r : Option A) (line text
 line_within view None line text h whole = omega arith
 line_within view (Some rest) line text h whole = omega arith
 
--- the number of bytes of the text that is left
+-- the number of bytes that are left, or 0 if no text is left
 abbrev pub bytes_left : Option (List ℕ) → ℕ
 bytes_left None = 0
 bytes_left (Some text) = length text
 
--- A line that counts has at least one byte. So no more lines count than the text has bytes.
+-- if the lines counted so far and the bytes that are left are at most `b`, the same is true of the
+-- text that is left
 pub count_at : (left : Option (List ℕ)) (text : List ℕ) (count b : ℕ) → left ≡ Some text → count + bytes_left left ≤ b → count + length text ≤ b
 count_at left text count b is within = subst (λ (o : Option (List ℕ)). count + bytes_left o ≤ b) is within
 
+-- if one more line is counted and has at least one byte, the lines counted so far and the bytes
+-- behind the line are still at most `b`
 pub count_more : {A : Type 0} (view : A → List ℕ) (r : Option A) (line text : List ℕ) (count b : ℕ) → IfSome r (λ rest. length line + length (view rest) + 1 ≡ length text) → IfNone r (length line ≡ length text)
     → 0 < length line → count + length text ≤ b → count + 1 + bytes_left (option_map view r) ≤ b
 count_more view None line text count b shorter whole filled within = omega arith
@@ -93,7 +99,7 @@ pub count_same : {A : Type 0} (view : A → List ℕ) (r : Option A) (line text 
 count_same view None line text count b shorter within = omega arith
 count_same view (Some rest) line text count b shorter within = omega arith
 
--- a blank at the front of a line changes none of its words
+-- a line has the same words with and without a blank in front
 pub words_of-blank : (b : ℕ) (bs : List ℕ) → is_blank b ≡ true → words_of (b ∷ bs) ≡ words_of bs
 unfolding words_of
 words_of-blank b bs blank =
@@ -103,7 +109,7 @@ taken_first : (b : ℕ) (bs : List ℕ) (pieces : List (List ℕ)) → not (b ==
 taken_first b bs pieces word =
     take_while-cons begins_no_comment (b ∷ bs) pieces ∙ ap (λ t. cond t ((b ∷ bs) ∷ take_while begins_no_comment pieces) []) word
 
--- the words of a line are its first word, if it begins with one, followed by the words of the text after this word
+-- if a line begins with a word, its words are this word followed by the words of the text behind it
 pub words_of-cons : (line before behind : List ℕ) → slice_split is_blank line ≡ before ∷ slice_split is_blank behind → begins_word before ≡ true → words_of line ≡ before ∷ words_of behind
 unfolding words_of
 words_of-cons line [] behind split word = absurd (false≢true word)
@@ -111,7 +117,7 @@ words_of-cons line (b ∷ bs) behind split word =
     ap (λ pieces. take_while begins_no_comment (filter is_filled pieces)) split
     ∙ taken_first b bs (filter is_filled (slice_split is_blank behind)) word
 
--- the part before the first blank begins with the same byte as the text
+-- if a text begins with a word, so does its part before the first blank
 pub begins_word-before : (text : List ℕ) → begins_blank text ≡ false → begins_word text ≡ true → begins_word (before_first is_blank text) ≡ true
 begins_word-before [] blank word = absurd (false≢true word)
 begins_word-before (b ∷ bs) blank word =
@@ -125,14 +131,14 @@ comment_first b [] comment =
 comment_first b (piece ∷ pieces) comment =
     take_while-cons begins_no_comment (b ∷ piece) (filter is_filled pieces) ∙ ap (λ t. cond t ((b ∷ piece) ∷ take_while begins_no_comment (filter is_filled pieces)) []) comment
 
--- a comment has no words
+-- a text that begins with neither a blank nor a word, which is empty or a comment, has no words
 pub words_of-comment : (text : List ℕ) → begins_blank text ≡ false → begins_word text ≡ false → words_of text ≡ []
 unfolding words_of
 words_of-comment [] blank word = refl
 words_of-comment (b ∷ bs) blank word =
     ap (λ pieces. take_while begins_no_comment (filter is_filled pieces)) (slice_split-cons_no is_blank b bs blank) ∙ comment_first b (slice_split is_blank bs) word
 
--- a text without blanks is one word
+-- a text that begins with a word and has no blanks is one word
 pub words_of-whole : (text : List ℕ) → position_or_len is_blank text ≡ length text → begins_word text ≡ true → words_of text ≡ text ∷ words_of []
 unfolding words_of
 words_of-whole [] whole word = absurd (false≢true word)

@@ -21,11 +21,12 @@ abbrev pub begins_no_comment : Word → Bool
 begins_no_comment [] = true
 begins_no_comment (b ∷ bs) = not (b == 35)
 
--- the words of a line: the nonempty pieces between blanks, before the first piece that begins with `#`
+-- the words of a line: the nonempty pieces between blanks, up to the first piece that begins with
+-- `#`
 unfoldable pub words_of : List ℕ → List Word
 words_of line = take_while begins_no_comment (filter is_filled (slice_split is_blank line))
 
--- the largest number of bytes of a word
+-- the largest number of bytes that a word can have
 abbrev pub most_word_bytes : ℕ
 most_word_bytes = 255
 
@@ -33,12 +34,13 @@ most_word_bytes = 255
 abbrev pub is_word : Word → Bool
 is_word word = is_filled word && nat_le (length word) most_word_bytes && list_all is_ascii_graphic word
 
--- the lines of the text that is left, if any is left
+-- the lines of the text that is left, or no lines if no text is left
 abbrev pub lines_of : Option (List ℕ) → List (List ℕ)
 lines_of None = []
 lines_of (Some text) = slice_split is_newline text
 
--- the result is the parts before and after the first byte that passes the test, or None if no byte passes
+-- the two parts are the bytes before and behind the first byte that passes the test; None if no
+-- byte passes
 abbrev pub IsCut : (ℕ → Bool) → List ℕ → Option (List ℕ × List ℕ) → Type 0
 IsCut p text None = position_or_len p text ≡ length text
 IsCut p text (Some (before, behind)) = (position_or_len p text < length text) × (before ≡ before_first p text) × (behind ≡ after_first p text)

@@ -1,7 +1,7 @@
-//! The lines of a text and the words of a line.
+//! The lines of a text, and the words of a line.
 //!
-//! Byte 10 separates lines. Carriage returns, tabs and spaces separate words. A word that begins with `#` begins a
-//! comment, which ends with its line.
+//! Byte 10 separates lines. Carriage returns, tabs and spaces separate words. A word that begins
+//! with `#` begins a comment, which ends with its line.
 #![tactic(auto)]
 
 ghost use Rattle.std.specs.Prelude.{◌≡◌, ◌==◌, [], ◌∷◌, true, false, MatchOption, map, IfOk, IfSome, IfNone, option_map, option_copied, length, drop, ◌+◌, ◌≤◌};
@@ -37,7 +37,7 @@ pub fn begins_no_comment(word: &[u8]) -> bool
     }
 }
 
-/// Returns the words of a line, up to its comment if it has one.
+/// Returns the words of a line. A comment at the end of the line has no words.
 #[tactic(auto, unfolding(crate::specs::Words::words_of))]
 pub fn words(alloc: Global, line: &[u8]) -> Result<Vec<&[u8]>, AllocError>
     ensures { IfOk result (λ words. map (λ w. w.now) words.items ≡ words_of line.now) }
@@ -54,7 +54,7 @@ fn is_graphic(word: &[u8]) -> bool
     word.iter().all(|b| b.is_ascii_graphic())
 }
 
-/// The largest number of bytes of a word.
+/// The largest number of bytes that a word can have.
 const MOST_WORD_BYTES: usize = 255;
 
 /// Returns whether the word has 1 to 255 bytes, each from 33 to 126.
@@ -64,8 +64,8 @@ pub fn is_word(word: &[u8]) -> bool
     is_filled(word) && word.len() <= MOST_WORD_BYTES && is_graphic(word)
 }
 
-// Returns the place of the first byte that equals `byte`. A text may have millions of empty lines, so the first byte is
-// compared before the search begins.
+// Returns the place of the first byte that equals `byte`. Compares the first byte before the search
+// begins, since a text may have millions of empty lines.
 fn place_of(text: &[u8], byte: u8) -> Option<usize>
     ensures { IsFirstByte (is_byte byte) text.now result }
 {
@@ -75,7 +75,8 @@ fn place_of(text: &[u8], byte: u8) -> Option<usize>
     }
 }
 
-/// Returns the parts before and after the first byte that equals `byte`, or None if there is no such byte.
+/// Returns the parts before and behind the first byte that equals `byte`, or None if there is no
+/// such byte.
 pub fn cut_at(text: &[u8], byte: u8) -> Option<(&[u8], &[u8])>
     ensures { IsCut (λ b. b == byte) text.now (option_map (λ cut. (cut.0.now, cut.1.now)) result) }
 {
@@ -85,7 +86,7 @@ pub fn cut_at(text: &[u8], byte: u8) -> Option<(&[u8], &[u8])>
     }
 }
 
-/// Returns the first line, and the text after it if another line follows.
+/// Returns the first line, and the text behind it if another line follows.
 pub fn first_line(text: &[u8]) -> (&[u8], Option<&[u8]>)
     ensures lines { slice_split is_newline text.now ≡ result.0.now ∷ lines_of (option_copied result.1) }
     ensures shorter { IfSome result.1 (λ rest. length result.0.now + length rest.now + 1 ≡ length text.now) }
@@ -118,7 +119,7 @@ fn begins_word(line: &[u8]) -> bool
     is_filled(line) && begins_no_comment(line)
 }
 
-// Returns the parts before and after the first blank, or None if there is no blank.
+// Returns the parts before and behind the first blank, or None if there is no blank.
 fn cut_at_blank(text: &[u8]) -> Option<(&[u8], &[u8])>
     ensures { IsCut is_blank text.now (option_map (λ cut. (cut.0.now, cut.1.now)) result) }
 {
@@ -128,7 +129,7 @@ fn cut_at_blank(text: &[u8]) -> Option<(&[u8], &[u8])>
     }
 }
 
-// Returns the word at the front of the text, and the text after it.
+// Returns the word at the front of the text, and the text behind it.
 fn cut_word(text: &[u8]) -> (&[u8], &[u8])
     requires first { begins_blank text.now ≡ false }
     requires word { begins_word text.now ≡ true }
@@ -141,7 +142,7 @@ fn cut_word(text: &[u8]) -> (&[u8], &[u8])
     }
 }
 
-/// Returns the first word of a line and the text after it, or None if the line has no word.
+/// Returns the first word of a line and the text behind it, or None if the line has no word.
 pub fn next_word(line: &[u8]) -> Option<(&[u8], &[u8])>
     ensures words { MatchOption result (words_of line.now ≡ []) (λ cut. words_of line.now ≡ cut.0.now ∷ words_of cut.1.now) }
     ensures within { IfSome result (λ cut. length cut.0.now + length cut.1.now ≤ length line.now) }

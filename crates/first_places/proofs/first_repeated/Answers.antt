@@ -1,4 +1,4 @@
--- An item whose key is in the set has the key of an earlier item.
+-- If the key of an item is already in the set, an earlier item has the same key.
 use Rattle.std.proofs.Common.{◌≡◌, true, false, take, ap, sym, ◌∙◌}
 use Rattle.std.specs.Prelude.{option_map}
 use Rattle.std.specs.List.{list_any}

@@ -3,7 +3,7 @@ use Rattle.indexmap.specs.IndexMap.{get}
 use Rattle.first_places.specs.Places.{first_value}
 use Rattle.first_places.proofs.first_values.Given as goal
 
--- the map has the first values of the items from `i` on
+-- for each key, the map has the value of the first item with this key among the items from `i` on
 abbrev pub invariant-loop-i : goal.invariant-loop-i
 invariant-loop-i g l = record {
   within : l.i ≤ length l.items;

@@ -1,4 +1,4 @@
--- A new key is kept and gets the next number. Any other key has its number already.
+-- A new key is kept and gets the next number. Any other key already has a number.
 use Rattle.std.proofs.Common.{◌≡◌, ◌≤◌, ◌<◌, ◌+◌, ◌^◌, ◌++◌, ◌∷◌, [], length, take, drop, cond, not, sym, ap, ◌∙◌, arith}
 use Rattle.std.specs.List.{list_any, position_or_len}
 use Rattle.std.proofs.lemmas.List.Sums.{prefix_len-le-length}

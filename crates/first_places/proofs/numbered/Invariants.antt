@@ -4,7 +4,8 @@ use Rattle.indexmap.specs.IndexSet.{contains}
 use Rattle.first_places.specs.Places.{number_in, once, once_from}
 use Rattle.first_places.proofs.numbered.Given as goal
 
--- the keys so far are in the set and have their numbers, and the kept keys followed by the new keys among the rest are the result
+-- The keys visited so far are in the set and have their numbers. The kept keys, followed by the new
+-- keys among the keys that are left, are the result.
 abbrev pub invariant-loop-key : goal.invariant-loop-key
 invariant-loop-key g l = record {
   same : l.seen.keys ≡ l.kept.items;

@@ -1,4 +1,4 @@
--- An item is kept if its key is new.
+-- An item is kept if and only if its key is new.
 use Rattle.std.proofs.Common.{◌≡◌, sym, ap, ◌∙◌}
 use Rattle.indexmap.specs.IndexSet.{contains}
 use Rattle.first_places.specs.Places.{once}

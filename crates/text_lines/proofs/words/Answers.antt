@@ -1,4 +1,4 @@
--- The chain of iterators gives the words of the line.
+-- The chain of iterators yields the words of the line.
 use Rattle.std.proofs.Common.{rules, tests}
 use Rattle.std.proofs.lemmas.Iterator.Consumers.{map_from_collect, YieldsList-from_filter}
 use Rattle.std.proofs.lemmas.Iterator.Search.{YieldsList-from_take_while}
