@@ -21,8 +21,8 @@ one_pin : (m : Marked) (b : Bool) → map pin_with (cond b (m ∷ []) []) ≡ co
 one_pin m true = refl
 one_pin m false = refl
 
--- the group of net `n` from the first `i + 1` words is its group from the first `i` words, followed
--- by the pin of word `i` if this word is in net `n`
+-- net `n`'s group from the first `i + 1` words is the group from the first `i` words, followed by
+-- the pin of word `i` if this word is in net `n`
 pub group_more : (words : List MarkedWord) (i : ℕ) (w : MarkedWord) (n : ℕ) → i < length words → get_or words i w ≡ w →
     group_of (map seen (take (i + 1) words)) n ≡ group_of (map seen (take i words)) n ++ cond (w.net == n) (pin_with (seen w) ∷ []) []
 group_more words i w n within read =
@@ -34,7 +34,7 @@ group_more words i w n within read =
     ∙ ap (λ v. group_of (map seen (take i words)) n ++ v) (one_pin (seen w) (w.net == n))
 
 -- if the groups are right for the first `i` words, and the pin of word `i` is appended to the group
--- of the word's net, they are right for the first `i + 1` words
+-- of the word's net, the new groups are right for the first `i + 1` words
 pub groups_step : (words : List MarkedWord) (i : ℕ) (w : MarkedWord) (count : ℕ) (old new : List (List NetPin)) → i < length words → get_or words i w ≡ w → w.net < length old →
     new ≡ set old w.net (get_or old w.net [] ++ pin_with (seen w) ∷ []) → ((n : ℕ) → n < count → get_or old n [] ≡ group_of (map seen (take i words)) n) →
     (n : ℕ) → n < count → get_or new n [] ≡ group_of (map seen (take (i + 1) words)) n
@@ -54,8 +54,8 @@ groups_step words i w count old new within read inside changed was n less = by_t
         wrong : true ≡ false → ⊥
         wrong h = cc h
 
--- if the groups are right for the first `i` words, and word `i` is in none of the nets, they are
--- right for the first `i + 1` words
+-- if the groups are right for the first `i` words, and word `i` is in none of the nets, the groups
+-- are right for the first `i + 1` words
 pub groups_kept : (words : List MarkedWord) (i : ℕ) (w : MarkedWord) (count : ℕ) (old : List (List NetPin)) → i < length words → get_or words i w ≡ w → (w.net < count → ⊥) →
     ((n : ℕ) → n < count → get_or old n [] ≡ group_of (map seen (take i words)) n) → (n : ℕ) → n < count → get_or old n [] ≡ group_of (map seen (take (i + 1) words)) n
 groups_kept words i w count old within read outside was n less = by_test (w.net == n) refl
@@ -111,8 +111,8 @@ at_place {A} P xs i within given = by_get (slice_get xs i) refl
         outside (y ∷ ys) (suc k) h f = outside ys k (omega (arith, h)) f
     by_get (Some x) e = given x (get_or_from_slice_get xs i x x e)
 
--- if the groups are right for the first `i` words, they are right for the first `i + 1` words after
--- the loop handles word `i`
+-- if the groups are right for the first `i` words, the groups after the loop handles word `i` are
+-- right for the first `i + 1` words
 pub groups_more : (words : List MarkedWord) (i count len : ℕ) (old new : List (List NetPin)) → i < length words → len ≡ count → length old ≡ len →
     new ≡ groups_after (slice_get words i) len old → ((n : ℕ) → n < count → get_or old n [] ≡ group_of (map seen (take i words)) n) →
     (n : ℕ) → n < count → get_or new n [] ≡ group_of (map seen (take (i + 1) words)) n
@@ -149,8 +149,8 @@ zip_step {A} {G} {N} f names i gs rest nets new all within er en same =
         same ∙ ap (λ (v : List A). nets ++ map f (zip v (g ∷ hs))) cut ∙ sym (append_assoc nets (f (q, g) ∷ []) (map f (zip (drop (i + 1) names) hs)))
         ∙ ap (λ (v : List N). v ++ map f (zip (drop (i + 1) names) hs)) (sym now) ∙ ap (λ (v : List G). new ++ map f (zip (drop (i + 1) names) v)) (sym er)
 
--- if the marks are right for the first `i` words, they are right for the first `i + 1` words after
--- the mark of word `i` is appended
+-- if the marks are right for the first `i` words, the marks followed by the mark of word `i` are
+-- right for the first `i + 1` words
 pub mark_step : {A N : Type 0} (f : A → N) (words : List A) (i : ℕ) (done new : List N) → i < length words → new ≡ marks_after f (slice_get words i) done → done ≡ map f (take i words) → new ≡ map f (take (i + 1) words)
 mark_step {A} {N} f words i done new within e was =
     at_place (λ o. new ≡ marks_after f o done → new ≡ map f (take (i + 1) words)) words i within

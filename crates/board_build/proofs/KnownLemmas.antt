@@ -32,7 +32,7 @@ some_value {K} {V} eq (item ∷ items) q = by_test (eq item.0 q) (some_value eq 
     by_test true e = refl
     by_test false e = e
 
--- if a part has another name than the pin's part, its port bits give no place of the pin
+-- if a part has another name than the pin's part, the part's port bits give no place of the pin
 none_in_bits : (part : ℕ) (name : List ℕ) (n : ℕ) (bits : List PortBit) (pin : Pin) → same_word name pin.0 ≡ false → list_any (λ (i : PinPlace). same_pin i.0 pin) (bit_places part name n bits) ≡ false
 none_in_bits part name n [] pin e = refl
 none_in_bits part name n (bit ∷ bits) pin e = by_pin bit.pin (none_in_bits part name (n + 1) bits pin e)

@@ -19,8 +19,8 @@ use Rattle.board_lines.specs.ChainParts.{PinPlace, chain_parts, pin_places, plac
 use Rattle.board_lines.specs.LineRules.{line_fault}
 use Rattle.board_build.specs.BoardNets.{Marks, marks_of, net_pin, board_with}
 
--- the fault if a data scan has more than 65,535 bits: one for each boundary cell of a described
--- part, and one for each part in BYPASS
+-- the fault if a data scan has more than 65,535 bits: a bit for each boundary cell of a described
+-- part, and a bit for each part in BYPASS
 unfoldable pub data_limit : List Part → Option BoardFault
 data_limit parts = if nat_lt most_bits (sum_by (λ part. data_length part.kind) parts) then Some (Limit 2) else None
 

@@ -54,7 +54,8 @@ impl BitFlags {
     }
 }
 
-/// Returns a row of flags for each part, with a flag for each of its port bits. No flag is set.
+/// Returns a row of flags for each part, with a flag for each of the part's port bits. No flag is
+/// set.
 fn unset_rows(alloc: Global, parts: &[Part]) -> Result<Vec<BitFlags>, AllocError>
     ensures { IfOk result (λ rows. rows.items ≡ map (λ part. replicate (length (pins_of part.kind)) false) parts.now) }
 {

@@ -15,9 +15,9 @@ repeat-map f eq seen n (x ∷ xs) =
     ap (λ b. cond b (Some n) (repeat_from (λ a b. eq (f a) (f b)) (seen ++ x ∷ []) (n + 1) xs)) (sym (list_any-map f (λ s. eq s (f x)) seen))
     ∙ ap (cond (list_any (λ s. eq s (f x)) (map f seen)) (Some n)) (repeat-map f eq (seen ++ x ∷ []) (n + 1) xs ∙ ap (λ s. repeat_from eq s (n + 1) (map f xs)) (map-append f seen (x ∷ [])))
 
--- if the names so far, followed by the names of the lines from line `i` on, are all names, they are
--- also the names so far, then the name of line `i`, if it has one, then the names of the later
--- lines
+-- if the names so far, followed by the names of the lines from line `i` on, are all names, then the
+-- names so far, followed by the name of line `i`, if it has one, and by the names of the later
+-- lines, are all names
 pub named_step : (naming : Naming) (lines : List ChainLine) (i : ℕ) (line : ChainLine) (done all : List Named) → i < length lines → get_or lines i line ≡ line →
     all ≡ done ++ named naming (drop i lines) → all ≡ done ++ with_name line.line (name_of naming line.statement) (named naming (drop (i + 1) lines))
 named_step naming lines i line done all within read same =

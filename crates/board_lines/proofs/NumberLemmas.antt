@@ -44,8 +44,8 @@ spot_there list place within =
       | inr (past, _) ↦ absurd (omega (arith, past, within))
     ]
 
--- if a place is within the list, a rule that reports the line at the place finds a fault; so if it
--- finds none, there is no place
+-- if a place is within the list, a rule that reports the line at this place finds a fault; so if
+-- the rule finds no fault, there is no place
 found_none : (fault : Spot → BoardFault) (list : List Named) (place : Option ℕ) → ((k : ℕ) → place ≡ Some k → k < length list) → option_map fault (option_and_then (spot_at list) place) ≡ None → place ≡ None
 found_none fault list None within e = refl
 found_none fault list (Some k) within e =

@@ -33,7 +33,7 @@ value_append {K} {V} eq xs ys q = ap (option_map (λ (i : K × V). i.1)) (find-a
     by_case None = refl
     by_case (Some i) = refl
 
--- if a part has another name than the pin's part, its port bits give no place of the pin
+-- if a part has another name than the pin's part, the part's port bits give no place of the pin
 bits_other : (part : ℕ) (name : List ℕ) (n : ℕ) (bits : List PortBit) (pin : Pin) → same_word name pin.0 ≡ false → first_value same_pin (bit_places part name n bits) pin ≡ None
 bits_other part name n [] pin other = refl
 bits_other part name n (bit ∷ bits) pin other = by_pin bit.pin (bits_other part name (n + 1) bits pin other)
@@ -172,8 +172,8 @@ place_by_rows rows numbers parts pin are differ = by_place (first_place same_wor
         ∙ ap (λ i. bit_in_part k (option_and_then (λ part. bit_of_pin (pins_of part.kind) pin.1) (slice_get parts i))) at
         ∙ sym r.place
 
--- if the rows have the pins of the parts so far, and one more part and the number of a row with its
--- pins are appended, the rows have the pins of all these parts
+-- if the rows have the pins of the parts `done`, and row `number` has the pins of one more part,
+-- the rows have the pins of all these parts after the part and the number are appended
 pub rows_more : (rows longer : List (List (Option (List ℕ)))) (numbers : List ℕ) (done : List Part) (number : ℕ) (part : Part) → AreRows rows numbers done →
     ((k : ℕ) (row : List (Option (List ℕ))) → slice_get rows k ≡ Some row → slice_get longer k ≡ Some row) → slice_get longer number ≡ Some (pins_of part.kind) → AreRows longer (numbers ++ number ∷ []) (done ++ part ∷ [])
 rows_more rows longer [] [] number part are kept new = ap (λ o. o ∷ []) new
@@ -193,8 +193,8 @@ rows_step rows longer numbers pushed parts i number part within read are kept ne
     let cut : take (i + 1) parts ≡ take i parts ++ part ∷ [] = take_more parts i part within ∙ ap (λ p. take i parts ++ p ∷ []) (sym read) in
     subst P (sym is) (subst Q (sym cut) (rows_more rows longer numbers (take i parts) number part are kept new))
 
--- if the map has the first bits of the pins from bit `i` on, it has the first bits of the pins from
--- bit `i - 1` on after bit `i - 1` is put into it
+-- if the map has, for each pin, the first of the bits from bit `i` on with this pin, the map has
+-- the first of the bits from bit `i - 1` on after bit `i - 1` is put into the map
 pub bits_step : (bits : List PortBit) (i : ℕ) (default : PortBit) (name : List ℕ) (old new : Option ℕ) → 0 < i → i ≤ length bits →
     old ≡ position_from (λ (b : PortBit). is_pin name b.pin) i (drop i bits) → new ≡ cond (is_pin name (get_or bits (i - 1) default).pin) (Some (i - 1)) old →
     new ≡ position_from (λ (b : PortBit). is_pin name b.pin) (i - 1) (drop (i - 1) bits)

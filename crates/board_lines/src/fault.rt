@@ -38,7 +38,7 @@ pub enum BoardFault {
     PullTwice(Spot),
 }
 
-// Returns the word for what limit number `which` counts.
+// Returns the words for the things that limit number `which` counts.
 fn limit_name(which: u32) -> &'static str {
     match which {
         1 => "chain parts",

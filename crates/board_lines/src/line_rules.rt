@@ -123,7 +123,7 @@ pub fn pulls_of<'a>(
     Ok(pulls)
 }
 
-/// Returns a map from each net of the list to the value of its first pair.
+/// Returns a map from each net of the list to the value in the first pair with this net.
 pub fn pulls_by_net<'a>(
     alloc: Global,
     pulls: &[(&'a [u8], bool)],

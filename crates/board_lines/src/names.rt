@@ -126,8 +126,8 @@ pub fn places_among(
     places_by(alloc, names, &known)
 }
 
-/// Returns the different names in the order of their first places, and the number in this order of
-/// each of `names`.
+/// Returns the different names in the order of their first places, and, for each of `names`, the
+/// number of the name in this order.
 pub fn numbered_names<'a>(
     alloc: Global,
     names: &[&'a [u8]],

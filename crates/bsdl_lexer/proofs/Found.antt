@@ -145,7 +145,8 @@ same_token k kind n len e =
     let same : first ≡ second = cc in
     (ap (λ (x : TokenKind × ℕ). x.0) same, ap (λ (x : TokenKind × ℕ). x.1) same)
 
--- `IsFront` holds for any kind and length that are equal to the found ones
+-- if the kind `k` and the length `n` are equal to `kind` and `len`, and `IsFront` is true of `k`
+-- and `n`, it is true of `kind` and `len`
 same_front : (left : List ℕ) (k kind : TokenKind) (n len : ℕ) → IsFront left k n → some_token k n ≡ some_token kind len → IsFront left kind len
 same_front left k kind n len h e =
     let both = same_token k kind n len e in

@@ -21,7 +21,8 @@ abbrev pub starts_blank : List ℕ → Bool
 starts_blank [] = false
 starts_blank (byte ∷ bytes) = is_blank byte
 
--- the pieces with the byte in front of the first piece's bytes
+-- the pieces after `byte` is put in front of the first piece; if there are no pieces, `byte` is the
+-- only piece
 abbrev pub longer : ℕ → List (List ℕ) → List (List ℕ)
 longer byte [] = (byte ∷ []) ∷ []
 longer byte (piece ∷ pieces) = (byte ∷ piece) ∷ pieces

@@ -67,7 +67,7 @@ pub(crate) fn next_piece(text: &[u8]) -> Option<(&[u8], &[u8])>
 }
 
 /// Returns the text after `mark` if the first byte is `mark`. If the result is None, the next piece
-/// may still be the mark, behind blanks.
+/// may still be the mark, after blanks.
 #[inline]
 #[tactic(auto, unfolding(crate::specs::Pieces::pieces))]
 pub(crate) fn after_mark(text: &[u8], mark: u8) -> Option<&[u8]>

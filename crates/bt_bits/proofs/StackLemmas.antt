@@ -58,7 +58,8 @@ digit_in-each : (digit j : ℕ) → digit < 16 → j < 16 → digit_in j (digit 
 digit_in-each digit j small less =
     same_digit (digit * 1229782938247303441) digit (agree_below_at (λ d. agree_below (λ i. digit_in i (d * 1229782938247303441) == d) (λ _. true) 16) (λ _. true) 16 digit refl small) j less
 
--- words that are made from the digits of one row in this way have these digits for each row
+-- if each digit of a row is multiplied by the word in which each digit is 1, the digits `j` of the
+-- resulting words are the digits of the row, for each row `j`
 pub digits_each : (digits : List ℕ) (j : ℕ) → All (λ x. x < 16) digits → j < 16 → map (digit_in j) (map (λ x. x * 1229782938247303441) digits) ≡ digits
 digits_each [] j small less = refl
 digits_each (x ∷ xs) j small less =

@@ -11,8 +11,7 @@ use series_parts::LinkFault;
 use std::alloc::{AllocError, AllocFailed};
 use thiserror::Error;
 
-/// The first fault of the texts, or lack of memory. `Memory` stands for lack of memory in every
-/// crate.
+/// The first fault of the texts, or lack of memory. Lack of memory in any crate is `Memory`.
 #[derive(Debug, Drop, Error)]
 pub enum InputFault {
     /// The chain file's first faulty line.
@@ -34,7 +33,7 @@ pub enum InputFault {
     /// The first rule or string of a device that fails, with the number of the device's text.
     #[error("{fault}")]
     Device { text: u32, fault: DeviceFault },
-    /// The first pin of a LINK line that is in no net.
+    /// The first LINK pin that is in no net.
     #[error("{0}")]
     Link(LinkFault),
     /// The number of the chain file's first BYPASS line. Its part has no description, so it is not

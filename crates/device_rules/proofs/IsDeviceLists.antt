@@ -82,7 +82,7 @@ once_by_order key xs later i j x y ex ey e = by_order (cases_order i j)
     by_order (inr (inl less)) = absurd (later i j x y less ex ey e)
     by_order (inr (inr less)) = absurd (later j i y x less ey ex (sym e))
 
--- item `k` of the list `map f xs` is made from item `k` of `xs`
+-- `y` is made from the item `from`, which is item `k` of `xs`
 pub record Made {X Y : Type 0} (f : X → Y) (xs : List X) (k : ℕ) (y : Y) : Type 0 where
   pub from : X
   pub at : slice_get xs k ≡ Some from

@@ -52,8 +52,8 @@ fn place_in(range: Option<Range>, number: Option<u32>) -> Option<u32>
 }
 
 /// The numbers of the two ports that were looked up last. Consecutive entries often name one port,
-/// or two ports in turn, so these ports are tried first. The numbers never change a result. They
-/// only save time.
+/// or two ports in turn, so a look-up tries these two ports first. The numbers never change a
+/// result. They only save time.
 #[derive(Clone, Copy, Debug, PartialEq, Eq)]
 pub struct Near {
     last: u32,
@@ -121,7 +121,7 @@ impl<'a> PortIndex<'a> {
         }
     }
 
-    /// Looks up the number of the port with this name in the map.
+    /// Returns the number of the port with this name, which it looks up in the map.
     fn mapped_number(&self, name: &[u8]) -> Option<u32>
         ensures { result ≡ port_number self.now name.now }
     {

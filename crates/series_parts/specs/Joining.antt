@@ -70,7 +70,7 @@ abbrev pub unless : {V : Type 0} → Option Spot → V → Result V LinkFault
 unless None value = Ok value
 unless (Some spot) value = Err (NoLinkPin spot)
 
--- the joined files, or the fault of the first pin of a LINK line that is in no net
+-- the joined files, or the fault of the first LINK pin that is in no net
 abbrev pub joined_files : List ChainLine → List NetLine → Result Joined LinkFault
 joined_files chain nets = unless (missing_link_pin nets chain) (record { chain = joined_chain chain nets; nets = joined_nets chain nets })
 

@@ -1,4 +1,4 @@
--- The first pin of a LINK line that is in no net.
+-- The first LINK pin that is in no net.
 use Rattle.std.specs.Prelude.{ℕ, Bool, List, [], ◌∷◌, Option, Some, None, is_none, if◌then◌else◌}
 use Rattle.board_defs.specs.declared.spot.Spot.{Spot}
 use Rattle.board_files.specs.declared.chain_file.ChainLine.{ChainLine}
@@ -16,8 +16,8 @@ None then after = after
 abbrev pub is_missing : List NetLine → Word → Word → Bool
 is_missing nets part pin = is_none (net_of nets part pin)
 
--- the place of the first of two pins of a LINK line that is in no net; the pins are words 3 and 4
--- of line `n`
+-- the place of the first of the two pins on line `n` that is in no net; these pins are words 3 and
+-- 4 of the line
 abbrev pub missing_of : List NetLine → ℕ → Word → Word → Word → Option Spot
 missing_of nets n part first second =
     if is_missing nets part first then Some (record { line = n; word = 3 })
@@ -32,7 +32,7 @@ missing_on nets n (Inert part) = None
 missing_on nets n (Supply net) = None
 missing_on nets n (Pull net value) = None
 
--- the place of the first pin of all LINK lines that is in no net
+-- the place of the first LINK pin on these lines that is in no net
 abbrev pub missing_link_pin : List NetLine → List ChainLine → Option Spot
 missing_link_pin nets [] = None
 missing_link_pin nets (line ∷ lines) = missing_on nets line.line line.statement then missing_link_pin nets lines

@@ -5,8 +5,8 @@ ghost use Rattle.series_parts.specs.declared.fault.LinkFault.TheVariants.{Memory
 use board_defs::Spot;
 use std::alloc::{AllocError, AllocFailed};
 
-/// The reason for which the files cannot be joined: the first pin of a LINK line that is in no net,
-/// or lack of memory.
+/// The reason for which the files cannot be joined: the first LINK pin that is in no net, or lack
+/// of memory.
 #[derive(Debug, Drop, thiserror::Error)]
 pub enum LinkFault {
     /// The place of the pin: the line of the chain file, and the number of the word, which is 3 or

@@ -40,8 +40,8 @@ fn renamed_files(
     })
 }
 
-/// Returns the joined files of a chain file and a net file. If a pin of a LINK line is in no net,
-/// the fault has the place of the first such pin.
+/// Returns the joined files of a chain file and a net file. If some LINK pin is in no net, the
+/// fault has the place of the first such pin.
 pub fn join(alloc: Global, chain: &ChainFile, nets: &NetFile) -> Result<Joined, LinkFault>
     ensures answer { Gives link_told (λ joined. joined) (λ answer. joined_files chain.now nets.now ≡ answer) result }
     ensures joined { IfOk result (λ joined. AreJoinedFiles chain.now nets.now joined.chain joined.nets) }

@@ -1,4 +1,4 @@
-// The first pin of a LINK line that is in no net.
+// The first LINK pin that is in no net.
 ghost use Rattle.std.specs.Prelude.{◌≡◌, is_none};
 ghost use Rattle.series_parts.specs.LinkPins.{is_missing, missing_link_pin, missing_of, missing_on};
 
@@ -44,7 +44,7 @@ fn missing_on(pins: &Pins<'_>, line: u32, statement: &ChainStatement) -> Option<
     }
 }
 
-/// Returns the place of the first pin of a LINK line that is in no net. Returns None if there is no such pin.
+/// Returns the place of the first LINK pin that is in no net. Returns None if there is no such pin.
 pub fn missing_link_pin(pins: &Pins<'_>, lines: &[ChainLine]) -> Option<Spot>
     ensures { result ≡ missing_link_pin pins.now lines.now }
 {

@@ -11,8 +11,8 @@ pub record ChainWithParts : Type 0 where
   pub lines : List ChainLine
   pub parts : List Part
 
--- the lines are a selected chain; the parts have the names on its DEVICE and BYPASS lines and keep
--- the rules of a part
+-- the lines are a selected chain; the parts have the names on the DEVICE and BYPASS lines of the
+-- chain, and keep the rules of a part
 pub record IsSelected (chain : ChainWithParts) : Type 0 where
   pub few : length chain.lines < 2 ^ 32
   pub selected : IsChain chain.lines

@@ -41,7 +41,6 @@ abbrev pub turns_up_to : {T S A : Type 0} → ℕ → (S → Reader T (Turn S A)
 turns_up_to zero turn before = none
 turns_up_to (suc n) turn before = in_turn (turn before) (follow (turns_up_to n turn))
 
--- reads any number of turns, as turns up to a limit that is one more than the number of tokens and
--- so is never reached
+-- reads any number of turns: up to one turn more than there are tokens, which is always enough
 unfoldable pub turns : {T S A : Type 0} → (S → Reader T (Turn S A)) → S → Reader T A
 turns turn before tokens = turns_up_to (suc (length tokens)) turn before tokens

@@ -1,5 +1,5 @@
--- Each entry of a device is on one of its port bits or on none, so the flags of the entries are
--- right for each port bit.
+-- Each entry of a device is on one of the device's port bits or on none, so the flags of the
+-- entries are right for each port bit.
 use Rattle.std.proofs.Common.{ℕ, List, length, ap, ◌∙◌, subst}
 use Rattle.std.proofs.lemmas.Result.{IfOk-weaker}
 use Rattle.board_defs.specs.declared.device.Cell.{Cell}
