@@ -21,7 +21,7 @@ abbrev pub Walk : List ℕ → ℕ → ℕ → List Token → ℕ → ℕ → Ty
 Walk text place line [] to last_line = (place ≡ to) × (line ≡ last_line)
 Walk text place line (token ∷ tokens) to last_line = (step text place line ≡ Ok (Some token)) × Walk text token.«end» token.line tokens to last_line
 
--- `answer` is the answer to a text if the step after its tokens has this result
+-- if the step after the tokens of a text has this result, `answer` is the answer to the text
 abbrev pub Ends : Result (Option Token) LexFault → List Token → Result (Unit {0}) LexFault → Type 0
 Ends (Ok None) tokens answer = answer ≡ Ok tt
 Ends (Ok (Some token)) tokens answer = (length tokens ≡ token_limit) × (answer ≡ Err (TooMany token.line))

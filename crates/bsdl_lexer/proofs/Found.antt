@@ -146,7 +146,7 @@ same_token k kind n len e =
     (ap (λ (x : TokenKind × ℕ). x.0) same, ap (λ (x : TokenKind × ℕ). x.1) same)
 
 -- if the kind `k` and the length `n` are equal to `kind` and `len`, and `IsFront` is true of `k`
--- and `n`, it is true of `kind` and `len`
+-- and `n`, then `IsFront` is true of `kind` and `len`
 same_front : (left : List ℕ) (k kind : TokenKind) (n len : ℕ) → IsFront left k n → some_token k n ≡ some_token kind len → IsFront left kind len
 same_front left k kind n len h e =
     let both = same_token k kind n len e in

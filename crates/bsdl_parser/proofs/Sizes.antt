@@ -46,8 +46,8 @@ cost_some (x ∷ xs) = omega arith
 abbrev pub weight : Lexeme → ℕ
 weight token = cost token.spelled
 
--- the tokens from which the phrase derives a value together weigh at least as much as the value
--- costs
+-- if the phrase derives a value from tokens, the cost of the value is at most the total weight of
+-- the tokens
 abbrev Covers : {A : Type 0} → Phrase A → (A → ℕ) → Type 0
 Covers g cost_of = (n : ℕ) → Keeps weight g n (λ m a. n + cost_of a ≤ m)
 
@@ -68,7 +68,7 @@ text_cost n = keeps_place (λ token text e. (
     let fits : length token.spelled ≤ weight token = length-cost token.spelled in
     subst (λ xs. n + length xs ≤ n + weight token) same (omega arith)))
 
--- the tokens of a turn together weigh at least as much as the items that the turn adds cost
+-- the cost of the items that a turn adds is at most the total weight of the tokens of the turn
 abbrev AddsTo : {A : Type 0} → (List A → Phrase (Turn (List A) (List A))) → (List A → ℕ) → Type 0
 AddsTo {A} turn cost_of = (base : ℕ) (before : List A) (n : ℕ) → base + cost_of before ≤ n → Keeps weight (turn before) n (BehindTurn (λ m xs. base + cost_of xs ≤ m) (λ m xs. base + cost_of xs ≤ m))
 
@@ -234,7 +234,7 @@ small entity h = record {
   attribute_texts = All-weaker (λ (one : Attr). attr_cost one < 2 ^ 32) (λ (one : Attr). HasShortText one.value) (λ one k. value_short one.value (omega arith)) entity.attributes (each_below attr_cost (2 ^ 32) entity.attributes (omega arith));
 }
 
--- a token of a text weighs as much as it has bytes
+-- the weight of a token of a text is the number of bytes of the token
 token_weight : (text : List ℕ) (token : Token) → IsToken text token → weight (lexeme_of text token) ≡ token.«end» - token.start
 token_weight text token h =
     let some : token.start < token.«end» = some_bytes text token.start token.«end» token.kind h.form in
@@ -246,8 +246,8 @@ token_weight text token h =
     exact [] e some = omega arith
     exact (x ∷ xs) e some = e
 
--- tokens that stand in order from byte `from` to byte `to` of a text together weigh at most `to -
--- from`
+-- if tokens stand in order from byte `from` to byte `to` of a text, the total of their weights is
+-- at most `to - from`
 tokens_weight : (text : List ℕ) (tokens : List Token) (from to : ℕ) → Stand text from tokens to → from + total weight (lexemes text tokens) ≤ to
 tokens_weight text [] from to h = let order : from ≤ to = h.order in omega arith
 tokens_weight text (token ∷ tokens) from to h =

@@ -104,7 +104,7 @@ spread_bit d (suc (suc zero)) small few = agree_below_at (λ d. digit_bit (sprea
 spread_bit d (suc (suc (suc zero))) small few = agree_below_at (λ d. digit_bit (spread d) 12) (λ d. digit_bit d 3) 16 d refl small
 spread_bit d (suc (suc (suc (suc r)))) small few = absurd (omega arith)
 
--- if `a` is below 2^k, the bitwise or of `a` and `b` shifted up by `k` bits is their sum
+-- if `a` is below 2^k, the bitwise or of `a` and of `b` shifted up by `k` bits is `b * 2^k + a`
 side_by_side : (k a b : ℕ) → a < 2 ^ k → b * 2 ^ k < 2 ^ 64 → bit_or a (b * 2 ^ k % 2 ^ 64) ≡ b * 2 ^ k + a
 side_by_side k a b low fits = ap (bit_or a) (mod-eq_of_lt fits) ∙ or_shifted_r b k a low
 

@@ -18,8 +18,8 @@ use Rattle.btest_core.specs.declared.fault.InputFault.{InputFault}
 use Rattle.btest_core.specs.inner.Choices.{Lent, choices_of, AreOfChoices}
 use Rattle.btest_core.proofs.EachLemmas.{Completes, completes_all, completes_more, completes_fault, completes_end}
 
--- `front` has the devices of the first `n` choices; if the devices of the other choices are
--- appended, it is the answer for all choices
+-- `front` has the devices of the first `n` choices; with the devices of the other choices appended,
+-- `front` is the answer for all choices
 pub record Chooses (entities : List Entity) (choices : List Chosen) (n : ℕ) (front : List RawDevice) : Type 0 where
   pub completes : Completes (IsDeviceOf entities) choices (drop n choices) front
   pub devices : AreOfChoices entities choices front

@@ -24,7 +24,7 @@ pub seen_step : {I : Type 0} (test : I → Bool) (items : List I) (i : ℕ) (x :
 seen_step test items i x new old within read was now =
     now ∙ ap (cond (test x) true) was ∙ sym (either (list_any test (take i items)) (test x)) ∙ sym (list_any-append test (take i items) (x ∷ [])) ∙ ap (list_any test) (seen_more items i x within read)
 
--- if item `i` equals no earlier item, it is the next item that is kept
+-- if item `i` equals no earlier item, item `i` is the next item that is kept
 pub once_new : {I : Type 0} (eq : I → I → Bool) (items : List I) (i : ℕ) (x : I) (done all : List I) → i < length items → get_or items i x ≡ x →
     list_any (λ s. eq s x) (take i items) ≡ false → all ≡ done ++ once_from eq (take i items) (drop i items) →
     all ≡ (done ++ x ∷ []) ++ once_from eq (take (i + 1) items) (drop (i + 1) items)
@@ -56,7 +56,7 @@ repeated_old eq items i x all within read there same =
     same ∙ ap (repeated_from eq (take i items)) (cut_at items i x within read)
     ∙ ap (λ b. cond b (Some x) (repeated_from eq (take i items ++ x ∷ []) (drop (i + 1) items))) there
 
--- item `i` is kept if and only if it equals no earlier item
+-- item `i` is kept if and only if item `i` equals no earlier item
 pub once_step : {I : Type 0} (eq : I → I → Bool) (items : List I) (i : ℕ) (x : I) (done kept all : List I) (was : Bool) → i < length items → get_or items i x ≡ x →
     was ≡ list_any (λ s. eq s x) (take i items) → kept ≡ cond was done (done ++ x ∷ []) → all ≡ done ++ once_from eq (take i items) (drop i items) →
     all ≡ kept ++ once_from eq (take (i + 1) items) (drop (i + 1) items)

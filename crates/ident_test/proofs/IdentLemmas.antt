@@ -72,8 +72,8 @@ selecting (pattern ∷ patterns) (p ∷ ps) idle selected coded = (
   selecting patterns ps idle.1 selected.1 coded.1,
 )
 
--- the part loads as many bits as the scan has for it, and the comparison of these bits passes if
--- and only if the code fits the pattern
+-- the part loads as many bits as the scan has for the part's register, and the comparison of these
+-- bits passes if and only if the code fits the pattern
 record Loads (pattern : Option (List Symbol)) (part : TestLogic) (loaded : List Bool) : Type 0 where
   size : length (map symbol_bit (register_pattern pattern)) ≡ length loaded
   passes : scan_passes (map symbol_bit (register_pattern pattern)) loaded ≡ part_fits pattern part
@@ -96,8 +96,8 @@ first_whole None patterns h = (tt, h)
 abbrev all_bits : List (Option (List Symbol)) → List (List ScanBit)
 all_bits patterns = map (λ part. map symbol_bit (register_pattern part)) patterns
 
--- each part loads as many bits as the scan has for it, and the comparison of all bits passes if and
--- only if all codes fit
+-- each part loads as many bits as the scan has for the part's register, and the comparison of all
+-- bits passes if and only if all codes fit
 record ChainLoads (patterns : List (Option (List Symbol))) (parts : List TestLogic) (loaded : List (List Bool)) : Type 0 where
   sizes : map length (all_bits patterns) ≡ map length loaded
   passes : scan_passes (ident_bits patterns) (joined loaded) ≡ all_fit patterns parts

@@ -115,8 +115,8 @@ scan_text-long ir tdi tdo mask compare w more =
     ∙ ap (λ t. command_text ir tdi ++ t) (fields_text-lines tdi tdo mask compare)
     ∙ sym (append_assoc (command_text ir tdi) (10 ∷ []) (fields_lines tdi tdo mask compare))
 
--- if the line has the command and the fields fit into it, the line followed by the fields is the
--- text of the scan
+-- if the line is the command of the scan and the fields fit into the line, the line followed by the
+-- fields is the text of the scan
 pub line_short : (ir : Bool) (tdi tdo mask : List Bool) (compare : Bool) (line : List ℕ) → Written tdi tdo mask compare → line ≡ command_text ir tdi → length line + fields_length compare (digit_count (length tdi)) ≤ 80 → line ++ (fields_text false tdi tdo mask compare ++ 10 ∷ []) ≡ scan_text (scan_of ir tdi tdo mask)
 line_short ir tdi tdo mask compare line w begun short =
     ap (λ t. t ++ (fields_text false tdi tdo mask compare ++ 10 ∷ [])) begun
@@ -125,8 +125,8 @@ line_short ir tdi tdo mask compare line w begun short =
 not_short : (n : ℕ) → (n ≤ 80 → false ≡ true) → 80 < n
 not_short n refused = elim (cases_lt 80 n) [ inl more ↦ more | inr short ↦ (let bad : false ≡ true = refused short in absurd cc) ]
 
--- if the line has the command and the fields do not fit into it, the line followed by the fields in
--- lines of their own is the text of the scan
+-- if the line is the command of the scan and the fields do not fit into the line, the line followed
+-- by the fields in lines of their own is the text of the scan
 pub line_long : (ir : Bool) (tdi tdo mask : List Bool) (compare : Bool) (line : List ℕ) → Written tdi tdo mask compare → line ≡ command_text ir tdi → (length line + fields_length compare (digit_count (length tdi)) ≤ 80 → false ≡ true) → (line ++ 10 ∷ []) ++ fields_lines tdi tdo mask compare ≡ scan_text (scan_of ir tdi tdo mask)
 line_long ir tdi tdo mask compare line w begun refused =
     ap (λ t. (t ++ 10 ∷ []) ++ fields_lines tdi tdo mask compare) begun
