@@ -57,7 +57,8 @@ pub fn parts_of_chain(
     Ok(parts)
 }
 
-/// Returns the board of the chain and these lines, or the fault of the first rule that they break.
+/// Returns the board of the chain and these lines. If the chain and these lines break rules,
+/// returns the fault of the first rule that is broken.
 fn board_of(alloc: Global, chain: SelectedChain<'_>, nets: &[NetLine]) -> Result<Board, BoardFault>
     requires { IsNetFile nets.now }
     ensures { Gives board_told (λ board. board) (λ said. board_answer chain.entry.lines nets.now chain.entry.parts ≡ said) result }

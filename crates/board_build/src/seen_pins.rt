@@ -82,7 +82,7 @@ fn set_first_at(rows: &mut [BitFlags], at: PinAt) -> bool
 /// The pins that the words handled so far name.
 #[derive(Drop)]
 struct SeenPins<'a> {
-    /// A flag for each port bit of each part. It is true if a word has named the bit's pin.
+    /// A flag for each port bit of each part. A flag is true if a word has named the bit's pin.
     rows: Vec<BitFlags>,
     /// The pins without a place in the chain that a word has named.
     unplaced: IndexSet<PinName<'a>>,

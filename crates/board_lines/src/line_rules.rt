@@ -133,7 +133,7 @@ pub fn pulls_by_net<'a>(
     first_values(alloc, pulls)
 }
 
-/// Returns the value that the map has for the net, or None if it has none.
+/// Returns the value that the map has for the net, or None if the map has no value for the net.
 pub fn pull_of_net(pulls: &IndexMap<&[u8], bool>, net: &[u8]) -> Option<bool>
     ensures { result ≡ get_by (λ n. same_word net.now n.now) pulls.now }
 {

@@ -85,7 +85,7 @@ pub fn first_places_of<'a>(
     first_places(alloc, names)
 }
 
-/// Returns the place that the map has for this name, or None if it has none.
+/// Returns the place that the map has for this name, or None if the map does not have the name.
 pub fn place_of(places: &IndexMap<&[u8], u32>, name: &[u8]) -> Option<u32>
     ensures { result ≡ get_by (λ n. same_word name.now n.now) places.now }
 {

@@ -130,7 +130,7 @@ impl<'a> PinPlaces<'a> {
         })
     }
 
-    /// Returns the place of the pin in the chain, or None if it has none.
+    /// Returns the place of the pin in the chain, or None if the pin has no place.
     pub fn place_of_pin(&self, pin: &PinName<'_>) -> Option<PinAt>
         ensures { result ≡ place_of_pin (pin_places self.now) (lent_pin pin.now) }
     {

@@ -101,8 +101,8 @@ fn add_tokens(bytes: &[u8], out: &mut Vec<Token>) -> Result<(), LexFault>
 pub fn lex(bytes: &[u8], out: &mut Vec<Token>) -> Result<(), LexFault>
     requires short { length bytes.now < 2 ^ 32 }
     requires empty { out.old.items ≡ [] }
-    // On Ok, `out` has all tokens. Otherwise it has the tokens before the first bad place, and the
-    // fault has the kind of the bad place and its line.
+    // On Ok, `out` has all tokens. Otherwise `out` has the tokens before the first bad place, and
+    // the fault has the kind of the bad place and the line of this place.
     ensures answer { Gives lex_told (λ done. done) (IsAnswer bytes.now out.new.items) result }
     // The definition allows no other answer.
     ensures only { Gives lex_told (λ done. done) (λ answer. (tokens : List Token) (other : Result (Unit {0}) LexFault) → IsAnswer bytes.now tokens other → (tokens ≡ out.new.items) × (other ≡ answer)) result }

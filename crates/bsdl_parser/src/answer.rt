@@ -1,4 +1,4 @@
-//! Parses a text: returns the entity that it describes, or its first fault.
+//! Parses a text: returns the entity that the text describes, or the text's first fault.
 ghost use Rattle.std.specs.Prelude.{◌≡◌, ◌<◌, ◌^◌, length, count_by, ◌==◌, Result, IfOk};
 ghost use Rattle.bsdl_lexer.specs.Tokens.{AreTokens};
 ghost use Rattle.answers.specs.Gives.{Gives};

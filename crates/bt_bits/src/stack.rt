@@ -80,7 +80,7 @@ pub fn copy_digits(words: &[u64], number: u32, digits: &mut Vec<u8>)
 }
 
 // Replaces the content of the vector by words in which each row has these digits. The vector must
-// have room for them.
+// have room for the words.
 fn spread_digits(digits: &[u8], words: &mut Vec<u64>)
     requires below { All (λ x. x < 16) digits.now }
     requires room { length digits.now ≤ vec_capacity words.old }
@@ -157,7 +157,7 @@ impl RowStack {
         &self.words
     }
 
-    /// Replaces each row by `row`. There must be room for it.
+    /// Replaces each row by `row`. The stack must have room for rows of this length.
     pub fn fill_with(&mut self, row: &Row)
         requires { length row.now.bits ≤ self.old.room }
         ensures rows { (j : ℕ) → j < 16 → stacked self.new j ≡ row.now.bits }
@@ -167,7 +167,8 @@ impl RowStack {
         self.len = row.len();
     }
 
-    /// Replaces the rows by the rows of another stack. There must be room for them.
+    /// Replaces the rows by the rows of another stack. The stack must have room for rows of their
+    /// length.
     pub fn copy_from(&mut self, rows: &RowStack)
         requires { length (stacked rows.now 0) ≤ self.old.room }
         ensures rows { (j : ℕ) → j < 16 → stacked self.new j ≡ stacked rows.now j }

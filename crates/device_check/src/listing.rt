@@ -168,7 +168,7 @@ fn print_each_pin<K: Sink>(bits: &[PortBit], line: &mut Line, out: &mut K) -> Re
     Ok(())
 }
 
-/// Prints the pins of a port, or `-` if it has none.
+/// Prints the pins of a port, or `-` if the port has no pins.
 fn print_pins<K: Sink>(bits: &[PortBit], line: &mut Line, out: &mut K) -> Result<(), PutFault>
     ensures { Prints (K.shown out.old) (K.shown out.new) line.old line.new (pins_text bits.now) result }
 {

@@ -121,7 +121,8 @@ impl<'a> PortIndex<'a> {
         }
     }
 
-    /// Returns the number of the port with this name, which it looks up in the map.
+    /// Looks up the name in the map, and returns the number of the port with this name, if there is
+    /// one.
     fn mapped_number(&self, name: &[u8]) -> Option<u32>
         ensures { result ≡ port_number self.now name.now }
     {

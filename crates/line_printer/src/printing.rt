@@ -6,7 +6,7 @@ ghost use Rattle.line_printer.specs.Prints.{Prints, line_of, whole};
 use bt_base::{PutFault, Sink};
 use bt_bits::{Line, MAX_LINE};
 
-// Puts the bytes of the line and empties it if the line is full.
+// If the line is full, puts the bytes of the line and empties the line.
 fn make_room<K: Sink>(line: &mut Line, out: &mut K) -> Result<(), PutFault>
     ensures text { Prints (K.shown out.old) (K.shown out.new) line.old line.new [] result }
     ensures room { OnOk result (length line.new < 1024) }
@@ -34,8 +34,8 @@ fn print_parts<K: Sink>(text: &[u8], line: &mut Line, out: &mut K) -> Result<(),
 }
 
 /// Appends a text to the line. If the line is full and more bytes follow, puts the bytes of the
-/// line and empties it. Fails only if the sink fails. A prefix of the line's bytes followed by the
-/// text was put then.
+/// line and empties the line. Fails only if the sink fails. A prefix of the line's bytes followed
+/// by the text was put then.
 #[inline]
 pub fn print<K: Sink>(text: &[u8], line: &mut Line, out: &mut K) -> Result<(), PutFault>
     ensures { Prints (K.shown out.old) (K.shown out.new) line.old line.new text.now result }
@@ -75,8 +75,8 @@ pub fn end_line<K: Sink>(line: &mut Line, out: &mut K) -> Result<(), PutFault>
     out.put(line.bytes())
 }
 
-/// Writes a line that consists of these pieces and a line feed. If it has at most `MAX_LINE` bytes,
-/// writes it in one put. The old content of `line` is lost.
+/// Writes a line that consists of these pieces and a line feed. If the line has at most `MAX_LINE`
+/// bytes, writes it in one put. The old content of `line` is lost.
 pub fn put_line<K: Sink>(pieces: &[&[u8]], line: &mut Line, out: &mut K) -> Result<(), PutFault>
     ensures { Prints (K.shown out.old) (K.shown out.new) [] [] (line_of (map (λ p. p.now) pieces.now)) result }
 {

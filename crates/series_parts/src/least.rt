@@ -27,8 +27,8 @@ fn names_at<'a>(
     Ok(found)
 }
 
-/// Returns the joined name of each line's net: the name of the first net on the lines that is
-/// joined with it.
+/// Returns the joined name of each line's net. This is the name of the first net on the lines that
+/// is joined with the line's net.
 pub fn least_names<'a>(
     alloc: Global,
     chain: &[ChainLine],

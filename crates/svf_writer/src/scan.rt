@@ -80,7 +80,7 @@ fn fields_length(compare: bool, digits: u32) -> usize
 }
 
 // Appends 64 digits of the row's field, from digit `from` on, and then a line feed to the line.
-// Puts the line and empties it.
+// Then puts the bytes of the line and empties the line.
 fn put_full_line<K: Sink>(
     row: &Row,
     from: u32,
