@@ -92,7 +92,7 @@ fn earlier(chosen: &[(u32, Option<&[u8]>)], i: usize) -> Option<usize>
 }
 
 // Returns the device of the choice at place `i`. `devices` has the devices of the earlier choices.
-// If one of the earlier choices is the same, copies its device.
+// If an earlier choice is the same, copies the device of the earlier choice.
 fn next_device(
     alloc: Global,
     entities: &[Entity],

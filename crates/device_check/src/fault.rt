@@ -23,8 +23,8 @@ pub enum DeviceFault {
     Memory(AllocError),
 }
 
-// Returns the name of the attribute with this number, one of those whose value is a string with a
-// grammar of its own.
+// Returns the name of the attribute with this number, which is one of the attributes whose value is
+// a string with a grammar of its own.
 fn attribute_name(attribute: u32) -> &'static str {
     match attribute {
         7 => "INSTRUCTION_OPCODE",

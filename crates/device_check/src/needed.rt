@@ -161,9 +161,9 @@ fn wrong_option(entity: &Entity) -> Option<Attribute>
     }
 }
 
-/// Returns the package that the caller gives, or otherwise the default of the entity's generic,
-/// with its pin map. Returns None if there is no package, or if there is not exactly one constant
-/// with the package's name.
+/// Returns the name and the pin map of a package: the package that the caller gives, or otherwise
+/// the default of the entity's generic. Returns None if there is no package, or if there is not
+/// exactly one constant with the package's name.
 fn needed_package<'a>(entity: &'a Entity, package: Option<&'a [u8]>) -> Option<NeededPackage<'a>>
     ensures { option_map package_view result ≡ found_package entity.now (chosen entity.now (option_copied «package».entry)) }
 {

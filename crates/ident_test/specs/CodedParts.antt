@@ -47,12 +47,13 @@ abbrev pub coded_by : Option (List Symbol) → List Bool → TestLogic → TestL
 coded_by (Some pattern) code part = record part { at_reset = Some Idcode; idcode = code }
 coded_by None code part = part
 
--- the parts of a chain of described devices; part `k` has code `k` if its device has a pattern
+-- the parts of a chain of described devices; if device `k` has a pattern, part `k` has code `k`
 abbrev pub coded_parts : List RawDevice → (ℕ → List Bool) → List TestLogic
 coded_parts [] codes = []
 coded_parts (device ∷ devices) codes = coded_by device.idcode (codes 0) (test_logic (Described device)) ∷ coded_parts devices (λ k. codes (suc k))
 
--- the part has the register lengths and the instruction codes of its device, and has this code if the device has a pattern
+-- The part has the register lengths and the instruction codes of the device. If the device has a
+-- pattern, the part has this code.
 pub record HasCode (device : RawDevice) (code : List Bool) (part : TestLogic) : Type 0 where
   pub ir_length : part.ir_length ≡ (test_logic (Described device)).ir_length
   pub boundary_length : part.boundary_length ≡ (test_logic (Described device)).boundary_length

@@ -28,8 +28,8 @@ pub fn each_run_tells()
     ensures { (patterns : List (Option (List Symbol))) (text : List ℕ) → IsIdentTest patterns text → EachRunTells patterns text }
 {}
 
-/// If codes are assigned to described devices, part `k` has code `k` if its device has a pattern,
-/// and the registers and instruction codes of its device.
+/// If codes are assigned to described devices, part `k` has the register lengths and the
+/// instruction codes of device `k`. If device `k` has a pattern, part `k` has code `k`.
 pub fn codes_assigned()
     ensures { (devices : List RawDevice) (codes : ℕ → List Bool) (k : ℕ) (device : RawDevice) → slice_get devices k ≡ Some device → (part : TestLogic) × (slice_get (coded_parts devices codes) k ≡ Some part) × HasCode device (codes k) part }
 {}

@@ -58,8 +58,8 @@ fn fill_marks(parts: u32, rows: &mut ScanRows)
     fill_ones(parts + MARKS, rows.mask);
 }
 
-// Sets the compared bits of one part's instruction register. Its lowest bit is at position `at`,
-// and the two lowest bits are expected to be 01.
+// Sets the compared bits of one part's instruction register. The register's lowest bit is at
+// position `at`, and the two lowest bits are expected to be 01.
 fn set_capture(at: u32, tdo: &mut Row, mask: &mut Row)
     requires few { at ≤ most_bits }
     requires tdo { at + 2 ≤ length tdo.old.bits }
