@@ -23,9 +23,10 @@ use Rattle.net_pins.specs.declared.nets.ReaderCell.{ReaderCell}
 use Rattle.plan_tables.specs.declared.tables.PlanTables.{PlanTables}
 use Rattle.plan_tables.specs.Building.{is_read_beside}
 use Rattle.scan_planner.specs.Plans.{IsPlanOf}
+use Rattle.response_log.specs.LogRows.{bit_in}
 use Rattle.fault_sim.specs.Effects.{driver_in, place_of_driver, readers_in, code_in}
 use Rattle.fault_sim.specs.declared.effect.Effect.TheVariants.{Plain}
-use Rattle.fault_sim.specs.Fits.{bit_in, cell_shows, ShowBy, NetShows, ShowsOn, ShowsAll}
+use Rattle.fault_sim.specs.Fits.{cell_shows, ShowBy, NetShows, ShowsOn, ShowsAll}
 use Rattle.fault_sim.specs.inner.Tested.{coded_nets}
 use Rattle.fault_sim.specs.Suspects.{AreDiffering}
 use Rattle.fault_sim.specs.inner.Suspects.{covered_place}

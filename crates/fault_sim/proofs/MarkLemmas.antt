@@ -28,9 +28,10 @@ use Rattle.plan_tables.specs.declared.tables.PlanTables.{PlanTables}
 use Rattle.plan_tables.specs.Tables.{first_position}
 use Rattle.scan_planner.specs.Plans.{IsPlanOf, scan_of_pass}
 use Rattle.plan_tables.proofs.LaidLemmas.{laid_at, length-laid, tdo_laid, mask_laid}
+use Rattle.response_log.specs.LogRows.{bit_in}
 use Rattle.fault_sim.specs.declared.effect.Effect.TheVariants.{Plain}
 use Rattle.fault_sim.specs.Effects.{readers_in, code_in, driver_in, place_of_driver}
-use Rattle.fault_sim.specs.Fits.{bit_in, cell_shows, ShowBy, NetShows, ShowsOn}
+use Rattle.fault_sim.specs.Fits.{cell_shows, ShowBy, NetShows, ShowsOn}
 use Rattle.fault_sim.specs.Kept.{compared_in, expected_in}
 use Rattle.fault_sim.specs.inner.Marks.{HasExpected, MarkRows, AreMarks, are_marked}
 use Rattle.fault_sim.proofs.ShowLemmas.{ComparedCell, compared_cell}

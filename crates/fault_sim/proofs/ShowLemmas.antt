@@ -42,9 +42,10 @@ use Rattle.scan_planner.proofs.FillLemmas.{readers_within}
 use Rattle.plan_tables.proofs.LaidLemmas.{laid_at}
 use Rattle.plan_tables.proofs.PinLemmas.{Standing, standing, on_self, reading_entry_is, Reads, reads_by}
 use Rattle.plan_tables.proofs.TableLemmas.{FirstOn, reader_is, is_reader}
+use Rattle.response_log.specs.LogRows.{bit_in}
 use Rattle.fault_sim.specs.Effects.{readers_in, code_in, driver_in, place_of_driver, effect_in, effect_bit}
 use Rattle.fault_sim.specs.inner.Effects.{fault_bit}
-use Rattle.fault_sim.specs.Fits.{bit_in, cell_shows, ShowBy, NetShows, Shows, ShowsAll}
+use Rattle.fault_sim.specs.Fits.{cell_shows, ShowBy, NetShows, Shows, ShowsAll}
 use Rattle.fault_sim.proofs.FeedLemmas.{drivers_are, readers_are, code_is, first_is, observing_is}
 use Rattle.fault_sim.proofs.EffectLemmas.{IsFault, effect_is}
 

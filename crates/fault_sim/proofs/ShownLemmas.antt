@@ -7,9 +7,8 @@ use Rattle.std.proofs.lemmas.Bool.{both_ways, cases_eq, cases_lt, eq-eqb, le-ltb
 use Rattle.std.proofs.lemmas.Nat.Bits.{bit_at-lt, bit_at-zero, bit_at_above, same_from_bits}
 use Rattle.std.proofs.lemmas.Option.{get_or_from_slice_get}
 use Rattle.board_defs.specs.Pins.{is_same}
-use Rattle.response_log.specs.LogRows.{log_bit}
+use Rattle.response_log.specs.LogRows.{log_bit, bit_in}
 use Rattle.fault_sim.specs.declared.shown.ShownWords.{ShownWords}
-use Rattle.fault_sim.specs.Fits.{bit_in}
 use Rattle.fault_sim.specs.inner.Words.{AgreesWith, word_bit}
 use Rattle.fault_sim.proofs.WordLemmas.{and_word, not_word, or_word}
 

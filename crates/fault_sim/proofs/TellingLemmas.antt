@@ -7,11 +7,12 @@ use Rattle.board_defs.specs.Faults.{IsSingle}
 use Rattle.board_defs.specs.Pins.{is_same}
 use Rattle.tap_defs.specs.board.TestRows.{code_bit}
 use Rattle.net_pins.specs.declared.nets.ReaderCell.{ReaderCell}
+use Rattle.response_log.specs.LogRows.{bit_in}
 use Rattle.fault_sim.specs.declared.effect.Effect.{Effect}
 use Rattle.fault_sim.specs.declared.shown.ShownWords.{ShownWords}
 use Rattle.fault_sim.specs.declared.words.FedWords.{FedWords}
 use Rattle.fault_sim.specs.Effects.{code_in, driver_in, effect_bit, effect_in, first_net, place_of_driver, second_net}
-use Rattle.fault_sim.specs.Fits.{ShowBy, ShowsAll, bit_in, cell_shows}
+use Rattle.fault_sim.specs.Fits.{ShowBy, ShowsAll, cell_shows}
 use Rattle.fault_sim.specs.Planned.{NetInPass, controls_in}
 use Rattle.fault_sim.specs.inner.NetRows.{RowsOfNet, net_rows_in}
 use Rattle.fault_sim.specs.inner.Telling.{IsTellingNet, IsWordOn}

@@ -1,5 +1,5 @@
 -- The conditions under which a log shows the effect of a single fault.
-use Rattle.std.specs.Prelude.{◌≡◌, ℕ, ◌+◌, ◌*◌, ◌<◌, ◌==◌, Bool, true, false, ◌||◌, List, [], length, Option, Some, None, slice_index_or}
+use Rattle.std.specs.Prelude.{◌≡◌, ℕ, ◌+◌, ◌*◌, ◌<◌, ◌==◌, Bool, true, ◌||◌, List, [], length, Option, Some, None, slice_index_or}
 use Rattle.std.specs.List.{list_all}
 use Rattle.board_defs.specs.declared.board.Ctl.{Ctl}
 use Rattle.board_defs.specs.declared.board.RawBoard.{RawBoard}
@@ -8,12 +8,9 @@ use Rattle.board_defs.specs.Pins.{is_same}
 use Rattle.tap_defs.specs.board.TestRows.{code_bit}
 use Rattle.net_pins.specs.declared.nets.ReaderCell.{ReaderCell}
 use Rattle.plan_tables.specs.declared.tables.PlanTables.{PlanTables}
+use Rattle.response_log.specs.LogRows.{bit_in}
 use Rattle.fault_sim.specs.declared.effect.Effect.{Effect}
 use Rattle.fault_sim.specs.Effects.{driver_in, place_of_driver, readers_in, code_in, effect_in, effect_bit, first_net, second_net}
-
--- the bit at this position of a row of a log
-abbrev pub bit_in : List (List Bool) → ℕ → ℕ → Bool
-bit_in log row at = slice_index_or (slice_index_or log row []) at false
 
 -- In row j of a pass, a cell of a net has the bit that the effect gives it. `row` is the number of this row in the log. A cell that reads
 -- the enabled driver's pin is not checked.

@@ -2,7 +2,8 @@
 ghost use Rattle.std.specs.Prelude.{◌≡◌, ◌↔◌, ◌<◌, [], length, slice_index_or, All, IsTrue};
 ghost use Rattle.std.specs.List.{list_all};
 ghost use Rattle.tap_defs.specs.board.TestRows.{code_bit};
-ghost use Rattle.fault_sim.specs.Fits.{bit_in, cell_shows, ShowRows, ShowBy, Shows, ShowsEffect, ShowsOwnIn, ShowsOwn, ShowsOn, ShowsIn, ShowsAll};
+ghost use Rattle.response_log.specs.LogRows.{bit_in};
+ghost use Rattle.fault_sim.specs.Fits.{cell_shows, ShowRows, ShowBy, Shows, ShowsEffect, ShowsOwnIn, ShowsOwn, ShowsOn, ShowsIn, ShowsAll};
 
 use crate::board_test::LoggedTest;
 use crate::effect::{Effect, effect_bit, first_net, second_net};

@@ -1,7 +1,7 @@
 // The bits that the compared cells of a net show in the rows of a pass of a log, as words of 32 bits. A cell shows the bit that the log has
 // at its position. Bit `j` of a word belongs to row `j` of the pass.
 ghost use Rattle.std.specs.Prelude.{◌≡◌, ◌↔◌, ℕ, ◌+◌, ◌<◌, ◌==◌, ◌&&◌, ◌||◌, nat_lt, Some, [], ◌∷◌, length, All, IsTrue};
-ghost use Rattle.fault_sim.specs.Fits.{bit_in};
+ghost use Rattle.response_log.specs.LogRows.{bit_in};
 ghost use Rattle.fault_sim.specs.Planned.{net_in_pass};
 ghost use Rattle.fault_sim.specs.inner.NetRows.{rows_of_net};
 ghost use Rattle.fault_sim.specs.inner.Telling.{IsShownIn};

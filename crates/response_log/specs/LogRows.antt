@@ -1,5 +1,5 @@
 -- The rows of a response log.
-use Rattle.std.specs.Prelude.{◌≡◌, ℕ, ◌+◌, ◌==◌, Bool, true, false, List, [], ◌∷◌, ◌++◌, length, take, drop, map, filter, filter_map, Option, Some, None, is_some, option_and_then, Result, Ok, Err, nat_lt, slice_get, All, if◌then◌else◌}
+use Rattle.std.specs.Prelude.{◌≡◌, ℕ, ◌+◌, ◌==◌, Bool, true, false, List, [], ◌∷◌, ◌++◌, length, take, drop, map, filter, filter_map, Option, Some, None, is_some, option_and_then, Result, Ok, Err, nat_lt, slice_get, slice_index_or, All, if◌then◌else◌}
 use Rattle.std.specs.List.{slice_split}
 use Rattle.bt_bits.specs.Hex.{digit_count, field_bits}
 use Rattle.text_lines.specs.Words.{Word, is_newline, words_of}
@@ -93,3 +93,7 @@ pub record HasSize (count len : ℕ) (log : List (List Bool)) : Type 0 where
 -- bit `at` of a row of a log, if there is such a bit
 abbrev pub log_bit : List (List Bool) → ℕ → ℕ → Option Bool
 log_bit log row at = option_and_then (λ bits. slice_get bits at) (slice_get log row)
+
+-- one bit of a log, or 0 if the log has no such bit
+abbrev pub bit_in : List (List Bool) → ℕ → ℕ → Bool
+bit_in log row at = slice_index_or (slice_index_or log row []) at false

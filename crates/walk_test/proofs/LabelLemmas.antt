@@ -15,10 +15,11 @@ use Rattle.board_defs.proofs.Members.{Has, has_at, has_contains, contains_has, h
 use Rattle.board_defs.proofs.Ordered.{InOrder, order_pairs, order_flat_map, order_range, pairs_order}
 use Rattle.board_defs.proofs.Places.{all_from}
 use Rattle.board_defs.proofs.SameBits.{same_of_is_same, is_same_of_same}
+use Rattle.response_log.specs.LogRows.{bit_in}
 use Rattle.walk_test.specs.declared.tables.NetCells.{NetCells}
 use Rattle.walk_test.specs.WalkTest.{walk_nets}
 use Rattle.walk_test.specs.Groups.{Rise, least_of, AreGroups}
-use Rattle.walk_test.specs.inner.Reading.{are_joined, bit_in, first_one, label_of, net_shows, ShowsIn, ShowsAll, members, group_at, groups_by}
+use Rattle.walk_test.specs.inner.Reading.{are_joined, first_one, label_of, net_shows, ShowsIn, ShowsAll, members, group_at, groups_by}
 use Rattle.walk_test.proofs.GroupLemmas.{Rises, least_has, least_le, Before, AreOrdered, Together, joined_cases, joined_self, joined_in}
 
 -- if row `j` reads 1 at a position, the first row that reads 1 there is row `j` or an earlier row

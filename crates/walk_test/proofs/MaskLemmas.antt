@@ -9,8 +9,9 @@ use Rattle.bt_bits.specs.Digits.{digit_bit, digit_value, digits_of}
 use Rattle.bt_bits.specs.Hex.{digit_count}
 use Rattle.bt_bits.proofs.DigitLemmas.{bit_value-le, length-digits_of, digits_of-below, digits_of-get}
 use Rattle.response_log.specs.Kept.{AreRowDigits}
+use Rattle.response_log.specs.LogRows.{bit_in}
 use Rattle.walk_test.specs.inner.Digits.{bit_of, is_one, differing, IsFresh, IsMarked}
-use Rattle.walk_test.specs.inner.Reading.{bit_in, AreSameRows, StartsGroup, AreStarted}
+use Rattle.walk_test.specs.inner.Reading.{AreSameRows, StartsGroup, AreStarted}
 
 -- if bit `k` of a number is 0, `digit_bit` returns false
 bit_off : (n k : ℕ) → n / 2 ^ k % 2 ≡ 0 → digit_bit n k ≡ false

@@ -12,9 +12,9 @@ use Rattle.board_defs.proofs.Places.{all_from}
 use Rattle.plan_tables.specs.Assigned.{assigned}
 use Rattle.plan_tables.proofs.AssignLemmas.{assigned_groups, has_mark, length-assigned, mark_has}
 use Rattle.tap_defs.proofs.chain.ListLemmas.{cons_path}
-use Rattle.response_log.specs.LogRows.{HasSize}
+use Rattle.response_log.specs.LogRows.{HasSize, bit_in}
 use Rattle.walk_test.specs.declared.tables.NetCells.{NetCells}
-use Rattle.walk_test.specs.inner.Reading.{bit_in, compared_bits, with_compared, first_one, label_of, logged_nets, first_at, first_in, is_even, below, AreCompared, AreLoggedNets, HasPlaces, AreSameRows, StartsGroup, AreStarted, IsRowRight, AreRead, ShowsAll}
+use Rattle.walk_test.specs.inner.Reading.{compared_bits, with_compared, first_one, label_of, logged_nets, first_at, first_in, is_even, below, AreCompared, AreLoggedNets, HasPlaces, AreSameRows, StartsGroup, AreStarted, IsRowRight, AreRead, ShowsAll}
 use Rattle.walk_test.proofs.LabelLemmas.{first_low, first_holds, first_same, label_is, first_compared, each_shows, shows_each}
 
 -- if row `f` comes before row `j`, `below` returns `f`

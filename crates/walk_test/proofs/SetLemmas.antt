@@ -27,11 +27,12 @@ use Rattle.plan_tables.specs.Building.{readers_of as readers_in_order}
 use Rattle.plan_tables.specs.Tables.{IsDriverCell, IsReaderCell}
 use Rattle.plan_tables.proofs.SeenLemmas.{driver_cell}
 use Rattle.plan_tables.proofs.TableLemmas.{reader_is, is_reader}
+use Rattle.response_log.specs.LogRows.{bit_in}
 use Rattle.walk_test.specs.declared.tables.NetCells.{NetCells}
 use Rattle.walk_test.specs.declared.tables.WalkTables.{WalkTables}
 use Rattle.walk_test.specs.WalkTest.{walk_setting, walk_nets, scans_by}
 use Rattle.walk_test.specs.Groups.{Rise, AreGroups, or_shorts, Explain, AreFound, IsNamed, AreNamed}
-use Rattle.walk_test.specs.inner.Reading.{are_joined, bit_in, label_of, HasPlaces, LoggedNets, ShowsAll, groups_by}
+use Rattle.walk_test.specs.inner.Reading.{are_joined, label_of, HasPlaces, LoggedNets, ShowsAll, groups_by}
 use Rattle.walk_test.specs.Tables.{AreNetCells, AreWalkTables, IsWalkOf}
 use Rattle.walk_test.specs.Laws.{WalkSafe}
 use Rattle.walk_test.proofs.GroupLemmas.{AreOrdered, groups_ordered, joined_self, joined_same, joined_by}

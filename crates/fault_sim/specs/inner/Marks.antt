@@ -5,8 +5,8 @@ use Rattle.board_defs.specs.declared.board.RawBoard.{RawBoard}
 use Rattle.board_defs.specs.Pins.{data_bits}
 use Rattle.net_pins.specs.declared.nets.ReaderCell.{ReaderCell}
 use Rattle.plan_tables.specs.declared.tables.PlanTables.{PlanTables}
+use Rattle.response_log.specs.LogRows.{bit_in}
 use Rattle.fault_sim.specs.declared.kept.ComparedRow.{ComparedRow}
-use Rattle.fault_sim.specs.Fits.{bit_in}
 use Rattle.fault_sim.specs.Kept.{compared_in, expected_in}
 
 -- the TDO bits and the MASK bits of the row each have room for the bits of a data scan

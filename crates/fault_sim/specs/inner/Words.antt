@@ -7,12 +7,12 @@ use Rattle.board_defs.specs.Pins.{is_same}
 use Rattle.tap_defs.specs.board.NetBits.{or_else}
 use Rattle.tap_defs.specs.board.SingleBits.{shorted}
 use Rattle.net_pins.specs.declared.nets.ReaderCell.{ReaderCell}
+use Rattle.response_log.specs.LogRows.{bit_in}
 use Rattle.fault_sim.specs.declared.feed.FedNet.{FedNet}
 use Rattle.fault_sim.specs.declared.shown.ShownWords.{ShownWords}
 use Rattle.fault_sim.specs.declared.words.FeedWords.{FeedWords}
 use Rattle.fault_sim.specs.declared.words.FedWords.{FedWords}
 use Rattle.fault_sim.specs.Effects.{feed_bit}
-use Rattle.fault_sim.specs.Fits.{bit_in}
 use Rattle.fault_sim.specs.inner.NetRows.{RowsOfNet}
 
 -- true if bit j of a word is 1

@@ -4,6 +4,7 @@ use Rattle.std.specs.List.{list_all, flat_map, range_with_len}
 use Rattle.board_defs.specs.Pins.{is_same}
 use Rattle.tap_defs.specs.board.NetBits.{is_in_short}
 use Rattle.plan_tables.specs.Assigned.{assigned}
+use Rattle.response_log.specs.LogRows.{bit_in}
 use Rattle.walk_test.specs.declared.tables.NetCells.{NetCells}
 use Rattle.walk_test.specs.Groups.{group_of}
 
@@ -15,10 +16,6 @@ is_one_group (Some k) other = is_in_short other k
 -- the nets are the same net, or in the same group
 abbrev pub are_joined : List (List ℕ) → ℕ → ℕ → Bool
 are_joined groups a b = (a == b) || is_one_group (group_of groups a) (group_of groups b)
-
--- the bit that row `row` of a log has at this position
-abbrev pub bit_in : List (List Bool) → ℕ → ℕ → Bool
-bit_in log row at = slice_index_or (slice_index_or log row []) at false
 
 -- the first row with a 1 at this position, or the number of rows if there is none
 abbrev pub first_one : List (List Bool) → ℕ → ℕ

@@ -1,5 +1,5 @@
 use Rattle.std.proofs.Common.{◌+◌, ◌==◌, ◌&&◌, ◌||◌, Bool, ap, sym, ◌∙◌}
-use Rattle.fault_sim.specs.Fits.{bit_in}
+use Rattle.response_log.specs.LogRows.{bit_in}
 use Rattle.fault_sim.proofs.ShownLemmas.{bit_is, row_more}
 use Rattle.fault_sim.proofs.net_rows.NetRows.cell_word.Goals as goal
 

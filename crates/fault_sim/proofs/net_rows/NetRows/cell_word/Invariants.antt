@@ -1,5 +1,5 @@
 use Rattle.std.proofs.Common.{◌≡◌, ◌+◌, ◌<◌, ◌&&◌, ltb, ℕ}
-use Rattle.fault_sim.specs.Fits.{bit_in}
+use Rattle.response_log.specs.LogRows.{bit_in}
 use Rattle.fault_sim.specs.inner.Words.{word_bit}
 use Rattle.fault_sim.proofs.net_rows.NetRows.cell_word.Given as goal
 

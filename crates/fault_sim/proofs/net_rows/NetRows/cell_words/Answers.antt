@@ -1,6 +1,6 @@
 use Rattle.std.proofs.Common.{◌+◌, ◌-◌, ◌==◌, ◌&&◌, ltb, not, ℕ, Bool, ap, ◌∙◌, arith}
 use Rattle.std.proofs.lemmas.Bool.{ne_eqb}
-use Rattle.fault_sim.specs.Fits.{bit_in}
+use Rattle.response_log.specs.LogRows.{bit_in}
 use Rattle.fault_sim.specs.inner.NetRows.{RowsOfNet}
 use Rattle.fault_sim.specs.inner.Words.{word_bit}
 use Rattle.fault_sim.proofs.ShownLemmas.{one_shown, zero_shown}
