@@ -20,8 +20,8 @@ use Rattle.board_defs.proofs.Places.{all_from, any_at}
 use Rattle.tap_defs.specs.board.TestRows.{is_observed, observing_driver, code_of_net, code_bit}
 use Rattle.net_pins.specs.declared.nets.NetDriver.{NetDriver}
 use Rattle.net_pins.specs.declared.nets.ReaderCell.{ReaderCell}
+use Rattle.net_pins.specs.Enabled.{is_read_beside}
 use Rattle.plan_tables.specs.declared.tables.PlanTables.{PlanTables}
-use Rattle.plan_tables.specs.Building.{is_read_beside}
 use Rattle.scan_planner.specs.Plans.{IsPlanOf}
 use Rattle.response_log.specs.LogRows.{bit_in}
 use Rattle.fault_sim.specs.Effects.{driver_in, place_of_driver, readers_in, code_in}

@@ -1,9 +1,8 @@
 -- Lemmas which say that the tables of a plan determine the bit to which a pass drives a net.
-use Rattle.std.proofs.Common.{◌≡◌, ℕ, ◌+◌, ◌==◌, Bool, true, false, cond, not, ◌&&◌, List, [], map, get_or, Option, Some, None, is_some, unwrap_or, refl, sym, ap, ◌∙◌, subst}
+use Rattle.std.proofs.Common.{◌≡◌, ℕ, ◌+◌, ◌==◌, Bool, true, false, cond, not, ◌&&◌, List, [], get_or, Option, Some, None, is_some, unwrap_or, refl, sym, ap, ◌∙◌, subst}
 use Rattle.std.specs.Prelude.{slice_get, option_map, option_and_then}
 use Rattle.std.specs.List.{list_any}
 use Rattle.std.proofs.lemmas.Bool.{eq-eqb, eqb-true}
-use Rattle.std.proofs.lemmas.Option.{get_or_from_slice_get, slice_get-map}
 use Rattle.board_defs.specs.declared.device.Control.{Control}
 use Rattle.board_defs.specs.declared.device.Cell.{Cell}
 use Rattle.board_defs.specs.declared.device.RawDevice.{RawDevice}
@@ -28,10 +27,12 @@ use Rattle.tap_defs.proofs.board.FeedingLemmas.{PinRules, apart, placed}
 use Rattle.tap_defs.proofs.board.NetRuleLemmas.{board_rules}
 use Rattle.net_pins.specs.declared.nets.NetDriver.{NetDriver}
 use Rattle.net_pins.specs.declared.nets.ReaderCell.{ReaderCell}
+use Rattle.net_pins.specs.NetCells.{drivers_of, drivers_of_pins, readers_of}
+use Rattle.net_pins.specs.Enabled.{is_on, enabled_in, is_read_beside, drivers_on}
+use Rattle.net_pins.proofs.NetTableLemmas.{drivers_on_is, readers_on_is}
 use Rattle.plan_tables.specs.declared.tables.PlanTables.{PlanTables}
 use Rattle.plan_tables.specs.Tables.{first_position}
 use Rattle.plan_tables.specs.inner.Laid.{laid, steady}
-use Rattle.plan_tables.specs.Building.{is_on, enabled_in, drivers_of, drivers_of_pins, readers_of, is_read_beside}
 use Rattle.scan_planner.specs.Plans.{IsPlanOf}
 use Rattle.plan_tables.proofs.LaidLemmas.{tdi_laid, laid_at, laid_same}
 use Rattle.plan_tables.proofs.HeldLemmas.{quiet_steady, controls_any}
@@ -39,20 +40,14 @@ use Rattle.plan_tables.proofs.PinLemmas.{Standing, standing, Drives, drives_by, 
 use Rattle.plan_tables.proofs.TableLemmas.{FirstOn, first_on, beside_is}
 use Rattle.plan_tables.proofs.ObserverLemmas.{DriverOn, driver_on}
 use Rattle.fault_sim.specs.declared.feed.Source.TheVariants.{Code, Fixed}
-use Rattle.fault_sim.specs.Effects.{source_bit, unless_off, feed_bit, is_own, drivers_in, readers_in, code_in, driver_in, steady_in, source_in, feed_by, pull_in, net_feed}
+use Rattle.fault_sim.specs.Effects.{source_bit, unless_off, feed_bit, is_own, readers_in, code_in, driver_in, steady_in, source_in, feed_by, pull_in, net_feed}
 
 module _ (board : RawBoard) (rules : IsBoard board) (plan : PlanTables) (p : IsPlanOf board plan) (n : ℕ) (net : Net) (is_net : slice_get board.nets n ≡ Some net) where
-  pub drivers_are : drivers_in plan n ≡ drivers_of board net
-  drivers_are =
-      ap (λ (l : List (List NetDriver)). get_or l n []) p.drivers_are
-      ∙ get_or_from_slice_get (map (drivers_of board) board.nets) n (drivers_of board net) []
-      (slice_get-map (drivers_of board) board.nets n ∙ ap (λ (o : Option Net). option_map (drivers_of board) o) is_net)
+  pub drivers_are : drivers_on plan.nets n ≡ drivers_of board net
+  drivers_are = drivers_on_is board plan.nets p.nets_are n net is_net
 
   pub readers_are : readers_in plan n ≡ readers_of board net.pins
-  readers_are =
-      ap (λ (l : List (List ReaderCell)). get_or l n []) p.readers_are
-      ∙ get_or_from_slice_get (map (λ (x : Net). readers_of board x.pins) board.nets) n (readers_of board net.pins) []
-      (slice_get-map (λ (x : Net). readers_of board x.pins) board.nets n ∙ ap (λ (o : Option Net). option_map (λ (x : Net). readers_of board x.pins) o) is_net)
+  readers_are = readers_on_is board plan.nets p.nets_are n net is_net
 
   -- the plan's code of a net that a pass observes is the code of the net on the board
   pub code_is : (x : ℕ) (pass : List Ctl) (place : ℕ) → slice_get plan.passes x ≡ Some pass → observing_driver board (holds pass) net ≡ Some place →
@@ -78,8 +73,8 @@ module _ (board : RawBoard) (rules : IsBoard board) (plan : PlanTables) (p : IsP
       pub first_place : first_enabled board (holds pass) 0 net.pins ≡ Some d.place
       first_place = (subst (λ (o : Option NetDriver). FirstOn board (holds pass) 0 net.pins o) enabled first_is).0
 
-      found : Has (drivers_in plan n) d × (is_on (holds pass) d.ctl ≡ true)
-      found = find_has (λ (y : NetDriver). is_on (holds pass) y.ctl) (drivers_in plan n) d enabled
+      found : Has (drivers_on plan.nets n) d × (is_on (holds pass) d.ctl ≡ true)
+      found = find_has (λ (y : NetDriver). is_on (holds pass) y.ctl) (drivers_on plan.nets n) d enabled
 
       pub on : DriverOn board net d
       on = driver_on board net d (subst (λ (l : List NetDriver). Has l d) drivers_are found.0)

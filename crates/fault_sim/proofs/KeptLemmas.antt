@@ -7,8 +7,8 @@ use Rattle.board_defs.specs.declared.board.Ctl.{Ctl}
 use Rattle.board_defs.specs.declared.board.RawBoard.{RawBoard}
 use Rattle.board_defs.proofs.Places.{any_at, any_place}
 use Rattle.net_pins.specs.declared.nets.NetDriver.{NetDriver}
+use Rattle.net_pins.specs.Enabled.{is_read_beside}
 use Rattle.plan_tables.specs.declared.tables.PlanTables.{PlanTables}
-use Rattle.plan_tables.specs.Building.{is_read_beside}
 use Rattle.fault_sim.specs.declared.feed.Source.TheVariants.{Code, Fixed}
 use Rattle.fault_sim.specs.declared.kept.KeptPass.{KeptPass}
 use Rattle.fault_sim.specs.Effects.{code_in, driver_in, feed_by, feed_in, place_of_driver, readers_in, steady_in}

@@ -169,7 +169,7 @@ module _ (board : RawBoard) (rules : IsBoard board) (plan : PlanTables) (p : IsP
       by_side : (n < length board.nets) ⊎ (length board.nets ≤ n) → ShowsOn board plan None log n
       by_side (inl within) x less = unmarked_within n within unmarked x less
       by_side (inr past) x less =
-          let none : readers_in plan n ≡ [] = get_or_past plan.readers n [] (omega (arith, past, p.tables.readers_length)) in
+          let none : readers_in plan n ≡ [] = get_or_past plan.nets.readers n [] (omega (arith, past, p.tables.readers_length)) in
           subst (λ (l : List ReaderCell). ShowBy log (x * plan.width) plan.width (code_in plan n) l Plain (place_of_driver (driver_in plan (get_or plan.passes x []) n))) (sym none) (by_driver x (place_of_driver (driver_in plan (get_or plan.passes x []) n)))
         where
           by_driver : (x : ℕ) (o : Option ℕ) → ShowBy log (x * plan.width) plan.width (code_in plan n) [] Plain o

@@ -34,9 +34,10 @@ use Rattle.tap_defs.proofs.board.PassingLemmas.{stands_at}
 use Rattle.tap_defs.proofs.board.SingleBitLemmas.{ReadsPlace, reads_place}
 use Rattle.net_pins.specs.declared.nets.NetDriver.{NetDriver}
 use Rattle.net_pins.specs.declared.nets.ReaderCell.{ReaderCell}
+use Rattle.net_pins.specs.NetCells.{drivers_of_pins}
+use Rattle.net_pins.specs.Enabled.{is_read_beside, enabled_in}
 use Rattle.plan_tables.specs.declared.tables.PlanTables.{PlanTables}
 use Rattle.plan_tables.specs.Tables.{first_position, IsReaderCell}
-use Rattle.plan_tables.specs.Building.{is_read_beside, enabled_in, drivers_of_pins}
 use Rattle.scan_planner.specs.Plans.{IsPlanOf}
 use Rattle.scan_planner.proofs.FillLemmas.{readers_within}
 use Rattle.plan_tables.proofs.LaidLemmas.{laid_at}
@@ -337,8 +338,8 @@ module _ (board : RawBoard) (rules : IsBoard board) (plan : PlanTables) (p : IsP
 
 -- Each cell that reads a net has a position in a data scan. No cell reads a net whose number is past the last net.
 pub readers_inside : (board : RawBoard) → IsBoard board → (plan : PlanTables) → IsPlanOf board plan → (n : ℕ) → All (λ r. r.position < data_bits board) (readers_in plan n)
-readers_inside board rules plan p n = by_side (cases_lt n (length plan.readers))
+readers_inside board rules plan p n = by_side (cases_lt n (length plan.nets.readers))
   where
-    by_side : (n < length plan.readers) ⊎ (length plan.readers ≤ n) → All (λ r. r.position < data_bits board) (readers_in plan n)
+    by_side : (n < length plan.nets.readers) ⊎ (length plan.nets.readers ≤ n) → All (λ r. r.position < data_bits board) (readers_in plan n)
     by_side (inl within) = readers_within board rules plan p n [] within
-    by_side (inr past) = subst (λ (l : List ReaderCell). All (λ r. r.position < data_bits board) l) (sym (get_or_past plan.readers n [] past)) (All-nil (λ r. r.position < data_bits board))
+    by_side (inr past) = subst (λ (l : List ReaderCell). All (λ r. r.position < data_bits board) l) (sym (get_or_past plan.nets.readers n [] past)) (All-nil (λ r. r.position < data_bits board))

@@ -31,10 +31,11 @@ use Rattle.tap_defs.specs.board.TestRows.{observing_driver, observing_driver_by,
 use Rattle.tap_defs.proofs.board.PlanLemmas.{observing_is, observed_by}
 use Rattle.net_pins.specs.declared.nets.NetDriver.{NetDriver}
 use Rattle.net_pins.specs.declared.nets.ReaderCell.{ReaderCell}
+use Rattle.net_pins.specs.NetCells.{drivers_of_pins}
+use Rattle.net_pins.specs.Enabled.{enabled_in, is_read_beside}
 use Rattle.plan_tables.specs.declared.tables.PlanTables.{PlanTables}
 use Rattle.plan_tables.specs.Assigned.{assigned}
 use Rattle.plan_tables.specs.Tables.{first_position}
-use Rattle.plan_tables.specs.Building.{enabled_in, drivers_of_pins, is_read_beside}
 use Rattle.scan_planner.specs.Plans.{IsPlanOf}
 use Rattle.plan_tables.proofs.AssignLemmas.{assigned_groups, has_mark, mark_has, length-assigned}
 use Rattle.plan_tables.proofs.TableLemmas.{FirstOn, reader_is, is_reader}

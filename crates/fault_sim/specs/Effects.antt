@@ -1,5 +1,5 @@
 -- The effect of a single fault on the compared cells of a net in the rows of a pass.
-use Rattle.std.specs.Prelude.{ℕ, ◌==◌, Bool, false, not, cond, ◌||◌, List, [], Option, Some, None, option_map, unwrap_or, slice_get, slice_index_or}
+use Rattle.std.specs.Prelude.{ℕ, ◌==◌, Bool, false, not, cond, ◌||◌, List, Option, Some, None, option_map, unwrap_or, slice_get, slice_index_or}
 use Rattle.board_defs.specs.declared.board.Ctl.{Ctl}
 use Rattle.board_defs.specs.declared.board.RawBoard.{RawBoard}
 use Rattle.board_defs.specs.declared.fault.Kind.{Kind}
@@ -12,8 +12,8 @@ use Rattle.tap_defs.specs.board.TestRows.{code_bit}
 use Rattle.tap_defs.specs.board.SingleBits.{pulled_to, shorted}
 use Rattle.net_pins.specs.declared.nets.NetDriver.{NetDriver}
 use Rattle.net_pins.specs.declared.nets.ReaderCell.{ReaderCell}
+use Rattle.net_pins.specs.Enabled.{enabled_on, is_read_beside, readers_on}
 use Rattle.plan_tables.specs.declared.tables.PlanTables.{PlanTables}
-use Rattle.plan_tables.specs.Building.{enabled_in, is_read_beside}
 use Rattle.fault_sim.specs.declared.feed.Source.{Source}
 use Rattle.fault_sim.specs.declared.feed.Source.TheVariants.{Code, Fixed}
 use Rattle.fault_sim.specs.declared.feed.Feed.{Feed}
@@ -54,13 +54,9 @@ abbrev pub is_own : Ctl → Option Ctl → Bool
 is_own own None = false
 is_own own (Some c) = same_ctl c own
 
--- the drivers of net n
-abbrev pub drivers_in : PlanTables → ℕ → List NetDriver
-drivers_in plan n = slice_index_or plan.drivers n []
-
 -- the compared cells of net n
 abbrev pub readers_in : PlanTables → ℕ → List ReaderCell
-readers_in plan n = slice_index_or plan.readers n []
+readers_in plan n = readers_on plan.nets n
 
 -- the code of net n
 abbrev pub code_in : PlanTables → ℕ → ℕ
@@ -68,7 +64,7 @@ code_in plan n = slice_index_or plan.codes n 0
 
 -- the driver that a pass enables on net n
 abbrev pub driver_in : PlanTables → List Ctl → ℕ → Option NetDriver
-driver_in plan pass n = enabled_in (holds pass) (drivers_in plan n)
+driver_in plan pass n = enabled_on plan.nets (holds pass) n
 
 -- the place of a driver's pin in its net
 abbrev pub place_of_driver : Option NetDriver → Option ℕ

@@ -1,17 +1,14 @@
 // The driver that a pass enables on a net, and the bits that the net gets from this driver.
-ghost use Rattle.std.specs.Prelude.{◌≡◌, ◌<◌, ◌==◌, not};
-ghost use Rattle.std.specs.List.{list_any};
+ghost use Rattle.std.specs.Prelude.{◌≡◌, ◌<◌};
 ghost use Rattle.board_defs.specs.Pins.{is_same};
-ghost use Rattle.board_defs.specs.Settings.{holds};
-ghost use Rattle.plan_tables.specs.Building.{is_on, enabled_in};
 ghost use Rattle.tap_defs.specs.board.TestRows.{code_bit};
-ghost use Rattle.fault_sim.specs.Effects.{source_bit, unless_off, feed_bit, is_own, driver_in, steady_in, source_in, pull_in};
+ghost use Rattle.fault_sim.specs.Effects.{source_bit, unless_off, feed_bit, is_own, steady_in, source_in, pull_in};
 ghost use Rattle.fault_sim.specs.Kept.{enabled_by, enabled_driver};
 ghost use Rattle.fault_sim.specs.inner.Kept.{net_fed_by, feed_of, observes_coded};
 
 use board_defs::{Board, Ctl, Setting};
 use counting_codes::bit;
-use scan_planner::{NetDriver, Plan, ReaderCell};
+use scan_planner::{NetDriver, Plan};
 
 /// The bits of a driver's cell in the rows of a pass.
 #[derive(Clone, Copy)]
@@ -91,40 +88,6 @@ pub fn feed_bit(feed: Option<Feed>, j: u32) -> Option<bool>
     }
 }
 
-fn is_on(ctl: Option<Ctl>, pass: &Setting) -> bool
-    ensures { result ≡ is_on (holds pass.now) ctl }
-{
-    match ctl {
-        None => true,
-        Some(c) => pass.has(c),
-    }
-}
-
-fn enabled(drivers: &[NetDriver], pass: &Setting) -> Option<NetDriver>
-    ensures { result ≡ enabled_in (holds pass.now) drivers.now }
-{
-    for driver in drivers {
-        if is_on(driver.ctl, pass) {
-            return Some(*driver);
-        }
-    }
-    None
-}
-
-/// Returns the driver that a pass enables on a net, if there is one.
-pub fn driver_in(plan: &Plan, pass: &Setting, net: u32) -> Option<NetDriver>
-    ensures { result ≡ driver_in plan.now pass.now net }
-{
-    enabled(plan.drivers(net), pass)
-}
-
-/// Returns whether at least one of these cells reads a pin other than the one at `place`.
-pub fn is_read_beside(readers: &[ReaderCell], place: u32) -> bool
-    ensures { result ≡ list_any (λ r. not (r.place == place)) readers.now }
-{
-    readers.iter().any(|r| r.place != place)
-}
-
 fn is_own(own: Ctl, ctl: Option<Ctl>) -> bool
     ensures { result ≡ is_own own ctl }
 {
@@ -144,7 +107,7 @@ fn steady_in(plan: &Plan, pass: &Setting, driver: NetDriver) -> bool
 fn source_in(plan: &Plan, pass: &Setting, net: u32, driver: NetDriver) -> Source
     ensures { result ≡ source_in plan.now pass.now net driver }
 {
-    if is_read_beside(plan.readers(net), driver.place) {
+    if driver.is_read_beside(plan.readers(net)) {
         Source::Code(plan.code(net))
     } else {
         Source::Fixed(steady_in(plan, pass, driver))
@@ -165,7 +128,7 @@ fn enabled_by(plan: &Plan, pass: &Setting, net: u32, driver: NetDriver) -> Enabl
 pub fn enabled_driver(plan: &Plan, pass: &Setting, net: u32) -> Option<EnabledDriver>
     ensures { result ≡ enabled_driver plan.now pass.now net }
 {
-    match driver_in(plan, pass, net) {
+    match plan.driver(pass, net) {
         None => None,
         Some(driver) => Some(enabled_by(plan, pass, net, driver)),
     }

@@ -6,7 +6,6 @@ ghost use Rattle.fault_sim.specs.Kept.{KeepDrivers};
 ghost use Rattle.fault_sim.specs.Places.{observes_fault};
 ghost use Rattle.fault_sim.specs.inner.Tested.{coded_nets, paired_in, marked_readers, marked_by, marked_in, tested_flags, pin_where, flagged_pins, pin_count, net_pins, all_pins};
 
-use crate::feed::{driver_in, is_read_beside};
 use crate::fits::net_count;
 use crate::kept::KeptPass;
 use crate::passes::PassDrivers;
@@ -74,7 +73,7 @@ fn mark_by(flags: &mut [bool], driver: Option<NetDriver>, readers: &[ReaderCell]
     ensures { flags.new ≡ marked_by driver readers.now flags.old }
 {
     if let Some(driver) = driver {
-        if is_read_beside(readers, driver.place) {
+        if driver.is_read_beside(readers) {
             mark(flags, driver.place as usize);
             mark_readers(flags, readers);
         }
@@ -84,7 +83,7 @@ fn mark_by(flags: &mut [bool], driver: Option<NetDriver>, readers: &[ReaderCell]
 fn mark_pass(flags: &mut [bool], plan: &Plan, pass: &Setting, net: u32)
     ensures { flags.new ≡ marked_in plan.now net flags.old pass.now }
 {
-    mark_by(flags, driver_in(plan, pass, net), plan.readers(net));
+    mark_by(flags, plan.driver(pass, net), plan.readers(net));
 }
 
 fn are_set(flags: &[bool]) -> bool

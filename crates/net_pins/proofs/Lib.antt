@@ -1,3 +1,4 @@
 pub mod PositionLemmas
 pub mod EntryLemmas
 pub mod GuardLemmas
+pub mod NetTableLemmas

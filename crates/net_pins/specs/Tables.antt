@@ -4,6 +4,7 @@ use Rattle.board_defs.specs.declared.board.RawBoard.{RawBoard}
 use Rattle.board_defs.specs.Pins.{guarded}
 use Rattle.port_entries.specs.Entries.{AreEntries}
 use Rattle.net_pins.specs.declared.pin_tables.PinTables.{PinTables}
+use Rattle.net_pins.specs.declared.net_tables.NetTables.{NetTables}
 use Rattle.net_pins.specs.declared.pins.NetPins.{NetPins}
 use Rattle.net_pins.specs.Positions.{AreFirsts}
 use Rattle.net_pins.specs.NetCells.{all_drivers, all_readers}
@@ -15,9 +16,12 @@ pub record ArePinTables (board : RawBoard) (tables : PinTables) : Type 0 where
   pub entries : AreEntries board tables.entries
   pub guards : tables.guarded ≡ map (guarded board) board.nets
 
--- `pins` has the tables of the board, the drivers of each net that a setting may enable, and the compared cells
--- of each net
+-- the drivers of each net of the board that a setting may enable, and the compared cells of each net
+pub record AreNetTables (board : RawBoard) (nets : NetTables) : Type 0 where
+  pub drivers_are : nets.drivers ≡ all_drivers board
+  pub readers_are : nets.readers ≡ all_readers board
+
+-- the tables of the board, and the drivers and the compared cells of its nets
 pub record AreNetPins (board : RawBoard) (pins : NetPins) : Type 0 where
   pub finding : ArePinTables board pins.tables
-  pub drivers_are : pins.drivers ≡ all_drivers board
-  pub readers_are : pins.readers ≡ all_readers board
+  pub nets_are : AreNetTables board pins.nets

@@ -3,11 +3,13 @@ ghost use Rattle.std.specs.Prelude.{◌≡◌, ◌<◌, ◌≤◌, ◌++◌, len
 ghost use Rattle.board_defs.specs.Limits.{most_pins};
 ghost use Rattle.board_defs.specs.DeviceRules.{is_receiving};
 ghost use Rattle.board_defs.specs.Pins.{device_at, bit_at, cell_count, guarded};
+ghost use Rattle.board_defs.specs.Settings.{holds};
 ghost use Rattle.net_pins.specs.NetCells.{optional, net_driver, driver_of, drivers_of_pins, drivers_of, reader_of, readers_at, readers_of};
+ghost use Rattle.net_pins.specs.Enabled.{is_on, is_read_beside};
 ghost use Rattle.net_pins.specs.inner.Receiving.{receives_by};
 
 use crate::board_pins::BoardPins;
-use board_defs::{Cell, Ctl, Items, Net, NetPin, PinAt, RawBoard};
+use board_defs::{Cell, Ctl, Items, Net, NetPin, PinAt, RawBoard, Setting};
 use std::alloc::{AllocError, Global};
 
 /// A driver of a net: the place of its pin in the net, its control if it has one, its own cell, and the position of
@@ -18,6 +20,28 @@ pub struct NetDriver {
     pub ctl: Option<Ctl>,
     pub own: Ctl,
     pub position: u32,
+}
+
+impl NetDriver {
+    /// Returns whether the setting enables the driver. A driver without a control is always on.
+    #[inline]
+    pub fn is_on(&self, setting: &Setting) -> bool
+        ensures { result ≡ is_on (holds setting.now) self.now.ctl }
+    {
+        match self.ctl {
+            None => true,
+            Some(c) => setting.has(c),
+        }
+    }
+
+    /// Returns whether at least one of these cells reads a pin of the net other than the driver's.
+    #[inline]
+    pub fn is_read_beside(&self, readers: &[ReaderCell]) -> bool
+        ensures { result ≡ is_read_beside readers.now self.now }
+    {
+        let place = self.place;
+        readers.iter().any(|r| r.place != place)
+    }
 }
 
 /// A cell that reads a net: the place of its pin in the net, and the position of the cell in data scans.

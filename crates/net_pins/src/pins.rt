@@ -3,11 +3,9 @@ ghost use Rattle.std.specs.Prelude.{IfOk};
 ghost use Rattle.net_pins.specs.Tables.{AreNetPins, ArePinTables};
 
 use crate::board_pins::BoardPins;
-use crate::drivers::all_drivers;
-use crate::nets::{NetDriver, ReaderCell};
+use crate::net_tables::NetTables;
 use crate::pin_tables::PinTables;
-use crate::readers::all_readers;
-use board_defs::{Board, Items};
+use board_defs::Board;
 use std::alloc::{AllocError, Global};
 
 /// The pin tables of a board, and the cells on each of its nets.
@@ -15,11 +13,8 @@ use std::alloc::{AllocError, Global};
 pub struct NetPins {
     /// The positions of the parts, the entries of the port bits, and the guarded nets.
     pub tables: PinTables,
-    /// For each net, the drivers that a setting may enable, in pin order. A guarded net has no such
-    /// driver.
-    pub drivers: Items<Items<NetDriver>>,
-    /// For each net, the compared cells, in pin order.
-    pub readers: Items<Items<ReaderCell>>,
+    /// The drivers and the compared cells of each net.
+    pub nets: NetTables,
 }
 
 impl NetPins {
@@ -37,12 +32,7 @@ impl NetPins {
         ensures { IfOk result (λ pins. AreNetPins board.now pins) }
     {
         let lent = BoardPins::of(board, &tables);
-        let drivers = all_drivers(alloc, &lent)?;
-        let readers = all_readers(alloc, &lent)?;
-        Ok(NetPins {
-            tables,
-            drivers,
-            readers,
-        })
+        let nets = NetTables::of(alloc, &lent)?;
+        Ok(NetPins { tables, nets })
     }
 }

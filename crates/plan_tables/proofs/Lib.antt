@@ -1,4 +1,3 @@
-pub mod ListLemmas
 pub mod AssignLemmas
 pub mod LaidLemmas
 pub mod PinLemmas

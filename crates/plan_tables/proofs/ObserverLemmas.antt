@@ -23,15 +23,16 @@ use Rattle.plan_tables.specs.declared.observers.Observer.{Observer}
 use Rattle.plan_tables.specs.declared.tables.HeldCell.{HeldCell}
 use Rattle.plan_tables.specs.declared.tables.DriverCell.{DriverCell}
 use Rattle.net_pins.specs.declared.nets.ReaderCell.{ReaderCell}
+use Rattle.net_pins.specs.NetCells.{optional, net_driver, driver_of, drivers_of_pins, drivers_of, readers_of}
+use Rattle.net_pins.specs.Enabled.{is_on, is_read_beside, observing_of}
 use Rattle.plan_tables.specs.Tables.{first_position, IsDriverCell, control_position, held_cell}
 use Rattle.plan_tables.specs.inner.Laid.{laid}
-use Rattle.plan_tables.specs.Building.{is_on, optional, net_driver, driver_of, drivers_of_pins, drivers_of, readers_of, is_read_beside}
 use Rattle.plan_tables.specs.inner.Building.{driver_cell, IsControlThere, observer, observers_at, observers}
 use Rattle.plan_tables.proofs.LaidLemmas.{laid_at}
 use Rattle.net_pins.proofs.PositionLemmas.{entry_below, position_within}
 use Rattle.plan_tables.proofs.BuildLemmas.{cell_there}
 use Rattle.plan_tables.proofs.PinLemmas.{wired_at, drives_by, entry_on}
-use Rattle.plan_tables.proofs.TableLemmas.{has_gathered, gathered_has, Observed, observed, observing_of, on_by}
+use Rattle.plan_tables.proofs.TableLemmas.{has_gathered, gathered_has, Observed, observed, on_by}
 use Rattle.plan_tables.proofs.DriverTableLemmas.{IsOn, OnBy}
 
 -- some pin of the net has driver `d`: its driving entry gives the driver's position and control

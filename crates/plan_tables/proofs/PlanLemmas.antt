@@ -24,6 +24,8 @@ use Rattle.tap_defs.proofs.board.WidthLemmas.{width_is}
 use Rattle.plan_tables.specs.declared.codes.NetCodes.{NetCodes}
 use Rattle.plan_tables.specs.declared.tables.HeldCell.{HeldCell}
 use Rattle.net_pins.specs.declared.nets.ReaderCell.{ReaderCell}
+use Rattle.net_pins.specs.NetCells.{readers_of, all_readers}
+use Rattle.net_pins.specs.Tables.{AreNetTables}
 use Rattle.tap_defs.specs.chain.ScanRows.{AreRowsOf}
 use Rattle.plan_tables.specs.Tables.{first_position, AreFirsts, IsHeldCell, held_cell, pass_cells_of}
 use Rattle.plan_tables.specs.declared.tables.DriverCell.{DriverCell}
@@ -33,7 +35,6 @@ use Rattle.plan_tables.specs.inner.Laid.{laid, quiet_bits}
 use Rattle.plan_tables.specs.inner.Codes.{AreCodes, seen_in}
 use Rattle.plan_tables.specs.inner.Steady.{ArePassTables}
 use Rattle.plan_tables.specs.Plans.{controls_in, controls_some, ArePlannable, code_or_zero, IsPlanOf}
-use Rattle.plan_tables.specs.Building.{readers_of, all_readers, all_drivers}
 use Rattle.plan_tables.proofs.LaidLemmas.{laid_at, laid_same, tdi_laid}
 use Rattle.plan_tables.proofs.HeldLemmas.{quiet_steady, control_below}
 use Rattle.plan_tables.proofs.TableLemmas.{reader_is, is_reader}
@@ -144,18 +145,17 @@ pins_most board rules k d less =
 
 -- if each table has the contents that its definition requires, the tables together are a plan for the board
 pub is_plan : (board : RawBoard) → IsBoard board → (plan : PlanTables) → ArePlannable board plan.passes → plan.quiet.bits ≡ laid (quiet_bits board) board →
-    plan.readers ≡ all_readers board → plan.drivers ≡ all_drivers board → AreFirsts board.chain plan.firsts → ArePassTables board plan.passes plan.steady (pass_cells_of board plan.quiet.bits plan.by_control) →
+    AreNetTables board plan.nets → AreFirsts board.chain plan.firsts → ArePassTables board plan.passes plan.steady (pass_cells_of board plan.quiet.bits plan.by_control) →
     (seen : List Bool) → seen ≡ seen_in board (length board.nets) plan.steady plan.by_control plan.passes → (codes : NetCodes) → AreCodes seen codes → plan.codes ≡ codes.codes →
     codes.count + 2 ≤ 2 ^ plan.width → ((less : ℕ) → less < plan.width → 2 ^ less < codes.count + 2) →
     AreRowsOf ((instructs (map (λ part. preload_code part.kind) board.chain)).bits) plan.preload →
     AreRowsOf ((instructs (map (λ part. extest_code part.kind) board.chain)).bits) plan.extest → IsPlanOf board plan
-is_plan board rules plan plannable quiet readers_are drivers_are firsts tables seen seen_is codes are_codes codes_are enough least preload extest =
+is_plan board rules plan plannable quiet nets_are firsts tables seen seen_is codes are_codes codes_are enough least preload extest =
     record {
       plannable = plannable;
       width_is = code_width_is codes.count plan.width enough least ∙ ap code_width (are_codes.count_is ∙ count_is);
       codes_are = code_is;
-      drivers_are = drivers_are;
-      readers_are = readers_are;
+      nets_are = nets_are;
       codes_length = ap (λ (l : List ℕ). length l) codes_are ∙ are_codes.length_is ∙ ap (λ (l : List Bool). length l) seen_are ∙ length-map board.nets (is_observed board plan.passes);
       tables = record {
         preload = preload;
@@ -165,10 +165,10 @@ is_plan board rules plan plannable quiet readers_are drivers_are firsts tables s
         cells = λ x pass e. (pass_cells_of board plan.quiet.bits plan.by_control pass, refl, tables.each x pass e);
         readers = λ n net e. (
           readers_of board net.pins,
-          ap (λ (l : List (List ReaderCell)). slice_get l n) readers_are ∙ readers_at board n net e,
+          ap (λ (l : List (List ReaderCell)). slice_get l n) nets_are.readers_are ∙ readers_at board n net e,
           λ r. ((λ h. reader_is board net r (contains_has (readers_of board net.pins) r h)), λ s. has_contains (readers_of board net.pins) r (is_reader board net r s)),
         );
-        readers_length = ap (λ (l : List (List ReaderCell)). length l) readers_are ∙ length-map board.nets (λ (net : Net). readers_of board net.pins);
+        readers_length = ap (λ (l : List (List ReaderCell)). length l) nets_are.readers_are ∙ length-map board.nets (λ (net : Net). readers_of board net.pins);
       };
     }
   where

@@ -21,8 +21,9 @@ use Rattle.board_defs.proofs.Places.{any_place}
 use Rattle.tap_defs.specs.board.TestRows.{first_enabled, reads_beside, observing_driver, observing_driver_by}
 use Rattle.net_pins.specs.declared.nets.NetDriver.{NetDriver}
 use Rattle.net_pins.specs.declared.nets.ReaderCell.{ReaderCell}
+use Rattle.net_pins.specs.NetCells.{gathered, optional, net_driver, driver_of, drivers_of_pins, drivers_of, reader_of, readers_in, readers_at, readers_of}
+use Rattle.net_pins.specs.Enabled.{is_on, enabled_in, observing_of}
 use Rattle.plan_tables.specs.Tables.{first_position, IsReaderCell}
-use Rattle.plan_tables.specs.Building.{is_on, enabled_in, gathered, optional, net_driver, driver_of, drivers_of_pins, drivers_of, reader_of, readers_in, readers_at, readers_of, is_read_beside}
 
 -- an item of a gathered list comes from an item of the list from which it was gathered
 pub has_gathered : {X Y : Type 0} (f : ℕ → X → List Y) (k : ℕ) (xs : List X) (y : Y) → Has (gathered f k xs) y → (n : ℕ) × (x : X) × (slice_get xs n ≡ Some x) × Has (f (k + n) x) y
@@ -120,10 +121,6 @@ FirstOn board s k pins (Some d) = (first_enabled board s k pins ≡ Some d.place
 pub on_by : (s : Enabling) (part : ℕ) (o : Option Control) → is_on s (option_map (λ control. record { part = part; cell = control.cell }) o) ≡ enables_by s part o
 on_by s part None = refl
 on_by s part (Some control) = refl
-
--- the driver by which a setting observes a net: the first driver that it enables, if another pin has a compared cell
-abbrev pub observing_of : Enabling → List NetDriver → List ReaderCell → Option NetDriver
-observing_of setting drivers readers = option_and_then (λ d. cond (is_read_beside readers d) (Some d) None) (enabled_in setting drivers)
 
 abbrev pub pin_drivers : RawBoard → ℕ → List NetPin → List NetDriver
 pin_drivers board k pins = gathered (λ place pin. optional (driver_of board place pin.at)) k pins

@@ -1,5 +1,4 @@
 pub mod Tables
 pub mod Plans
 pub mod Assigned
-pub mod Building
 pub mod inner

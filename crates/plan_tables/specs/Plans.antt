@@ -11,7 +11,7 @@ use Rattle.tap_defs.specs.board.Quiet.{controls_driver}
 use Rattle.tap_defs.specs.board.TestRows.{is_observed, code_of_net, observed_count, code_width}
 use Rattle.plan_tables.specs.declared.tables.PlanTables.{PlanTables}
 use Rattle.plan_tables.specs.Tables.{ArePlanTables}
-use Rattle.plan_tables.specs.Building.{all_drivers, all_readers}
+use Rattle.net_pins.specs.Tables.{AreNetTables}
 
 -- the part of control `c` has a device, and the control controls a driver of this device
 abbrev pub controls_in : RawBoard → Ctl → Option RawDevice → Bool
@@ -38,5 +38,4 @@ pub record IsPlanOf (board : RawBoard) (plan : PlanTables) : Type 0 where
   pub codes_are : (n : ℕ) (net : Net) → slice_get board.nets n ≡ Some net → slice_index_or plan.codes n 0 ≡ code_or_zero board plan.passes n net
   pub codes_length : length plan.codes ≡ length board.nets
   pub tables : ArePlanTables board plan
-  pub drivers_are : plan.drivers ≡ all_drivers board
-  pub readers_are : plan.readers ≡ all_readers board
+  pub nets_are : AreNetTables board plan.nets

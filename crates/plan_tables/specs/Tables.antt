@@ -102,5 +102,5 @@ pub record ArePlanTables (board : RawBoard) (plan : PlanTables) : Type 0 where
   pub quiet : plan.quiet.bits ≡ tdi_bits (joined (row_bits board first_row_scan))
   pub firsts : AreFirsts board.chain plan.firsts
   pub cells : (x : ℕ) (pass : List Ctl) → slice_get plan.passes x ≡ Some pass → (cells : PassCells) × (cells ≡ pass_cells_of board plan.quiet.bits plan.by_control pass) × ArePassCells board plan.steady pass cells
-  pub readers : (n : ℕ) (net : Net) → slice_get board.nets n ≡ Some net → (readers : List ReaderCell) × (slice_get plan.readers n ≡ Some readers) × AreReaders board net readers
-  pub readers_length : length plan.readers ≡ length board.nets
+  pub readers : (n : ℕ) (net : Net) → slice_get board.nets n ≡ Some net → (readers : List ReaderCell) × (slice_get plan.nets.readers n ≡ Some readers) × AreReaders board net readers
+  pub readers_length : length plan.nets.readers ≡ length board.nets

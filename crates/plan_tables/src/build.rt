@@ -169,8 +169,7 @@ pub fn tables_of(
     let parts = plan_parts(alloc, board, &pins, passes.as_slice())?;
     let NetPins {
         tables: finding,
-        drivers,
-        readers,
+        nets,
     } = pins;
     let PlanParts {
         rows,
@@ -186,7 +185,6 @@ pub fn tables_of(
         steady: cells.steady,
         firsts: finding.firsts,
         by_control: cells.by_control,
-        readers,
-        drivers,
+        nets,
     })
 }

@@ -25,5 +25,5 @@ mod uses;
 pub use build::tables_of;
 pub use controls::{ControlCells, DriverTable, controlled};
 pub use held::held_cell;
-pub use net_pins::{NetDriver, ReaderCell};
+pub use net_pins::{NetDriver, NetTables, ReaderCell};
 pub use tables::{DriverCell, HeldCell, PlanTables};

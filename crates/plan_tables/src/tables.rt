@@ -2,7 +2,7 @@
 use crate::controls::DriverTable;
 use board_defs::{Items, Setting};
 use bt_bits::Row;
-use net_pins::{NetDriver, ReaderCell};
+use net_pins::NetTables;
 use tap_defs::StoredRows;
 
 /// The cell of a control that a pass holds: its position in data scans, and the bit that enables the control's drivers.
@@ -38,8 +38,8 @@ pub struct PassTables {
 
 /// The tables of a plan. The instruction scans, the quiet row and the steady driver cells are the same in all passes.
 /// The other cells of a pass are found from its controls, with the position of each part's first bit and the driver
-/// cells of each control. `codes`, `readers` and `drivers` have an item for each net. `width` is the number of bits of
-/// a code.
+/// cells of each control. `codes` has the code of each net, and `nets` the net's drivers and compared cells. `width` is
+/// the number of bits of a code.
 #[derive(Drop)]
 pub struct PlanTables {
     pub passes: Items<Setting>,
@@ -51,6 +51,5 @@ pub struct PlanTables {
     pub steady: Items<DriverCell>,
     pub firsts: Items<u32>,
     pub by_control: DriverTable,
-    pub readers: Items<Items<ReaderCell>>,
-    pub drivers: Items<Items<NetDriver>>,
+    pub nets: NetTables,
 }

@@ -111,23 +111,23 @@ module _ (board : RawBoard) (rules : IsBoard board) (plan : PlanTables) (p : IsP
       p.tables.quiet ∙ tdi_laid board first_row_scan
       ∙ sym (tdi_laid board scan ∙ ap (λ (row : TestRow). laid (λ part device cell. row_bit board row part device cell) board) e)
 
-  readers_of : ReadersOf board plan.readers
+  readers_of : ReadersOf board plan.nets.readers
   readers_of n net e =
       let t = p.tables.readers n net e in
-      let same : get_or plan.readers n [] ≡ t.0 = get_or_from_slice_get plan.readers n t.0 [] t.1 in (
+      let same : get_or plan.nets.readers n [] ≡ t.0 = get_or_from_slice_get plan.nets.readers n t.0 [] t.1 in (
         λ r h. (t.2 r).0 (has_contains t.0 r (subst (λ (l : List ReaderCell). Has l r) same h)),
         λ r is. subst (λ (l : List ReaderCell). Has l r) (sym same) (contains_has t.0 r ((t.2 r).1 is)),
       )
 
-  pub readers_within : All (λ cells. All (λ r. r.position < data_bits board) cells) plan.readers
-  readers_within = readers_below board rules plan.readers readers_of p.tables.readers_length
+  pub readers_within : All (λ cells. All (λ r. r.position < data_bits board) cells) plan.nets.readers
+  readers_within = readers_below board rules plan.nets.readers readers_of p.tables.readers_length
 
   -- the rows that all passes share have the length of a data scan
   pub steady_shifted_length : (j : ℕ) → length (steady_shifted plan j) ≡ data_bits board
   steady_shifted_length j = length-assigned (λ (d : DriverCell). d.position) (driver_bit plan.codes j) plan.quiet.bits plan.steady ∙ quiet_length
 
   pub steady_compared_length : (bit : DriverCell → Bool) → length (steady_compared plan bit) ≡ data_bits board
-  steady_compared_length bit = length-set_compared bit plan.readers plan.steady (replicate (length plan.quiet.bits) false) ∙ length-replicate (length plan.quiet.bits) false ∙ quiet_length
+  steady_compared_length bit = length-set_compared bit plan.nets.readers plan.steady (replicate (length plan.quiet.bits) false) ∙ length-replicate (length plan.quiet.bits) false ∙ quiet_length
 
   module _ (x : ℕ) (less : x < length plan.passes) where
     abbrev pass : List Ctl
@@ -191,23 +191,23 @@ module _ (board : RawBoard) (rules : IsBoard board) (plan : PlanTables) (p : IsP
     -- Setting the pass's own bits in the shared row gives the compared bits of the pass. This row has the bit of each pair at the pair's
     -- cell, and zeros elsewhere.
     compared_is : (bit : DriverCell → Bool) →
-        compared board plan bit (steady_compared plan bit) pass ≡ assigned (λ (x : Pair). x.1.position) (λ x. bit x.0) (laid (λ part device cell. false) board) (pairs plan.readers all)
+        compared board plan bit (steady_compared plan bit) pass ≡ assigned (λ (x : Pair). x.1.position) (λ x. bit x.0) (laid (λ part device cell. false) board) (pairs plan.nets.readers all)
     compared_is bit =
-        fold_on board plan.quiet.bits plan.by_control pass (λ done (d : DriverCell). set_readers d.place (bit d) done (get_or plan.readers d.net [])) (steady_compared plan bit)
-        ∙ sym (fold-append (λ done (d : DriverCell). set_readers d.place (bit d) done (get_or plan.readers d.net [])) (replicate (length plan.quiet.bits) false) plan.steady cells.drivers)
-        ∙ ap (λ (l : List Bool). set_compared bit plan.readers l all) (ap (λ n. replicate n false) quiet_length ∙ zeros_laid board)
-        ∙ set_compared_is bit plan.readers all (laid (λ part device cell. false) board)
+        fold_on board plan.quiet.bits plan.by_control pass (λ done (d : DriverCell). set_readers d.place (bit d) done (get_or plan.nets.readers d.net [])) (steady_compared plan bit)
+        ∙ sym (fold-append (λ done (d : DriverCell). set_readers d.place (bit d) done (get_or plan.nets.readers d.net [])) (replicate (length plan.quiet.bits) false) plan.steady cells.drivers)
+        ∙ ap (λ (l : List Bool). set_compared bit plan.nets.readers l all) (ap (λ n. replicate n false) quiet_length ∙ zeros_laid board)
+        ∙ set_compared_is bit plan.nets.readers all (laid (λ part device cell. false) board)
 
     pub expected_is : (j : ℕ) → compared board plan (driver_bit plan.codes j) (steady_compared plan (driver_bit plan.codes j)) pass ≡ tdo_bits (joined (row_bits board (scan_of_pass board plan x (suc j))))
     expected_is j =
         compared_is (driver_bit plan.codes j)
-        ∙ tdo_compared board rules pass (carried j) (driver_bit plan.codes j) all driver_only every (carries j) plan.readers readers_of
+        ∙ tdo_compared board rules pass (carried j) (driver_bit plan.codes j) all driver_only every (carries j) plan.nets.readers readers_of
         ∙ sym (tdo_laid board (scan_of_pass board plan x (suc j)))
 
     pub mask_is : (j : ℕ) → compared board plan (λ d. true) (steady_compared plan (λ d. true)) pass ≡ mask_bits (joined (row_bits board (scan_of_pass board plan x (suc j))))
     mask_is j =
         compared_is (λ d. true)
-        ∙ mask_compared board rules pass (carried j) (driver_bit plan.codes j) all driver_only every (carries j) plan.readers readers_of
+        ∙ mask_compared board rules pass (carried j) (driver_bit plan.codes j) all driver_only every (carries j) plan.nets.readers readers_of
         ∙ sym (mask_laid board (scan_of_pass board plan x (suc j)))
 
     -- rows with the bits and the shape of scan `j` of the pass hold the scan, as `FillsScan` states

@@ -31,8 +31,7 @@ plan steady = record {
   steady = steady;
   firsts = 0 ∷ [];
   by_control = record { always = []; rows = [] };
-  readers = (record { place = 0; position = 3 } ∷ record { place = 2; position = 0 } ∷ []) ∷ [];
-  drivers = [] ∷ [];
+  nets = record { drivers = [] ∷ []; readers = (record { place = 0; position = 3 } ∷ record { place = 2; position = 0 } ∷ []) ∷ [] };
 }
 
 abbrev enabled : List DriverCell

@@ -40,7 +40,7 @@ steady_shifted plan j = assigned (λ d. d.position) (driver_bit plan.codes j) pl
 -- The row of compared bits that all passes share. It is zeros, with the bit of each steady driver at the cells on other pins that read the
 -- driver's net.
 abbrev pub steady_compared : PlanTables → (DriverCell → Bool) → List Bool
-steady_compared plan bit = set_compared bit plan.readers (replicate (length plan.quiet.bits) false) plan.steady
+steady_compared plan bit = set_compared bit plan.nets.readers (replicate (length plan.quiet.bits) false) plan.steady
 
 -- The rows, kept side by side, are the rows that all passes of the plan share: the bits that are shifted in, the expected bits, and the
 -- mask.

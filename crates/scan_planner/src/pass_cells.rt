@@ -12,9 +12,9 @@ ghost use Rattle.scan_planner.specs.inner.Planned.{bits_of};
 
 use crate::board_plan::PassOfPlan;
 use crate::code_rows::CodeRows;
-use crate::questions::{code_at, readers_at};
-use board_defs::{Board, Items, Setting};
-use plan_tables::{DriverCell, PlanTables, ReaderCell, controlled, held_cell};
+use crate::questions::code_at;
+use board_defs::{Board, Setting};
+use plan_tables::{DriverCell, NetTables, PlanTables, ReaderCell, controlled, held_cell};
 
 /// Returns pass `x`, counted from 0.
 pub fn pass_at(passes: &[Setting], x: usize) -> &Setting
@@ -63,7 +63,7 @@ fn expect_net<E: CodeRows, M: CodeRows>(
 /// net. Marks these reading cells in the mask.
 pub fn drive_nets<S: CodeRows, E: CodeRows, M: CodeRows>(
     drivers: &[DriverCell],
-    readers: &[Items<ReaderCell>],
+    nets: &NetTables,
     codes: &[u32],
     shifted: &mut S,
     expected: &mut E,
@@ -73,21 +73,15 @@ pub fn drive_nets<S: CodeRows, E: CodeRows, M: CodeRows>(
     ensures expected_kind { E.kind expected.new ≡ E.kind expected.old }
     ensures mask_kind { M.kind mask.new ≡ M.kind mask.old }
     ensures shifted { (j : ℕ) → S.shows (S.kind shifted.old) j → S.bits shifted.new j ≡ assigned (λ d. d.position) (driver_bit codes.now j) (S.bits shifted.old j) drivers.now }
-    ensures expected { (j : ℕ) → E.shows (E.kind expected.old) j → E.bits expected.new j ≡ set_compared (driver_bit codes.now j) readers.now (E.bits expected.old j) drivers.now }
-    ensures mask { (j : ℕ) → M.shows (M.kind mask.old) j → M.bits mask.new j ≡ set_compared (λ d. true) readers.now (M.bits mask.old j) drivers.now }
+    ensures expected { (j : ℕ) → E.shows (E.kind expected.old) j → E.bits expected.new j ≡ set_compared (driver_bit codes.now j) nets.now.readers (E.bits expected.old j) drivers.now }
+    ensures mask { (j : ℕ) → M.shows (M.kind mask.old) j → M.bits mask.new j ≡ set_compared (λ d. true) nets.now.readers (M.bits mask.old j) drivers.now }
 {
     for driver in drivers {
         let number = code_at(codes, driver.net);
         let code = shifted.code(number);
         shifted.put(driver.position, code);
         let code = expected.code(number);
-        expect_net(
-            readers_at(readers, driver.net),
-            driver.place,
-            code,
-            expected,
-            mask,
-        );
+        expect_net(nets.readers(driver.net), driver.place, code, expected, mask);
     }
 }
 
@@ -120,10 +114,10 @@ impl PassControls<'_> {
         ensures expected { (j : ℕ) → E.shows (E.kind expected.old) j → E.bits expected.new j ≡ compared self.now.board.now self.now.tables.now (driver_bit self.now.tables.now.codes j) (E.bits expected.old j) self.now.setting.now }
         ensures mask { (j : ℕ) → M.shows (M.kind mask.old) j → M.bits mask.new j ≡ compared self.now.board.now self.now.tables.now (λ d. true) (M.bits mask.old j) self.now.setting.now }
     {
-        let readers = self.tables.readers.as_slice();
+        let nets = &self.tables.nets;
         let codes = self.tables.codes.as_slice();
         let always = self.tables.by_control.always.as_slice();
-        drive_nets(always, readers, codes, shifted, expected, mask);
+        drive_nets(always, nets, codes, shifted, expected, mask);
         for c in self.setting.controls() {
             let drivers = controlled(
                 self.board,
@@ -131,7 +125,7 @@ impl PassControls<'_> {
                 self.tables.by_control.rows.as_slice(),
                 *c,
             );
-            drive_nets(drivers, readers, codes, shifted, expected, mask);
+            drive_nets(drivers, nets, codes, shifted, expected, mask);
         }
     }
 }

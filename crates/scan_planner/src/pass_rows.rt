@@ -59,7 +59,7 @@ impl StackedRows {
         };
         drive_nets(
             tables.steady.as_slice(),
-            tables.readers.as_slice(),
+            &tables.nets,
             tables.codes.as_slice(),
             &mut self.shifted,
             &mut self.expected,

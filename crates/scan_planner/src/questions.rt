@@ -1,13 +1,15 @@
 // Answers questions about each net and each position of a plan.
 ghost use Rattle.std.specs.Prelude.{◌≡◌, ◌<◌, ◌≤◌, [], false, length, slice_index_or};
 ghost use Rattle.board_defs.specs.declared.board.RawBoard.{RawBoard};
+ghost use Rattle.board_defs.specs.Settings.{holds};
+ghost use Rattle.net_pins.specs.Enabled.{enabled_on, readers_on};
 ghost use Rattle.tap_defs.specs.board.BoardScans.{first_row_scan, row_bits};
 ghost use Rattle.tap_defs.specs.chain.Scan.{joined, tdi_bits};
 ghost use Rattle.plan_tables.specs.Plans.{IsPlanOf};
 
 use crate::pass_cells::pass_at;
 use crate::plan::Plan;
-use board_defs::{Items, Setting};
+use board_defs::Setting;
 use bt_bits::Row;
 use plan_tables::{NetDriver, ReaderCell};
 
@@ -19,26 +21,6 @@ pub fn code_at(codes: &[u32], net: u32) -> u32
     match codes.get(net as usize) {
         None => 0,
         Some(code) => *code,
-    }
-}
-
-/// Returns the cells that read a net. There are none if no net has this number.
-#[inline]
-pub fn readers_at(readers: &[Items<ReaderCell>], net: u32) -> &[ReaderCell]
-    ensures { result.now ≡ slice_index_or readers.now net [] }
-{
-    match readers.get(net as usize) {
-        None => &[],
-        Some(cells) => cells.as_slice(),
-    }
-}
-
-fn drivers_at(drivers: &[Items<NetDriver>], net: u32) -> &[NetDriver]
-    ensures { result.now ≡ slice_index_or drivers.now net [] }
-{
-    match drivers.get(net as usize) {
-        None => &[],
-        Some(row) => row.as_slice(),
     }
 }
 
@@ -81,19 +63,19 @@ impl Plan {
         code_at(self.tables.codes.as_slice(), net)
     }
 
-    /// Returns the drivers of a net that may be enabled, in pin order. There are none if no net has this number.
-    pub fn drivers(&self, net: u32) -> &[NetDriver]
-        ensures { result.now ≡ slice_index_or self.now.drivers net [] }
+    /// Returns the driver that a pass enables on a net, if there is one. No pass enables two drivers of a net.
+    pub fn driver(&self, pass: &Setting, net: u32) -> Option<NetDriver>
+        ensures { result ≡ enabled_on self.now.nets (holds pass.now) net }
     {
-        drivers_at(self.tables.drivers.as_slice(), net)
+        self.tables.nets.enabled(pass, net)
     }
 
     /// Returns the cells that read a net, in pin order. There are none if no net has this number. While a pass observes the net, the cells
     /// on pins other than the driver's pin are compared.
     pub fn readers(&self, net: u32) -> &[ReaderCell]
-        ensures { result.now ≡ slice_index_or self.now.readers net [] }
+        ensures { result.now ≡ readers_on self.now.nets net }
     {
-        readers_at(self.tables.readers.as_slice(), net)
+        self.tables.nets.readers(net)
     }
 
     /// Returns the bit at a position of the quiet row, or 0 past its end.

@@ -1,11 +1,11 @@
 -- Lemmas about the rows that a walk keeps and about the rows that a walk fills.
 use Rattle.std.proofs.Common.{◌≡◌, ◌⊎◌, inl, inr, ℕ, zero, suc, ◌+◌, ◌<◌, ◌≤◌, ◌==◌, ◌^◌, Bool, true, false, cond, List, [], ◌∷◌, length, take, map, get_or, set, replicate, Option, Some, None, is_some, unwrap_or, refl, sym, ◌∙◌, ap, subst, arith}
-use Rattle.std.specs.Prelude.{slice_get, filter, count_by, nat_lt, option_map, option_and_then}
+use Rattle.std.specs.Prelude.{slice_get, filter, count_by, nat_lt, option_map}
 use Rattle.std.specs.Option.{option_to_list}
 use Rattle.std.specs.List.{list_any, range_with_len}
 use Rattle.std.proofs.lemmas.Bool.{cases_lt, lt-ltb, le-ltb, eq-eqb}
 use Rattle.std.proofs.lemmas.List.{length-map, length-replicate, get_or-replicate}
-use Rattle.std.proofs.lemmas.Option.{none-some, slice_get_within, slice_get-get_or, get_or_from_slice_get, slice_get-map}
+use Rattle.std.proofs.lemmas.Option.{none-some, slice_get_within, slice_get-get_or, slice_get-map}
 use Rattle.lists.proofs.ListLemmas.{item_there, none_of_zeros}
 use Rattle.board_defs.specs.declared.board.Net.{Net}
 use Rattle.board_defs.specs.declared.board.RawBoard.{RawBoard}
@@ -28,9 +28,11 @@ use Rattle.plan_tables.specs.declared.tables.DriverCell.{DriverCell}
 use Rattle.net_pins.specs.declared.nets.ReaderCell.{ReaderCell}
 use Rattle.net_pins.specs.declared.pins.NetPins.{NetPins}
 use Rattle.net_pins.specs.Tables.{AreNetPins}
+use Rattle.net_pins.specs.NetCells.{drivers_of, readers_of}
+use Rattle.net_pins.specs.Enabled.{observing_of, readers_on, observer_on}
+use Rattle.net_pins.proofs.NetTableLemmas.{drivers_on_is, readers_on_is}
 use Rattle.plan_tables.specs.declared.tables.PlanTables.{PlanTables}
 use Rattle.plan_tables.specs.Assigned.{assigned}
-use Rattle.plan_tables.specs.Building.{enabled_in, is_read_beside, drivers_of, readers_of}
 use Rattle.scan_planner.specs.Plans.{IsPlanOf, FillsScan, scan_of_pass}
 use Rattle.plan_tables.specs.Tables.{IsDriverCell, IsReaderCell}
 use Rattle.scan_planner.proofs.FillLemmas.{row_sized, quiet_tdo, quiet_mask}
@@ -41,7 +43,7 @@ use Rattle.walk_test.specs.declared.tables.NetCells.{NetCells}
 use Rattle.walk_test.specs.declared.tables.WalkTables.{WalkTables}
 use Rattle.walk_test.specs.WalkTest.{is_walk_net, walk_setting, walk_nets, scans_by, walk_row_list, walk_scans}
 use Rattle.walk_test.specs.Tables.{tdi_of, mask_of, still_row, AreNetCells, AreWalkTables, IsWalkOf}
-use Rattle.walk_test.specs.inner.Tables.{tdo_of, observer_in, positions_beside, cells_by, cells_in, nets_in, nets_by, cells_of, AreMade, board_walk, cells_before, compared_in, expected_in, first_row, shifted_in, walk_controls, walk_row_of, now_of, before_of}
+use Rattle.walk_test.specs.inner.Tables.{tdo_of, positions_beside, cells_by, cells_in, nets_in, nets_by, cells_of, AreMade, board_walk, cells_before, compared_in, expected_in, first_row, shifted_in, walk_controls, walk_row_of, now_of, before_of}
 use Rattle.walk_test.specs.Scans.{FillsWalk}
 use Rattle.walk_test.proofs.CellLemmas.{WalkedBy}
 use Rattle.walk_test.proofs.NetLemmas.{walk_at, place_of_walk, count_is, marked_is, no_nets}
@@ -78,24 +80,14 @@ module _ (board : RawBoard) (plan : PlanTables) (p : IsPlanOf board plan) where
 
 -- the nets and the cells of a walk, which follow from the pins of the board's nets
 module _ (board : RawBoard) (rules : IsBoard board) (pins : NetPins) (p : AreNetPins board pins) (walk : List Ctl) where
-  drivers_at : (n : ℕ) (net : Net) → slice_get board.nets n ≡ Some net → get_or pins.drivers n [] ≡ drivers_of board net
-  drivers_at n net e =
-      ap (λ (l : List (List NetDriver)). get_or l n []) p.drivers_are
-      ∙ get_or_from_slice_get (map (drivers_of board) board.nets) n (drivers_of board net) [] (slice_get-map (drivers_of board) board.nets n ∙ ap (λ (o : Option Net). option_map (drivers_of board) o) e)
-
-  readers_at : (n : ℕ) (net : Net) → slice_get board.nets n ≡ Some net → get_or pins.readers n [] ≡ readers_of board net.pins
-  readers_at n net e =
-      ap (λ (l : List (List ReaderCell)). get_or l n []) p.readers_are
-      ∙ get_or_from_slice_get (map (λ (x : Net). readers_of board x.pins) board.nets) n (readers_of board net.pins) [] (slice_get-map (λ (x : Net). readers_of board x.pins) board.nets n ∙ ap (λ (o : Option Net). option_map (λ (x : Net). readers_of board x.pins) o) e)
-
-  pub observer_is : (n : ℕ) (net : Net) → slice_get board.nets n ≡ Some net → Observed board (holds walk) net (observer_in pins walk n)
+  pub observer_is : (n : ℕ) (net : Net) → slice_get board.nets n ≡ Some net → Observed board (holds walk) net (observer_on pins.nets (holds walk) n)
   observer_is n net e =
-      subst (λ (l : List NetDriver). Observed board (holds walk) net (option_and_then (λ d. cond (is_read_beside (get_or pins.readers n []) d) (Some d) None) (enabled_in (holds walk) l))) (sym (drivers_at n net e))
-      (subst (λ (l : List ReaderCell). Observed board (holds walk) net (option_and_then (λ d. cond (is_read_beside l d) (Some d) None) (enabled_in (holds walk) (drivers_of board net)))) (sym (readers_at n net e))
+      subst (λ (l : List NetDriver). Observed board (holds walk) net (observing_of (holds walk) l (readers_on pins.nets n))) (sym (drivers_on_is board pins.nets p.nets_are n net e))
+      (subst (λ (l : List ReaderCell). Observed board (holds walk) net (observing_of (holds walk) (drivers_of board net) l)) (sym (readers_on_is board pins.nets p.nets_are n net e))
       (observed board (holds walk) net))
 
-  observes_is : (n : ℕ) (net : Net) → slice_get board.nets n ≡ Some net → is_some (observer_in pins walk n) ≡ is_walked board walk net
-  observes_is n net e = by_observer (observer_in pins walk n) (observer_is n net e)
+  observes_is : (n : ℕ) (net : Net) → slice_get board.nets n ≡ Some net → is_some (observer_on pins.nets (holds walk) n) ≡ is_walked board walk net
+  observes_is n net e = by_observer (observer_on pins.nets (holds walk) n) (observer_is n net e)
     where
       by_observer : (o : Option NetDriver) → Observed board (holds walk) net o → is_some o ≡ is_some (observing_driver board (holds walk) net)
       by_observer None h = sym (ap (λ (x : Option ℕ). is_some x) h)
@@ -105,24 +97,24 @@ module _ (board : RawBoard) (rules : IsBoard board) (pins : NetPins) (p : AreNet
   pub nets_are : walk_setting board ≡ Some walk → nets_in pins walk (length board.nets) ≡ walk_nets board
   nets_are is = same 0 board.nets (λ i net e. let z : 0 + i ≡ i = omega arith in ap (λ (k : ℕ). slice_get board.nets k) z ∙ e)
     where
-      test : (n : ℕ) (net : Net) → slice_get board.nets n ≡ Some net → is_some (observer_in pins walk n) ≡ is_walk_net board (walk_setting board) (slice_get board.nets n)
+      test : (n : ℕ) (net : Net) → slice_get board.nets n ≡ Some net → is_some (observer_on pins.nets (holds walk) n) ≡ is_walk_net board (walk_setting board) (slice_get board.nets n)
       test n net e =
           observes_is n net e
           ∙ sym (ap (λ (o : Option (List Ctl)). is_walk_net board o (slice_get board.nets n)) is ∙ ap (λ (o : Option Net). is_walk_net board (Some walk) o) e)
 
       same : (k : ℕ) (xs : List Net) → ((i : ℕ) (net : Net) → slice_get xs i ≡ Some net → slice_get board.nets (k + i) ≡ Some net) →
-          filter (λ n. is_some (observer_in pins walk n)) (range_with_len k (length xs)) ≡ filter (λ n. is_walk_net board (walk_setting board) (slice_get board.nets n)) (range_with_len k (length xs))
+          filter (λ n. is_some (observer_on pins.nets (holds walk) n)) (range_with_len k (length xs)) ≡ filter (λ n. is_walk_net board (walk_setting board) (slice_get board.nets n)) (range_with_len k (length xs))
       same k [] at = refl
       same k (net ∷ xs) at =
           let z : k + 0 ≡ k = omega arith in
           let e : slice_get board.nets k ≡ Some net = sym (ap (λ (i : ℕ). slice_get board.nets i) z) ∙ at 0 net refl in
-          ap (λ (b : Bool). cond b (k ∷ filter (λ n. is_some (observer_in pins walk n)) (range_with_len (k + 1) (length xs))) (filter (λ n. is_some (observer_in pins walk n)) (range_with_len (k + 1) (length xs)))) (test k net e)
+          ap (λ (b : Bool). cond b (k ∷ filter (λ n. is_some (observer_on pins.nets (holds walk) n)) (range_with_len (k + 1) (length xs))) (filter (λ n. is_some (observer_on pins.nets (holds walk) n)) (range_with_len (k + 1) (length xs)))) (test k net e)
           ∙ ap (λ (l : List ℕ). cond (is_walk_net board (walk_setting board) (slice_get board.nets k)) (k ∷ l) l)
           (same (k + 1) xs (λ i x f. let y : k + 1 + i ≡ k + suc i = omega arith in ap (λ (j : ℕ). slice_get board.nets j) y ∙ at (suc i) x f))
 
   -- `cells_in` finds the cells of a walk net
   pub cells_are : (n : ℕ) → WalkedBy board walk n → AreNetCells board walk n (cells_in pins walk n)
-  cells_are n w = by_observer (observer_in pins walk n) (observer_is n w.net w.is_net)
+  cells_are n w = by_observer (observer_on pins.nets (holds walk) n) (observer_is n w.net w.is_net)
     where
       position_is : (d : NetDriver) → DriverAt board 0 w.net.pins d → d.place ≡ w.driver → (e : DriverCell) → IsDriverCell board walk e → e.net ≡ n → d.position ≡ e.position
       position_is d a place e s of_net =
@@ -147,7 +139,7 @@ module _ (board : RawBoard) (rules : IsBoard board) (pins : NetPins) (p : AreNet
           let place : d.place ≡ w.driver = cc places in
           let made : AreNetCells board walk n (record { driver = d.position; compared = positions_beside w.driver (readers_of board w.net.pins) }) =
           net_cells board walk n w d.position (readers_of board w.net.pins) (λ r k. reader_is board w.net r k) (λ r q. is_reader board w.net r q) (position_is d h.1 place) in
-          subst (λ (l : List ReaderCell). let c : NetCells = record { driver = d.position; compared = positions_beside d.place l } in AreNetCells board walk n c) (sym (readers_at n w.net w.is_net))
+          subst (λ (l : List ReaderCell). let c : NetCells = record { driver = d.position; compared = positions_beside d.place l } in AreNetCells board walk n c) (sym (readers_on_is board pins.nets p.nets_are n w.net w.is_net))
           (subst (λ (i : ℕ). let c : NetCells = record { driver = d.position; compared = positions_beside i (readers_of board w.net.pins) } in AreNetCells board walk n c) (sym place) made)
 
 -- if tables are built from the parts that `walk_parts` returns, they are the tables of a walk

@@ -21,9 +21,9 @@ use Rattle.tap_defs.proofs.board.WrongLemmas.{Compared, expects}
 use Rattle.tap_defs.proofs.board.ReadingLemmas.{beside_observing}
 use Rattle.plan_tables.specs.declared.tables.DriverCell.{DriverCell}
 use Rattle.net_pins.specs.declared.nets.ReaderCell.{ReaderCell}
+use Rattle.net_pins.specs.NetCells.{readers_of as readers_in_order}
 use Rattle.plan_tables.specs.declared.tables.PlanTables.{PlanTables}
 use Rattle.plan_tables.specs.Assigned.{assigned}
-use Rattle.plan_tables.specs.Building.{readers_of as readers_in_order}
 use Rattle.plan_tables.specs.inner.Laid.{laid, steady}
 use Rattle.scan_planner.specs.Plans.{IsPlanOf}
 use Rattle.plan_tables.specs.Tables.{first_position, IsDriverCell, IsReaderCell}
@@ -126,10 +126,10 @@ cells_of_plan board plan walk p is =
       drivers = all;
       only = λ d has. (t.2.drivers d).0 (has_contains all d has);
       every = λ d is_driver. contains_has all d ((t.2.drivers d).1 is_driver);
-      readers = plan.readers;
+      readers = plan.nets.readers;
       are = λ n net e.
           let r = p.tables.readers n net e in
-          let same : get_or plan.readers n [] ≡ r.0 = get_or_from_slice_get plan.readers n r.0 [] r.1 in (
+          let same : get_or plan.nets.readers n [] ≡ r.0 = get_or_from_slice_get plan.nets.readers n r.0 [] r.1 in (
             λ x h. (r.2 x).0 (has_contains r.0 x (subst (λ (l : List ReaderCell). Has l x) same h)),
             λ x q. subst (λ (l : List ReaderCell). Has l x) (sym same) (contains_has r.0 x ((r.2 x).1 q)),
           );

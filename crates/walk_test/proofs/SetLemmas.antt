@@ -23,7 +23,7 @@ use Rattle.tap_defs.specs.board.FaultSet.{FaultSet}
 use Rattle.tap_defs.proofs.board.LogLemmas.{rows_counted}
 use Rattle.plan_tables.specs.declared.tables.DriverCell.{DriverCell}
 use Rattle.net_pins.specs.declared.nets.ReaderCell.{ReaderCell}
-use Rattle.plan_tables.specs.Building.{readers_of as readers_in_order}
+use Rattle.net_pins.specs.NetCells.{readers_of as readers_in_order}
 use Rattle.plan_tables.specs.Tables.{IsDriverCell, IsReaderCell}
 use Rattle.plan_tables.proofs.SeenLemmas.{driver_cell}
 use Rattle.plan_tables.proofs.TableLemmas.{reader_is, is_reader}

@@ -1,98 +1,20 @@
 // Makes the parts of a walk: its setting, its nets, their cells, and the rows that all scans share.
-ghost use Rattle.std.specs.Prelude.{◌≡◌, ◌<◌, ◌^◌, ◌++◌, ◌∷◌, ◌==◌, [], if◌then◌else◌, not, is_some, map, length, Some, None, slice_get, slice_index_or, IfOk, OnOk};
+ghost use Rattle.std.specs.Prelude.{◌≡◌, ◌<◌, ◌^◌, ◌++◌, ◌∷◌, ◌==◌, [], if◌then◌else◌, is_some, map, length, Some, None, slice_get, IfOk, OnOk};
 ghost use Rattle.std.specs.Option.{option_to_list};
-ghost use Rattle.std.specs.List.{list_any};
 ghost use Rattle.board_defs.specs.Passes.{passes_of};
 ghost use Rattle.board_defs.specs.Pins.{data_bits};
-ghost use Rattle.board_defs.specs.Settings.{holds};
 ghost use Rattle.net_pins.specs.Tables.{AreNetPins};
-ghost use Rattle.plan_tables.specs.Building.{is_on, enabled_in, is_read_beside};
 ghost use Rattle.scan_planner.specs.Plans.{ArePlannable, IsPlanOf};
 ghost use Rattle.walk_test.specs.WalkTest.{walk_setting};
-ghost use Rattle.walk_test.specs.inner.Tables.{observer_in, positions_beside, cells_by, cells_in, nets_in, nets_by, cells_of, cleared, AreMade, HasRoom};
+ghost use Rattle.walk_test.specs.inner.Tables.{positions_beside, cells_by, cells_in, nets_in, nets_by, cells_of, cleared, AreMade, HasRoom};
 
 use crate::setting::walk_settings;
 use crate::tables::{NetCells, WalkParts, WalkRows};
-use board_defs::{Board, Ctl, Items, Setting};
+use board_defs::{Board, Items, Setting};
 use bt_bits::Row;
 use net_pins::{BoardPins, NetDriver, NetPins, ReaderCell};
 use scan_planner::Plan;
 use std::alloc::{AllocError, Global};
-
-fn is_on(ctl: Option<Ctl>, walk: &Setting) -> bool
-    ensures { result ≡ is_on (holds walk.now) ctl }
-{
-    match ctl {
-        None => true,
-        Some(c) => walk.has(c),
-    }
-}
-
-fn enabled(drivers: &[NetDriver], walk: &Setting) -> Option<NetDriver>
-    ensures { result ≡ enabled_in (holds walk.now) drivers.now }
-{
-    for driver in drivers {
-        if is_on(driver.ctl, walk) {
-            return Some(*driver);
-        }
-    }
-    None
-}
-
-fn is_read_beside(readers: &[ReaderCell], place: u32) -> bool
-    ensures { result ≡ list_any (λ r. not (r.place == place)) readers.now }
-{
-    readers.iter().any(|r| r.place != place)
-}
-
-// Returns the driver if one of these cells reads a pin other than the driver's pin.
-fn where_read(driver: NetDriver, readers: &[ReaderCell]) -> Option<NetDriver>
-    ensures { result ≡ (if is_read_beside readers.now driver then Some driver else None) }
-{
-    if is_read_beside(readers, driver.place) {
-        Some(driver)
-    } else {
-        None
-    }
-}
-
-// Returns the items of net `n` in a table that has a list for each net. The result is empty past the end.
-fn items_at<T>(rows: &[Items<T>], n: u32) -> &[T]
-    ensures { result.now ≡ slice_index_or rows.now n [] }
-{
-    match rows.get(n as usize) {
-        None => &[],
-        Some(row) => row.as_slice(),
-    }
-}
-
-fn drivers_at(pins: &NetPins, net: u32) -> &[NetDriver]
-    ensures { result.now ≡ slice_index_or pins.now.drivers net [] }
-{
-    items_at(pins.drivers.as_slice(), net)
-}
-
-fn readers_at(pins: &NetPins, net: u32) -> &[ReaderCell]
-    ensures { result.now ≡ slice_index_or pins.now.readers net [] }
-{
-    items_at(pins.readers.as_slice(), net)
-}
-
-// Returns the driver by which the walk setting observes a net, if there is one.
-fn observer(pins: &NetPins, walk: &Setting, net: u32) -> Option<NetDriver>
-    ensures { result ≡ observer_in pins.now walk.now net }
-{
-    match enabled(drivers_at(pins, net), walk) {
-        None => None,
-        Some(driver) => where_read(driver, readers_at(pins, net)),
-    }
-}
-
-fn observes(pins: &NetPins, walk: &Setting, net: u32) -> bool
-    ensures { result ≡ is_some (observer_in pins.now walk.now net) }
-{
-    observer(pins, walk, net).is_some()
-}
 
 fn push_beside(positions: &mut Vec<u32>, reader: ReaderCell, place: u32) -> Result<(), AllocError>
     ensures { OnOk result (positions.new.items ≡ positions.old.items ++ (if reader.place == place then [] else reader.position ∷ [])) }
@@ -132,7 +54,7 @@ fn net_cells(
             compared: Items::of(Vec::new(alloc)),
         }),
         Some(driver) => {
-            let compared = positions_beside(alloc, driver.place, readers_at(pins, net))?;
+            let compared = positions_beside(alloc, driver.place, pins.nets.readers(net))?;
             Ok(NetCells {
                 driver: driver.position,
                 compared,
@@ -162,7 +84,7 @@ fn nets_in(
 {
     let mut nets = Vec::new(alloc);
     for n in 0..count {
-        push_if(&mut nets, n, observes(pins, walk, n))?;
+        push_if(&mut nets, n, pins.nets.observer(walk, n).is_some())?;
     }
     Ok(nets)
 }
@@ -178,7 +100,7 @@ fn all_cells(
 {
     let mut all = Vec::new(alloc);
     for n in nets {
-        all.push(net_cells(alloc, pins, *n, observer(pins, walk, *n))?)?;
+        all.push(net_cells(alloc, pins, *n, pins.nets.observer(walk, *n))?)?;
     }
     Ok(all)
 }

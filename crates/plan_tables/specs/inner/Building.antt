@@ -8,10 +8,11 @@ use Rattle.board_defs.specs.Pins.{device_at, cell_count}
 use Rattle.plan_tables.specs.declared.tables.DriverCell.{DriverCell}
 use Rattle.net_pins.specs.declared.nets.ReaderCell.{ReaderCell}
 use Rattle.net_pins.specs.declared.nets.NetDriver.{NetDriver}
+use Rattle.net_pins.specs.NetCells.{gathered, drivers_of, readers_of}
+use Rattle.net_pins.specs.Enabled.{is_read_beside}
 use Rattle.plan_tables.specs.declared.observers.Observer.{Observer}
 use Rattle.plan_tables.specs.declared.controls.DriverTable.{DriverTable}
 use Rattle.plan_tables.specs.Tables.{control_position}
-use Rattle.plan_tables.specs.Building.{gathered, drivers_of, readers_of, is_read_beside}
 
 -- the cell of a driver of net number `net`
 abbrev pub driver_cell : ℕ → NetDriver → DriverCell

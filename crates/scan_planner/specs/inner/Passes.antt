@@ -16,4 +16,4 @@ driven board plan bit bits pass =
 -- the row after the bit of each of the pass's own drivers is set at the cells on other pins that read the driver's net
 abbrev pub compared : RawBoard → PlanTables → (DriverCell → Bool) → List Bool → List Ctl → List Bool
 compared board plan bit bits pass =
-    fold (λ done c. set_compared bit plan.readers done (controlled board plan.by_control.rows c)) (set_compared bit plan.readers bits plan.by_control.always) pass
+    fold (λ done c. set_compared bit plan.nets.readers done (controlled board plan.by_control.rows c)) (set_compared bit plan.nets.readers bits plan.by_control.always) pass

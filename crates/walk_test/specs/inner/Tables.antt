@@ -1,5 +1,5 @@
 -- The plan, the nets with their cells, and the shared rows that a walk keeps of a board.
-use Rattle.std.specs.Prelude.{◌≡◌, ℕ, zero, suc, ◌<◌, ◌≤◌, ◌==◌, Bool, false, not, if◌then◌else◌, List, [], length, map, filter, Option, Some, None, is_some, option_and_then, slice_get, slice_index_or}
+use Rattle.std.specs.Prelude.{◌≡◌, ℕ, zero, suc, ◌<◌, ◌≤◌, ◌==◌, Bool, false, not, List, [], length, map, filter, Option, Some, None, is_some, slice_get, slice_index_or}
 use Rattle.std.specs.List.{range_with_len}
 use Rattle.board_defs.specs.declared.board.RawBoard.{RawBoard}
 use Rattle.board_defs.specs.declared.board.Ctl.{Ctl}
@@ -10,9 +10,9 @@ use Rattle.tap_defs.specs.board.BoardScans.{row_bits, walk_row, row_now, row_bef
 use Rattle.net_pins.specs.declared.nets.NetDriver.{NetDriver}
 use Rattle.net_pins.specs.declared.nets.ReaderCell.{ReaderCell}
 use Rattle.net_pins.specs.declared.pins.NetPins.{NetPins}
+use Rattle.net_pins.specs.Enabled.{observer_on, readers_on}
 use Rattle.plan_tables.specs.declared.tables.PlanTables.{PlanTables}
 use Rattle.plan_tables.specs.Assigned.{assigned}
-use Rattle.plan_tables.specs.Building.{enabled_in, is_read_beside}
 use Rattle.walk_test.specs.declared.tables.NetCells.{NetCells}
 use Rattle.walk_test.specs.declared.tables.WalkRows.{WalkRows}
 use Rattle.walk_test.specs.declared.tables.WalkTables.{WalkTables}
@@ -31,11 +31,6 @@ first_row board plan = code_row board plan.passes (slice_index_or plan.passes 0 
 abbrev pub cleared : List Bool → List NetCells → List Bool
 cleared bits cells = assigned (λ c. c.driver) (λ c. false) bits cells
 
--- the driver by which a setting observes a net, found in the pins of a board
-abbrev pub observer_in : NetPins → List Ctl → ℕ → Option NetDriver
-observer_in pins walk n =
-    option_and_then (λ d. if is_read_beside (slice_index_or pins.readers n []) d then Some d else None) (enabled_in (holds walk) (slice_index_or pins.drivers n []))
-
 -- the positions of the cells that read a pin other than the pin at this place
 abbrev pub positions_beside : ℕ → List ReaderCell → List ℕ
 positions_beside place readers = map (λ r. r.position) (filter (λ r. not (r.place == place)) readers)
@@ -43,15 +38,15 @@ positions_beside place readers = map (λ r. r.position) (filter (λ r. not (r.pl
 -- the cells of net n, if the setting observes the net by driver d; no cells if the setting does not observe the net
 abbrev pub cells_by : NetPins → ℕ → Option NetDriver → NetCells
 cells_by pins n None = record { driver = 0; compared = [] }
-cells_by pins n (Some d) = record { driver = d.position; compared = positions_beside d.place (slice_index_or pins.readers n []) }
+cells_by pins n (Some d) = record { driver = d.position; compared = positions_beside d.place (readers_on pins.nets n) }
 
 -- the cells of a net, found in the pins of a board
 abbrev pub cells_in : NetPins → List Ctl → ℕ → NetCells
-cells_in pins walk n = cells_by pins n (observer_in pins walk n)
+cells_in pins walk n = cells_by pins n (observer_on pins.nets (holds walk) n)
 
 -- the nets below `count` that a setting observes, found in the pins of a board
 abbrev pub nets_in : NetPins → List Ctl → ℕ → List ℕ
-nets_in pins walk count = filter (λ n. is_some (observer_in pins walk n)) (range_with_len 0 count)
+nets_in pins walk count = filter (λ n. is_some (observer_on pins.nets (holds walk) n)) (range_with_len 0 count)
 
 -- the nets that the setting observes, or no nets if there is no setting
 abbrev pub nets_by : NetPins → Option (List Ctl) → ℕ → List ℕ

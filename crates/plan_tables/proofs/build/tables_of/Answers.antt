@@ -17,7 +17,7 @@ returns-clause-plan c =
     let parts = c.in_ok-parts.parts in
     let cells = parts.passes.cells in
     let are = c.in_ok-parts.ensures.rows in
-    is_plan board c.raw.ensures.rules _ c.requires.plannable are.quiet c.requires.pins.readers_are c.requires.pins.drivers_are c.requires.pins.finding.firsts
+    is_plan board c.raw.ensures.rules _ c.requires.plannable are.quiet c.requires.pins.nets_are c.requires.pins.finding.firsts
     (subst (λ (p : List (List Ctl)). ArePassTables board p cells.steady (pass_cells_of board parts.rows.quiet.bits cells.by_control)) c.as_slice.ensures c.in_ok-parts.ensures.cells)
     _ refl parts.passes.codes
     (subst (λ (p : List (List Ctl)). AreCodes (seen_in board (length board.nets) cells.steady cells.by_control p) parts.passes.codes) c.as_slice.ensures c.in_ok-parts.ensures.codes)

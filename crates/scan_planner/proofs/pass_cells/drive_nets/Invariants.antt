@@ -8,6 +8,6 @@ invariant-loop-driver g l = record {
   expected_kind : g.E.CodeRows.kind l.expected ≡ g.E.CodeRows.kind l.fn.expected;
   mask_kind : g.M.CodeRows.kind l.mask ≡ g.M.CodeRows.kind l.fn.mask;
   shifted : (j : ℕ) → g.S.CodeRows.shows (g.S.CodeRows.kind l.fn.shifted) j → g.S.CodeRows.bits l.shifted j ≡ assigned (λ d. d.position) (driver_bit l.codes j) (g.S.CodeRows.bits l.fn.shifted j) (take l.driver-index l.drivers);
-  expected : (j : ℕ) → g.E.CodeRows.shows (g.E.CodeRows.kind l.fn.expected) j → g.E.CodeRows.bits l.expected j ≡ set_compared (driver_bit l.codes j) l.readers (g.E.CodeRows.bits l.fn.expected j) (take l.driver-index l.drivers);
-  mask : (j : ℕ) → g.M.CodeRows.shows (g.M.CodeRows.kind l.fn.mask) j → g.M.CodeRows.bits l.mask j ≡ set_compared (λ d. true) l.readers (g.M.CodeRows.bits l.fn.mask j) (take l.driver-index l.drivers);
+  expected : (j : ℕ) → g.E.CodeRows.shows (g.E.CodeRows.kind l.fn.expected) j → g.E.CodeRows.bits l.expected j ≡ set_compared (driver_bit l.codes j) l.nets.readers (g.E.CodeRows.bits l.fn.expected j) (take l.driver-index l.drivers);
+  mask : (j : ℕ) → g.M.CodeRows.shows (g.M.CodeRows.kind l.fn.mask) j → g.M.CodeRows.bits l.mask j ≡ set_compared (λ d. true) l.nets.readers (g.M.CodeRows.bits l.fn.mask j) (take l.driver-index l.drivers);
 }

@@ -1,0 +1,41 @@
+-- The driver that a setting enables on a net, and the cells that read the net.
+use Rattle.std.specs.Prelude.{ℕ, ◌==◌, Bool, true, not, cond, find, List, [], Option, Some, None, option_and_then, slice_index_or}
+use Rattle.std.specs.List.{list_any}
+use Rattle.board_defs.specs.declared.board.Ctl.{Ctl}
+use Rattle.board_defs.specs.Settings.{Enabling}
+use Rattle.net_pins.specs.declared.nets.NetDriver.{NetDriver}
+use Rattle.net_pins.specs.declared.nets.ReaderCell.{ReaderCell}
+use Rattle.net_pins.specs.declared.net_tables.NetTables.{NetTables}
+
+-- a driver with this control is enabled in the setting
+abbrev pub is_on : Enabling → Option Ctl → Bool
+is_on setting None = true
+is_on setting (Some c) = setting c
+
+-- the first driver of a net that the setting enables; a safe setting enables no other driver of the net
+abbrev pub enabled_in : Enabling → List NetDriver → Option NetDriver
+enabled_in setting drivers = find (λ d. is_on setting d.ctl) drivers
+
+-- a pin other than the driver's has a compared cell
+abbrev pub is_read_beside : List ReaderCell → NetDriver → Bool
+is_read_beside readers d = list_any (λ r. not (r.place == d.place)) readers
+
+-- the driver by which a setting observes a net: the first driver that it enables, if another pin has a compared cell
+abbrev pub observing_of : Enabling → List NetDriver → List ReaderCell → Option NetDriver
+observing_of setting drivers readers = option_and_then (λ d. cond (is_read_beside readers d) (Some d) None) (enabled_in setting drivers)
+
+-- the drivers of net n that a setting may enable
+abbrev pub drivers_on : NetTables → ℕ → List NetDriver
+drivers_on nets n = slice_index_or nets.drivers n []
+
+-- the compared cells of net n
+abbrev pub readers_on : NetTables → ℕ → List ReaderCell
+readers_on nets n = slice_index_or nets.readers n []
+
+-- the driver that a setting enables on net n
+abbrev pub enabled_on : NetTables → Enabling → ℕ → Option NetDriver
+enabled_on nets setting n = enabled_in setting (drivers_on nets n)
+
+-- the driver by which a setting observes net n
+abbrev pub observer_on : NetTables → Enabling → ℕ → Option NetDriver
+observer_on nets setting n = observing_of setting (drivers_on nets n) (readers_on nets n)
