@@ -3,7 +3,7 @@ use Rattle.std.proofs.Common.{Result, Ok, Err, refl, inl, inr}
 use Rattle.bt_base.specs.Puts.{Shown}
 use Rattle.btest_core.specs.declared.fault.InputFault.{InputFault}
 use Rattle.command_line.specs.Words.{Text}
-use Rattle.commands.specs.declared.request.Request.{Request}
+use Rattle.commands.specs.Requests.{Request}
 use Rattle.commands.specs.declared.unput.Unput.{Unput}
 use Rattle.commands.specs.declared.unput.Unput.TheVariants as unput
 use Rattle.commands.specs.LogRead.{TextFault, Input, Log, Batch}

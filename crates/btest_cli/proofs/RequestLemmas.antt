@@ -1,10 +1,8 @@
 -- Lemmas about commands with their texts.
 use Rattle.std.proofs.Common.{◌≡◌, ℕ, List, [], ◌∷◌, length, Option, Some, None, refl, subst, arith}
-use Rattle.command_line.specs.Words.{Text, BoardNames, ChainNames, Command, Chain, Ident, Device, Cover, Svf, Walk, Make, Diagnose, Groups, Batch, HasNumber, names_of}
-use Rattle.commands.specs.Requests.{board_texts, chain_texts, log_texts, request_of}
-use Rattle.commands.specs.declared.request.Request.{Request}
-use Rattle.commands.specs.declared.request.Request.TheVariants as request
-use Rattle.btest_cli.specs.inner.Reads.{IsNumbered}
+use Rattle.command_line.specs.declared.command.Command.TheVariants.{Chain, Ident, Device, Cover, Svf, Walk, Make, Diagnose, Groups, Batch}
+use Rattle.command_line.specs.Words.{Text, BoardNames, ChainNames, Command, names_of}
+use Rattle.commands.specs.Requests.{Request, board_texts, chain_texts, request_of}
 
 pub same_request : {a b : Request} → ◌≡◌ {A = Option Request} (Some a) (Some b) → a ≡ b
 same_request e = cc
@@ -13,14 +11,14 @@ none_made : {a : Request} → ◌≡◌ {A = Option Request} None (Some a) → �
 none_made e = cc e
 
 -- if P holds for each kind of command with its texts, it holds for every request
-module _ (P : Command → List Text → Request → Type 0) (of_chain : (names : ChainNames) (chain : Text) (bsdl : List Text) → P (Chain names) (chain ∷ bsdl) (request.Chain (chain_texts chain bsdl)))
-    (of_ident : (names : ChainNames) (chain : Text) (bsdl : List Text) → P (Ident names) (chain ∷ bsdl) (request.Ident (chain_texts chain bsdl))) (of_device : (name bsdl : Text) → P (Device name) (bsdl ∷ []) (request.Device bsdl))
-    (of_cover : (names : BoardNames) (chain nets : Text) (bsdl : List Text) → P (Cover names) (chain ∷ nets ∷ bsdl) (request.Cover (board_texts chain nets bsdl)))
-    (of_svf : (names : BoardNames) (chain nets : Text) (bsdl : List Text) → P (Svf names) (chain ∷ nets ∷ bsdl) (request.Svf (board_texts chain nets bsdl)))
-    (of_walk : (names : BoardNames) (chain nets : Text) (bsdl : List Text) → P (Walk names) (chain ∷ nets ∷ bsdl) (request.Walk (board_texts chain nets bsdl))) (of_make : (parts : ℕ) (texts : List Text) → P (Make parts) texts (request.Make parts))
-    (of_diagnose : (workers : ℕ) (name : Text) (names : BoardNames) (log chain nets : Text) (bsdl : List Text) → P (Diagnose workers name names) (log ∷ chain ∷ nets ∷ bsdl) (request.Diagnose workers (log_texts log chain nets bsdl)))
-    (of_groups : (name : Text) (names : BoardNames) (log chain nets : Text) (bsdl : List Text) → P (Groups name names) (log ∷ chain ∷ nets ∷ bsdl) (request.Groups (log_texts log chain nets bsdl)))
-    (of_batch : (workers : ℕ) (name : Text) (names : BoardNames) (log chain nets : Text) (bsdl : List Text) → P (Batch workers name names) (log ∷ chain ∷ nets ∷ bsdl) (request.Batch workers (log_texts log chain nets bsdl))) where
+module _ (P : Command → List Text → Request → Type 0) (of_chain : (names : ChainNames) (chain : Text) (bsdl : List Text) → P (Chain names) (chain ∷ bsdl) (Chain (chain_texts chain bsdl)))
+    (of_ident : (names : ChainNames) (chain : Text) (bsdl : List Text) → P (Ident names) (chain ∷ bsdl) (Ident (chain_texts chain bsdl))) (of_device : (name bsdl : Text) → P (Device name) (bsdl ∷ []) (Device bsdl))
+    (of_cover : (names : BoardNames) (chain nets : Text) (bsdl : List Text) → P (Cover names) (chain ∷ nets ∷ bsdl) (Cover (board_texts chain nets bsdl)))
+    (of_svf : (names : BoardNames) (chain nets : Text) (bsdl : List Text) → P (Svf names) (chain ∷ nets ∷ bsdl) (Svf (board_texts chain nets bsdl)))
+    (of_walk : (names : BoardNames) (chain nets : Text) (bsdl : List Text) → P (Walk names) (chain ∷ nets ∷ bsdl) (Walk (board_texts chain nets bsdl))) (of_make : (parts : ℕ) (texts : List Text) → P (Make parts) texts (Make parts))
+    (of_diagnose : (workers : ℕ) (name : Text) (names : BoardNames) (log chain nets : Text) (bsdl : List Text) → P (Diagnose workers name names) (log ∷ chain ∷ nets ∷ bsdl) (Diagnose workers log (board_texts chain nets bsdl)))
+    (of_groups : (name : Text) (names : BoardNames) (log chain nets : Text) (bsdl : List Text) → P (Groups name names) (log ∷ chain ∷ nets ∷ bsdl) (Groups log (board_texts chain nets bsdl)))
+    (of_batch : (workers : ℕ) (name : Text) (names : BoardNames) (log chain nets : Text) (bsdl : List Text) → P (Batch workers name names) (log ∷ chain ∷ nets ∷ bsdl) (Batch workers log (board_texts chain nets bsdl))) where
   pub by_request : (command : Command) (texts : List Text) (made : Request) → request_of command texts ≡ Some made → P command texts made
   by_request (Chain names) [] made e = absurd (none_made e)
   by_request (Chain names) (chain ∷ bsdl) made e = subst (P (Chain names) (chain ∷ bsdl)) (same_request e) (of_chain names chain bsdl)
@@ -52,43 +50,37 @@ module _ (P : Command → List Text → Request → Type 0) (of_chain : (names :
   by_request (Batch workers name names) (log ∷ chain ∷ []) made e = absurd (none_made e)
   by_request (Batch workers name names) (log ∷ chain ∷ nets ∷ bsdl) made e = subst (P (Batch workers name names) (log ∷ chain ∷ nets ∷ bsdl)) (same_request e) (of_batch workers name names log chain nets bsdl)
 
--- if the number of a command is in its range, the number of the request is in its range
-pub numbered : (command : Command) (texts : List Text) (made : Request) → request_of command texts ≡ Some made → HasNumber command → IsNumbered made
-numbered =
-    by_request (λ command texts made. HasNumber command → IsNumbered made) (λ names chain bsdl has. tt) (λ names chain bsdl has. tt) (λ name bsdl has. tt) (λ names chain nets bsdl has. tt) (λ names chain nets bsdl has. tt) (λ names chain nets bsdl has. tt)
-    (λ parts texts has. has) (λ workers name names log chain nets bsdl has. has) (λ name names log chain nets bsdl has. tt) (λ workers name names log chain nets bsdl has. has)
-
 -- the command and these texts make a request; this is the case if there are as many texts as the command has names
 abbrev pub MakesRequest : Command → List Text → Type 0
 MakesRequest command texts = (made : Request) × (request_of command texts ≡ Some made)
 
 pub some_request : (command : Command) (texts : List Text) → length texts ≡ length (names_of command) → MakesRequest command texts
 some_request (Chain names) [] count = absurd (omega (arith, count))
-some_request (Chain names) (chain ∷ bsdl) count = (request.Chain (chain_texts chain bsdl), refl)
+some_request (Chain names) (chain ∷ bsdl) count = (Chain (chain_texts chain bsdl), refl)
 some_request (Ident names) [] count = absurd (omega (arith, count))
-some_request (Ident names) (chain ∷ bsdl) count = (request.Ident (chain_texts chain bsdl), refl)
+some_request (Ident names) (chain ∷ bsdl) count = (Ident (chain_texts chain bsdl), refl)
 some_request (Device name) [] count = absurd (omega (arith, count))
-some_request (Device name) (bsdl ∷ []) count = (request.Device bsdl, refl)
+some_request (Device name) (bsdl ∷ []) count = (Device bsdl, refl)
 some_request (Device name) (bsdl ∷ other ∷ others) count = absurd (omega (arith, count))
 some_request (Cover names) [] count = absurd (omega (arith, count))
 some_request (Cover names) (chain ∷ []) count = absurd (omega (arith, count))
-some_request (Cover names) (chain ∷ nets ∷ bsdl) count = (request.Cover (board_texts chain nets bsdl), refl)
+some_request (Cover names) (chain ∷ nets ∷ bsdl) count = (Cover (board_texts chain nets bsdl), refl)
 some_request (Svf names) [] count = absurd (omega (arith, count))
 some_request (Svf names) (chain ∷ []) count = absurd (omega (arith, count))
-some_request (Svf names) (chain ∷ nets ∷ bsdl) count = (request.Svf (board_texts chain nets bsdl), refl)
+some_request (Svf names) (chain ∷ nets ∷ bsdl) count = (Svf (board_texts chain nets bsdl), refl)
 some_request (Walk names) [] count = absurd (omega (arith, count))
 some_request (Walk names) (chain ∷ []) count = absurd (omega (arith, count))
-some_request (Walk names) (chain ∷ nets ∷ bsdl) count = (request.Walk (board_texts chain nets bsdl), refl)
-some_request (Make parts) texts count = (request.Make parts, refl)
+some_request (Walk names) (chain ∷ nets ∷ bsdl) count = (Walk (board_texts chain nets bsdl), refl)
+some_request (Make parts) texts count = (Make parts, refl)
 some_request (Diagnose workers name names) [] count = absurd (omega (arith, count))
 some_request (Diagnose workers name names) (log ∷ []) count = absurd (omega (arith, count))
 some_request (Diagnose workers name names) (log ∷ chain ∷ []) count = absurd (omega (arith, count))
-some_request (Diagnose workers name names) (log ∷ chain ∷ nets ∷ bsdl) count = (request.Diagnose workers (log_texts log chain nets bsdl), refl)
+some_request (Diagnose workers name names) (log ∷ chain ∷ nets ∷ bsdl) count = (Diagnose workers log (board_texts chain nets bsdl), refl)
 some_request (Groups name names) [] count = absurd (omega (arith, count))
 some_request (Groups name names) (log ∷ []) count = absurd (omega (arith, count))
 some_request (Groups name names) (log ∷ chain ∷ []) count = absurd (omega (arith, count))
-some_request (Groups name names) (log ∷ chain ∷ nets ∷ bsdl) count = (request.Groups (log_texts log chain nets bsdl), refl)
+some_request (Groups name names) (log ∷ chain ∷ nets ∷ bsdl) count = (Groups log (board_texts chain nets bsdl), refl)
 some_request (Batch workers name names) [] count = absurd (omega (arith, count))
 some_request (Batch workers name names) (log ∷ []) count = absurd (omega (arith, count))
 some_request (Batch workers name names) (log ∷ chain ∷ []) count = absurd (omega (arith, count))
-some_request (Batch workers name names) (log ∷ chain ∷ nets ∷ bsdl) count = (request.Batch workers (log_texts log chain nets bsdl), refl)
+some_request (Batch workers name names) (log ∷ chain ∷ nets ∷ bsdl) count = (Batch workers log (board_texts chain nets bsdl), refl)

@@ -17,10 +17,9 @@ use Rattle.board_gen.specs.BoardTexts as made
 use Rattle.board_gen.specs.DeviceText.{bsdl_text}
 use Rattle.commands.specs.Summary.{summary_text}
 use Rattle.btest_core.specs.IdentsRead.{AreIdents}
-use Rattle.command_line.specs.Words as word
+use Rattle.command_line.specs.declared.command.Command.TheVariants.{Chain, Ident, Device, Cover, Svf, Walk, Make, Diagnose, Groups, Batch}
 use Rattle.command_line.specs.Words.{Text, Command, board_names, chain_names, names_of}
-use Rattle.commands.specs.declared.request.Request.{Request}
-use Rattle.commands.specs.declared.request.Request.TheVariants.{Chain, Ident, Device, Cover, Svf, Walk, Make, Diagnose, Groups, Batch}
+use Rattle.commands.specs.Requests.{Request}
 use Rattle.commands.specs.Answers.{IsBoardOf, IsJudgedOf}
 use Rattle.btest_cli.specs.declared.status.Status.{Status}
 use Rattle.btest_cli.specs.declared.status.Status.TheVariants as status
@@ -58,16 +57,16 @@ names_wanted [] = refl
 names_wanted (name ∷ names) = ap (λ (l : List Text). name ∷ l) (names_wanted names)
 
 pub wanted_names : (command : Command) → names_in (wanted_of command) ≡ names_of command
-wanted_names (word.Chain names) = names_wanted (chain_names names)
-wanted_names (word.Ident names) = names_wanted (chain_names names)
-wanted_names (word.Device name) = refl
-wanted_names (word.Cover names) = names_wanted (board_names names)
-wanted_names (word.Svf names) = names_wanted (board_names names)
-wanted_names (word.Walk names) = names_wanted (board_names names)
-wanted_names (word.Make parts) = refl
-wanted_names (word.Diagnose workers log names) = ap (λ (l : List Text). log ∷ l) (names_wanted (board_names names))
-wanted_names (word.Groups log names) = ap (λ (l : List Text). log ∷ l) (names_wanted (board_names names))
-wanted_names (word.Batch workers log names) = ap (λ (l : List Text). log ∷ l) (names_wanted (board_names names))
+wanted_names (Chain names) = names_wanted (chain_names names)
+wanted_names (Ident names) = names_wanted (chain_names names)
+wanted_names (Device name) = refl
+wanted_names (Cover names) = names_wanted (board_names names)
+wanted_names (Svf names) = names_wanted (board_names names)
+wanted_names (Walk names) = names_wanted (board_names names)
+wanted_names (Make parts) = refl
+wanted_names (Diagnose workers log names) = ap (λ (l : List Text). log ∷ l) (names_wanted (board_names names))
+wanted_names (Groups log names) = ap (λ (l : List Text). log ∷ l) (names_wanted (board_names names))
+wanted_names (Batch workers log names) = ap (λ (l : List Text). log ∷ l) (names_wanted (board_names names))
 
 pub all_asked : (command : Command) (asked asked' : List Text) → Asks asked asked' (names_in (wanted_of command)) → Asks asked asked' (names_of command)
 all_asked command asked asked' asks = subst (Asks asked asked') (wanted_names command) asks
@@ -440,9 +439,9 @@ module _ (devices : OneDevice) (chains : OneChain) (idents : OneIdents) (boards 
   one_given names (Svf texts) a b is_a is_b = one_said board_text (input_fault_line names) (IsBoardOf texts) a b (boards texts.chain texts.nets texts.bsdl) is_a is_b
   one_given names (Walk texts) a b is_a is_b = one_said board_walk_text (input_fault_line names) (IsBoardOf texts) a b (boards texts.chain texts.nets texts.bsdl) is_a is_b
   one_given names (Make parts) a b is_a is_b = one_said summary_text (input_fault_line names) (IsBoardRead (made.chain_text parts) (made.net_text parts) (bsdl_text ∷ [])) a b (boards (made.chain_text parts) (made.net_text parts) (bsdl_text ∷ [])) is_a is_b
-  one_given names (Diagnose workers texts) a b is_a is_b = one_said diagnosis_text (text_fault_line names) (IsJudgedOf diagnosing texts) a b (logs.diagnoses texts.log texts.board.chain texts.board.nets texts.board.bsdl) is_a is_b
-  one_given names (Groups texts) a b is_a is_b = one_said grouping_text (text_fault_line names) (IsJudgedOf grouping texts) a b (logs.groups texts.log texts.board.chain texts.board.nets texts.board.bsdl) is_a is_b
-  one_given names (Batch workers texts) a b is_a is_b = one_said verdicts_text (text_fault_line names) (IsJudgedOf judging_each texts) a b (logs.each texts.log texts.board.chain texts.board.nets texts.board.bsdl) is_a is_b
+  one_given names (Diagnose workers log board) a b is_a is_b = one_said diagnosis_text (text_fault_line names) (IsJudgedOf diagnosing (record { log = log; board = board })) a b (logs.diagnoses log board.chain board.nets board.bsdl) is_a is_b
+  one_given names (Groups log board) a b is_a is_b = one_said grouping_text (text_fault_line names) (IsJudgedOf grouping (record { log = log; board = board })) a b (logs.groups log board.chain board.nets board.bsdl) is_a is_b
+  one_given names (Batch workers log board) a b is_a is_b = one_said verdicts_text (text_fault_line names) (IsJudgedOf judging_each (record { log = log; board = board })) a b (logs.each log board.chain board.nets board.bsdl) is_a is_b
 
   pub one_outcome : OneOutcome
   one_outcome command (TooLong wanted) a b is_a is_b = is_a ∙ sym is_b
@@ -477,21 +476,12 @@ count_known held [] (text ∷ found) known = absurd cc
 count_known None (wanted ∷ others) found known = absurd cc
 count_known (Some held) (wanted ∷ others) found known = count_read held (wanted ∷ others) found known
 
-count_of : (names : List Text) → length (map text_called names) ≡ length names
-count_of [] = refl
-count_of (name ∷ names) = ap suc (count_of names)
+names_count : (wanted : List Wanted) → length (names_in wanted) ≡ length wanted
+names_count [] = refl
+names_count (text ∷ wanted) = ap suc (names_count wanted)
 
 wanted_count : (command : Command) → length (wanted_of command) ≡ length (names_of command)
-wanted_count (word.Chain names) = count_of (chain_names names)
-wanted_count (word.Ident names) = count_of (chain_names names)
-wanted_count (word.Device name) = refl
-wanted_count (word.Cover names) = count_of (board_names names)
-wanted_count (word.Svf names) = count_of (board_names names)
-wanted_count (word.Walk names) = count_of (board_names names)
-wanted_count (word.Make parts) = refl
-wanted_count (word.Diagnose workers log names) = ap suc (count_of (board_names names))
-wanted_count (word.Groups log names) = ap suc (count_of (board_names names))
-wanted_count (word.Batch workers log names) = ap suc (count_of (board_names names))
+wanted_count command = sym (names_count (wanted_of command)) ∙ ap length (wanted_names command)
 
 -- there is an answer for which `IsFound` holds
 abbrev HasAnswer : {A F : Type 0} → (Result A F → Type 0) → Type 0
@@ -582,9 +572,9 @@ module _ (devices : SomeDevice) (chains : SomeChain) (idents : SomeIdents) (boar
   some_given names (Svf texts) = some_said board_text (input_fault_line names) (IsBoardOf texts) (boards texts.chain texts.nets texts.bsdl)
   some_given names (Walk texts) = some_said board_walk_text (input_fault_line names) (IsBoardOf texts) (boards texts.chain texts.nets texts.bsdl)
   some_given names (Make parts) = some_said summary_text (input_fault_line names) (IsBoardRead (made.chain_text parts) (made.net_text parts) (bsdl_text ∷ [])) (boards (made.chain_text parts) (made.net_text parts) (bsdl_text ∷ []))
-  some_given names (Diagnose workers texts) = some_said diagnosis_text (text_fault_line names) (IsJudgedOf diagnosing texts) (logs.diagnoses texts.log texts.board.chain texts.board.nets texts.board.bsdl)
-  some_given names (Groups texts) = some_said grouping_text (text_fault_line names) (IsJudgedOf grouping texts) (logs.groups texts.log texts.board.chain texts.board.nets texts.board.bsdl)
-  some_given names (Batch workers texts) = some_said verdicts_text (text_fault_line names) (IsJudgedOf judging_each texts) (logs.each texts.log texts.board.chain texts.board.nets texts.board.bsdl)
+  some_given names (Diagnose workers log board) = some_said diagnosis_text (text_fault_line names) (IsJudgedOf diagnosing (record { log = log; board = board })) (logs.diagnoses log board.chain board.nets board.bsdl)
+  some_given names (Groups log board) = some_said grouping_text (text_fault_line names) (IsJudgedOf grouping (record { log = log; board = board })) (logs.groups log board.chain board.nets board.bsdl)
+  some_given names (Batch workers log board) = some_said verdicts_text (text_fault_line names) (IsJudgedOf judging_each (record { log = log; board = board })) (logs.each log board.chain board.nets board.bsdl)
 
   pub some_outcome : SomeOutcome
   some_outcome command held (TooLong wanted) known = (Err (long_line wanted.name wanted.limit), refl)

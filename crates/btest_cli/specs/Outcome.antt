@@ -13,16 +13,15 @@ use Rattle.board_gen.specs.DeviceText.{bsdl_text}
 use Rattle.btest_core.specs.DevicesRead.{IsDeviceText}
 use Rattle.btest_core.specs.BoardRead.{AreChainLengths, IsBoardRead}
 use Rattle.btest_core.specs.IdentsRead.{AreIdents}
+use Rattle.command_line.specs.declared.command.Command.TheVariants.{Chain, Ident, Device, Cover, Svf, Walk, Make, Diagnose, Groups, Batch}
 use Rattle.command_line.specs.Words.{Text, Command, command_of, names_of}
 use Rattle.btest_cli.specs.declared.status.Status.{Status}
 use Rattle.btest_cli.specs.declared.status.Status.TheVariants.{Done, Refused, NoMemory}
 use Rattle.btest_cli.specs.Texts.{Held, Wanted, Reading, Read, TooLong, known_reading, IsRead, IsReadUpTo, Asks, AsksFor, wanted_of}
 use Rattle.walk_test.specs.WalkTest.{board_walk_text}
 use Rattle.commands.specs.Answers.{IsBoardOf, IsJudgedOf}
-use Rattle.commands.specs.declared.request.Request.{Request}
-use Rattle.commands.specs.declared.request.Request.TheVariants.{Chain, Ident, Device, Cover, Svf, Walk, Make, Diagnose, Groups, Batch}
 use Rattle.commands.specs.LogRead.{diagnosing, diagnosis_text, grouping, grouping_text, judging_each, verdicts_text}
-use Rattle.commands.specs.Requests.{request_of}
+use Rattle.commands.specs.Requests.{Request, request_of}
 use Rattle.refusal_lines.specs.Refusals.{Names, input_fault_line, long_line, read_line}
 use Rattle.btest_cli.specs.Refusals.{roles_of, text_fault_line}
 use Rattle.commands.specs.Summary.{summary_text}
@@ -42,9 +41,9 @@ IsGiven names (Cover texts) outcome = IsSaid cover_text (input_fault_line names)
 IsGiven names (Svf texts) outcome = IsSaid board_text (input_fault_line names) (IsBoardOf texts) outcome
 IsGiven names (Walk texts) outcome = IsSaid board_walk_text (input_fault_line names) (IsBoardOf texts) outcome
 IsGiven names (Make parts) outcome = IsSaid summary_text (input_fault_line names) (IsBoardRead (made.chain_text parts) (made.net_text parts) (bsdl_text ∷ [])) outcome
-IsGiven names (Diagnose workers texts) outcome = IsSaid diagnosis_text (text_fault_line names) (IsJudgedOf diagnosing texts) outcome
-IsGiven names (Groups texts) outcome = IsSaid grouping_text (text_fault_line names) (IsJudgedOf grouping texts) outcome
-IsGiven names (Batch workers texts) outcome = IsSaid verdicts_text (text_fault_line names) (IsJudgedOf judging_each texts) outcome
+IsGiven names (Diagnose workers log board) outcome = IsSaid diagnosis_text (text_fault_line names) (IsJudgedOf diagnosing (record { log = log; board = board })) outcome
+IsGiven names (Groups log board) outcome = IsSaid grouping_text (text_fault_line names) (IsJudgedOf grouping (record { log = log; board = board })) outcome
+IsGiven names (Batch workers log board) outcome = IsSaid verdicts_text (text_fault_line names) (IsJudgedOf judging_each (record { log = log; board = board })) outcome
 
 -- The outcome of a command for the texts that were read. If a text is too long, this is the first fault.
 abbrev pub IsOutcome : Command → Reading → Result Text Text → Type 0

@@ -1,6 +1,7 @@
 -- The texts that a command reads.
 use Rattle.std.specs.Prelude.{◌≡◌, ℕ, ◌<◌, List, [], ◌∷◌, ◌++◌, length, map, Option, Some, None, nat_lt, if◌then◌else◌}
-use Rattle.command_line.specs.Words.{Text, Command, Chain, Device, Cover, Svf, Walk, Ident, Make, Diagnose, Groups, Batch, board_names, names_of}
+use Rattle.command_line.specs.declared.command.Command.TheVariants.{Diagnose, Groups, Batch}
+use Rattle.command_line.specs.Words.{Text, Command, board_names, names_of}
 
 -- a text to read: its name, and the most bytes that it may have
 pub record Wanted : Type 0 where
@@ -17,16 +18,10 @@ log_called name = record { name = name; limit = 67108864 }
 
 -- the texts that a command reads, in order
 abbrev pub wanted_of : Command → List Wanted
-wanted_of (Chain names) = map text_called (names_of (Chain names))
-wanted_of (Ident names) = map text_called (names_of (Ident names))
-wanted_of (Device name) = map text_called (names_of (Device name))
-wanted_of (Cover names) = map text_called (names_of (Cover names))
-wanted_of (Svf names) = map text_called (names_of (Svf names))
-wanted_of (Walk names) = map text_called (names_of (Walk names))
-wanted_of (Make parts) = []
 wanted_of (Diagnose workers log names) = log_called log ∷ map text_called (board_names names)
 wanted_of (Groups log names) = log_called log ∷ map text_called (board_names names)
 wanted_of (Batch workers log names) = log_called log ∷ map text_called (board_names names)
+wanted_of command = map text_called (names_of command)
 
 abbrev pub names_in : List Wanted → List Text
 names_in texts = map (λ text. text.name) texts

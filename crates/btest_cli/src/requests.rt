@@ -1,49 +1,61 @@
 // Reads the texts of a command, each as the kind of text that the command needs there.
 ghost use Rattle.std.specs.Prelude.{◌∷◌, map};
 ghost use Rattle.command_line.specs.Words.{board_names, chain_names};
-ghost use Rattle.command_line.specs.CommandView.{board_view, chain_view, command_view};
 ghost use Rattle.btest_cli.specs.Texts.{log_called, text_called, wanted_of};
 ghost use Rattle.btest_cli.specs.inner.Reads.{OfBoard, OfChain, OfLog, OfRequest, Reads};
 
 use crate::failure::Unread;
-use crate::texts::{read_log, read_text, read_texts};
+use crate::texts::{read_file, read_log, read_texts};
 use bt_base::Store;
-use command_line::{BoardNames, ChainNames, Command};
+use command_line::{
+    BoardFiles, BoardNames, ChainFiles, ChainNames, Command, FileName, NamedCommand,
+};
 use commands::{BoardTexts, ChainTexts, LogTexts, Request};
 use std::alloc::Global;
 
 /// Reads the texts of a command, in the order of their names.
 pub fn read_request<'a, S: Store>(
     alloc: Global,
-    command: &Command<'a>,
+    command: &NamedCommand<'a>,
     store: &mut S,
 ) -> Result<Request, Unread<'a>>
-    ensures { Reads (OfRequest (command_view command.now)) (wanted_of (command_view command.now)) (S.held store.old) (S.held store.new) (S.faults store.old) (S.faults store.new) (S.asked store.old) (S.asked store.new) result }
+    ensures { Reads (OfRequest command.now) (wanted_of command.now) (S.held store.old) (S.held store.new) (S.faults store.old) (S.faults store.new) (S.asked store.old) (S.asked store.new) result }
 {
     match command {
-        Command::Chain(names) => read_chain(alloc, names, store).map(Request::Chain),
-        Command::Ident(names) => read_chain(alloc, names, store).map(Request::Ident),
-        Command::Device { bsdl } => read_text(alloc, *bsdl, store).map(Request::Device),
-        Command::Cover(names) => read_board(alloc, names, store).map(Request::Cover),
-        Command::Svf(names) => read_board(alloc, names, store).map(Request::Svf),
-        Command::Walk(names) => read_board(alloc, names, store).map(Request::Walk),
-        Command::Make(parts) => Ok(Request::Make(*parts)),
+        Command::Chain(names) => read_chain(alloc, names, store).map(Command::Chain),
+        Command::Ident(names) => read_chain(alloc, names, store).map(Command::Ident),
+        Command::Device(name) => read_file(alloc, name, store).map(Command::Device),
+        Command::Cover(names) => read_board(alloc, names, store).map(Command::Cover),
+        Command::Svf(names) => read_board(alloc, names, store).map(Command::Svf),
+        Command::Walk(names) => read_board(alloc, names, store).map(Command::Walk),
+        Command::Make(parts) => Ok(Command::Make(*parts)),
         Command::Diagnose {
             workers,
             log,
             board,
         } => {
             let workers = *workers;
-            read_logs(alloc, *log, board, store).map(|texts| Request::Diagnose { workers, texts })
+            read_logs(alloc, log, board, store).map(|LogTexts { log, board }| Command::Diagnose {
+                workers,
+                log,
+                board,
+            })
         }
-        Command::Groups { log, board } => read_logs(alloc, *log, board, store).map(Request::Groups),
+        Command::Groups { log, board } => read_logs(alloc, log, board, store).map(|LogTexts {
+            log,
+            board,
+        }| Command::Groups { log, board }),
         Command::Batch {
             workers,
             log,
             board,
         } => {
             let workers = *workers;
-            read_logs(alloc, *log, board, store).map(|texts| Request::Batch { workers, texts })
+            read_logs(alloc, log, board, store).map(|LogTexts { log, board }| Command::Batch {
+                workers,
+                log,
+                board,
+            })
         }
     }
 }
@@ -54,14 +66,14 @@ fn read_chain<'a, S: Store>(
     names: &ChainNames<'a>,
     store: &mut S,
 ) -> Result<ChainTexts, Unread<'a>>
-    ensures { Reads OfChain (map text_called (chain_names (chain_view names.now))) (S.held store.old) (S.held store.new) (S.faults store.old) (S.faults store.new) (S.asked store.old) (S.asked store.new) result }
+    ensures { Reads OfChain (map text_called (chain_names names.now)) (S.held store.old) (S.held store.new) (S.faults store.old) (S.faults store.new) (S.asked store.old) (S.asked store.new) result }
 {
-    let chain = match read_text(alloc, names.chain, store) {
+    let chain = match read_file(alloc, &names.chain, store) {
         Ok(chain) => chain,
         Err(failure) => return Err(failure),
     };
     match read_texts(alloc, &names.bsdl, store) {
-        Ok(bsdl) => Ok(ChainTexts { chain, bsdl }),
+        Ok(bsdl) => Ok(ChainFiles { chain, bsdl }),
         Err(failure) => Err(failure),
     }
 }
@@ -72,18 +84,18 @@ fn read_board<'a, S: Store>(
     names: &BoardNames<'a>,
     store: &mut S,
 ) -> Result<BoardTexts, Unread<'a>>
-    ensures { Reads OfBoard (map text_called (board_names (board_view names.now))) (S.held store.old) (S.held store.new) (S.faults store.old) (S.faults store.new) (S.asked store.old) (S.asked store.new) result }
+    ensures { Reads OfBoard (map text_called (board_names names.now)) (S.held store.old) (S.held store.new) (S.faults store.old) (S.faults store.new) (S.asked store.old) (S.asked store.new) result }
 {
-    let chain = match read_text(alloc, names.chain, store) {
+    let chain = match read_file(alloc, &names.chain, store) {
         Ok(chain) => chain,
         Err(failure) => return Err(failure),
     };
-    let nets = match read_text(alloc, names.nets, store) {
+    let nets = match read_file(alloc, &names.nets, store) {
         Ok(nets) => nets,
         Err(failure) => return Err(failure),
     };
     match read_texts(alloc, &names.bsdl, store) {
-        Ok(bsdl) => Ok(BoardTexts { chain, nets, bsdl }),
+        Ok(bsdl) => Ok(BoardFiles { chain, nets, bsdl }),
         Err(failure) => Err(failure),
     }
 }
@@ -91,11 +103,11 @@ fn read_board<'a, S: Store>(
 // Reads a text of logs, and then the texts of their board.
 fn read_logs<'a, S: Store>(
     alloc: Global,
-    log: &'a str,
+    log: &FileName<'a>,
     names: &BoardNames<'a>,
     store: &mut S,
 ) -> Result<LogTexts, Unread<'a>>
-    ensures { Reads OfLog (log_called log.entry.now ∷ map text_called (board_names (board_view names.now))) (S.held store.old) (S.held store.new) (S.faults store.old) (S.faults store.new) (S.asked store.old) (S.asked store.new) result }
+    ensures { Reads OfLog (log_called log.now ∷ map text_called (board_names names.now)) (S.held store.old) (S.held store.new) (S.faults store.old) (S.faults store.new) (S.asked store.old) (S.asked store.new) result }
 {
     let log = match read_log(alloc, log, store) {
         Ok(log) => log,

@@ -1,13 +1,12 @@
 // Reads texts from a store.
 ghost use Rattle.std.specs.Prelude.{◌≡◌, [], ◌∷◌, map};
-ghost use Rattle.command_line.specs.CommandView.{names_view};
 ghost use Rattle.btest_cli.specs.Texts.{log_called, text_called};
 ghost use Rattle.btest_cli.specs.inner.Failures.{wanted_view};
 ghost use Rattle.btest_cli.specs.inner.Reads.{AreAll, IsOne, Reads};
 
 use crate::failure::Unread;
 use bt_base::{FetchFault, Store};
-use command_line::BsdlNames;
+use command_line::{BsdlNames, FileName};
 use commands::{ShortText, ShortTexts};
 use std::alloc::Global;
 
@@ -61,8 +60,8 @@ fn read_wanted<'a, S: Store>(
     }
 }
 
-/// Reads a chain file, a net file or a BSDL text.
-pub fn read_text<'a, S: Store>(
+// Reads the chain file, net file or BSDL text with this name.
+fn read_text<'a, S: Store>(
     alloc: Global,
     name: &'a str,
     store: &mut S,
@@ -72,15 +71,26 @@ pub fn read_text<'a, S: Store>(
     read_wanted(alloc, text_called(name), store)
 }
 
+/// Reads a chain file, a net file or a BSDL text.
+pub fn read_file<'a, S: Store>(
+    alloc: Global,
+    name: &FileName<'a>,
+    store: &mut S,
+) -> Result<ShortText, Unread<'a>>
+    ensures { Reads IsOne (text_called name.now ∷ []) (S.held store.old) (S.held store.new) (S.faults store.old) (S.faults store.new) (S.asked store.old) (S.asked store.new) result }
+{
+    read_text(alloc, name.as_str(), store)
+}
+
 /// Reads a response log or a batch of logs.
 pub fn read_log<'a, S: Store>(
     alloc: Global,
-    name: &'a str,
+    name: &FileName<'a>,
     store: &mut S,
 ) -> Result<ShortText, Unread<'a>>
-    ensures { Reads IsOne (log_called name.entry.now ∷ []) (S.held store.old) (S.held store.new) (S.faults store.old) (S.faults store.new) (S.asked store.old) (S.asked store.new) result }
+    ensures { Reads IsOne (log_called name.now ∷ []) (S.held store.old) (S.held store.new) (S.faults store.old) (S.faults store.new) (S.asked store.old) (S.asked store.new) result }
 {
-    read_wanted(alloc, log_called(name), store)
+    read_wanted(alloc, log_called(name.as_str()), store)
 }
 
 /// Reads BSDL texts in order. Stops at the first text that is not read or is too long.
@@ -89,9 +99,9 @@ pub fn read_texts<'a, S: Store>(
     names: &BsdlNames<'a>,
     store: &mut S,
 ) -> Result<ShortTexts, Unread<'a>>
-    ensures { Reads AreAll (map text_called (names_view names.now)) (S.held store.old) (S.held store.new) (S.faults store.old) (S.faults store.new) (S.asked store.old) (S.asked store.new) result }
+    ensures { Reads AreAll (map text_called names.now) (S.held store.old) (S.held store.new) (S.faults store.old) (S.faults store.new) (S.asked store.old) (S.asked store.new) result }
 {
-    let names = names.names.as_slice();
+    let names = names.as_slice();
     let mut texts = Vec::new(alloc);
     for name in names {
         let text = match read_text(alloc, *name, store) {

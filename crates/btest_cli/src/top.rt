@@ -1,24 +1,23 @@
 // The top call of the program.
 ghost use Rattle.std.specs.Prelude.{◌≡◌, ◌≢◌, ◌⊎◌, map, None, string_bytes};
 ghost use Rattle.bt_base.specs.Counts.{Rose};
-ghost use Rattle.command_line.specs.Words.{HasNumber, command_of, names_of};
-ghost use Rattle.command_line.specs.CommandView.{command_view};
+ghost use Rattle.command_line.specs.Words.{command_of, names_of};
 ghost use Rattle.btest_cli.specs.inner.RunOf.{IsRunOf};
 ghost use Rattle.refusal_lines.specs.NamesView.{names_view};
 ghost use Rattle.refusal_lines.specs.Refusals.{Names as Roles, usage_line, write_line, memory_line};
-ghost use Rattle.btest_cli.specs.Refusals.{roles_of};
+ghost use Rattle.btest_cli.specs.Refusals.{board_roles, roles_of};
 ghost use Rattle.btest_cli.specs.Outcome.{AsksSome, ForCommand, IsComplete, IsCutShort, IsDone, IsNotRead, IsRefused, SomeRose, TookOrCut};
 ghost use Rattle.btest_cli.specs.inner.Failures.{IsAnswered};
-ghost use Rattle.btest_cli.specs.inner.Reads.{IsNumbered};
 
 use crate::failure::{put_unput, put_unread, unput_status, unread_status};
 use crate::requests::read_request;
 use crate::status::Status;
 use bt_base::{Gate, Sink, Store};
 use btest_core::law::{inputs_have_one_answer, inputs_keep_rules};
-use command_line::{Command, command_of};
+use command_line::{BoardNames, Command, NamedCommand, command_of};
 use commands::{
-    Request, Unput, batch, chain, cover, device, diagnosis, groups, ident, summary, svf, walk,
+    LogTexts, Request, Unput, batch, chain, cover, device, diagnosis, groups, ident, summary, svf,
+    walk,
 };
 use fault_sim::law::logs_have_one_diagnosis;
 use refusal_lines::{Names, TextNames, put_memory, put_usage};
@@ -90,14 +89,13 @@ pub fn run<R: Threads + Sync, S: Store, K: Sink, N: Sink, G: Gate>(
 fn run_command<R: Threads + Sync, S: Store, K: Sink, N: Sink, G: Gate>(
     rt: &R,
     alloc: Global,
-    command: &Command,
+    command: &NamedCommand,
     store: &mut S,
     out: &mut K,
     notes: &mut N,
     gate: &G,
 ) -> Status
-    requires number { HasNumber (command_view command.now) }
-    ensures { IsRunOf (command_view command.now) (S.held store.old) (S.faults store.old) (S.faults store.new) (S.asked store.old) (S.asked store.new)
+    ensures { IsRunOf command.now (S.held store.old) (S.faults store.old) (S.faults store.new) (S.asked store.old) (S.asked store.new)
         (K.shown out.old) (K.shown out.new) (N.shown notes.old) (N.shown notes.new) result }
 {
     let request = match read_request(alloc, command, store) {
@@ -117,28 +115,25 @@ fn run_command<R: Threads + Sync, S: Store, K: Sink, N: Sink, G: Gate>(
 }
 
 // Returns the names of the texts of a command, each name in the place for its kind of text.
-fn roles_of<'n, 'a>(command: &'n Command<'a>) -> Names<'n, 'a>
-    ensures { names_view result ≡ roles_of (command_view command.now) }
+fn roles_of<'n, 'a>(command: &'n NamedCommand<'a>) -> Names<'n, 'a>
+    ensures { names_view result ≡ roles_of command.now }
 {
     match command {
         Command::Chain(names) | Command::Ident(names) => Names {
             log: "",
-            chain: names.chain,
+            chain: names.chain.as_str(),
             nets: "",
-            bsdl: TextNames::Several(names.bsdl.names.as_slice()),
+            bsdl: TextNames::Several(names.bsdl.as_slice()),
         },
-        Command::Device { bsdl } => Names {
+        Command::Device(name) => Names {
             log: "",
             chain: "",
             nets: "",
-            bsdl: TextNames::One(*bsdl),
+            bsdl: TextNames::One(name.as_str()),
         },
-        Command::Cover(names) | Command::Svf(names) | Command::Walk(names) => Names {
-            log: "",
-            chain: names.chain,
-            nets: names.nets,
-            bsdl: TextNames::Several(names.bsdl.names.as_slice()),
-        },
+        Command::Cover(names) | Command::Svf(names) | Command::Walk(names) => {
+            board_roles("", names)
+        }
         Command::Make(_) => Names {
             log: "",
             chain: "chain",
@@ -147,12 +142,19 @@ fn roles_of<'n, 'a>(command: &'n Command<'a>) -> Names<'n, 'a>
         },
         Command::Diagnose { log, board, .. }
         | Command::Groups { log, board }
-        | Command::Batch { log, board, .. } => Names {
-            log: *log,
-            chain: board.chain,
-            nets: board.nets,
-            bsdl: TextNames::Several(board.bsdl.names.as_slice()),
-        },
+        | Command::Batch { log, board, .. } => board_roles(log.as_str(), board),
+    }
+}
+
+// Returns the names of the texts of a command that works on a board.
+fn board_roles<'n, 'a>(log: &'a str, names: &'n BoardNames<'a>) -> Names<'n, 'a>
+    ensures { names_view result ≡ board_roles log.entry.now names.now }
+{
+    Names {
+        log,
+        chain: names.chain.as_str(),
+        nets: names.nets.as_str(),
+        bsdl: TextNames::Several(names.bsdl.as_slice()),
     }
 }
 
@@ -164,19 +166,32 @@ fn answer<R: Threads + Sync, K: Sink, G: Gate>(
     gate: &G,
     out: &mut K,
 ) -> Result<(), Unput>
-    requires number { IsNumbered request }
     ensures { (names : Roles) → IsAnswered names request (K.shown out.old) (K.shown out.new) result }
 {
     match request {
-        Request::Chain(texts) => chain(alloc, &texts, out),
-        Request::Ident(texts) => ident(alloc, &texts, out),
-        Request::Device(bsdl) => device(alloc, &bsdl, out),
-        Request::Cover(texts) => cover(alloc, &texts, out),
-        Request::Svf(texts) => svf(alloc, &texts, out),
-        Request::Walk(texts) => walk(alloc, &texts, out),
-        Request::Make(parts) => summary(alloc, parts, out),
-        Request::Diagnose { workers, texts } => diagnosis(rt, alloc, texts, workers, gate, out),
-        Request::Groups(texts) => groups(alloc, texts, out),
-        Request::Batch { workers, texts } => batch(rt, alloc, texts, workers, gate, out),
+        Command::Chain(texts) => chain(alloc, &texts, out),
+        Command::Ident(texts) => ident(alloc, &texts, out),
+        Command::Device(bsdl) => device(alloc, &bsdl, out),
+        Command::Cover(texts) => cover(alloc, &texts, out),
+        Command::Svf(texts) => svf(alloc, &texts, out),
+        Command::Walk(texts) => walk(alloc, &texts, out),
+        Command::Make(parts) => summary(alloc, parts, out),
+        Command::Diagnose {
+            workers,
+            log,
+            board,
+        } => {
+            let texts = LogTexts { log, board };
+            diagnosis(rt, alloc, texts, workers.number(), gate, out)
+        }
+        Command::Groups { log, board } => groups(alloc, LogTexts { log, board }, out),
+        Command::Batch {
+            workers,
+            log,
+            board,
+        } => {
+            let texts = LogTexts { log, board };
+            batch(rt, alloc, texts, workers.number(), gate, out)
+        }
     }
 }

@@ -1,9 +1,9 @@
--- Lemmas which say that a name that differs from all earlier names gives the command of the later names.
-use Rattle.std.proofs.Common.{◌≡◌, refl, sym, ◌∙◌, Bool, true, false, List, codes, None}
-use Rattle.std.specs.Prelude.{if◌then◌else◌}
+-- The command of a subcommand, by its name.
+use Rattle.std.proofs.Common.{◌≡◌, refl, sym, ap, ◌∙◌, Bool, true, false, List, codes, Option, Some, None}
+use Rattle.std.specs.Prelude.{option_map, if◌then◌else◌}
 use Rattle.std.specs.Str.{bytes_eq}
 use Rattle.clap.specs.Walk.{Row, Text}
-use Rattle.command_line.specs.inner.Found.{board_found, called_found, log_found}
+use Rattle.command_line.specs.inner.Found.{board_found, called_found, command_in, log_found}
 
 if_not : {X : Type 0} (x y : X) (b : Bool) → b ≡ false → (if b then x else y) ≡ y
 if_not x y true is = absurd cc
@@ -19,3 +19,11 @@ board_other name rows cover svf walk make = sym (if_not _ _ _ cover ∙ if_not _
 
 pub called_other : (name : Text) (rows : List Row) → bytes_eq (codes "chain") name ≡ false → bytes_eq (codes "ident") name ≡ false → bytes_eq (codes "device") name ≡ false → board_found name rows ≡ called_found name rows
 called_other name rows chain ident device = sym (if_not _ _ _ chain ∙ if_not _ _ _ ident ∙ if_not _ _ _ device)
+
+-- the command in the matches is the command of the subcommand's name and rows
+pub called_by : {S : Type 0} (of : S → Text × List Row) (found : Option S) (name : Text) (rows : List Row) → Some name ≡ option_map (λ s. (of s).0) found → Some rows ≡ option_map (λ p. p.1) (option_map of found) → called_found name rows ≡ command_in (option_map of found)
+called_by of None name rows named with_rows = absurd cc
+called_by of (Some s) name rows named with_rows =
+    let same_name : name ≡ (of s).0 = cc in
+    let same_rows : rows ≡ (of s).1 = cc in
+    ap (λ n. called_found n rows) same_name ∙ ap (called_found (of s).0) same_rows

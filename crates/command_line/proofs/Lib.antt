@@ -4,5 +4,4 @@ pub mod RowLemmas
 pub mod CalledLemmas
 pub mod Parses
 pub mod NumberLemmas
-pub mod RangeLemmas
 mod Samples

@@ -1,6 +1,6 @@
 -- Lemmas about the number that a word denotes.
-use Rattle.std.proofs.Common.{◌≡◌, ◌≤◌, ◌<◌, ◌^◌, ℕ, Bool, true, false, length, Some, None, Err, refl, arith, rules}
-use Rattle.std.specs.Prelude.{IfSome, ◌&&◌, if◌then◌else◌}
+use Rattle.std.proofs.Common.{◌≡◌, ◌<◌, ◌^◌, ℕ, Bool, true, false, length, Some, None, Err, refl, arith, rules}
+use Rattle.std.specs.Prelude.{◌&&◌, if◌then◌else◌}
 use Rattle.std.specs.Char.{is_ascii_digit}
 use Rattle.std.specs.List.{list_all}
 use Rattle.std.specs.Str.Parse.{digits_value, ParsesUnsigned}
@@ -18,17 +18,6 @@ numerals = numerals_by_value Digits (search rules)
 -- True if a word of this length and value is a number. `digits` is true if the word has only digits.
 abbrev is_number : Bool → ℕ → ℕ → ℕ → Bool
 is_number digits most len value = digits && is_within 1 20 len && is_within 1 most value
-
-within_by : (digits : Bool) (most len value : ℕ) (b : Bool) → is_number digits most len value ≡ b → IfSome (if b then Some value else None) (λ n. (1 ≤ n) × (n ≤ most))
-within_by true most len value true test = grind (arith, common_steps)
-within_by false most len value true test = absurd cc
-within_by digits most len value false test = tt
-
--- if a word denotes a number, the number is from 1 to `most`
-pub number_within : (most : ℕ) (word : Text) → IfSome (number_of most word) (λ n. (1 ≤ n) × (n ≤ most))
-number_within most word =
-    let digits : Bool = list_all is_ascii_digit word in
-    within_by digits most (length word) (digits_value 10 word) (is_number digits most (length word) (digits_value 10 word)) refl
 
 unread_by : (digits : Bool) (most len value : ℕ) (b : Bool) → is_number digits most len value ≡ b → most < 2 ^ 32 → ¬ ((0 < len) × (value < 2 ^ 32)) → None ≡ (if b then Some value else None)
 unread_by true most len value true test fits unread = grind (arith, common_steps)

@@ -11,7 +11,9 @@ use Rattle.clap.specs.Simple.{App, Shape, built, names_of, entered, is_simple, s
 use Rattle.clap.specs.Kinds.{Kinds, IsAmong, or_else}
 use Rattle.clap.specs.Faults.{other_fault, step_fault, fault_of, level_fault, entered_fault, walk_fault, turn_fault, is_simple_and_free}
 use Rattle.clap.proofs.OnLiterals.{clap_on_literals}
-use Rattle.command_line.specs.Words.{most_names, most_workers, number_of, with_names, ChainNames, BoardNames, Command, Chain, Ident, Cover, Svf, Walk, Diagnose, Groups, Batch, is_plain, parsed, board_called, log_called, chain_of, device_of, board_of, make_of, worked_of, groups_of}
+use Rattle.command_line.specs.declared.command.Command.TheVariants.{Chain, Ident, Cover, Svf, Walk, Diagnose, Groups, Batch}
+use Rattle.command_line.specs.Limits.{most_names, most_workers}
+use Rattle.command_line.specs.Words.{number_of, with_names, ChainNames, BoardNames, Command, is_plain, parsed, board_called, log_called, chain_of, device_of, board_of, make_of, worked_of, groups_of}
 use Rattle.command_line.specs.inner.App.{btest_app, chain_app, single_app, board_app, log_app, groups_app, top_app}
 use Rattle.command_line.specs.inner.Found.{command_in, called_found, board_found, log_found, chain_in, device_in, board_in, make_in, worked_in, groups_in}
 use Rattle.command_line.proofs.PlainLemmas.{Plain, AllPlain, all_plain, met, plain_fault}

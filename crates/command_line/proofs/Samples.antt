@@ -1,6 +1,7 @@
 -- Samples of the commands and the numbers of given words, worked by hand.
 use Rattle.std.proofs.Common.{◌≡◌, ℕ, List, [], ◌∷◌, map, replicate, Option, Some, None, codes, refl}
-use Rattle.command_line.specs.Words.{Text, BoardNames, Command, Walk, Ident, Make, Diagnose, Groups, Batch, board_called, log_called, command_of, number_of}
+use Rattle.command_line.specs.declared.command.Command.TheVariants.{Walk, Ident, Make, Diagnose, Groups, Batch}
+use Rattle.command_line.specs.Words.{Text, BoardNames, Command, board_called, log_called, command_of, number_of}
 
 leading_zeros : number_of 255 (codes "00000000000000000007") ≡ Some 7
 leading_zeros = refl

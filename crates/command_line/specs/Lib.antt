@@ -1,3 +1,3 @@
+pub mod Limits
 pub mod Words
-pub mod CommandView
 pub mod inner

@@ -1,52 +1,33 @@
 -- The words of the command line.
-use Rattle.std.specs.Prelude.{ℕ, ◌==◌, ◌≤◌, List, [], ◌∷◌, length, nat_le, Bool, false, not, ◌&&◌, codes, Option, Some, None, option_and_then, option_map, if◌then◌else◌}
+use Rattle.std.specs.Prelude.{ℕ, ◌==◌, List, [], ◌∷◌, length, nat_le, Bool, false, not, ◌&&◌, codes, Option, Some, None, option_and_then, option_map, if◌then◌else◌}
 use Rattle.std.specs.Char.{is_ascii_digit}
 use Rattle.std.specs.List.{list_all}
 use Rattle.std.specs.Str.{bytes_eq}
 use Rattle.std.specs.Str.Parse.{digits_value}
+use Rattle.command_line.specs.declared.command.Command.{Command as CommandOf}
+use Rattle.command_line.specs.declared.command.BoardFiles.{BoardFiles}
+use Rattle.command_line.specs.declared.command.ChainFiles.{ChainFiles}
+use Rattle.command_line.specs.declared.command.Command.TheVariants.{Chain, Ident, Device, Cover, Svf, Walk, Make, Diagnose, Groups, Batch}
+use Rattle.command_line.specs.Limits.{most_names, most_made, most_workers}
 
 abbrev pub Text : Type 0
 Text = List ℕ
 
--- the largest number of BSDL files that a command takes
-abbrev pub most_names : ℕ
-most_names = 255
-
--- the largest number of parts that `make` accepts
-abbrev pub most_made : ℕ
-most_made = 255
-
--- the largest number of workers that a command accepts
-abbrev pub most_workers : ℕ
-most_workers = 64
+-- The command of a command line has the names of its files. The length test and the identity test of a chain have the file names of the
+-- chain. The listing of a device has the name of a BSDL file. The coverage list, the test and the walking test of a board have the file
+-- names of the board. The summary of a generated board has the number of parts of the board. The diagnosis of a board and the diagnoses of
+-- many boards have the number of workers, the name of a file of response logs and the file names of the board. The groups of shorted nets
+-- have the name of a response log and the file names of the board.
+abbrev pub Command : Type 0
+Command = CommandOf Text (List Text)
 
 -- the file names of a chain: a chain file and BSDL files
-pub record ChainNames : Type 0 where
-  pub chain : Text
-  pub bsdl : List Text
+abbrev pub ChainNames : Type 0
+ChainNames = ChainFiles Text (List Text)
 
 -- the file names of a board: a chain file, a net file and BSDL files
-pub record BoardNames : Type 0 where
-  pub chain : Text
-  pub nets : Text
-  pub bsdl : List Text
-
--- A command. `Chain` and `Ident`, the length test and the identity test, have the file names of a chain. `Device`, the listing of a device,
--- has the name of a BSDL file. `Cover`, `Svf` and `Walk`, the coverage list and the two tests of a board, have the file names of the board.
--- `Make`, the summary of a generated board, has the number of the board's parts. `Diagnose` and `Batch`, the diagnoses of one board and of
--- many boards, have the number of workers, the name of a file of response logs and the file names of the board. `Groups`, the groups of
--- shorted nets, has the name of a response log and the file names of the board.
-pub data Command : Type 0 where
-  Chain : ChainNames → Command
-  Ident : ChainNames → Command
-  Device : Text → Command
-  Cover : BoardNames → Command
-  Svf : BoardNames → Command
-  Walk : BoardNames → Command
-  Make : ℕ → Command
-  Diagnose : ℕ → Text → BoardNames → Command
-  Groups : Text → BoardNames → Command
-  Batch : ℕ → Text → BoardNames → Command
+abbrev pub BoardNames : Type 0
+BoardNames = BoardFiles Text (List Text)
 
 -- true if the word is not empty and does not begin with `-`
 abbrev pub is_plain : Text → Bool
@@ -152,10 +133,3 @@ names_of (Make parts) = []
 names_of (Diagnose workers log names) = log ∷ board_names names
 names_of (Groups log names) = log ∷ board_names names
 names_of (Batch workers log names) = log ∷ board_names names
-
--- The number in a command is in range, if there is one. It is the number of parts of a generated board or the number of workers.
-abbrev pub HasNumber : Command → Type 0
-HasNumber (Make parts) = (1 ≤ parts) × (parts ≤ most_made)
-HasNumber (Diagnose workers log names) = (1 ≤ workers) × (workers ≤ most_workers)
-HasNumber (Batch workers log names) = (1 ≤ workers) × (workers ≤ most_workers)
-HasNumber other = Unit {0}

@@ -1,79 +1,67 @@
-// The commands of the command line.
-ghost use Rattle.std.specs.Prelude.{◌≤◌, length};
-ghost use Rattle.command_line.specs.Words.{most_names};
+// The commands of the program.
+use crate::number::{PartCount, WorkerCount};
 
-/// The largest number of BSDL files that a command takes.
-pub const MOST_NAMES: usize = 255;
-
-/// The names of the BSDL files, at most 255.
+/// What a command has for each file of a chain.
 #[derive(Drop)]
-pub struct BsdlNames<'a> {
-    pub names: Vec<&'a str>,
-    ghost few: { length names.items ≤ most_names },
-}
-
-/// The file names of a chain.
-#[derive(Drop)]
-pub struct ChainNames<'a> {
+pub struct ChainFiles<File, Files> {
     /// The chain file.
-    pub chain: &'a str,
+    pub chain: File,
     /// The BSDL files.
-    pub bsdl: BsdlNames<'a>,
+    pub bsdl: Files,
 }
 
-/// The file names of a board.
+/// What a command has for each file of a board.
 #[derive(Drop)]
-pub struct BoardNames<'a> {
+pub struct BoardFiles<File, Files> {
     /// The chain file.
-    pub chain: &'a str,
+    pub chain: File,
     /// The net file.
-    pub nets: &'a str,
+    pub nets: File,
     /// The BSDL files.
-    pub bsdl: BsdlNames<'a>,
+    pub bsdl: Files,
 }
 
-/// A command, with the names of the files that it reads.
+/// A command, with a `File` for each file that it reads and a `Files` for its list of BSDL files. These are names if the
+/// command comes from the command line, and texts once the files are read.
 #[derive(Drop)]
-pub enum Command<'a> {
+pub enum Command<File, Files> {
     /// Writes the test of the length of a chain.
-    Chain(ChainNames<'a>),
+    Chain(ChainFiles<File, Files>),
     /// Writes the test of the identification codes of the devices in a chain.
-    Ident(ChainNames<'a>),
-    /// Lists a device.
-    Device {
-        bsdl: &'a str,
-    },
+    Ident(ChainFiles<File, Files>),
+    /// Lists the device that a BSDL file describes.
+    Device(File),
     /// Writes the coverage list of a board.
-    Cover(BoardNames<'a>),
+    Cover(BoardFiles<File, Files>),
     /// Writes the test of a board.
-    Svf(BoardNames<'a>),
+    Svf(BoardFiles<File, Files>),
     /// Writes the walking test of a board.
-    Walk(BoardNames<'a>),
-    /// Summarizes a generated board with this number of parts, from 1 to 255.
-    Make(u32),
+    Walk(BoardFiles<File, Files>),
+    /// Summarizes a generated board with this number of parts.
+    Make(PartCount),
     /// Diagnoses a board.
     Diagnose {
-        /// The number of workers, from 1 to 64.
-        workers: u32,
+        /// The number of threads that work on the diagnosis.
+        workers: WorkerCount,
         /// The response log.
-        log: &'a str,
-        /// The file names of the board.
-        board: BoardNames<'a>,
+        log: File,
+        /// The files of the board.
+        board: BoardFiles<File, Files>,
     },
     /// Finds the groups of shorted nets of a board.
     Groups {
         /// The response log of the walking test.
-        log: &'a str,
-        /// The file names of the board.
-        board: BoardNames<'a>,
+        log: File,
+        /// The files of the board.
+        board: BoardFiles<File, Files>,
     },
     /// Diagnoses many boards of the same design.
     Batch {
-        /// The number of workers, from 1 to 64.
-        workers: u32,
+        /// The number of threads that work on the diagnoses.
+        workers: WorkerCount,
         /// The file with the response logs of the boards.
-        log: &'a str,
-        /// The file names of the design.
-        board: BoardNames<'a>,
+        log: File,
+        /// The files of the design.
+        board: BoardFiles<File, Files>,
     },
 }

@@ -3,28 +3,23 @@ ghost use Rattle.std.specs.Prelude.{◌≡◌, map, IfOk, option_map};
 ghost use Rattle.clap.specs.Matches.{found_of};
 ghost use Rattle.clap.specs.Simple.{subcommand_rows_of};
 ghost use Rattle.clap.specs.Walk.{first_of, rows_of};
-ghost use Rattle.command_line.specs.Words.{with_names, Chain, Ident, Cover, Svf, Walk, Diagnose, Batch};
-ghost use Rattle.command_line.specs.CommandView.{names_view, chain_view, board_view, command_view};
+ghost use Rattle.command_line.specs.declared.command.Command.TheVariants.{Chain, Ident, Cover, Svf, Walk, Diagnose, Batch};
+ghost use Rattle.command_line.specs.Words.{with_names};
 ghost use Rattle.command_line.specs.inner.Found.{command_in, called_found, board_found, log_found, few_in, chain_in, board_in, device_in, make_in, workers_in, worked_in, groups_in};
 
-use crate::command::{BoardNames, BsdlNames, ChainNames, Command, MOST_NAMES};
-use crate::number::number_of;
+use crate::command::{BoardFiles, ChainFiles, Command};
+use crate::names::{BoardNames, BsdlNames, ChainNames, FileName, MOST_NAMES, NamedCommand};
+use crate::number::{PartCount, WorkerCount};
 use clap::ArgMatches;
 use std::alloc::{AllocError, Global};
-
-// The largest number of parts that `make` accepts.
-const MOST_MADE: u32 = 255;
-
-// The largest number of workers that a command accepts.
-const MOST_WORKERS: u32 = 64;
 
 /// Returns the command that `clap` found, or `None` if a number is out of range or there are more than 255 BSDL names.
 /// The only error is a lack of memory.
 pub fn command_in<'a>(
     alloc: Global,
     matches: &ArgMatches<'a>,
-) -> Result<Option<Command<'a>>, AllocError>
-    ensures { IfOk result (λ c. option_map command_view c ≡ command_in (subcommand_rows_of matches.now)) }
+) -> Result<Option<NamedCommand<'a>>, AllocError>
+    ensures { IfOk result (λ c. c ≡ command_in (subcommand_rows_of matches.now)) }
 {
     match matches.subcommand() {
         Some((name, found)) => command_called(alloc, name, found),
@@ -37,8 +32,8 @@ fn command_called<'a>(
     alloc: Global,
     name: &str,
     found: &ArgMatches<'a>,
-) -> Result<Option<Command<'a>>, AllocError>
-    ensures { IfOk result (λ c. option_map command_view c ≡ called_found name.now (rows_of (found_of found.now))) }
+) -> Result<Option<NamedCommand<'a>>, AllocError>
+    ensures { IfOk result (λ c. c ≡ called_found name.now (rows_of (found_of found.now))) }
 {
     if name == "chain" {
         chain_command(alloc, found)
@@ -57,8 +52,8 @@ fn board_called<'a>(
     alloc: Global,
     name: &str,
     found: &ArgMatches<'a>,
-) -> Result<Option<Command<'a>>, AllocError>
-    ensures { IfOk result (λ c. option_map command_view c ≡ board_found name.now (rows_of (found_of found.now))) }
+) -> Result<Option<NamedCommand<'a>>, AllocError>
+    ensures { IfOk result (λ c. c ≡ board_found name.now (rows_of (found_of found.now))) }
 {
     if name == "cover" {
         cover_command(alloc, found)
@@ -79,8 +74,8 @@ fn log_called<'a>(
     alloc: Global,
     name: &str,
     found: &ArgMatches<'a>,
-) -> Result<Option<Command<'a>>, AllocError>
-    ensures { IfOk result (λ c. option_map command_view c ≡ log_found name.now (rows_of (found_of found.now))) }
+) -> Result<Option<NamedCommand<'a>>, AllocError>
+    ensures { IfOk result (λ c. c ≡ log_found name.now (rows_of (found_of found.now))) }
 {
     if name == "diagnose" {
         diagnose_command(alloc, found)
@@ -104,7 +99,7 @@ fn word_in<'a>(found: &ArgMatches<'a>, id: &str) -> Option<&'a str>
 // Returns the names of the BSDL files, or `None` if there are more than 255.
 #[tactic(auto, using(crate::proofs::RowLemmas::all_rows))]
 fn few_in<'a>(alloc: Global, found: &ArgMatches<'a>) -> Result<Option<BsdlNames<'a>>, AllocError>
-    ensures { IfOk result (λ bsdl. option_map names_view bsdl ≡ few_in (rows_of (found_of found.now))) }
+    ensures { IfOk result (λ bsdl. bsdl ≡ few_in (rows_of (found_of found.now))) }
 {
     match found.get_strs("BSDL") {
         Some(names) => few_names(alloc, names),
@@ -114,24 +109,27 @@ fn few_in<'a>(alloc: Global, found: &ArgMatches<'a>) -> Result<Option<BsdlNames<
 
 // Returns these names as names of BSDL files, or `None` if there are more than 255.
 fn few_names<'a>(alloc: Global, names: &[&'a str]) -> Result<Option<BsdlNames<'a>>, AllocError>
-    ensures { IfOk result (λ bsdl. option_map names_view bsdl ≡ with_names (map (λ name. name.now) names.now) (map (λ name. name.now) names.now)) }
+    ensures { IfOk result (λ bsdl. bsdl ≡ with_names (map (λ name. name.now) names.now) (map (λ name. name.now) names.now)) }
 {
     if names.len() > MOST_NAMES {
         return Ok(None);
     }
     let names = names.to_vec(alloc)?;
-    Ok(Some(BsdlNames { names }))
+    Ok(Some(BsdlNames::of(names)))
 }
 
 // Returns the file names of a chain, or `None` if there are more than 255 BSDL names.
 fn chain_in<'a>(alloc: Global, found: &ArgMatches<'a>) -> Result<Option<ChainNames<'a>>, AllocError>
-    ensures { IfOk result (λ names. option_map chain_view names ≡ chain_in (rows_of (found_of found.now))) }
+    ensures { IfOk result (λ names. names ≡ chain_in (rows_of (found_of found.now))) }
 {
     let Some(chain) = word_in(found, "CHAIN") else {
         return Ok(None);
     };
     match few_in(alloc, found) {
-        Ok(Some(bsdl)) => Ok(Some(ChainNames { chain, bsdl })),
+        Ok(Some(bsdl)) => Ok(Some(ChainFiles {
+            chain: FileName::of(chain),
+            bsdl,
+        })),
         Ok(None) => Ok(None),
         Err(error) => Err(error),
     }
@@ -139,7 +137,7 @@ fn chain_in<'a>(alloc: Global, found: &ArgMatches<'a>) -> Result<Option<ChainNam
 
 // Returns the file names of a board, or `None` if there are more than 255 BSDL names.
 fn board_in<'a>(alloc: Global, found: &ArgMatches<'a>) -> Result<Option<BoardNames<'a>>, AllocError>
-    ensures { IfOk result (λ names. option_map board_view names ≡ board_in (rows_of (found_of found.now))) }
+    ensures { IfOk result (λ names. names ≡ board_in (rows_of (found_of found.now))) }
 {
     let Some(chain) = word_in(found, "CHAIN") else {
         return Ok(None);
@@ -148,7 +146,11 @@ fn board_in<'a>(alloc: Global, found: &ArgMatches<'a>) -> Result<Option<BoardNam
         return Ok(None);
     };
     match few_in(alloc, found) {
-        Ok(Some(bsdl)) => Ok(Some(BoardNames { chain, nets, bsdl })),
+        Ok(Some(bsdl)) => Ok(Some(BoardFiles {
+            chain: FileName::of(chain),
+            nets: FileName::of(nets),
+            bsdl,
+        })),
         Ok(None) => Ok(None),
         Err(error) => Err(error),
     }
@@ -158,8 +160,8 @@ fn board_in<'a>(alloc: Global, found: &ArgMatches<'a>) -> Result<Option<BoardNam
 fn chain_command<'a>(
     alloc: Global,
     found: &ArgMatches<'a>,
-) -> Result<Option<Command<'a>>, AllocError>
-    ensures { IfOk result (λ c. option_map command_view c ≡ option_map Chain (chain_in (rows_of (found_of found.now)))) }
+) -> Result<Option<NamedCommand<'a>>, AllocError>
+    ensures { IfOk result (λ c. c ≡ option_map Chain (chain_in (rows_of (found_of found.now)))) }
 {
     match chain_in(alloc, found)? {
         Some(names) => Ok(Some(Command::Chain(names))),
@@ -171,8 +173,8 @@ fn chain_command<'a>(
 fn ident_command<'a>(
     alloc: Global,
     found: &ArgMatches<'a>,
-) -> Result<Option<Command<'a>>, AllocError>
-    ensures { IfOk result (λ c. option_map command_view c ≡ option_map Ident (chain_in (rows_of (found_of found.now)))) }
+) -> Result<Option<NamedCommand<'a>>, AllocError>
+    ensures { IfOk result (λ c. c ≡ option_map Ident (chain_in (rows_of (found_of found.now)))) }
 {
     match chain_in(alloc, found)? {
         Some(names) => Ok(Some(Command::Ident(names))),
@@ -181,19 +183,19 @@ fn ident_command<'a>(
 }
 
 // Returns the command `device`.
-fn device_command<'a>(found: &ArgMatches<'a>) -> Option<Command<'a>>
-    ensures { option_map command_view result ≡ device_in (rows_of (found_of found.now)) }
+fn device_command<'a>(found: &ArgMatches<'a>) -> Option<NamedCommand<'a>>
+    ensures { result ≡ device_in (rows_of (found_of found.now)) }
 {
     let bsdl = word_in(found, "BSDL")?;
-    Some(Command::Device { bsdl })
+    Some(Command::Device(FileName::of(bsdl)))
 }
 
 // Returns the command `cover`, or `None` if there are more than 255 BSDL names.
 fn cover_command<'a>(
     alloc: Global,
     found: &ArgMatches<'a>,
-) -> Result<Option<Command<'a>>, AllocError>
-    ensures { IfOk result (λ c. option_map command_view c ≡ option_map Cover (board_in (rows_of (found_of found.now)))) }
+) -> Result<Option<NamedCommand<'a>>, AllocError>
+    ensures { IfOk result (λ c. c ≡ option_map Cover (board_in (rows_of (found_of found.now)))) }
 {
     match board_in(alloc, found)? {
         Some(names) => Ok(Some(Command::Cover(names))),
@@ -202,8 +204,11 @@ fn cover_command<'a>(
 }
 
 // Returns the command `svf`, or `None` if there are more than 255 BSDL names.
-fn svf_command<'a>(alloc: Global, found: &ArgMatches<'a>) -> Result<Option<Command<'a>>, AllocError>
-    ensures { IfOk result (λ c. option_map command_view c ≡ option_map Svf (board_in (rows_of (found_of found.now)))) }
+fn svf_command<'a>(
+    alloc: Global,
+    found: &ArgMatches<'a>,
+) -> Result<Option<NamedCommand<'a>>, AllocError>
+    ensures { IfOk result (λ c. c ≡ option_map Svf (board_in (rows_of (found_of found.now)))) }
 {
     match board_in(alloc, found)? {
         Some(names) => Ok(Some(Command::Svf(names))),
@@ -215,8 +220,8 @@ fn svf_command<'a>(alloc: Global, found: &ArgMatches<'a>) -> Result<Option<Comma
 fn walk_command<'a>(
     alloc: Global,
     found: &ArgMatches<'a>,
-) -> Result<Option<Command<'a>>, AllocError>
-    ensures { IfOk result (λ c. option_map command_view c ≡ option_map Walk (board_in (rows_of (found_of found.now)))) }
+) -> Result<Option<NamedCommand<'a>>, AllocError>
+    ensures { IfOk result (λ c. c ≡ option_map Walk (board_in (rows_of (found_of found.now)))) }
 {
     match board_in(alloc, found)? {
         Some(names) => Ok(Some(Command::Walk(names))),
@@ -225,18 +230,18 @@ fn walk_command<'a>(
 }
 
 // Returns the command `make`, or `None` if the number of parts is out of range.
-fn make_command<'a>(found: &ArgMatches<'a>) -> Option<Command<'a>>
-    ensures { option_map command_view result ≡ make_in (rows_of (found_of found.now)) }
+fn make_command<'a>(found: &ArgMatches<'a>) -> Option<NamedCommand<'a>>
+    ensures { result ≡ make_in (rows_of (found_of found.now)) }
 {
-    let parts = number_of(MOST_MADE, word_in(found, "NUMBER")?)?;
+    let parts = PartCount::of_word(word_in(found, "NUMBER")?)?;
     Some(Command::Make(parts))
 }
 
 // Returns the number of workers, or `None` if it is out of range.
-fn workers_in(found: &ArgMatches) -> Option<u32>
+fn workers_in(found: &ArgMatches) -> Option<WorkerCount>
     ensures { result ≡ workers_in (rows_of (found_of found.now)) }
 {
-    number_of(MOST_WORKERS, word_in(found, "WORKERS")?)
+    WorkerCount::of_word(word_in(found, "WORKERS")?)
 }
 
 // Returns the command `diagnose`, or `None` if the number of workers is out of range or there are more than 255 BSDL
@@ -244,8 +249,8 @@ fn workers_in(found: &ArgMatches) -> Option<u32>
 fn diagnose_command<'a>(
     alloc: Global,
     found: &ArgMatches<'a>,
-) -> Result<Option<Command<'a>>, AllocError>
-    ensures { IfOk result (λ c. option_map command_view c ≡ worked_in Diagnose (rows_of (found_of found.now))) }
+) -> Result<Option<NamedCommand<'a>>, AllocError>
+    ensures { IfOk result (λ c. c ≡ worked_in Diagnose (rows_of (found_of found.now))) }
 {
     let Some(log) = word_in(found, "LOG") else {
         return Ok(None);
@@ -253,7 +258,7 @@ fn diagnose_command<'a>(
     match (board_in(alloc, found)?, workers_in(found)) {
         (Some(board), Some(workers)) => Ok(Some(Command::Diagnose {
             workers,
-            log,
+            log: FileName::of(log),
             board,
         })),
         _ => Ok(None),
@@ -264,14 +269,17 @@ fn diagnose_command<'a>(
 fn groups_command<'a>(
     alloc: Global,
     found: &ArgMatches<'a>,
-) -> Result<Option<Command<'a>>, AllocError>
-    ensures { IfOk result (λ c. option_map command_view c ≡ groups_in (rows_of (found_of found.now))) }
+) -> Result<Option<NamedCommand<'a>>, AllocError>
+    ensures { IfOk result (λ c. c ≡ groups_in (rows_of (found_of found.now))) }
 {
     let Some(log) = word_in(found, "LOG") else {
         return Ok(None);
     };
     match board_in(alloc, found)? {
-        Some(board) => Ok(Some(Command::Groups { log, board })),
+        Some(board) => Ok(Some(Command::Groups {
+            log: FileName::of(log),
+            board,
+        })),
         None => Ok(None),
     }
 }
@@ -280,8 +288,8 @@ fn groups_command<'a>(
 fn batch_command<'a>(
     alloc: Global,
     found: &ArgMatches<'a>,
-) -> Result<Option<Command<'a>>, AllocError>
-    ensures { IfOk result (λ c. option_map command_view c ≡ worked_in Batch (rows_of (found_of found.now))) }
+) -> Result<Option<NamedCommand<'a>>, AllocError>
+    ensures { IfOk result (λ c. c ≡ worked_in Batch (rows_of (found_of found.now))) }
 {
     let Some(log) = word_in(found, "LOG") else {
         return Ok(None);
@@ -289,7 +297,7 @@ fn batch_command<'a>(
     match (board_in(alloc, found)?, workers_in(found)) {
         (Some(board), Some(workers)) => Ok(Some(Command::Batch {
             workers,
-            log,
+            log: FileName::of(log),
             board,
         })),
         _ => Ok(None),

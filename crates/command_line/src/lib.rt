@@ -4,8 +4,11 @@
 mod command;
 mod found;
 mod grammar;
+mod names;
 mod number;
 mod words;
 
-pub use command::{BoardNames, BsdlNames, ChainNames, Command};
+pub use command::{BoardFiles, ChainFiles, Command};
+pub use names::{BoardNames, BsdlNames, ChainNames, FileName, NamedCommand};
+pub use number::{PartCount, WorkerCount};
 pub use words::command_of;

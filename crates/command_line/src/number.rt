@@ -1,16 +1,102 @@
-// Reads a number from a word.
-ghost use Rattle.std.specs.Prelude.{◌≡◌};
+// The numbers in the words of a command.
+ghost use Rattle.std.specs.Prelude.{◌≡◌, ◌≤◌, IfSome};
 ghost use Rattle.std.specs.Char.{is_ascii_digit};
 ghost use Rattle.std.specs.List.{list_all};
+ghost use Rattle.command_line.specs.Limits.{most_made, most_workers};
 ghost use Rattle.command_line.specs.Words.{number_of};
+
+use std::marker::Model;
 
 /// The largest number of digits of a number.
 const MOST_DIGITS: usize = 20;
 
-/// Returns the value of a word of 1 to 20 decimal digits. Returns `None` if the value is not from 1 to `most`, or if
-/// the word has another form.
-pub fn number_of(most: u32, word: &str) -> Option<u32>
-    ensures { result ≡ number_of most word.now }
+// The largest number of parts of a generated board.
+const MOST_MADE: u32 = 255;
+
+// The largest number of workers.
+const MOST_WORKERS: u32 = 64;
+
+/// The number of parts of a generated board, from 1 to 255.
+#[derive(Clone, Copy)]
+pub struct PartCount {
+    number: u32,
+}
+
+impl Model for PartCount {
+    ghost use Rattle.std.specs.Prelude.{ℕ, ◌≤◌};
+    ghost use Rattle.command_line.specs.Limits.{most_made};
+
+    ghost Value = { ℕ };
+
+    ghost view = { λ count. count.number };
+
+    ghost invariant = { λ count. (1 ≤ count.number) × (count.number ≤ most_made) };
+
+    ghost inverse = { λ count. record { number = count } };
+}
+
+impl PartCount {
+    /// Returns the number of parts that a word denotes, or `None` if the word is no number from 1 to 255.
+    pub fn of_word(word: &str) -> Option<PartCount>
+        ensures { result ≡ number_of most_made word.now }
+    {
+        let number = number_of(MOST_MADE, word)?;
+        Some(PartCount { number })
+    }
+
+    /// Returns the number.
+    pub fn number(self) -> u32
+        ensures value { result ≡ self }
+        ensures some { 1 ≤ result }
+        ensures few { result ≤ most_made }
+    {
+        self.number
+    }
+}
+
+/// The number of threads that work on diagnoses, from 1 to 64.
+#[derive(Clone, Copy)]
+pub struct WorkerCount {
+    number: u32,
+}
+
+impl Model for WorkerCount {
+    ghost use Rattle.std.specs.Prelude.{ℕ, ◌≤◌};
+    ghost use Rattle.command_line.specs.Limits.{most_workers};
+
+    ghost Value = { ℕ };
+
+    ghost view = { λ count. count.number };
+
+    ghost invariant = { λ count. (1 ≤ count.number) × (count.number ≤ most_workers) };
+
+    ghost inverse = { λ count. record { number = count } };
+}
+
+impl WorkerCount {
+    /// Returns the number of workers that a word denotes, or `None` if the word is no number from 1 to 64.
+    pub fn of_word(word: &str) -> Option<WorkerCount>
+        ensures { result ≡ number_of most_workers word.now }
+    {
+        let number = number_of(MOST_WORKERS, word)?;
+        Some(WorkerCount { number })
+    }
+
+    /// Returns the number.
+    pub fn number(self) -> u32
+        ensures value { result ≡ self }
+        ensures some { 1 ≤ result }
+        ensures few { result ≤ most_workers }
+    {
+        self.number
+    }
+}
+
+// Returns the value of a word of 1 to 20 decimal digits. Returns `None` if the value is not from 1 to `most`, or if
+// the word has another form.
+fn number_of(most: u32, word: &str) -> Option<u32>
+    ensures value { result ≡ number_of most word.now }
+    ensures range { IfSome result (λ n. (1 ≤ n) × (n ≤ most)) }
 {
     if word.len() > MOST_DIGITS || !are_digits(word) {
         return None;

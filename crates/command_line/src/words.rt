@@ -1,22 +1,23 @@
 // Reads a command from the words of a command line.
-ghost use Rattle.std.specs.Prelude.{◌≡◌, List, map, true, false, string_bytes, IfOk, IfSome, option_map};
+ghost use Rattle.std.specs.Prelude.{◌≡◌, map, true, string_bytes, IfOk};
 ghost use Rattle.std.specs.List.{list_all};
 ghost use Rattle.clap.specs.Simple.{subcommand_rows_of};
-ghost use Rattle.command_line.specs.Words.{is_plain, command_of, parsed, HasNumber};
-ghost use Rattle.command_line.specs.CommandView.{command_view};
+ghost use Rattle.command_line.specs.Words.{is_plain, command_of, parsed};
 ghost use Rattle.command_line.specs.inner.Found.{found_in};
 
-use crate::command::Command;
 use crate::found::command_in;
 use crate::grammar::whole_command;
+use crate::names::NamedCommand;
 use clap::ArgMatches;
 use clap::error::ErrorKind;
 use std::alloc::{AllocError, Global};
 
 /// Returns the command that the words form, or `None` if they form no command. The only error is a lack of memory.
-pub fn command_of<'a>(alloc: Global, words: &'a [String]) -> Result<Option<Command<'a>>, AllocError>
-    ensures command { IfOk result (λ c. option_map command_view c ≡ command_of (map string_bytes words.entry.now)) }
-    ensures number { IfOk result (λ c. IfSome c (λ c. HasNumber (command_view c))) }
+pub fn command_of<'a>(
+    alloc: Global,
+    words: &'a [String],
+) -> Result<Option<NamedCommand<'a>>, AllocError>
+    ensures { IfOk result (λ c. c ≡ command_of (map string_bytes words.entry.now)) }
 {
     if !are_plain(words) {
         return Ok(None);

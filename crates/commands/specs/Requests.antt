@@ -1,34 +1,39 @@
--- The commands with the texts that they read.
+-- The commands with the texts of their files.
 use Rattle.std.specs.Prelude.{List, [], ◌∷◌, Option, Some, None}
-use Rattle.command_line.specs.Words.{Text, Command, Chain, Ident, Device, Cover, Svf, Walk, Make, Diagnose, Groups, Batch}
-use Rattle.commands.specs.declared.request.Request.{Request}
-use Rattle.commands.specs.declared.request.Request.TheVariants as request
-use Rattle.commands.specs.declared.texts.BoardTexts.{BoardTexts}
-use Rattle.commands.specs.declared.texts.ChainTexts.{ChainTexts}
-use Rattle.commands.specs.declared.texts.LogTexts.{LogTexts}
+use Rattle.command_line.specs.declared.command.BoardFiles.{BoardFiles}
+use Rattle.command_line.specs.declared.command.ChainFiles.{ChainFiles}
+use Rattle.command_line.specs.declared.command.Command.{Command as CommandOf}
+use Rattle.command_line.specs.declared.command.Command.TheVariants.{Chain, Ident, Device, Cover, Svf, Walk, Make, Diagnose, Groups, Batch}
+use Rattle.command_line.specs.Words.{Text, Command}
 
--- the texts of a chain
+-- the texts of a chain: a chain file and BSDL files
+abbrev pub ChainTexts : Type 0
+ChainTexts = ChainFiles Text (List Text)
+
+-- the texts of a board: a chain file, a net file and BSDL files
+abbrev pub BoardTexts : Type 0
+BoardTexts = BoardFiles Text (List Text)
+
+-- a command with the text of each file in place of its name
+abbrev pub Request : Type 0
+Request = CommandOf Text (List Text)
+
 abbrev pub chain_texts : Text → List Text → ChainTexts
 chain_texts chain bsdl = record { chain = chain; bsdl = bsdl }
 
--- the texts of a board
 abbrev pub board_texts : Text → Text → List Text → BoardTexts
 board_texts chain nets bsdl = record { chain = chain; nets = nets; bsdl = bsdl }
 
--- a text of logs, and the texts of the board to which the logs belong
-abbrev pub log_texts : Text → Text → Text → List Text → LogTexts
-log_texts log chain nets bsdl = record { log = log; board = board_texts chain nets bsdl }
-
 -- The command with these texts, one for each of its file names, in order. It is `None` if the texts do not fit the command.
 abbrev pub request_of : Command → List Text → Option Request
-request_of (Chain names) (chain ∷ bsdl) = Some (request.Chain (chain_texts chain bsdl))
-request_of (Ident names) (chain ∷ bsdl) = Some (request.Ident (chain_texts chain bsdl))
-request_of (Device name) (bsdl ∷ []) = Some (request.Device bsdl)
-request_of (Cover names) (chain ∷ nets ∷ bsdl) = Some (request.Cover (board_texts chain nets bsdl))
-request_of (Svf names) (chain ∷ nets ∷ bsdl) = Some (request.Svf (board_texts chain nets bsdl))
-request_of (Walk names) (chain ∷ nets ∷ bsdl) = Some (request.Walk (board_texts chain nets bsdl))
-request_of (Make parts) texts = Some (request.Make parts)
-request_of (Diagnose workers name names) (log ∷ chain ∷ nets ∷ bsdl) = Some (request.Diagnose workers (log_texts log chain nets bsdl))
-request_of (Groups name names) (log ∷ chain ∷ nets ∷ bsdl) = Some (request.Groups (log_texts log chain nets bsdl))
-request_of (Batch workers name names) (log ∷ chain ∷ nets ∷ bsdl) = Some (request.Batch workers (log_texts log chain nets bsdl))
+request_of (Chain names) (chain ∷ bsdl) = Some (Chain (chain_texts chain bsdl))
+request_of (Ident names) (chain ∷ bsdl) = Some (Ident (chain_texts chain bsdl))
+request_of (Device name) (bsdl ∷ []) = Some (Device bsdl)
+request_of (Cover names) (chain ∷ nets ∷ bsdl) = Some (Cover (board_texts chain nets bsdl))
+request_of (Svf names) (chain ∷ nets ∷ bsdl) = Some (Svf (board_texts chain nets bsdl))
+request_of (Walk names) (chain ∷ nets ∷ bsdl) = Some (Walk (board_texts chain nets bsdl))
+request_of (Make parts) texts = Some (Make parts)
+request_of (Diagnose workers name names) (log ∷ chain ∷ nets ∷ bsdl) = Some (Diagnose workers log (board_texts chain nets bsdl))
+request_of (Groups name names) (log ∷ chain ∷ nets ∷ bsdl) = Some (Groups log (board_texts chain nets bsdl))
+request_of (Batch workers name names) (log ∷ chain ∷ nets ∷ bsdl) = Some (Batch workers log (board_texts chain nets bsdl))
 request_of command texts = None

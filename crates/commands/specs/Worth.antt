@@ -29,11 +29,9 @@ use Rattle.walk_test.specs.Groups.{AreGroups, Explain}
 use Rattle.walk_test.specs.GroupText.{groups_text}
 use Rattle.walk_test.specs.WalkTest.{board_walk_text, walk_row_list, walk_scans}
 use Rattle.commands.specs.LogRead.{test_blocks, test_log, walk_log}
+use Rattle.command_line.specs.declared.command.Command.TheVariants.{Chain, Ident, Device, Cover, Svf, Walk, Make, Diagnose, Groups, Batch}
 use Rattle.command_line.specs.Words.{Text}
-use Rattle.commands.specs.declared.request.Request.{Request}
-use Rattle.commands.specs.declared.request.Request.TheVariants.{Chain, Ident, Device, Cover, Svf, Walk, Make, Diagnose, Groups, Batch}
-use Rattle.commands.specs.declared.texts.BoardTexts.{BoardTexts}
-use Rattle.commands.specs.declared.texts.ChainTexts.{ChainTexts}
+use Rattle.commands.specs.Requests.{BoardTexts, ChainTexts, Request}
 
 -- the text tests the length of the chain that these texts describe
 pub record TestsChain (texts : ChainTexts) (text : Text) : Type 0 where
@@ -151,6 +149,6 @@ IsWorthFor (Cover texts) text = ListsCover texts text
 IsWorthFor (Svf texts) text = TestsBoard texts text
 IsWorthFor (Walk texts) text = WalksBoard texts text
 IsWorthFor (Make parts) text = Unit {0}
-IsWorthFor (Diagnose workers texts) text = OfDenoted (Diagnoses texts.log) texts.board text
-IsWorthFor (Groups texts) text = OfDenoted (FindsGroups texts.log) texts.board text
-IsWorthFor (Batch workers texts) text = OfDenoted (DiagnosesEach texts.log) texts.board text
+IsWorthFor (Diagnose workers log board) text = OfDenoted (Diagnoses log) board text
+IsWorthFor (Groups log board) text = OfDenoted (FindsGroups log) board text
+IsWorthFor (Batch workers log board) text = OfDenoted (DiagnosesEach log) board text

@@ -1,5 +1,5 @@
 // The command `make`, which summarizes a generated board.
-ghost use Rattle.std.specs.Prelude.{◌≡◌, ◌≤◌, [], ◌∷◌, length, min, IfOk};
+ghost use Rattle.std.specs.Prelude.{◌≡◌, [], ◌∷◌, length, min, IfOk};
 ghost use Rattle.bt_base.specs.Counts.{last_count};
 ghost use Rattle.line_printer.specs.Prints.{Prints};
 ghost use Rattle.board_defs.specs.Passes.{passes_of};
@@ -25,6 +25,7 @@ use board_gen::{Made, make};
 use bt_base::{CountSink, PutFault, Sink};
 use bt_bits::Line;
 use btest_core::{InputFault, plan_by, read_board};
+use command_line::PartCount;
 use coverage_list::covered_nets;
 use itoa::Buffer;
 use line_printer::put_line;
@@ -46,9 +47,7 @@ struct Counts {
 }
 
 /// Writes the summary of the generated board with `number` parts, from 1 to 255. All memory is allocated before the first write.
-pub fn summary<K: Sink>(alloc: Global, number: u32, out: &mut K) -> Result<(), Unput>
-    requires some { 1 ≤ number }
-    requires few { number ≤ 255 }
+pub fn summary<K: Sink>(alloc: Global, number: PartCount, out: &mut K) -> Result<(), Unput>
     ensures { Answers (IsBoardRead (chain_text number) (net_text number) (bsdl_text ∷ [])) summary_text Nothing (K.shown out.old) (K.shown out.new) result }
 {
     match generated_board(alloc, number) {
@@ -71,12 +70,10 @@ fn put_summary<K: Sink>(alloc: Global, board: &Board, out: &mut K) -> Result<(),
 }
 
 // Returns the generated board with `number` parts.
-fn generated_board(alloc: Global, number: u32) -> Result<Board, InputFault>
-    requires some { 1 ≤ number }
-    requires few { number ≤ 255 }
+fn generated_board(alloc: Global, number: PartCount) -> Result<Board, InputFault>
     ensures { Gives input_told (λ board. board) (IsBoardRead (chain_text number) (net_text number) (bsdl_text ∷ [])) result }
 {
-    let Made { chain, nets, bsdl } = make(alloc, number)?;
+    let Made { chain, nets, bsdl } = make(alloc, number.number())?;
     let mut texts = Vec::new(alloc);
     texts.push(bsdl)?;
     read_board(alloc, &chain, &nets, &texts)

@@ -1,6 +1,7 @@
 // The texts of a command. Each text has fewer than 2^32 bytes.
 ghost use Rattle.std.specs.Prelude.{◌≡◌, ◌<◌, ◌^◌, All, length, map};
 
+use command_line::{BoardFiles, ChainFiles, Command};
 use std::marker::Model;
 
 /// A text of fewer than 2^32 bytes.
@@ -82,19 +83,13 @@ impl ShortTexts {
 }
 
 /// The texts of a chain: a chain file and BSDL files.
-#[derive(Drop)]
-pub struct ChainTexts {
-    pub chain: ShortText,
-    pub bsdl: ShortTexts,
-}
+pub type ChainTexts = ChainFiles<ShortText, ShortTexts>;
 
 /// The texts of a board: a chain file, a net file and BSDL files.
-#[derive(Drop)]
-pub struct BoardTexts {
-    pub chain: ShortText,
-    pub nets: ShortText,
-    pub bsdl: ShortTexts,
-}
+pub type BoardTexts = BoardFiles<ShortText, ShortTexts>;
+
+/// A command with the texts of its files.
+pub type Request = Command<ShortText, ShortTexts>;
 
 /// A text of one or more response logs, and the texts of the board to which the logs belong.
 #[derive(Drop)]

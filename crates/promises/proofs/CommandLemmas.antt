@@ -26,7 +26,8 @@ use Rattle.board_gen.specs.DeviceText.{bsdl_text}
 use Rattle.btest_core.specs.BoardRead.{AreLengths, Denotes}
 use Rattle.commands.specs.LogRead.{test_blocks, test_log, walk_log}
 use Rattle.commands.specs.Worth.{Diagnoses, DiagnosesEach, FindsGroups as FindsOne, IsRight, RespondOnce, TestMeans}
-use Rattle.command_line.specs.Words.{Text, Chain, Ident, Device, Cover, Svf, Walk, Make, Diagnose, Groups, Batch}
+use Rattle.command_line.specs.declared.command.Command.TheVariants.{Chain, Ident, Device, Cover, Svf, Walk, Make, Diagnose, Groups, Batch}
+use Rattle.command_line.specs.Words.{Text}
 use Rattle.promises.specs.Runs.{Run}
 use Rattle.promises.specs.Gives.{Gives, summary}
 use Rattle.promises.specs.Promises.{DiagnosesBlocks, DiagnosesLog, FindsGroups, HasResponses, IsDiagnosed, ListsCover, ListsDevice, RestsOnBlocks, RestsOnLog, RestsOnWalkLog, SumsUp, TestsBoard, TestsChain, TestsIdents, WalksBoard}

@@ -25,9 +25,9 @@ use Rattle.btest_core.specs.BoardRead.{AreChainLengths, IsBoardRead}
 use Rattle.btest_core.specs.IdentsRead.{AreIdents}
 use Rattle.refusal_lines.specs.Refusals.{Names, input_fault_line, log_fault_line, batch_fault_line}
 use Rattle.commands.specs.LogRead.{Judging, OnDenoted, Input, Log, Batch as OfBatch, diagnosing, diagnosis_text, grouping, grouping_text, judging_each, verdicts_text, test_rows, walk_rows}
-use Rattle.command_line.specs.Words.{Text, Command, Chain, Ident, Device, Cover, Svf, Walk, Make, Diagnose, Groups, Batch}
-use Rattle.commands.specs.Requests.{board_texts, chain_texts, log_texts}
-use Rattle.commands.specs.declared.request.Request.TheVariants as request
+use Rattle.command_line.specs.declared.command.Command.TheVariants.{Chain, Ident, Device, Cover, Svf, Walk, Make, Diagnose, Groups, Batch}
+use Rattle.command_line.specs.Words.{Text, Command}
+use Rattle.commands.specs.Requests.{board_texts, chain_texts}
 use Rattle.btest_cli.specs.Refusals.{roles_of, text_fault_line}
 use Rattle.btest_cli.specs.Texts.{Read}
 use Rattle.btest_cli.specs.Outcome.{IsGiven, IsOutcome, IsSaid}
@@ -86,34 +86,34 @@ each_back board blocks found is = (found.1, is.1, ap (λ (l : List Block). batch
 -- if the files give an outcome, it is an outcome in the sense of `run`
 pub gives_is : (command : Command) (texts : List Text) (outcome : Result Text Text) → Gives command texts outcome → IsOutcome command (Read texts) outcome
 gives_is (Chain names) [] outcome gives = absurd gives
-gives_is (Chain names) (chain ∷ bsdl) outcome gives = (request.Chain (chain_texts chain bsdl), refl, said (AreChainLengths chain bsdl) chain_text (of_chain names) outcome gives)
+gives_is (Chain names) (chain ∷ bsdl) outcome gives = (Chain (chain_texts chain bsdl), refl, said (AreChainLengths chain bsdl) chain_text (of_chain names) outcome gives)
 gives_is (Ident names) [] outcome gives = absurd gives
-gives_is (Ident names) (chain ∷ bsdl) outcome gives = (request.Ident (chain_texts chain bsdl), refl, said (AreIdents chain bsdl) ident_text (of_chain names) outcome gives)
+gives_is (Ident names) (chain ∷ bsdl) outcome gives = (Ident (chain_texts chain bsdl), refl, said (AreIdents chain bsdl) ident_text (of_chain names) outcome gives)
 gives_is (Device name) [] outcome gives = absurd gives
-gives_is (Device name) (text ∷ []) outcome gives = (request.Device text, refl, said (IsDeviceText text) device_text (record { log = []; chain = []; nets = []; bsdl = name ∷ [] }) outcome gives)
+gives_is (Device name) (text ∷ []) outcome gives = (Device text, refl, said (IsDeviceText text) device_text (record { log = []; chain = []; nets = []; bsdl = name ∷ [] }) outcome gives)
 gives_is (Device name) (text ∷ other ∷ others) outcome gives = absurd gives
 gives_is (Cover names) [] outcome gives = absurd gives
 gives_is (Cover names) (chain ∷ []) outcome gives = absurd gives
-gives_is (Cover names) (chain ∷ nets ∷ bsdl) outcome gives = (request.Cover (board_texts chain nets bsdl), refl, said (IsBoardRead chain nets bsdl) cover_text (of_board [] names) outcome gives)
+gives_is (Cover names) (chain ∷ nets ∷ bsdl) outcome gives = (Cover (board_texts chain nets bsdl), refl, said (IsBoardRead chain nets bsdl) cover_text (of_board [] names) outcome gives)
 gives_is (Svf names) [] outcome gives = absurd gives
 gives_is (Svf names) (chain ∷ []) outcome gives = absurd gives
-gives_is (Svf names) (chain ∷ nets ∷ bsdl) outcome gives = (request.Svf (board_texts chain nets bsdl), refl, said (IsBoardRead chain nets bsdl) board_text (of_board [] names) outcome gives)
+gives_is (Svf names) (chain ∷ nets ∷ bsdl) outcome gives = (Svf (board_texts chain nets bsdl), refl, said (IsBoardRead chain nets bsdl) board_text (of_board [] names) outcome gives)
 gives_is (Walk names) [] outcome gives = absurd gives
 gives_is (Walk names) (chain ∷ []) outcome gives = absurd gives
-gives_is (Walk names) (chain ∷ nets ∷ bsdl) outcome gives = (request.Walk (board_texts chain nets bsdl), refl, said (IsBoardRead chain nets bsdl) board_walk_text (of_board [] names) outcome gives)
-gives_is (Make parts) texts outcome gives = (request.Make parts, refl, said (IsBoardRead (made.chain_text parts) (made.net_text parts) (bsdl_text ∷ [])) summary (record { log = []; chain = codes "chain"; nets = codes "nets"; bsdl = codes "bsdl" ∷ [] }) outcome gives)
+gives_is (Walk names) (chain ∷ nets ∷ bsdl) outcome gives = (Walk (board_texts chain nets bsdl), refl, said (IsBoardRead chain nets bsdl) board_walk_text (of_board [] names) outcome gives)
+gives_is (Make parts) texts outcome gives = (Make parts, refl, said (IsBoardRead (made.chain_text parts) (made.net_text parts) (bsdl_text ∷ [])) summary (record { log = []; chain = codes "chain"; nets = codes "nets"; bsdl = codes "bsdl" ∷ [] }) outcome gives)
 gives_is (Diagnose workers log names) [] outcome gives = absurd gives
 gives_is (Diagnose workers log names) (rows ∷ []) outcome gives = absurd gives
 gives_is (Diagnose workers log names) (rows ∷ chain ∷ []) outcome gives = absurd gives
-gives_is (Diagnose workers log names) (rows ∷ chain ∷ nets ∷ bsdl) outcome gives = (request.Diagnose workers (log_texts rows chain nets bsdl), refl, logs_said diagnosing (λ board log (found : Diagnosis). IsDiagnosis board log found.0 found.1) (λ board log (found : Diagnosis). diag_text board found.0 found.1) diagnosis_text (λ board fault. log_fault_line log (test_rows board) fault) (of_board log names) (λ board fault. refl) (λ board log found is. (found, is, refl)) (λ board log found is. (found, is, refl)) rows chain nets bsdl outcome gives)
+gives_is (Diagnose workers log names) (rows ∷ chain ∷ nets ∷ bsdl) outcome gives = (Diagnose workers rows (board_texts chain nets bsdl), refl, logs_said diagnosing (λ board log (found : Diagnosis). IsDiagnosis board log found.0 found.1) (λ board log (found : Diagnosis). diag_text board found.0 found.1) diagnosis_text (λ board fault. log_fault_line log (test_rows board) fault) (of_board log names) (λ board fault. refl) (λ board log found is. (found, is, refl)) (λ board log found is. (found, is, refl)) rows chain nets bsdl outcome gives)
 gives_is (Groups log names) [] outcome gives = absurd gives
 gives_is (Groups log names) (rows ∷ []) outcome gives = absurd gives
 gives_is (Groups log names) (rows ∷ chain ∷ []) outcome gives = absurd gives
-gives_is (Groups log names) (rows ∷ chain ∷ nets ∷ bsdl) outcome gives = (request.Groups (log_texts rows chain nets bsdl), refl, logs_said grouping AreFound (λ board log found. groups_text board found) grouping_text (λ board fault. log_fault_line log (walk_rows board) fault) (of_board log names) (λ board fault. refl) (λ board log found is. (found, is, refl)) (λ board log found is. (found, is, refl)) rows chain nets bsdl outcome gives)
+gives_is (Groups log names) (rows ∷ chain ∷ nets ∷ bsdl) outcome gives = (Groups rows (board_texts chain nets bsdl), refl, logs_said grouping AreFound (λ board log found. groups_text board found) grouping_text (λ board fault. log_fault_line log (walk_rows board) fault) (of_board log names) (λ board fault. refl) (λ board log found is. (found, is, refl)) (λ board log found is. (found, is, refl)) rows chain nets bsdl outcome gives)
 gives_is (Batch workers log names) [] outcome gives = absurd gives
 gives_is (Batch workers log names) (rows ∷ []) outcome gives = absurd gives
 gives_is (Batch workers log names) (rows ∷ chain ∷ []) outcome gives = absurd gives
-gives_is (Batch workers log names) (rows ∷ chain ∷ nets ∷ bsdl) outcome gives = (request.Batch workers (log_texts rows chain nets bsdl), refl, logs_said judging_each AreVerdicts batch_text verdicts_text (λ board fault. batch_fault_line log (test_rows board) fault) (of_board log names) (λ board fault. refl) (λ board blocks verdicts is. ((blocks, verdicts), (refl, is), refl)) each_back rows chain nets bsdl outcome gives)
+gives_is (Batch workers log names) (rows ∷ chain ∷ nets ∷ bsdl) outcome gives = (Batch workers rows (board_texts chain nets bsdl), refl, logs_said judging_each AreVerdicts batch_text verdicts_text (λ board fault. batch_fault_line log (test_rows board) fault) (of_board log names) (λ board fault. refl) (λ board blocks verdicts is. ((blocks, verdicts), (refl, is), refl)) each_back rows chain nets bsdl outcome gives)
 
 -- if an outcome is an outcome in the sense of `run`, the files give it
 pub is_gives : (command : Command) (texts : List Text) (outcome : Result Text Text) → IsOutcome command (Read texts) outcome → Gives command texts outcome

@@ -4,9 +4,8 @@ use Rattle.std.specs.Prelude.{IfSome}
 use Rattle.bt_base.specs.Counts.{Rose}
 use Rattle.bt_base.specs.Puts.{Shown, Takes}
 use Rattle.command_line.specs.Words.{Text, Command, command_of, names_of}
-use Rattle.commands.specs.Requests.{request_of}
+use Rattle.commands.specs.Requests.{Request, request_of}
 use Rattle.commands.specs.Worth.{IsWorthFor}
-use Rattle.commands.specs.declared.request.Request.{Request}
 use Rattle.btest_cli.specs.declared.status.Status.{Status}
 use Rattle.btest_cli.specs.declared.status.Status.TheVariants.{Done, Refused, WriteFault, NoMemory}
 use Rattle.btest_cli.specs.Texts.{Wanted, Reading, Read, IsRead, known_reading, wanted_of}

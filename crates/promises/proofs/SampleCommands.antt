@@ -40,7 +40,8 @@ use Rattle.board_gen.specs.DeviceText.{bsdl_text}
 use Rattle.btest_core.specs.DevicesRead.{IsDeviceText}
 use Rattle.btest_core.specs.BoardRead.{AreChainLengths, AreLengths, Denotes}
 use Rattle.btest_core.specs.IdentsRead.{AreIdents}
-use Rattle.command_line.specs.Words.{Text, ChainNames, BoardNames, Command, Ident, Cover, Walk, Diagnose, Groups, Batch}
+use Rattle.command_line.specs.declared.command.Command.TheVariants.{Ident, Cover, Walk, Diagnose, Groups, Batch}
+use Rattle.command_line.specs.Words.{Text, ChainNames, BoardNames, Command}
 use Rattle.btest_cli.specs.Texts.{Held}
 use Rattle.btest_cli.specs.declared.status.Status.{Status}
 use Rattle.btest_cli.specs.declared.status.Status.TheVariants.{Done, WriteFault}

@@ -9,7 +9,8 @@ use Rattle.board_defs.specs.declared.device.RawDevice.{RawDevice}
 use Rattle.device_check.specs.DeviceText.{device_text}
 use Rattle.btest_core.specs.DevicesRead.{IsDeviceText}
 use Rattle.refusal_lines.specs.Refusals.{usage_line, long_line, read_line, write_line, memory_line}
-use Rattle.command_line.specs.Words.{Text, Command, Chain, Device, Svf}
+use Rattle.command_line.specs.declared.command.Command.TheVariants.{Chain, Device, Svf}
+use Rattle.command_line.specs.Words.{Text, Command}
 use Rattle.btest_cli.specs.Texts.{Held, Wanted}
 use Rattle.btest_cli.specs.declared.status.Status.{Status}
 use Rattle.btest_cli.specs.declared.status.Status.TheVariants.{Done, Refused, Usage, ReadFault, WriteFault, NoMemory}

@@ -1,6 +1,7 @@
 -- Samples of words that ask for a command, for each command, and of words that ask for no command. They are worked out by hand.
 use Rattle.std.proofs.Common.{ℕ, List, [], ◌∷◌, replicate, codes, refl, arith}
-use Rattle.command_line.specs.Words.{Text, ChainNames, BoardNames, Chain, Ident, Device, Cover, Svf, Walk, Make, Diagnose, Groups, Batch, board_called, log_called}
+use Rattle.command_line.specs.declared.command.Command.TheVariants.{Chain, Ident, Device, Cover, Svf, Walk, Make, Diagnose, Groups, Batch}
+use Rattle.command_line.specs.Words.{Text, ChainNames, BoardNames, board_called, log_called}
 use Rattle.btest_cli.specs.declared.status.Status.{Status}
 use Rattle.promises.specs.Runs.{Asks, AsksNothing, Ends, Run}
 use Rattle.promises.proofs.WordLemmas.{none_asked}

@@ -6,7 +6,7 @@ use Rattle.refusal_lines.specs.Refusals.{usage_line, long_line, read_line, write
 use Rattle.btest_cli.specs.declared.status.Status.{Status}
 use Rattle.btest_cli.specs.declared.status.Status.TheVariants.{Done, Refused, Usage, ReadFault, WriteFault, NoMemory}
 use Rattle.btest_cli.specs.Texts.{Wanted, Reading, Read, TooLong, AsksFor as AskedFor, IsRead, known_reading, wanted_of}
-use Rattle.commands.specs.declared.request.Request.{Request}
+use Rattle.commands.specs.Requests.{Request}
 use Rattle.btest_cli.specs.Refusals.{roles_of}
 use Rattle.btest_cli.specs.Outcome.{AsksSome, IsGiven, IsNotRead, IsOutcome, IsReadAs}
 use Rattle.btest_cli.proofs.RunLemmas.{all_asked, one_reading, rose_among}

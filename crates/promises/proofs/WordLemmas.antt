@@ -5,7 +5,8 @@ use Rattle.std.specs.List.{list_all}
 use Rattle.std.specs.Str.{bytes_eq}
 use Rattle.std.proofs.lemmas.Grind.{common_steps}
 use Rattle.std.proofs.lemmas.Slice.Eq.{bytes_eq-Decides}
-use Rattle.command_line.specs.Words.{Text, ChainNames, BoardNames, Command, Chain, Ident, Device, Cover, Svf, Walk, Make, Diagnose, Groups, Batch, batch_of, board_called, board_of, chain_of, command_of, device_of, diagnose_of, groups_of, is_plain, log_called, make_of, number_of, parsed, with_names, worked_of}
+use Rattle.command_line.specs.declared.command.Command.TheVariants.{Chain, Ident, Device, Cover, Svf, Walk, Make, Diagnose, Groups, Batch}
+use Rattle.command_line.specs.Words.{Text, ChainNames, BoardNames, Command, batch_of, board_called, board_of, chain_of, command_of, device_of, diagnose_of, groups_of, is_plain, log_called, make_of, number_of, parsed, with_names, worked_of}
 use Rattle.promises.specs.Runs.{AreWords, Asks, AsksNothing, Run, ThenBoard, ThenChain}
 
 allowed : (n : ℕ) (b : Bool) → nat_le n 255 ≡ b → n ≤ 255 → b ≡ true

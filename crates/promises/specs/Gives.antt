@@ -24,7 +24,8 @@ use Rattle.btest_core.specs.BoardRead.{AreChainLengths, Denotes, IsBoardRead}
 use Rattle.btest_core.specs.IdentsRead.{AreIdents}
 use Rattle.refusal_lines.specs.Refusals.{Names, input_fault_line, log_fault_line, batch_fault_line}
 use Rattle.commands.specs.LogRead.{test_blocks, test_log, test_rows, walk_log, walk_rows}
-use Rattle.command_line.specs.Words.{Text, ChainNames, BoardNames, Command, Chain, Ident, Device, Cover, Svf, Walk, Make, Diagnose, Groups, Batch}
+use Rattle.command_line.specs.declared.command.Command.TheVariants.{Chain, Ident, Device, Cover, Svf, Walk, Make, Diagnose, Groups, Batch}
+use Rattle.command_line.specs.Words.{Text, ChainNames, BoardNames, Command}
 
 -- The names of the files of a chain, each name in the place for its kind of file. `of_board` does the same for a board.
 abbrev pub of_chain : ChainNames → Names

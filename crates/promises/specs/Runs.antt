@@ -7,7 +7,9 @@ use Rattle.bt_base.specs.declared.memory.MemSink.{MemSink}
 use Rattle.bt_base.specs.Counts.{Rose}
 use Rattle.bt_base.specs.Memory.{asked_of, text_of, faults_of as read_faults}
 use Rattle.bt_base.specs.MemSink.{faults_of, taken_of}
-use Rattle.command_line.specs.Words.{Text, ChainNames, BoardNames, Command, Chain, Ident, Device, Cover, Svf, Walk, Make, Diagnose, Groups, Batch, is_plain, most_made, number_of, names_of, board_names}
+use Rattle.command_line.specs.declared.command.Command.TheVariants.{Chain, Ident, Device, Cover, Svf, Walk, Make, Diagnose, Groups, Batch}
+use Rattle.command_line.specs.Limits.{most_made}
+use Rattle.command_line.specs.Words.{Text, ChainNames, BoardNames, Command, is_plain, number_of, names_of, board_names}
 use Rattle.btest_cli.specs.Texts.{Held, Wanted}
 use Rattle.btest_cli.specs.declared.status.Status.{Status}
 use Rattle.btest_cli.specs.declared.status.Status.TheVariants.{Done, NoMemory}

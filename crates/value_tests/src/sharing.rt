@@ -12,7 +12,7 @@ use bt_base::{CountSink, FailingPut, FetchFault, MemSink, MemStore, OpenGate, Pu
 use bt_bits::{HexFault, Line, Row, RowStack};
 use btest_cli::Status;
 use btest_core::InputFault;
-use command_line::Command;
+use command_line::NamedCommand;
 use diagnoser::{Entered, Workers};
 use fault_sim::{Suspects, Universe};
 use net_classes::{Classes, ControlClass, NetClass, PinClass};
@@ -26,7 +26,7 @@ fn is_shared<T: Send + Sync>() {}
 
 #[test]
 fn a_command_and_how_it_ends_may_be_shared() {
-    is_shared::<Command<'static>>();
+    is_shared::<NamedCommand<'static>>();
     is_shared::<Status>();
     is_shared::<InputFault>();
 }

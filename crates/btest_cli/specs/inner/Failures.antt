@@ -5,7 +5,7 @@ use Rattle.bt_base.specs.Puts.{Shown, Takes}
 use Rattle.command_line.specs.Words.{Text}
 use Rattle.btest_cli.specs.declared.failure.Unread.{Unread}
 use Rattle.btest_cli.specs.declared.failure.Unread.TheVariants as unread
-use Rattle.commands.specs.declared.request.Request.{Request}
+use Rattle.commands.specs.Requests.{Request}
 use Rattle.commands.specs.declared.unput.Unput.{Unput}
 use Rattle.commands.specs.declared.unput.Unput.TheVariants as unput
 use Rattle.btest_cli.specs.declared.status.Status.{Status}

@@ -1,12 +1,8 @@
 -- Reads of several texts in turn.
 use Rattle.std.specs.Prelude.{◌≡◌, ℕ, ◌≤◌, List, [], ◌∷◌, ◌++◌, Some, Result, Ok, Err}
 use Rattle.bt_base.specs.Counts.{Rose}
-use Rattle.command_line.specs.Words.{Text, Command, most_made, most_workers}
-use Rattle.commands.specs.Requests.{request_of}
-use Rattle.commands.specs.declared.request.Request.{Request}
-use Rattle.commands.specs.declared.request.Request.TheVariants.{Make, Diagnose, Batch}
-use Rattle.commands.specs.declared.texts.BoardTexts.{BoardTexts}
-use Rattle.commands.specs.declared.texts.ChainTexts.{ChainTexts}
+use Rattle.command_line.specs.Words.{Text, Command}
+use Rattle.commands.specs.Requests.{BoardTexts, ChainTexts, Request, request_of}
 use Rattle.commands.specs.declared.texts.LogTexts.{LogTexts}
 use Rattle.btest_cli.specs.declared.failure.Unread.{Unread}
 use Rattle.btest_cli.specs.declared.failure.Unread.TheVariants as unread
@@ -53,13 +49,6 @@ pub record Reads {A : Type 0} (Of : A → List Text → Type 0) (wanted : List W
   pub same : held' ≡ held
   pub later : (name : Text) → before name ≤ now name
   pub told : TellsRead Of wanted held before now asked asked' result
-
--- The number of a request is in its range. It is the number of parts of a board to make, or the number of workers of diagnoses.
-abbrev pub IsNumbered : Request → Type 0
-IsNumbered (Make parts) = (1 ≤ parts) × (parts ≤ most_made)
-IsNumbered (Diagnose workers texts) = (1 ≤ workers) × (workers ≤ most_workers)
-IsNumbered (Batch workers texts) = (1 ≤ workers) × (workers ≤ most_workers)
-IsNumbered other = Unit {0}
 
 -- The value that was read has these texts, in order. The next definitions say this for the other kinds of values.
 abbrev pub IsOne : Text → List Text → Type 0

@@ -10,7 +10,7 @@ use Rattle.command_line.specs.Words.{Text}
 use Rattle.batch_diag.specs.declared.fault.BatchFault.{BatchFault}
 use Rattle.batch_diag.specs.declared.fault.BatchFault.TheVariants as batch
 use Rattle.commands.specs.Answers.{IsBoardOf}
-use Rattle.commands.specs.declared.texts.BoardTexts.{BoardTexts}
+use Rattle.commands.specs.Requests.{BoardTexts}
 use Rattle.commands.specs.declared.unput.Unput.{Unput}
 use Rattle.commands.specs.declared.unput.Unput.TheVariants as unput
 

@@ -4,12 +4,12 @@ use Rattle.btest_cli.proofs.texts.read_texts.Goals as goal
 
 pub returns-in-Err : goal.returns-in-Err
 returns-in-Err g c =
-    rw c.as_slice-names.ensures.value at
+    rw c.as_slice-names.ensures.names at
     (next_lost c.as_slice-names.result.now c.loop-name.name-index _ _ c.loop-name-test.true refl c.loop-name.invariant.reads c.in-Err.ensures)
 
 pub returns-in_default : goal.returns-in_default
 returns-in_default g c =
-    rw c.as_slice-names.ensures.value at
+    rw c.as_slice-names.ensures.names at
     (memory_of c.as_slice-names.result.now (c.loop-name.name-index + 1)
     (next_read c.as_slice-names.result.now c.loop-name.name-index _ _ c.loop-name-test.true refl c.loop-name.invariant.reads c.in-Ok.ensures _ refl))
 
