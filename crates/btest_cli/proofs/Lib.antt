@@ -3,3 +3,4 @@ pub mod ReadingLemmas
 pub mod RequestLemmas
 pub mod RunLemmas
 pub mod SampleExits
+mod SampleUsage

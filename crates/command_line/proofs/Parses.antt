@@ -7,14 +7,15 @@ use Rattle.std.proofs.lemmas.Slice.Eq.{bytes_eq-Decides}
 use Rattle.clap.specs.declared.error.kind.ErrorKind.{ErrorKind}
 use Rattle.clap.specs.declared.error.kind.ErrorKind.TheVariants as kind
 use Rattle.clap.specs.Walk.{subcommand_met, subcommand_or_other, word_met, answers_to, rows_after, Names, Row, Text, Walk as Turns, walk, walked, walk_from, nothing_held, idle}
-use Rattle.clap.specs.Simple.{App, Shape, built, names_of, entered, is_simple, subcommand_of, with_subcommand}
+use Rattle.clap.specs.Simple.{App, Shape, built, names_of, entered, is_simple, subcommand_of, with_rule, with_subcommand}
 use Rattle.clap.specs.Kinds.{Kinds, IsAmong, or_else}
 use Rattle.clap.specs.Faults.{other_fault, step_fault, fault_of, level_fault, entered_fault, walk_fault, turn_fault, is_simple_and_free}
 use Rattle.clap.proofs.OnLiterals.{clap_on_literals}
 use Rattle.command_line.specs.declared.command.Command.TheVariants.{Chain, Ident, Cover, Svf, Walk, Diagnose, Groups, Batch}
 use Rattle.command_line.specs.Limits.{most_names, most_workers}
 use Rattle.command_line.specs.Words.{number_of, with_names, ChainNames, BoardNames, Command, is_plain, parsed, board_called, log_called, chain_of, device_of, board_of, make_of, worked_of, groups_of}
-use Rattle.command_line.specs.inner.App.{btest_app, chain_app, single_app, board_app, log_app, groups_app, top_app}
+use Rattle.command_line.specs.Grammar.{board_words}
+use Rattle.command_line.specs.inner.App.{btest_app, names_rule, top_app, worded_app}
 use Rattle.command_line.specs.inner.Found.{command_in, called_found, board_found, log_found, chain_in, device_in, board_in, make_in, worked_in, groups_in}
 use Rattle.command_line.proofs.PlainLemmas.{Plain, AllPlain, all_plain, met, plain_fault}
 use Rattle.command_line.proofs.PlaceLemmas.{end_fault, if_none, placed_from, answer_placed, row_of, TakesNames, names_placed}
@@ -43,6 +44,10 @@ start = walk_from nothing_held
 -- the shape of a subcommand, as `clap` builds it
 abbrev shape_in : App → Shape
 shape_in app = unwrap_or (slice_get (built (with_subcommand top_app app.top)).subs 0) top
+
+-- a command with these words and any number of BSDL file names
+abbrev many_app : Text → List Text → App
+many_app name words = with_rule (worded_app name words) names_rule
 
 -- the faults that follow after all words, given the walk at its end
 abbrev whole_fault : Turns → Kinds
@@ -110,7 +115,7 @@ few_names of bsdl = few_by of bsdl (nat_le (length bsdl) most_names)
 
 -- the shape of a command that works on a chain, for any name of the command
 abbrev chain_shape : Text → Shape
-chain_shape name = shape_in (chain_app name)
+chain_shape name = shape_in (many_app name (codes "CHAIN" ∷ []))
 
 abbrev chain_rows : Text → List Row
 chain_rows file = row_of (codes "CHAIN") file ∷ []
@@ -129,7 +134,7 @@ chain_read name command (file ∷ x ∷ rest) = names_placed (chain_shape name) 
 
 -- the shape of a command that takes one word, for any name of the command and of its argument
 abbrev single_shape : Text → Text → Shape
-single_shape name id = shape_in (single_app name id)
+single_shape name id = shape_in (worded_app name (id ∷ []))
 
 device_read : Reads (single_shape (codes "device") (codes "BSDL")) device_in device_of
 unfolding clap_on_literals
@@ -145,7 +150,7 @@ make_read (number ∷ other ∷ others) = refl
 
 -- the shape of a command that works on a board, for any name of the command
 abbrev board_shape : Text → Shape
-board_shape name = shape_in (board_app name)
+board_shape name = shape_in (many_app name board_words)
 
 abbrev board_rows : Text → Text → List Row
 board_rows chain nets = row_of (codes "CHAIN") chain ∷ row_of (codes "NETS") nets ∷ []
@@ -171,7 +176,7 @@ board_read name command (chain ∷ nets ∷ x ∷ rest) = names_placed (board_sh
 
 -- the shape of a command that works on response logs with a given number of workers, for any name of the command
 abbrev log_shape : Text → Shape
-log_shape name = shape_in (log_app name)
+log_shape name = shape_in (many_app name (codes "WORKERS" ∷ codes "LOG" ∷ board_words))
 
 abbrev log_rows : Text → Text → Text → Text → List Row
 log_rows workers log chain nets = row_of (codes "WORKERS") workers ∷ row_of (codes "LOG") log ∷ board_rows chain nets
@@ -193,7 +198,7 @@ log_read name command (workers ∷ log ∷ chain ∷ nets ∷ x ∷ rest) = name
 
 -- the shape of the command that works on a response log with one worker
 abbrev groups_shape : Shape
-groups_shape = shape_in (groups_app (codes "groups"))
+groups_shape = shape_in (many_app (codes "groups") (codes "LOG" ∷ board_words))
 
 abbrev groups_rows : Text → Text → Text → List Row
 groups_rows log chain nets = row_of (codes "LOG") log ∷ board_rows chain nets
@@ -310,7 +315,7 @@ first_word w rest p all =
     named (codes "diagnose") w rest (worked_of Diagnose rest) if_groups (diagnose_word rest all) (λ diagnose.
     named (codes "groups") w rest (groups_of rest) if_batch (groups_word rest all) (λ groups.
     named (codes "batch") w rest (worked_of Batch rest) None (batch_word rest all) (λ batch.
-    other_word w rest p (no_name (codes "chain") w chain, (no_name (codes "ident") w ident, (no_name (codes "device") w device, (no_name (codes "cover") w cover, (no_name (codes "svf") w svf, (no_name (codes "walk") w walk, (no_name (codes "diagnose") w diagnose, (no_name (codes "groups") w groups, (no_name (codes "batch") w batch, (no_name (codes "make") w make, tt))))))))))))))))))))
+    other_word w rest p (no_name (codes "chain") w chain, (no_name (codes "device") w device, (no_name (codes "cover") w cover, (no_name (codes "svf") w svf, (no_name (codes "diagnose") w diagnose, (no_name (codes "make") w make, (no_name (codes "ident") w ident, (no_name (codes "walk") w walk, (no_name (codes "groups") w groups, (no_name (codes "batch") w batch, tt))))))))))))))))))))
 
 none_word : answer [] ≡ None
 unfolding clap_on_literals

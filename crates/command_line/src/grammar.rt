@@ -1,9 +1,10 @@
-// Builds the program's command for `clap`: the subcommands and their arguments.
-ghost use Rattle.std.specs.Prelude.{◌≡◌, false, IfOk};
+// The program's command for `clap`: the commands of the grammar as subcommands, with their words as arguments.
+ghost use Rattle.std.specs.Prelude.{◌≡◌, false, map, take, IfOk};
 ghost use Rattle.clap.specs.Simple.{App, app_of, with_rule, with_subcommand};
 ghost use Rattle.clap.specs.Walk.{rule_of};
 ghost use Rattle.clap.specs.declared.builder.command.Command.TheViews.{out-Command as fields_of};
-ghost use Rattle.command_line.specs.inner.App.{name_rule, names_rule, chain_app, single_app, with_board, board_app, log_app, groups_app, top_app, parts_app, boards_app, logs_app, btest_app};
+ghost use Rattle.command_line.specs.Grammar.{grammar};
+ghost use Rattle.command_line.specs.inner.App.{name_rule, names_rule, with_word, worded_app, top_app, app_with, btest_app};
 
 use clap::{Arg, ArgAction};
 use std::alloc::{AllocError, Global};
@@ -24,15 +25,15 @@ fn names_arg<'a>(alloc: Global) -> Arg<'a>
     Arg::new(alloc, "BSDL").action(ArgAction::Append)
 }
 
-// Adds an argument that takes exactly one word to a command. Like the next functions, `with_name` takes the command as a result and passes
-// on an error. So its callers need no `?`, which would cost the proof of a caller several seconds each.
-fn with_name<'a>(
+// Adds an argument that takes exactly one word to a command. Like the next functions, `with_word` takes the command as
+// a result and passes on an error. So its callers need no `?`: each `?` costs the proof of a caller several seconds.
+fn with_word<'a>(
     alloc: Global,
     command: Result<clap::Command<'a>, AllocError>,
     id: &'a str,
 ) -> Result<clap::Command<'a>, AllocError>
     requires { IfOk command (λ c. (fields_of c).has_globals ≡ false) }
-    ensures app { (app : App) → IfOk command.entry (λ c. app_of c ≡ app) → IfOk result (λ c. app_of c ≡ with_rule app (name_rule id.entry.now)) }
+    ensures app { (app : App) → IfOk command.entry (λ c. app_of c ≡ app) → IfOk result (λ c. app_of c ≡ with_word app id.entry.now) }
     ensures local { IfOk result (λ c. (fields_of c).has_globals ≡ false) }
 {
     command?.arg(name_arg(alloc, id))
@@ -50,69 +51,33 @@ fn with_names<'a>(
     command?.arg(names_arg(alloc))
 }
 
-// Returns a command that works on a chain.
-fn chain_command<'a>(alloc: Global, name: &'a str) -> Result<clap::Command<'a>, AllocError>
-    ensures app { IfOk result (λ c. app_of c ≡ chain_app name.entry.now) }
-    ensures local { IfOk result (λ c. (fields_of c).has_globals ≡ false) }
-{
-    let command = Ok(clap::Command::new(alloc, name));
-    let command = with_name(alloc, command, "CHAIN");
-    with_names(alloc, command)
-}
-
-// Returns a command that takes one word.
-fn single_command<'a>(
+// Returns the command with this name, and with an argument for each of these words.
+fn words_command<'a>(
     alloc: Global,
     name: &'a str,
-    id: &'a str,
+    words: &[&'a str],
 ) -> Result<clap::Command<'a>, AllocError>
-    ensures app { IfOk result (λ c. app_of c ≡ single_app name.entry.now id.entry.now) }
+    ensures app { IfOk result (λ c. app_of c ≡ worded_app name.entry.now (map (λ word. word.now) words.entry.now)) }
     ensures local { IfOk result (λ c. (fields_of c).has_globals ≡ false) }
 {
-    with_name(alloc, Ok(clap::Command::new(alloc, name)), id)
+    let mut command = Ok(clap::Command::new(alloc, name));
+    for word in words {
+        command = with_word(alloc, command, *word);
+    }
+    command
 }
 
-// Adds the arguments for the file names of a board, after the other arguments of the command.
-fn with_board<'a>(
+// Returns the command with this name, with an argument for each of these words and, after them, the argument for any
+// number of BSDL file names.
+fn names_command<'a>(
     alloc: Global,
-    command: Result<clap::Command<'a>, AllocError>,
+    name: &'a str,
+    words: &[&'a str],
 ) -> Result<clap::Command<'a>, AllocError>
-    requires { IfOk command (λ c. (fields_of c).has_globals ≡ false) }
-    ensures app { (app : App) → IfOk command.entry (λ c. app_of c ≡ app) → IfOk result (λ c. app_of c ≡ with_board app) }
+    ensures app { IfOk result (λ c. app_of c ≡ with_rule (worded_app name.entry.now (map (λ word. word.now) words.entry.now)) names_rule) }
     ensures local { IfOk result (λ c. (fields_of c).has_globals ≡ false) }
 {
-    let command = with_name(alloc, command, "CHAIN");
-    let command = with_name(alloc, command, "NETS");
-    with_names(alloc, command)
-}
-
-// Returns a command that works on a board.
-fn board_command<'a>(alloc: Global, name: &'a str) -> Result<clap::Command<'a>, AllocError>
-    ensures app { IfOk result (λ c. app_of c ≡ board_app name.entry.now) }
-    ensures local { IfOk result (λ c. (fields_of c).has_globals ≡ false) }
-{
-    with_board(alloc, Ok(clap::Command::new(alloc, name)))
-}
-
-// Returns a command that works on response logs with a given number of workers.
-fn log_command<'a>(alloc: Global, name: &'a str) -> Result<clap::Command<'a>, AllocError>
-    ensures app { IfOk result (λ c. app_of c ≡ log_app name.entry.now) }
-    ensures local { IfOk result (λ c. (fields_of c).has_globals ≡ false) }
-{
-    let command = Ok(clap::Command::new(alloc, name));
-    let command = with_name(alloc, command, "WORKERS");
-    let command = with_name(alloc, command, "LOG");
-    with_board(alloc, command)
-}
-
-// Returns a command that works on a response log with one worker.
-fn groups_command<'a>(alloc: Global, name: &'a str) -> Result<clap::Command<'a>, AllocError>
-    ensures app { IfOk result (λ c. app_of c ≡ groups_app name.entry.now) }
-    ensures local { IfOk result (λ c. (fields_of c).has_globals ≡ false) }
-{
-    let command = Ok(clap::Command::new(alloc, name));
-    let command = with_name(alloc, command, "LOG");
-    with_board(alloc, command)
+    with_names(alloc, words_command(alloc, name, words))
 }
 
 // Returns the top command, without its subcommands.
@@ -142,43 +107,52 @@ fn with_made<'a>(
     command.subcommand(subcommand)
 }
 
-// Returns the top command with the subcommands that work on a chain or a device.
-fn part_commands<'a>(alloc: Global) -> Result<clap::Command<'a>, AllocError>
-    ensures app { IfOk result (λ c. app_of c ≡ parts_app) }
+// Returns the top command with the first three commands of the grammar as its subcommands.
+fn three_commands<'a>(alloc: Global) -> Result<clap::Command<'a>, AllocError>
+    ensures app { IfOk result (λ c. app_of c ≡ app_with (take 3 grammar)) }
     ensures local { IfOk result (λ c. (fields_of c).has_globals ≡ false) }
 {
     let command = Ok(top_command(alloc));
-    let command = with_made(command, chain_command(alloc, "chain"));
-    let command = with_made(command, chain_command(alloc, "ident"));
-    with_made(command, single_command(alloc, "device", "BSDL"))
+    let command = with_made(command, names_command(alloc, "chain", &["CHAIN"]));
+    let command = with_made(command, words_command(alloc, "device", &["BSDL"]));
+    with_made(command, names_command(alloc, "cover", &["CHAIN", "NETS"]))
 }
 
-// Returns the command of `part_commands` with the subcommands that work on a board.
-fn board_commands<'a>(alloc: Global) -> Result<clap::Command<'a>, AllocError>
-    ensures app { IfOk result (λ c. app_of c ≡ boards_app) }
+// Returns the top command with the first six commands of the grammar.
+fn six_commands<'a>(alloc: Global) -> Result<clap::Command<'a>, AllocError>
+    ensures app { IfOk result (λ c. app_of c ≡ app_with (take 6 grammar)) }
     ensures local { IfOk result (λ c. (fields_of c).has_globals ≡ false) }
 {
-    let command = part_commands(alloc);
-    let command = with_made(command, board_command(alloc, "cover"));
-    let command = with_made(command, board_command(alloc, "svf"));
-    with_made(command, board_command(alloc, "walk"))
+    let command = three_commands(alloc);
+    let command = with_made(command, names_command(alloc, "svf", &["CHAIN", "NETS"]));
+    let command = with_made(
+        command,
+        names_command(alloc, "diagnose", &["WORKERS", "LOG", "CHAIN", "NETS"]),
+    );
+    with_made(command, words_command(alloc, "make", &["NUMBER"]))
 }
 
-// Returns the command of `board_commands` with the subcommands that work on response logs.
-fn log_commands<'a>(alloc: Global) -> Result<clap::Command<'a>, AllocError>
-    ensures app { IfOk result (λ c. app_of c ≡ logs_app) }
+// Returns the top command with the first nine commands of the grammar.
+fn nine_commands<'a>(alloc: Global) -> Result<clap::Command<'a>, AllocError>
+    ensures app { IfOk result (λ c. app_of c ≡ app_with (take 9 grammar)) }
     ensures local { IfOk result (λ c. (fields_of c).has_globals ≡ false) }
 {
-    let command = board_commands(alloc);
-    let command = with_made(command, log_command(alloc, "diagnose"));
-    let command = with_made(command, groups_command(alloc, "groups"));
-    with_made(command, log_command(alloc, "batch"))
+    let command = six_commands(alloc);
+    let command = with_made(command, names_command(alloc, "ident", &["CHAIN"]));
+    let command = with_made(command, names_command(alloc, "walk", &["CHAIN", "NETS"]));
+    with_made(
+        command,
+        names_command(alloc, "groups", &["LOG", "CHAIN", "NETS"]),
+    )
 }
 
-// Returns the top command with all its subcommands.
+// Returns the top command with all commands of the grammar.
 pub fn whole_command<'a>(alloc: Global) -> Result<clap::Command<'a>, AllocError>
     ensures { IfOk result (λ c. app_of c ≡ btest_app) }
 {
-    let command = log_commands(alloc);
-    with_made(command, single_command(alloc, "make", "NUMBER"))
+    let command = nine_commands(alloc);
+    with_made(
+        command,
+        names_command(alloc, "batch", &["WORKERS", "LOG", "CHAIN", "NETS"]),
+    )
 }
