@@ -1,5 +1,5 @@
 -- Lemmas about texts that are written in pieces.
-use Rattle.std.proofs.Common.{◌≡◌, ℕ, ◌<◌, List, [], ◌∷◌, ◌++◌, length, take, drop, map, Result, Ok, Err, IsErr, refl, sym, ap, ◌∙◌, subst, append_assoc, append-nil, Bor, get_or, ◌+◌}
+use Rattle.std.proofs.Common.{◌≡◌, ℕ, ◌<◌, List, [], ◌++◌, length, take, drop, map, Result, Ok, sym, ap, ◌∙◌, subst, append_assoc, append-nil, Bor, get_or, ◌+◌}
 use Rattle.bt_base.specs.Puts.{Puts, Shown}
 use Rattle.line_printer.proofs.PrintLemmas.{whole-split}
 use Rattle.refusal_lines.specs.Refusals.{Text}
