@@ -1,4 +1,3 @@
 -- Definitions for proofs and for the contracts of private functions. No public contract cites them.
 pub mod Passes
-pub mod Planned
 pub mod Compared

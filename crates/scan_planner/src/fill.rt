@@ -4,11 +4,11 @@ ghost use Rattle.std.specs.List.{list_any};
 ghost use Rattle.board_defs.specs.Pins.{data_bits};
 ghost use Rattle.tap_defs.specs.board.TestRows.{quiet_row};
 ghost use Rattle.tap_defs.specs.board.BoardScans.{RowScan, row_bits};
-ghost use Rattle.tap_defs.specs.chain.Scan.{ScanBit, joined, tdi_bits};
+ghost use Rattle.tap_defs.specs.chain.Scan.{ScanBit, joined, mask_bits, tdi_bits, tdo_bits};
 ghost use Rattle.tap_defs.specs.chain.ScanRows.{AreRowsOf, AreSameRows, EachHasRoom, HaveRoomFor, HoldBits};
+ghost use Rattle.scan_planner.specs.Planned.{FillsRows, bits_of};
 ghost use Rattle.scan_planner.specs.Plans.{IsRoom, scan_count};
 ghost use Rattle.scan_planner.specs.inner.Compared.{AreBothKept, BothHaveRoom, HoldCompared};
-ghost use Rattle.scan_planner.specs.inner.Planned.{FillsRows, bits_of};
 
 use crate::board_plan::{BoardPlan, PassOfPlan};
 use crate::code_rows::{NoRows, RowAt};
@@ -38,8 +38,9 @@ impl<'a> BoardPlan<'a> {
         ensures bits { (scan : RowScan) → scan.now ≡ quiet_row → tdi.new.bits ≡ tdi_bits (joined (row_bits self.now.board scan)) }
         ensures kept { tdi.new.room ≡ tdi.old.room }
     {
-        let _ = self.board.raw();
-        tdi.copy_row(&self.tables.quiet);
+        self.laws();
+        let tables = self.tables();
+        tdi.copy_row(&tables.quiet);
     }
 
     /// Fills both rows with zeros. A scan after the quiet row compares nothing.
@@ -49,7 +50,7 @@ impl<'a> BoardPlan<'a> {
         ensures nothing { list_any (λ bit. bit) rows.new.mask.now.bits ≡ false }
         ensures kept { AreBothKept rows.old rows.new }
     {
-        let len = self.board.dr_bits();
+        let len = self.board().dr_bits();
         rows.tdo.clear(len);
         rows.mask.clear(len);
     }
@@ -60,7 +61,7 @@ impl<'a> BoardPlan<'a> {
         ensures filled { FillsRows self.now 1 result rows.new }
         ensures kept { AreSameRows rows.old rows.new }
     {
-        let _ = self.board.raw();
+        self.laws();
         self.shift_quiet(rows.tdi);
         self.compare_nothing(&mut ComparedRows {
             tdo: rows.tdo,
@@ -80,17 +81,19 @@ impl<'a> BoardPlan<'a> {
         ensures filled { FillsRows self.now k result rows.new }
         ensures kept { AreSameRows rows.old rows.new }
     {
-        let _ = self.board.raw();
+        self.laws();
+        let tables = self.tables();
         if k == 0 {
-            fill_codes(&self.tables.preload, rows)
+            fill_codes(&tables.preload, rows)
         } else if k == 1 {
             self.fill_quiet(rows)
         } else {
-            fill_codes(&self.tables.extest, rows)
+            fill_codes(&tables.extest, rows)
         }
     }
 
-    /// Fills the rows with scan `k` of the test, and returns its shape.
+    /// Fills the rows with scan `k` of the test, counted from 0, and returns its shape. `k` must be below the number of
+    /// scans, and each row must have room for a scan of instructions and for a scan of data. Allocates nothing.
     pub fn fill(&self, k: u64, rows: &mut ScanRows) -> Shape
         requires scan { k < scan_count self.now.plan }
         requires room { EachHasRoom (IsRoom self.now.board) rows.old }
@@ -100,16 +103,18 @@ impl<'a> BoardPlan<'a> {
         if k < 3 {
             self.fill_early(k, rows)
         } else {
-            let scans = u64::from(self.tables.width) + 1;
-            let pass = self.pass(((k - 3) / scans) as usize);
+            self.laws();
+            let scans = u64::from(self.width()) + 1;
+            let pass = self.pass(((k - 3) / scans) as u32);
             pass.fill(((k - 3) % scans) as u32, rows)
         }
     }
 }
 
 impl<'a> PassOfPlan<'a> {
-    /// Fills `tdi` with row `j` of the pass.
-    pub fn shift_row(&self, j: u32, tdi: &mut Row)
+    /// Fills `tdi` with the bits that row `j` of the pass shifts in. `j` must be below the number of rows of a pass, and
+    /// `tdi` must have room for a scan of data. Allocates nothing.
+    pub fn fill_shifted(&self, j: u32, tdi: &mut Row)
         requires row { j < self.now.test.plan.width }
         requires room { data_bits self.now.test.board ≤ tdi.old.room }
         ensures bits { tdi.new.bits ≡ tdi_bits (bits_of self.now j) }
@@ -124,8 +129,22 @@ impl<'a> PassOfPlan<'a> {
         self.walk(&mut shifted, &mut NoRows, &mut NoRows);
     }
 
-    /// Fills the rows with the expected bits and the mask of row `j` of the pass.
-    pub fn compare_row(&self, j: u32, rows: &mut ComparedRows)
+    /// Fills two rows with the expected bits and the mask of row `j` of the pass, which the next scan compares. `j` must
+    /// be below the number of rows of a pass, and each row must have room for a scan of data. Allocates nothing.
+    pub fn fill_compared(&self, j: u32, tdo: &mut Row, mask: &mut Row)
+        requires row { j < self.now.test.plan.width }
+        requires tdo_room { data_bits self.now.test.board ≤ tdo.old.room }
+        requires mask_room { data_bits self.now.test.board ≤ mask.old.room }
+        ensures tdo { tdo.new.bits ≡ tdo_bits (bits_of self.now (suc j)) }
+        ensures mask { mask.new.bits ≡ mask_bits (bits_of self.now (suc j)) }
+        ensures tdo_kept { tdo.new.room ≡ tdo.old.room }
+        ensures mask_kept { mask.new.room ≡ mask.old.room }
+    {
+        self.compare_row(j, &mut ComparedRows { tdo, mask });
+    }
+
+    // Fills the rows with the expected bits and the mask of row `j` of the pass.
+    fn compare_row(&self, j: u32, rows: &mut ComparedRows)
         requires row { j < self.now.test.plan.width }
         requires room { BothHaveRoom (data_bits self.now.test.board) rows.old }
         ensures bits { HoldCompared (bits_of self.now (suc j)) rows.new }
@@ -153,7 +172,7 @@ impl<'a> PassOfPlan<'a> {
         ensures kept { tdi.new.room ≡ tdi.old.room }
     {
         if j < self.width() {
-            self.shift_row(j, tdi)
+            self.fill_shifted(j, tdi)
         } else {
             self.test().shift_quiet(tdi)
         }

@@ -17,6 +17,7 @@ mod pass_rows;
 mod plan;
 mod questions;
 
+pub use board_plan::{BoardPlan, PassOfPlan};
 pub use pass_rows::{PassRows, StackedRows};
 pub use plan::Plan;
 pub use plan_tables::{NetDriver, ReaderCell};

@@ -5,9 +5,9 @@ ghost use Rattle.board_defs.specs.Pins.{data_bits};
 ghost use Rattle.tap_defs.specs.chain.Scan.{tdi_bits, tdo_bits, mask_bits};
 ghost use Rattle.tap_defs.specs.chain.ScanRows.{AreSameRows, EachHasRoom};
 ghost use Rattle.scan_planner.specs.PassRows.{AreKept};
+ghost use Rattle.scan_planner.specs.Planned.{FillsRows, bits_of};
 ghost use Rattle.scan_planner.specs.Plans.{IsRoom, scan_count};
 ghost use Rattle.scan_planner.specs.inner.Compared.{AreBothKept, BothHaveRoom, HoldCompared};
-ghost use Rattle.scan_planner.specs.inner.Planned.{FillsRows, bits_of};
 
 use crate::board_plan::{BoardPlan, PassOfPlan};
 use crate::compared_rows::ComparedRows;
@@ -139,8 +139,9 @@ impl<'a> BoardPlan<'a> {
         if k < 2 {
             return self.fill(k + 1, rows);
         }
-        let scans = u64::from(self.tables.width) + 1;
-        let pass = self.pass(((k - 2) / scans) as usize);
+        self.laws();
+        let scans = u64::from(self.width()) + 1;
+        let pass = self.pass(((k - 2) / scans) as u32);
         pass.keep_rows(kept);
         let filled = PassWithRows {
             pass,

@@ -7,8 +7,8 @@ ghost use Rattle.tap_defs.specs.chain.Scan.{tdi_bits, tdo_bits, mask_bits};
 ghost use Rattle.plan_tables.specs.Assigned.{assigned, driver_bit, set_compared, set_readers};
 ghost use Rattle.plan_tables.specs.Tables.{AreFirsts, held_cell};
 ghost use Rattle.scan_planner.specs.PassRows.{steady_compared, steady_shifted};
+ghost use Rattle.scan_planner.specs.Planned.{bits_of};
 ghost use Rattle.scan_planner.specs.inner.Passes.{compared, driven};
-ghost use Rattle.scan_planner.specs.inner.Planned.{bits_of};
 
 use crate::board_plan::PassOfPlan;
 use crate::code_rows::CodeRows;
@@ -131,6 +131,22 @@ impl PassControls<'_> {
 }
 
 impl<'a> PassOfPlan<'a> {
+    // Returns the setting of the pass, with the board and the tables that locate its cells.
+    fn controls(&self) -> PassControls<'a>
+        ensures board { result.board.now ≡ self.now.test.board }
+        ensures tables { result.tables.now ≡ self.now.test.plan }
+        ensures setting { result.setting.now ≡ slice_index_or self.now.test.plan.passes self.now.number [] }
+    {
+        self.laws();
+        let test = self.test();
+        let tables = test.tables();
+        PassControls {
+            board: test.board(),
+            tables,
+            setting: pass_at(tables.passes.as_slice(), self.number() as usize),
+        }
+    }
+
     /// Turns the rows that all passes share into the rows of this pass: the bits that are shifted in, the
     /// expected bits, and the mask.
     pub fn walk<S: CodeRows, E: CodeRows, M: CodeRows>(
@@ -146,13 +162,8 @@ impl<'a> PassOfPlan<'a> {
         ensures expected { (j : ℕ) → E.shows (E.kind expected.old) j → E.bits expected.old j ≡ steady_compared self.now.test.plan (driver_bit self.now.test.plan.codes j) → E.bits expected.new j ≡ tdo_bits (bits_of self.now (suc j)) }
         ensures mask { (i j : ℕ) → M.shows (M.kind mask.old) i → M.bits mask.old i ≡ steady_compared self.now.test.plan (λ d. true) → M.bits mask.new i ≡ mask_bits (bits_of self.now (suc j)) }
     {
-        let _ = self.board.raw();
-        let setting = pass_at(self.tables.passes.as_slice(), self.number);
-        let pass = PassControls {
-            board: self.board,
-            tables: self.tables,
-            setting,
-        };
+        self.laws();
+        let pass = self.controls();
         pass.hold(shifted);
         pass.drive(shifted, expected, mask);
     }

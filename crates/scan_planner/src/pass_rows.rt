@@ -85,7 +85,7 @@ impl StackedRows {
 #[derive(Drop)]
 pub struct PassRows {
     // The number of the pass, counted from 0, or `None` before the first pass.
-    pass: Option<usize>,
+    pass: Option<u32>,
     pub(crate) rows: StackedRows,
 }
 

@@ -5,13 +5,11 @@ ghost use Rattle.tap_defs.specs.board.BoardScans.{row_bits};
 ghost use Rattle.tap_defs.specs.chain.Scan.{joined, mask_bits, tdi_bits, tdo_bits};
 ghost use Rattle.net_pins.specs.Tables.{AreNetPins};
 ghost use Rattle.plan_tables.specs.Plans.{ArePlannable, IsPlanOf};
-ghost use Rattle.scan_planner.specs.PassRows.{AreKept};
+ghost use Rattle.scan_planner.specs.PassRows.{AreCommonRows, AreKept};
 ghost use Rattle.scan_planner.specs.Plans.{IsRoom, FillsScan, scan_count, scan_of_pass};
-ghost use Rattle.scan_planner.specs.Planned.{planned_board};
 
 use crate::board_plan::BoardPlan;
 use crate::common_rows::CommonRows;
-use crate::compared_rows::ComparedRows;
 use crate::pass_rows::PassRows;
 use board_defs::{Board, Items, Setting};
 use bt_bits::Row;
@@ -74,12 +72,18 @@ impl Plan {
         Ok(Plan { tables, common })
     }
 
-    // Returns the plan with its board.
-    fn on<'a>(&'a self, board: &'a Board) -> BoardPlan<'a>
-        requires { IsPlanOf board.now self.now }
-        ensures { result ≡ planned_board board.now self.now }
+    /// Returns the tables of the plan.
+    pub(crate) fn tables(&self) -> &PlanTables
+        ensures { result.now ≡ self.now }
     {
-        BoardPlan::of(board, &self.tables, &self.common)
+        &self.tables
+    }
+
+    /// Returns the rows that all passes share.
+    pub(crate) fn common(&self) -> &CommonRows
+        ensures { AreCommonRows self.now result.now }
+    {
+        &self.common
     }
 
     /// Returns the number of scans of the test.
@@ -111,7 +115,7 @@ impl Plan {
         ensures tdo_kept { tdo.new.room ≡ tdo.old.room }
         ensures mask_kept { mask.new.room ≡ mask.old.room }
     {
-        self.on(board).fill(k, &mut ScanRows { tdi, tdo, mask })
+        BoardPlan::new(board, self).fill(k, &mut ScanRows { tdi, tdo, mask })
     }
 
     /// Fills the rows with scan `k + 1` of the test, and returns its shape. The rows must hold scan `k`, whose shape is `before`.
@@ -142,8 +146,7 @@ impl Plan {
         ensures tdo_kept { tdo.new.room ≡ tdo.old.room }
         ensures mask_kept { mask.new.room ≡ mask.old.room }
     {
-        self.on(board)
-            .fill_next(k, before, rows, &mut ScanRows { tdi, tdo, mask })
+        BoardPlan::new(board, self).fill_next(k, before, rows, &mut ScanRows { tdi, tdo, mask })
     }
 
     /// Fills a row with the bits that row `row` of a pass shifts in. The board must be the board of the plan, and `tdi` must have
@@ -156,7 +159,9 @@ impl Plan {
         ensures tdi { tdi.new.bits ≡ tdi_bits (joined (row_bits board.now (scan_of_pass board.now self.now pass row))) }
         ensures kept { tdi.new.room ≡ tdi.old.room }
     {
-        self.on(board).pass(pass as usize).shift_row(row, tdi);
+        BoardPlan::new(board, self)
+            .pass(pass)
+            .fill_shifted(row, tdi);
     }
 
     /// Fills two rows with the expected bits and the mask of row `row` of a pass, which the next scan compares. The board must be
@@ -172,8 +177,8 @@ impl Plan {
         ensures tdo_kept { tdo.new.room ≡ tdo.old.room }
         ensures mask_kept { mask.new.room ≡ mask.old.room }
     {
-        self.on(board)
-            .pass(pass as usize)
-            .compare_row(row, &mut ComparedRows { tdo, mask });
+        BoardPlan::new(board, self)
+            .pass(pass)
+            .fill_compared(row, tdo, mask);
     }
 }

@@ -1,31 +1,36 @@
-use Rattle.std.proofs.Common.{◌≡◌, ℕ, map, ap, ◌∙◌, subst, arith}
+use Rattle.std.proofs.Common.{◌≡◌, ℕ, map, sym, ap, ◌∙◌, subst, arith}
 use Rattle.std.specs.Prelude.{slice_get}
-use Rattle.board_defs.specs.BoardRules.{IsBoard}
 use Rattle.tap_defs.specs.chain.Scan.{Scan}
 use Rattle.tap_defs.specs.chain.ScanRows.{AreRowsOf}
 use Rattle.tap_defs.specs.chain.Codes.{instructs}
 use Rattle.tap_defs.specs.board.BoardScans.{extest_code, preload_code, test_scans}
 use Rattle.tap_defs.proofs.board.ScanPlaceLemmas.{scans_placed}
-use Rattle.scan_planner.specs.Planned.{PlannedBoard}
+use Rattle.plan_tables.specs.declared.tables.PlanTables.{PlanTables}
 use Rattle.scan_planner.proofs.FillLemmas.{codes_room, fills}
 use Rattle.plan_tables.proofs.SizeLemmas.{extest_sized, preload_sized}
 use Rattle.scan_planner.proofs.board_plan.BoardPlan.fill_early.Goals as goal
 
 pub fill_codes-requires : goal.fill_codes-requires
 fill_codes-requires c =
-    codes_room c.self.inside.board.now _ _ _ (preload_sized c.self.inside.board.now c.raw.ensures.rules) c.self.invariant.of_board.tables.preload (rw (← c.self.view_is) at c.requires.room)
+    let board = c.args.self.now.board in
+    let scan : Scan = instructs (map (λ part. preload_code part.kind) board.chain) in
+    let are = subst (λ (p : PlanTables). AreRowsOf scan.bits p.preload) (sym c.tables-tables.ensures) c.laws.ensures.plan.tables.preload in
+    codes_room board _ _ _ (preload_sized board c.laws.ensures.rules) are c.requires.room
 
 pub fill_codes-requires-else-k-eq1 : goal.fill_codes-requires-else-k-eq1
 fill_codes-requires-else-k-eq1 c =
-    codes_room c.self.inside.board.now _ _ _ (extest_sized c.self.inside.board.now c.raw.ensures.rules) c.self.invariant.of_board.tables.extest (rw (← c.self.view_is) at c.requires.room)
+    let board = c.args.self.now.board in
+    let scan : Scan = instructs (map (λ part. extest_code part.kind) board.chain) in
+    let are = subst (λ (p : PlanTables). AreRowsOf scan.bits p.extest) (sym c.tables-tables.ensures) c.laws.ensures.plan.tables.extest in
+    codes_room board _ _ _ (extest_sized board c.laws.ensures.rules) are c.requires.room
 
 pub returns-then-k-eq0-clause-filled : goal.returns-then-k-eq0-clause-filled
 returns-then-k-eq0-clause-filled c =
     let board = c.args.self.now.board in
     let plan = c.args.self.now.plan in
-    let s = preload_sized board (subst (λ (t : PlannedBoard). IsBoard t.board) c.self.view_is c.raw.ensures.rules) in
+    let s = preload_sized board c.laws.ensures.rules in
     let scan : Scan = instructs (map (λ part. preload_code part.kind) board.chain) in
-    let are = subst (λ (t : PlannedBoard). AreRowsOf (instructs (map (λ part. preload_code part.kind) t.board.chain)).bits c.self.inside.tables.now.preload) c.self.view_is c.self.invariant.of_board.tables.preload in
+    let are = subst (λ (p : PlanTables). AreRowsOf scan.bits p.preload) (sym c.tables-tables.ensures) c.laws.ensures.plan.tables.preload in
     let first : c.args.k ≡ 0 = omega arith in
     fills board plan.passes plan.width c.args.k scan _ _ _ _
     (ap (λ (n : ℕ). slice_get (test_scans board plan.passes plan.width) n) first ∙ (scans_placed board plan.passes plan.width).preload) s.some s.most
@@ -35,9 +40,9 @@ pub returns-else-k-eq1-clause-filled : goal.returns-else-k-eq1-clause-filled
 returns-else-k-eq1-clause-filled c =
     let board = c.args.self.now.board in
     let plan = c.args.self.now.plan in
-    let s = extest_sized board (subst (λ (t : PlannedBoard). IsBoard t.board) c.self.view_is c.raw.ensures.rules) in
+    let s = extest_sized board c.laws.ensures.rules in
     let scan : Scan = instructs (map (λ part. extest_code part.kind) board.chain) in
-    let are = subst (λ (t : PlannedBoard). AreRowsOf (instructs (map (λ part. extest_code part.kind) t.board.chain)).bits c.self.inside.tables.now.extest) c.self.view_is c.self.invariant.of_board.tables.extest in
+    let are = subst (λ (p : PlanTables). AreRowsOf scan.bits p.extest) (sym c.tables-tables.ensures) c.laws.ensures.plan.tables.extest in
     let third : c.args.k ≡ 2 = omega arith in
     fills board plan.passes plan.width c.args.k scan _ _ _ _
     (ap (λ (n : ℕ). slice_get (test_scans board plan.passes plan.width) n) third ∙ (scans_placed board plan.passes plan.width).extest) s.some s.most

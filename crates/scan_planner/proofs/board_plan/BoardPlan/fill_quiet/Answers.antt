@@ -1,8 +1,6 @@
-use Rattle.std.proofs.Common.{sym, refl, subst}
-use Rattle.board_defs.specs.BoardRules.{IsBoard}
+use Rattle.std.proofs.Common.{sym, refl}
 use Rattle.tap_defs.specs.board.BoardScans.{scan_of_row, first_row_scan}
 use Rattle.tap_defs.proofs.board.ScanPlaceLemmas.{scans_placed}
-use Rattle.scan_planner.specs.Planned.{PlannedBoard}
 use Rattle.scan_planner.proofs.FillLemmas.{fills, row_sized}
 use Rattle.scan_planner.proofs.board_plan.BoardPlan.fill_quiet.Goals as goal
 
@@ -10,7 +8,7 @@ pub returns-clause-filled : goal.returns-clause-filled
 returns-clause-filled c =
     let board = c.args.self.now.board in
     let plan = c.args.self.now.plan in
-    let s = row_sized board (subst (λ (t : PlannedBoard). IsBoard t.board) c.self.view_is c.raw.ensures.rules) first_row_scan in
+    let s = row_sized board c.laws.ensures.rules first_row_scan in
     fills board plan.passes plan.width 1 (scan_of_row board first_row_scan) _ _ _ _ (scans_placed board plan.passes plan.width).quiet s.some s.most
     (record {
       tdi = c.shift_quiet.ensures.bits first_row_scan refl;

@@ -1,22 +1,21 @@
-use Rattle.std.proofs.Common.{ap, ◌∙◌, arith}
-use Rattle.board_defs.specs.Pins.{data_bits}
-use Rattle.tap_defs.specs.board.BoardScans.{row_bits}
-use Rattle.tap_defs.specs.chain.Scan.{joined, tdi_bits}
-use Rattle.scan_planner.specs.Planned.{PlannedBoard}
+use Rattle.std.proofs.Common.{length, ap, ◌∙◌, arith}
+use Rattle.plan_tables.specs.declared.tables.PlanTables.{PlanTables}
 use Rattle.scan_planner.proofs.FillLemmas.{quiet_length, quiet_is}
 use Rattle.scan_planner.proofs.board_plan.BoardPlan.shift_quiet.Goals as goal
 
 pub copy_row-requires : goal.copy_row-requires
 copy_row-requires c =
+    let test = c.args.self.now in
     omega (
       arith,
-      quiet_length c.self.inside.board.now c.raw.ensures.rules c.self.inside.tables.now c.self.invariant.of_board,
-      ap (λ (t : PlannedBoard). data_bits t.board) c.self.view_is,
+      ap (λ (p : PlanTables). length p.quiet.bits) c.tables-tables.ensures,
+      quiet_length test.board c.laws.ensures.rules test.plan c.laws.ensures.plan,
       c.requires,
     )
 
 pub returns-clause-bits : goal.returns-clause-bits
 returns-clause-bits c scan quiet =
+    let test = c.args.self.now in
     c.copy_row.ensures.bits
-    ∙ quiet_is c.self.inside.board.now c.raw.ensures.rules c.self.inside.tables.now c.self.invariant.of_board scan quiet
-    ∙ ap (λ (t : PlannedBoard). tdi_bits (joined (row_bits t.board scan))) c.self.view_is
+    ∙ ap (λ (p : PlanTables). p.quiet.bits) c.tables-tables.ensures
+    ∙ quiet_is test.board c.laws.ensures.rules test.plan c.laws.ensures.plan scan quiet

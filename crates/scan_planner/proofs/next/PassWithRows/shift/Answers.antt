@@ -1,8 +1,7 @@
 use Rattle.std.proofs.Common.{◌∙◌, length, ap, arith}
 use Rattle.tap_defs.specs.chain.Scan.{tdi_bits}
 use Rattle.scan_planner.specs.Plans.{scan_of_pass}
-use Rattle.scan_planner.specs.Planned.{PlannedPass}
-use Rattle.scan_planner.specs.inner.Planned.{bits_of}
+use Rattle.scan_planner.specs.Planned.{PlannedPass, bits_of}
 use Rattle.scan_planner.proofs.FillLemmas.{shifted_size}
 use Rattle.scan_planner.proofs.next.PassWithRows.shift.Goals as goal
 

@@ -1,6 +1,6 @@
 use Rattle.std.proofs.Common.{refl, rules, length, ap, ◌∙◌, arith}
 use Rattle.scan_planner.proofs.FillLemmas.{steady_shifted_length}
-use Rattle.scan_planner.proofs.board_plan.PassOfPlan.shift_row.Goals as goal
+use Rattle.scan_planner.proofs.board_plan.PassOfPlan.fill_shifted.Goals as goal
 
 pub copy_stacked-requires-clause-number : goal.copy_stacked-requires-clause-number
 copy_stacked-requires-clause-number c = omega (arith, c.requires.row, c.laws.ensures.few)
