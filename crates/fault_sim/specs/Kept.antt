@@ -2,6 +2,7 @@
 use Rattle.std.specs.Prelude.{◌≡◌, ℕ, suc, ◌*◌, ◌<◌, Bool, List, [], length, Option, Some, option_map, slice_get, slice_index_or}
 use Rattle.board_defs.specs.declared.board.Ctl.{Ctl}
 use Rattle.board_defs.specs.declared.board.RawBoard.{RawBoard}
+use Rattle.board_defs.specs.Passes.{passes_of}
 use Rattle.board_defs.specs.Pins.{data_bits}
 use Rattle.tap_defs.specs.chain.Scan.{joined, tdo_bits, mask_bits}
 use Rattle.tap_defs.specs.board.BoardScans.{row_bits}
@@ -13,7 +14,7 @@ use Rattle.fault_sim.specs.declared.feed.EnabledDriver.{EnabledDriver}
 use Rattle.fault_sim.specs.declared.kept.ComparedRow.{ComparedRow}
 use Rattle.fault_sim.specs.declared.kept.KeptPass.{KeptPass}
 use Rattle.fault_sim.specs.Effects.{driver_in, source_in, is_own}
-use Rattle.fault_sim.specs.Planned.{IsPlanned, PlanPass, PlannedBoard, plan_pass, planned_board}
+use Rattle.fault_sim.specs.Planned.{PlanPass, PlannedBoard, PlannedPass, controls_of, plan_pass}
 
 -- the bits that the test expects in row j of pass x, that is, the TDO bits of the scan that compares this row
 abbrev pub expected_in : RawBoard → PlanTables → ℕ → ℕ → List Bool
@@ -53,18 +54,17 @@ KeepRows board plan kept = (x : ℕ) (pass : KeptPass) → slice_get kept x ≡ 
 abbrev pub KeepDrivers : PlanTables → List KeptPass → Type 0
 KeepDrivers plan kept = (x : ℕ) (pass : KeptPass) → slice_get kept x ≡ Some pass → AreDrivers plan (slice_index_or plan.passes x []) pass.drivers
 
--- the plan is built from the board's passes, and each kept pass x has rows and drivers of the plan's pass x
-pub record IsBoardTest (board : RawBoard) (plan : PlanTables) (kept : List KeptPass) : Type 0 where
-  pub planned : IsPlanned (planned_board board plan)
-  pub rows : KeepRows board plan kept
-  pub drivers : KeepDrivers plan kept
+-- the plan has the passes of the board, and the kept passes are those of the plan
+pub record IsBoardTest (test : PlannedBoard) (kept : List KeptPass) : Type 0 where
+  pub passes : test.plan.passes ≡ passes_of test.board
+  pub rows : KeepRows test.board test.plan kept
+  pub drivers : KeepDrivers test.plan kept
 
--- pass x of a board's test: `drivers` is this pass of the plan, and `rows` are the first rows of the pass
-pub record IsTestPass (board : RawBoard) (plan : PlanTables) (x : ℕ) (drivers : PlanPass) (rows : List ComparedRow) : Type 0 where
-  pub within : x < length plan.passes
-  pub planned : IsPlanned (planned_board board plan)
-  pub drivers_are : drivers ≡ plan_pass plan (slice_index_or plan.passes x [])
-  pub rows_are : AreRows board plan x rows
+-- the plan has the passes of the board, and the drivers and the rows are the kept ones of the pass
+pub record IsTestPass (pass : PlannedPass) (drivers : PlanPass) (rows : List ComparedRow) : Type 0 where
+  pub passes : pass.test.plan.passes ≡ passes_of pass.test.board
+  pub drivers_are : drivers ≡ plan_pass pass.test.plan (controls_of pass)
+  pub rows_are : AreRows pass.test.board pass.test.plan pass.number rows
 
 -- the log has `width` rows for each pass of the test, and each row is as long as a data scan
 abbrev pub IsLogOf : PlannedBoard → List (List Bool) → Type 0

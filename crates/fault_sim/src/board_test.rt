@@ -9,27 +9,26 @@ use crate::kept::{KeptPass, kept_rows};
 use crate::passes::{LoggedPass, PassDrivers, TestPass};
 use board_defs::Board;
 use response_log::Log;
-use scan_planner::Plan;
+use scan_planner::{BoardPlan, Plan};
 use std::marker::Model;
 
-/// The test of a board: the board, the plan that is built from the board's passes, and the kept passes of the plan. The model is the board
-/// and the plan.
+/// The test of a board: the board with the plan that is built from the board's passes, and the kept passes of the plan. The model is the
+/// board and the plan.
 #[derive(Drop)]
 pub struct BoardTest<'a> {
-    pub(crate) board: &'a Board,
-    pub(crate) plan: &'a Plan,
-    pub(crate) kept: &'a [KeptPass],
+    planned: BoardPlan<'a>,
+    kept: &'a [KeptPass],
 }
 
 impl<'a> Model for BoardTest<'a> {
     ghost use Rattle.fault_sim.specs.Kept.{IsBoardTest};
-    ghost use Rattle.fault_sim.specs.Planned.{PlannedBoard, planned_board};
+    ghost use Rattle.fault_sim.specs.Planned.{PlannedBoard};
 
     ghost Value = { PlannedBoard };
 
-    ghost view = { λ a. planned_board a.board.now a.plan.now };
+    ghost view = { λ a. a.planned };
 
-    ghost invariant = { λ a. IsBoardTest a.board.now a.plan.now a.kept.now };
+    ghost invariant = { λ a. IsBoardTest a.planned a.kept.now };
 }
 
 /// A log with its test. The model is the test and the log.
@@ -58,8 +57,7 @@ impl<'a> BoardTest<'a> {
         ensures { result ≡ planned_board board.now plan.now }
     {
         BoardTest {
-            board,
-            plan,
+            planned: BoardPlan::new(board, plan),
             kept: &[],
         }
     }
@@ -71,17 +69,23 @@ impl<'a> BoardTest<'a> {
         ensures { result ≡ self.now }
     {
         BoardTest {
-            board: self.board,
-            plan: self.plan,
+            planned: self.planned.again(),
             kept,
         }
+    }
+
+    /// Returns the board with its plan.
+    pub fn board_plan(&self) -> &BoardPlan<'a>
+        ensures { result.now ≡ self.now }
+    {
+        &self.planned
     }
 
     /// Returns the board.
     pub fn board(&self) -> &'a Board
         ensures { result.now ≡ self.now.board }
     {
-        self.board
+        self.planned.board()
     }
 
     /// Returns the plan.
@@ -90,7 +94,15 @@ impl<'a> BoardTest<'a> {
         ensures plan { IsPlanOf self.now.board self.now.plan }
         ensures passes { self.now.plan.passes ≡ passes_of self.now.board }
     {
-        self.plan
+        self.planned.plan()
+    }
+
+    /// Returns the kept passes.
+    pub(crate) fn kept(&self) -> &'a [KeptPass]
+        ensures rows { KeepRows self.now.board self.now.plan result.now }
+        ensures drivers { KeepDrivers self.now.plan result.now }
+    {
+        self.kept
     }
 
     /// Returns a log of this test. The log must have the test's rows, each as long as a data scan.
@@ -98,11 +110,7 @@ impl<'a> BoardTest<'a> {
         requires { IsLogOf self.now log.now }
         ensures { result ≡ logged_board self.now log.now }
     {
-        let test = BoardTest {
-            board: self.board,
-            plan: self.plan,
-            kept: self.kept,
-        };
+        let test = self.with_kept(self.kept());
         LoggedTest { test, log }
     }
 
@@ -111,12 +119,11 @@ impl<'a> BoardTest<'a> {
         requires { x < length self.now.plan.passes }
         ensures { result ≡ planned_pass self.now x }
     {
+        let kept = self.kept();
         TestPass {
-            board: self.board,
-            plan: self.plan,
-            number: x,
-            drivers: PassDrivers::of(self.plan, self.kept, x),
-            rows: kept_rows(self.kept, x),
+            pass: self.board_plan().pass(x),
+            drivers: PassDrivers::of(self.plan(), kept, x),
+            rows: kept_rows(kept, x),
         }
     }
 }

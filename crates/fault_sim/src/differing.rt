@@ -1,8 +1,5 @@
 // Finds the nets that differ in a log.
-ghost use Rattle.std.specs.Prelude.{◌≡◌, ◌↔◌, ◌*◌, length, All, IsTrue, IfOk};
-ghost use Rattle.board_defs.specs.Passes.{passes_of};
-ghost use Rattle.board_defs.specs.Pins.{data_bits};
-ghost use Rattle.scan_planner.specs.Plans.{IsPlanOf};
+ghost use Rattle.std.specs.Prelude.{◌↔◌, length, IsTrue, IfOk};
 ghost use Rattle.tap_defs.specs.board.BoardScans.{svf_row_scans};
 ghost use Rattle.tap_defs.specs.board.Explaining.{IsExpected};
 ghost use Rattle.fault_sim.specs.Suspects.{AreDiffering};
@@ -13,9 +10,7 @@ use crate::board_test::LoggedTest;
 use crate::fits::net_count;
 use crate::marks::are_marked;
 use crate::tested::push_if;
-use board_defs::{Board, law};
-use response_log::Log;
-use scan_planner::Plan;
+use board_defs::law;
 use std::alloc::{AllocError, Global};
 use tap_defs::board_law;
 
@@ -32,7 +27,8 @@ impl<'a> LoggedTest<'a> {
         self.shows_on(None, n)
     }
 
-    /// Like the function `differing_nets`, for this test and log.
+    /// Returns the nets that differ in the log, in net order. A net differs if one of its compared cells has a bit other than the expected
+    /// bit. Reads each row once, and then only the cells of nets that may differ. These are the nets that differ and few others.
     pub fn differing(&self, alloc: Global) -> Result<Vec<u32>, AllocError>
         ensures { IfOk result (λ nets. AreDiffering self.now.test.board self.now.test.plan self.now.log nets.items) }
     {
@@ -57,22 +53,4 @@ impl<'a> LoggedTest<'a> {
         board_law::expected_bits();
         nets.is_empty()
     }
-}
-
-/// Returns the nets that differ in a log, in net order. A net differs if one of its compared cells has a bit other than the expected bit.
-/// The plan must be built from the board's passes. The log must have the plan's rows, each as long as a data scan. The function reads each
-/// row once. Then it checks the cells of those nets that may differ: the nets that differ, and few others.
-pub fn differing_nets(
-    alloc: Global,
-    board: &Board,
-    plan: &Plan,
-    log: &Log,
-) -> Result<Vec<u32>, AllocError>
-    requires plan { IsPlanOf board.now plan.now }
-    requires passes { plan.now.passes ≡ passes_of board.now }
-    requires rows { length log.now ≡ length plan.now.passes * plan.now.width }
-    requires bits { All (λ row. length row ≡ data_bits board.now) log.now }
-    ensures { IfOk result (λ nets. AreDiffering board.now plan.now log.now nets.items) }
-{
-    LoggedTest::of(board, plan, log).differing(alloc)
 }

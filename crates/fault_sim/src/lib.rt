@@ -24,9 +24,8 @@ mod universe;
 mod words;
 
 pub use board_test::{BoardTest, LoggedTest};
-pub use differing::differing_nets;
 pub use kept::{ComparedRow, KeptPass};
-pub use matching::{is_pass, matches, matches_by};
+pub use matching::{is_pass, matches};
 pub use suspects::Suspects;
 pub use telling::TellingNet;
 pub use universe::Universe;

@@ -25,11 +25,7 @@ pub fn is_pass(board: &Board, plan: &Plan, log: &Log) -> bool
     requires bits { All (λ row. length row ≡ data_bits board.now) log.now }
     ensures { IsTrue result ↔ IsExpected board.now (svf_row_scans board.now) log.now }
 {
-    let _rules = board.raw();
-    law::passes_kept();
-    board_law::rows_compared();
-    board_law::expected_bits();
-    LoggedTest::of(board, plan, log).shows_all(None)
+    LoggedTest::of(board, plan, log).is_pass()
 }
 
 /// Returns whether a single fault of the board explains a log. A fault explains a log if every run of the test with this fault alone gives
@@ -43,15 +39,7 @@ pub fn matches(board: &Board, plan: &Plan, fault: Single, log: &Log) -> bool
     requires bits { All (λ row. length row ≡ data_bits board.now) log.now }
     ensures { IsTrue result ↔ Explains board.now fault log.now }
 {
-    let _rules = board.raw();
-    law::passes_kept();
-    board_law::rows_compared();
-    board_law::singles_respond();
-    let logged = LoggedTest::of(board, plan, log);
-    if !logged.shows_own(fault) {
-        return false;
-    }
-    logged.shows_all(Some(fault))
+    LoggedTest::of(board, plan, log).matches(fault)
 }
 
 // Returns whether each of `nets` is net `a` or net `b`.
@@ -61,21 +49,38 @@ fn are_of(nets: &[u32], a: u32, b: u32) -> bool
     nets.iter().all(|n| *n == a || *n == b)
 }
 
-/// Like `matches`, but also takes the nets that differ in the log. With them, only the cells of the fault's own nets need a check.
-pub fn matches_by(board: &Board, plan: &Plan, fault: Single, log: &Log, nets: &[u32]) -> bool
-    requires plan { IsPlanOf board.now plan.now }
-    requires passes { plan.now.passes ≡ passes_of board.now }
-    requires fault { IsSingle board.now fault }
-    requires rows { length log.now ≡ length plan.now.passes * plan.now.width }
-    requires bits { All (λ row. length row ≡ data_bits board.now) log.now }
-    requires differing { AreDiffering board.now plan.now log.now nets.now }
-    ensures { IsTrue result ↔ Explains board.now fault log.now }
-{
-    LoggedTest::of(board, plan, log).matches_by(fault, nets)
-}
-
 impl<'a> LoggedTest<'a> {
-    /// Like the function `matches_by`, for this test and log.
+    /// Like the function `is_pass`, for this test and log.
+    pub fn is_pass(&self) -> bool
+        ensures { IsTrue result ↔ IsExpected self.now.test.board (svf_row_scans self.now.test.board) self.now.log }
+    {
+        let _plan = self.plan();
+        let _log = self.log();
+        let _rules = self.board().raw();
+        law::passes_kept();
+        board_law::rows_compared();
+        board_law::expected_bits();
+        self.shows_all(None)
+    }
+
+    /// Like the function `matches`, for this test and log.
+    pub fn matches(&self, fault: Single) -> bool
+        requires { IsSingle self.now.test.board fault }
+        ensures { IsTrue result ↔ Explains self.now.test.board fault self.now.log }
+    {
+        let _plan = self.plan();
+        let _log = self.log();
+        let _rules = self.board().raw();
+        law::passes_kept();
+        board_law::rows_compared();
+        board_law::singles_respond();
+        if !self.shows_own(fault) {
+            return false;
+        }
+        self.shows_all(Some(fault))
+    }
+
+    /// Like `matches`, but also takes the nets that differ in the log. With them, only the cells of the fault's own nets need a check.
     pub fn matches_by(&self, fault: Single, nets: &[u32]) -> bool
         requires fault { IsSingle self.now.test.board fault }
         requires differing { AreDiffering self.now.test.board self.now.test.plan self.now.log nets.now }

@@ -14,7 +14,7 @@ use crate::kept::{ComparedRow, KeptPass, kept_driver, kept_drivers};
 use crate::words::{FedWords, fed_words};
 use board_defs::{Board, Setting};
 use response_log::Log;
-use scan_planner::Plan;
+use scan_planner::{PassOfPlan, Plan};
 use std::marker::Model;
 
 /// A pass of a plan, with its kept drivers. The model is the plan and the controls that the pass holds.
@@ -78,22 +78,20 @@ impl<'a> PassDrivers<'a> {
 /// A pass of a board's test, with its kept drivers and kept rows. The model is the test and the number of the pass.
 #[derive(Drop)]
 pub struct TestPass<'a> {
-    pub(crate) board: &'a Board,
-    pub(crate) plan: &'a Plan,
-    pub(crate) number: u32,
+    pub(crate) pass: PassOfPlan<'a>,
     pub(crate) drivers: PassDrivers<'a>,
     pub(crate) rows: &'a [ComparedRow],
 }
 
 impl<'a> Model for TestPass<'a> {
     ghost use Rattle.fault_sim.specs.Kept.{IsTestPass};
-    ghost use Rattle.fault_sim.specs.Planned.{PlannedPass, planned_board, planned_pass};
+    ghost use Rattle.fault_sim.specs.Planned.{PlannedPass};
 
     ghost Value = { PlannedPass };
 
-    ghost view = { λ a. planned_pass (planned_board a.board.now a.plan.now) a.number };
+    ghost view = { λ a. a.pass };
 
-    ghost invariant = { λ a. IsTestPass a.board.now a.plan.now a.number a.drivers a.rows.now };
+    ghost invariant = { λ a. IsTestPass a.pass a.drivers a.rows.now };
 }
 
 impl<'a> TestPass<'a> {
@@ -101,7 +99,7 @@ impl<'a> TestPass<'a> {
     pub fn board(&self) -> &'a Board
         ensures { result.now ≡ self.now.test.board }
     {
-        self.board
+        self.pass.test().board()
     }
 
     /// Returns the plan.
@@ -110,7 +108,7 @@ impl<'a> TestPass<'a> {
         ensures plan { IsPlanOf self.now.test.board self.now.test.plan }
         ensures passes { self.now.test.plan.passes ≡ passes_of self.now.test.board }
     {
-        self.plan
+        self.pass.test().plan()
     }
 
     /// Returns the number of the first row of the pass in a log of the test.
@@ -119,7 +117,7 @@ impl<'a> TestPass<'a> {
         ensures pass { self.now.number < length self.now.test.plan.passes }
         ensures few { result < 2 ^ 40 }
     {
-        u64::from(self.number) * u64::from(self.plan.width())
+        u64::from(self.pass.number()) * u64::from(self.plan().width())
     }
 
     /// Returns the driver that the pass enables on a net, if there is one.
@@ -143,7 +141,7 @@ impl<'a> TestPass<'a> {
     pub fn pull(&self, net: u32) -> Option<bool>
         ensures { result ≡ pull_in self.now.test.board net }
     {
-        pull_in(self.board, net)
+        pull_in(self.board(), net)
     }
 
     /// Returns a net in this pass: the feed of the net's enabled driver, and the net's pull.
@@ -167,8 +165,8 @@ impl<'a> TestPass<'a> {
         ensures row { IsRow self.now.test.board self.now.test.plan self.now.number j row.new }
         ensures room { HaveRoom self.now.test.board row.new }
     {
-        self.plan
-            .fill_compared(self.board, self.number, j, &mut row.tdo, &mut row.mask);
+        self.pass
+            .fill_compared(j, &mut row.tdo, &mut row.mask);
     }
 }
 

@@ -305,6 +305,6 @@ impl<'a> BoardTest<'a> {
     pub fn observes(&self, fault: Single) -> bool
         ensures { result ≡ observes_fault self.now.plan fault }
     {
-        observes_fault(self.plan, self.kept, fault)
+        observes_fault(self.plan(), self.kept(), fault)
     }
 }

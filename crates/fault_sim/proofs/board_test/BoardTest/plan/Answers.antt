@@ -1,5 +1,4 @@
-use Rattle.std.proofs.Common.{refl}
 use Rattle.fault_sim.proofs.board_test.BoardTest.plan.Goals as goal
 
 pub returns : goal.returns
-returns c = rw (← c.self.view_is) (record { value = refl; plan = c.self.invariant.planned.plan; passes = c.self.invariant.planned.passes })
+returns c = rw (← c.self.view_is) (record { value = c.plan.ensures.value; plan = c.plan.ensures.plan; passes = c.self.invariant.passes })
