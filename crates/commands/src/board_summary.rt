@@ -2,12 +2,11 @@
 ghost use Rattle.std.specs.Prelude.{◌≡◌, [], ◌∷◌, length, min, IfOk};
 ghost use Rattle.bt_base.specs.Counts.{last_count};
 ghost use Rattle.line_printer.specs.Prints.{Prints};
-ghost use Rattle.board_defs.specs.Passes.{passes_of};
 ghost use Rattle.tap_defs.specs.board.BoardScans.{pass_text};
 ghost use Rattle.net_classes.specs.Kept.{AreClasses};
 ghost use Rattle.net_pins.specs.Tables.{AreNetPins};
 ghost use Rattle.coverage_list.specs.CoverText.{covered};
-ghost use Rattle.scan_planner.specs.Plans.{IsPlanOf, scan_count};
+ghost use Rattle.scan_planner.specs.Plans.{scan_count};
 ghost use Rattle.board_gen.specs.BoardTexts.{chain_text, net_text};
 ghost use Rattle.board_gen.specs.DeviceText.{bsdl_text};
 ghost use Rattle.answers.specs.Gives.{Gives};
@@ -27,11 +26,12 @@ use bt_bits::Line;
 use btest_core::{InputFault, plan_by, read_board};
 use command_line::PartCount;
 use coverage_list::covered_nets;
+use fault_sim::BoardTest;
 use itoa::Buffer;
 use line_printer::put_line;
 use net_classes::Classes;
 use net_pins::NetPins;
-use scan_planner::Plan;
+use scan_planner::{BoardPlan, Plan};
 use std::alloc::{AllocError, Global};
 use tap_defs::board_law::scans_placed;
 
@@ -95,14 +95,13 @@ fn net_count(board: &Board) -> u32
 
 // Returns the number of bytes of the text of the plan's test, or the largest number of 64 bits if there are more. Writes the text to a sink
 // that only counts bytes.
-fn text_bytes(alloc: Global, board: &Board, plan: &Plan) -> Result<u64, AllocError>
-    requires { IsPlanOf board.now plan.now }
-    ensures { IfOk result (λ bytes. bytes ≡ min (length (pass_text board.now plan.now.passes plan.now.width)) last_count) }
+fn text_bytes(alloc: Global, test: &BoardPlan<'_>) -> Result<u64, AllocError>
+    ensures { IfOk result (λ bytes. bytes ≡ min (length (pass_text test.now.board test.now.plan.passes test.now.plan.width)) last_count) }
 {
-    let mut rows = TestRows::for_board(alloc, board)?;
+    let mut rows = TestRows::for_board(alloc, test.board())?;
     let mut counter = CountSink::new();
     // A sink that only counts never fails.
-    let _ = write_test(board, plan, &mut rows, &mut counter);
+    let _ = write_test(test, &mut rows, &mut counter);
     Ok(counter.count())
 }
 
@@ -128,26 +127,23 @@ fn classed_counts(
     ensures { IfOk result (λ counts. counts_line counts.devices counts.nets counts.covered counts.passes counts.scans counts.bytes ≡ summary_text board.now) }
 {
     let plan = plan_by(alloc, board, pins, classes)?;
-    let counts = planned_counts(alloc, board, classes, &plan);
+    let counts = planned_counts(alloc, &BoardTest::of(board, &plan), classes);
     drop(plan);
     counts
 }
 
-// Like `board_counts`, but takes the board's classes and the plan of its test.
+// Like `board_counts`, but takes the board's test and classes.
 fn planned_counts(
     alloc: Global,
-    board: &Board,
+    test: &BoardTest<'_>,
     classes: &Classes,
-    plan: &Plan,
 ) -> Result<Counts, AllocError>
-    requires classes { AreClasses board.now classes.now }
-    requires plan { IsPlanOf board.now plan.now }
-    requires passes { plan.now.passes ≡ passes_of board.now }
-    ensures { IfOk result (λ counts. counts_line counts.devices counts.nets counts.covered counts.passes counts.scans counts.bytes ≡ summary_text board.now) }
+    requires { AreClasses test.now.board classes.now }
+    ensures { IfOk result (λ counts. counts_line counts.devices counts.nets counts.covered counts.passes counts.scans counts.bytes ≡ summary_text test.now.board) }
 {
-    let bytes = text_bytes(alloc, board, plan)?;
+    let bytes = text_bytes(alloc, test.board_plan())?;
     scans_placed();
-    Ok(counts_of(board, classes, plan, bytes))
+    Ok(counts_of(test.board(), classes, test.plan(), bytes))
 }
 
 // Returns the counts of a board and of its plan's test, whose text has `bytes` bytes.

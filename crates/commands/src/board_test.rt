@@ -11,7 +11,7 @@ ghost use Rattle.tap_defs.specs.chain.Svf.{meaning};
 ghost use Rattle.tap_defs.specs.chain.Text.{scan_text, svf_text};
 ghost use Rattle.plan_tables.specs.declared.tables.PlanTables.{PlanTables as PlanRecord};
 ghost use Rattle.scan_planner.specs.PassRows.{AreKept};
-ghost use Rattle.scan_planner.specs.Plans.{IsPlanOf, IsRoom, scan_count};
+ghost use Rattle.scan_planner.specs.Plans.{IsRoom, scan_count};
 ghost use Rattle.response_log.specs.LogRows.{HasSize};
 ghost use Rattle.diagnoser.specs.Laws.{ExplainingListed, PassingUnexplained};
 ghost use Rattle.commands.specs.LogRead.{test_rows};
@@ -28,12 +28,12 @@ use board_defs::Board;
 use board_defs::law::passes_kept;
 use bt_base::{PutFault, Sink};
 use diagnoser::law::{explaining_listed, passing_unexplained};
-use scan_planner::{PassRows, Plan};
+use scan_planner::{BoardPlan, PassRows};
 use std::alloc::{AllocError, Global};
 use svf_writer::{write_head, write_scan, write_tail};
 use tap_defs::board_law::{board_texts_test, one_log, rows_compared, scans_in_turn, scans_placed};
 use tap_defs::chain_law::texts_mean;
-use tap_defs::{Shape, StoredRows};
+use tap_defs::{ScanRows, Shape, StoredRows};
 
 /// Writes the test of the board that the texts denote. All memory is allocated before the first write.
 pub fn svf<K: Sink>(alloc: Global, texts: &BoardTexts, out: &mut K) -> Result<(), Unput>
@@ -54,9 +54,10 @@ pub fn svf<K: Sink>(alloc: Global, texts: &BoardTexts, out: &mut K) -> Result<()
 fn put_test<K: Sink>(alloc: Global, planned: &Planned, out: &mut K) -> Result<(), Unput>
     ensures { PutsText (board_text planned.now.board) (K.shown out.old) (K.shown out.new) result }
 {
-    let Planned { board, plan } = planned;
-    let mut rows = TestRows::for_board(alloc, board)?;
-    answer_by(write_test(board, plan, &mut rows, out))
+    let test = planned.test();
+    let _passes = test.plan();
+    let mut rows = TestRows::for_board(alloc, test.board())?;
+    answer_by(write_test(test.board_plan(), &mut rows, out))
 }
 
 // States that the text of the board's test tests the board. Does nothing.
@@ -142,38 +143,34 @@ impl TestRows {
 
 /// Writes the test of a plan.
 pub fn write_test<K: Sink>(
-    board: &Board,
-    plan: &Plan,
+    test: &BoardPlan<'_>,
     made: &mut TestRows,
     out: &mut K,
 ) -> Result<(), PutFault>
-    requires plan { IsPlanOf board.now plan.now }
-    requires kept { AreKept board.now plan.now made.old.kept }
-    requires room { EachStoredHasRoom (IsRoom board.now) made.old.rows.scan }
-    ensures { Puts (K.shown out.old) (K.shown out.new) (pass_text board.now plan.now.passes plan.now.width) result }
+    requires kept { AreKept test.now.board test.now.plan made.old.kept }
+    requires room { EachStoredHasRoom (IsRoom test.now.board) made.old.rows.scan }
+    ensures { Puts (K.shown out.old) (K.shown out.new) (pass_text test.now.board test.now.plan.passes test.now.plan.width) result }
 {
-    write_scans(board, plan, &mut made.kept, &mut made.rows, out)
+    write_scans(test, &mut made.kept, &mut made.rows, out)
 }
 
 // Like `write_test`, but takes the two fields of `TestRows` as separate arguments.
 #[tactic(auto, unfolding(tap_defs::specs::chain::Text::svf_text))]
 fn write_scans<K: Sink>(
-    board: &Board,
-    plan: &Plan,
+    test: &BoardPlan<'_>,
     kept: &mut PassRows,
     rows: &mut Rows,
     out: &mut K,
 ) -> Result<(), PutFault>
-    requires plan { IsPlanOf board.now plan.now }
-    requires kept { AreKept board.now plan.now kept.old }
-    requires room { EachStoredHasRoom (IsRoom board.now) rows.old.scan }
-    ensures { Puts (K.shown out.old) (K.shown out.new) (pass_text board.now plan.now.passes plan.now.width) result }
+    requires kept { AreKept test.now.board test.now.plan kept.old }
+    requires room { EachStoredHasRoom (IsRoom test.now.board) rows.old.scan }
+    ensures { Puts (K.shown out.old) (K.shown out.new) (pass_text test.now.board test.now.plan.passes test.now.plan.width) result }
 {
     scans_placed();
     write_head(out)?;
     let mut held = None;
-    for k in 0..plan.scans() {
-        write_scan_at(board, plan, k, &mut held, kept, rows, out)?;
+    for k in 0..test.scans() {
+        write_scan_at(test, k, &mut held, kept, rows, out)?;
     }
     write_tail(out)
 }
@@ -181,27 +178,25 @@ fn write_scans<K: Sink>(
 // Writes scan `k` of a plan. If `held` has a shape, the rows must hold scan `k - 1`, and the shape must be the shape of this scan.
 // Afterwards the rows hold scan `k`, and `held` has its shape.
 fn write_scan_at<K: Sink>(
-    board: &Board,
-    plan: &Plan,
+    test: &BoardPlan<'_>,
     k: u64,
     held: &mut Option<Shape>,
     kept: &mut PassRows,
     rows: &mut Rows,
     out: &mut K,
 ) -> Result<(), PutFault>
-    requires plan { IsPlanOf board.now plan.now }
-    requires scan { k < scan_count plan.now }
+    requires scan { k < scan_count test.now.plan }
     requires later { IfSome held.old (λ shape. 0 < k) }
-    requires held { IfSome held.old (λ shape. HoldScan board.now plan.now (k - 1) shape rows.old.scan) }
-    requires kept { AreKept board.now plan.now kept.old }
-    requires room { EachStoredHasRoom (IsRoom board.now) rows.old.scan }
-    ensures text { IfSome (slice_get (test_scans board.now plan.now.passes plan.now.width) k) (λ scan. Puts (K.shown out.old) (K.shown out.new) (scan_text scan) result) }
-    ensures held { IfSome held.new (λ shape. HoldScan board.now plan.now k shape rows.new.scan) }
-    ensures kept { AreKept board.now plan.now kept.new }
-    ensures room { EachStoredHasRoom (IsRoom board.now) rows.new.scan }
+    requires held { IfSome held.old (λ shape. HoldScan test.now.board test.now.plan (k - 1) shape rows.old.scan) }
+    requires kept { AreKept test.now.board test.now.plan kept.old }
+    requires room { EachStoredHasRoom (IsRoom test.now.board) rows.old.scan }
+    ensures text { IfSome (slice_get (test_scans test.now.board test.now.plan.passes test.now.plan.width) k) (λ scan. Puts (K.shown out.old) (K.shown out.new) (scan_text scan) result) }
+    ensures held { IfSome held.new (λ shape. HoldScan test.now.board test.now.plan k shape rows.new.scan) }
+    ensures kept { AreKept test.now.board test.now.plan kept.new }
+    ensures room { EachStoredHasRoom (IsRoom test.now.board) rows.new.scan }
 {
     let Rows { scan, line } = rows;
-    let shape = fill_at(board, plan, k, *held, kept, scan);
+    let shape = fill_at(test, k, *held, kept, scan);
     *held = Some(shape);
     write_scan(shape, &scan.tdi, &scan.tdo, &scan.mask, line, out)
 }
@@ -209,26 +204,24 @@ fn write_scan_at<K: Sink>(
 // Fills the rows with scan `k` of a plan and returns its shape. If `before` has a shape, the rows must hold scan `k - 1`, and the shape
 // must be the shape of this scan. In that case the call is faster.
 fn fill_at(
-    board: &Board,
-    plan: &Plan,
+    test: &BoardPlan<'_>,
     k: u64,
     before: Option<Shape>,
     kept: &mut PassRows,
     rows: &mut StoredRows,
 ) -> Shape
-    requires plan { IsPlanOf board.now plan.now }
-    requires scan { k < scan_count plan.now }
+    requires scan { k < scan_count test.now.plan }
     requires later { IfSome before (λ shape. 0 < k) }
-    requires held { IfSome before (λ shape. HoldScan board.now plan.now (k - 1) shape rows.old) }
-    requires kept { AreKept board.now plan.now kept.old }
-    requires room { EachStoredHasRoom (IsRoom board.now) rows.old }
-    ensures filled { HoldScan board.now plan.now k result rows.new }
-    ensures kept { AreKept board.now plan.now kept.new }
-    ensures room { EachStoredHasRoom (IsRoom board.now) rows.new }
+    requires held { IfSome before (λ shape. HoldScan test.now.board test.now.plan (k - 1) shape rows.old) }
+    requires kept { AreKept test.now.board test.now.plan kept.old }
+    requires room { EachStoredHasRoom (IsRoom test.now.board) rows.old }
+    ensures filled { HoldScan test.now.board test.now.plan k result rows.new }
+    ensures kept { AreKept test.now.board test.now.plan kept.new }
+    ensures room { EachStoredHasRoom (IsRoom test.now.board) rows.new }
 {
     let StoredRows { tdi, tdo, mask } = rows;
     match before {
-        None => plan.fill(board, k, tdi, tdo, mask),
-        Some(shape) => plan.fill_next(board, k - 1, shape, kept, tdi, tdo, mask),
+        None => test.fill(k, &mut ScanRows { tdi, tdo, mask }),
+        Some(shape) => test.fill_next(k - 1, shape, kept, &mut ScanRows { tdi, tdo, mask }),
     }
 }

@@ -165,8 +165,7 @@ impl<'a> TestPass<'a> {
         ensures row { IsRow self.now.test.board self.now.test.plan self.now.number j row.new }
         ensures room { HaveRoom self.now.test.board row.new }
     {
-        self.pass
-            .fill_compared(j, &mut row.tdo, &mut row.mask);
+        self.pass.fill_compared(j, &mut row.tdo, &mut row.mask);
     }
 }
 

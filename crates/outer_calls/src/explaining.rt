@@ -9,7 +9,7 @@ ghost use Rattle.scan_planner.specs.Plans.{IsPlanOf};
 ghost use Rattle.tap_defs.specs.board.BoardScans.{svf_row_scans};
 ghost use Rattle.tap_defs.specs.board.Explaining.{Explains, IsExpected};
 ghost use Rattle.fault_sim.specs.Places.{IsUniverse, place_count, places_of};
-ghost use Rattle.fault_sim.specs.Suspects.{AreDiffering, AreSuspects};
+ghost use Rattle.fault_sim.specs.Suspects.{AreSuspects};
 
 use board_defs::{Board, Single};
 use fault_sim::{Suspects, Universe};
@@ -71,33 +71,4 @@ pub fn suspects(
     ensures { IfOk result (λ suspects. AreSuspects board.now plan.now universe.now log.now suspects) }
 {
     Suspects::new(alloc, board, plan, universe, log)
-}
-
-/// Returns the nets that differ in the log. A net differs if some compared bit of the net is not the expected bit.
-pub fn differing_nets(
-    alloc: Global,
-    board: &Board,
-    plan: &Plan,
-    log: &Log,
-) -> Result<Vec<u32>, AllocError>
-    requires plan { IsPlanOf board.now plan.now }
-    requires passes { plan.now.passes ≡ passes_of board.now }
-    requires rows { length log.now ≡ length plan.now.passes * plan.now.width }
-    requires bits { All (λ row. length row ≡ data_bits board.now) log.now }
-    ensures { IfOk result (λ nets. AreDiffering board.now plan.now log.now nets.items) }
-{
-    fault_sim::differing_nets(alloc, board, plan, log)
-}
-
-/// Like `matches`, but takes the nets that differ in the log.
-pub fn matches_by(board: &Board, plan: &Plan, fault: Single, log: &Log, nets: &[u32]) -> bool
-    requires plan { IsPlanOf board.now plan.now }
-    requires passes { plan.now.passes ≡ passes_of board.now }
-    requires fault { IsSingle board.now fault }
-    requires rows { length log.now ≡ length plan.now.passes * plan.now.width }
-    requires bits { All (λ row. length row ≡ data_bits board.now) log.now }
-    requires differing { AreDiffering board.now plan.now log.now nets.now }
-    ensures { IsTrue result ↔ Explains board.now fault log.now }
-{
-    fault_sim::matches_by(board, plan, fault, log, nets)
 }

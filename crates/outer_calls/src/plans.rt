@@ -1,12 +1,14 @@
 //! Calls that make the plan of a board's test and the board's walk from the passes alone.
 ghost use Rattle.std.specs.Prelude.{◌≡◌, ◌<◌, ◌^◌, length, slice_get, IfOk};
 ghost use Rattle.board_defs.specs.Passes.{passes_of};
-ghost use Rattle.scan_planner.specs.Plans.{ArePlannable, IsPlanOf};
+ghost use Rattle.scan_planner.specs.Plans.{ArePlannable, FillsScan, IsPlanOf, IsRoom, scan_count};
 ghost use Rattle.walk_test.specs.Tables.{IsWalkOf};
 
 use board_defs::{Board, Setting};
+use bt_bits::Row;
 use scan_planner::Plan;
 use std::alloc::{AllocError, Global};
+use tap_defs::Shape;
 use walk_test::Walk;
 
 /// Returns the plan of the passes.
@@ -17,6 +19,28 @@ pub fn plan(alloc: Global, board: &Board, passes: Vec<Setting>) -> Result<Plan, 
     ensures passes { IfOk result (λ plan. plan.passes ≡ passes.items) }
 {
     Plan::new(alloc, board, passes)
+}
+
+/// Fills the rows with scan `k` of the plan's test, and returns the shape of the scan.
+pub fn fill(
+    board: &Board,
+    plan: &Plan,
+    k: u64,
+    tdi: &mut Row,
+    tdo: &mut Row,
+    mask: &mut Row,
+) -> Shape
+    requires plan { IsPlanOf board.now plan.now }
+    requires scan { k < scan_count plan.now }
+    requires tdi_room { IsRoom board.now tdi.old.room }
+    requires tdo_room { IsRoom board.now tdo.old.room }
+    requires mask_room { IsRoom board.now mask.old.room }
+    ensures filled { FillsScan board.now plan.now.passes plan.now.width k result tdi.new.bits tdo.new.bits mask.new.bits }
+    ensures tdi_kept { tdi.new.room ≡ tdi.old.room }
+    ensures tdo_kept { tdo.new.room ≡ tdo.old.room }
+    ensures mask_kept { mask.new.room ≡ mask.old.room }
+{
+    plan.fill(board, k, tdi, tdo, mask)
 }
 
 /// Returns the walk of the board. It uses only the first of the passes.

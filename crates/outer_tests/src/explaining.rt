@@ -12,7 +12,7 @@ use crate::boards::{BIDIR, Files, GROUPS, PAIR, PULLED, board_of, log_of, plan_o
 use board_defs::{Board, Kind, Single};
 use bt_base::OpenGate;
 use diagnoser::{Workers, diagnose, diagnose_in};
-use fault_sim::{LoggedTest, Suspects, Universe, differing_nets, is_pass, matches, matches_by};
+use fault_sim::{LoggedTest, Suspects, Universe, is_pass, matches};
 use response_log::Log;
 use run_bench::{RowFault, expect};
 use scan_planner::Plan;
@@ -366,7 +366,8 @@ fn explains(tested: Tested<'_>, log: &Log, nets: &[u32], place: u64) -> Option<b
         return Some(false);
     };
     let found = matches(tested.board, tested.plan, fault, log);
-    if matches_by(tested.board, tested.plan, fault, log, nets) == found {
+    let logged = LoggedTest::of(tested.board, tested.plan, log);
+    if logged.matches_by(fault, nets) == found {
         Some(found)
     } else {
         None
@@ -542,7 +543,7 @@ fn nets_hold(
     requires bits { All (λ row. length row ≡ data_bits tested.board.now) log.now }
 {
     let (name, explaining) = (rows.name, wanted.explaining);
-    let nets = differing_nets(alloc, tested.board, tested.plan, log)?;
+    let nets = LoggedTest::of(tested.board, tested.plan, log).differing(alloc)?;
     expect(
         name,
         row,

@@ -4,7 +4,7 @@ ghost use Rattle.std.specs.Option.{option_to_list};
 ghost use Rattle.board_defs.specs.Passes.{passes_of};
 ghost use Rattle.board_defs.specs.Pins.{data_bits};
 ghost use Rattle.net_pins.specs.Tables.{AreNetPins};
-ghost use Rattle.scan_planner.specs.Plans.{ArePlannable, IsPlanOf};
+ghost use Rattle.scan_planner.specs.Plans.{ArePlannable};
 ghost use Rattle.walk_test.specs.WalkTest.{walk_setting};
 ghost use Rattle.walk_test.specs.inner.Tables.{positions_beside, cells_by, cells_in, nets_in, nets_by, cells_of, cleared, AreMade, HasRoom};
 
@@ -13,7 +13,7 @@ use crate::tables::{NetCells, WalkParts, WalkRows};
 use board_defs::{Board, Items, Setting};
 use bt_bits::Row;
 use net_pins::{BoardPins, NetDriver, NetPins, ReaderCell};
-use scan_planner::Plan;
+use scan_planner::BoardPlan;
 use std::alloc::{AllocError, Global};
 
 fn push_beside(positions: &mut Vec<u32>, reader: ReaderCell, place: u32) -> Result<(), AllocError>
@@ -213,16 +213,16 @@ pub fn walk_parts(
 
 /// Fills the rows of a walk from its plan and the cells of its nets. The rows are the first row of the pass with no walk net at 1, and the
 /// compared positions. They must have room for a data scan. If there is no pass, they stay unchanged.
-pub fn fill_rows(board: &Board, plan: &Plan, cells: &[NetCells], rows: &mut WalkRows)
-    requires plan { IsPlanOf board.now plan.now }
-    requires room { HasRoom (data_bits board.now) rows.old }
-    ensures { AreMade board.now plan.now cells.now rows.new }
+pub fn fill_rows(test: &BoardPlan<'_>, cells: &[NetCells], rows: &mut WalkRows)
+    requires { HasRoom (data_bits test.now.board) rows.old }
+    ensures { AreMade test.now.board test.now.plan cells.now rows.new }
 {
-    if plan.pass_count() == 0 {
+    if test.plan().pass_count() == 0 {
         return;
     }
+    let pass = test.pass(0);
     // `still` takes the expected bits, which nothing needs, until the next call fills it with the row.
-    plan.fill_compared(board, 0, 0, &mut rows.still, &mut rows.mask);
-    plan.fill_shifted(board, 0, 0, &mut rows.still);
+    pass.fill_compared(0, &mut rows.still, &mut rows.mask);
+    pass.fill_shifted(0, &mut rows.still);
     clear_drivers(cells, &mut rows.still);
 }

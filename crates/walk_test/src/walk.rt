@@ -12,7 +12,7 @@ use crate::tables::{WalkParts, WalkTables};
 use board_defs::{Board, Setting};
 use bt_bits::Row;
 use net_pins::NetPins;
-use scan_planner::Plan;
+use scan_planner::{BoardPlan, Plan};
 use std::alloc::{AllocError, Global};
 use std::marker::Model;
 use tap_defs::{ScanRows, Shape};
@@ -68,7 +68,7 @@ impl Walk {
             mut rows,
         } = parts;
         let plan = Plan::of(alloc, board, pins, settings)?;
-        fill_rows(board, &plan, cells.as_slice(), &mut rows);
+        fill_rows(&BoardPlan::new(board, &plan), cells.as_slice(), &mut rows);
         Ok(Walk {
             tables: WalkTables {
                 plan,
