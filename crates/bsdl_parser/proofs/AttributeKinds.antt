@@ -5,7 +5,10 @@ use Rattle.std.specs.List.{All}
 use Rattle.std.specs.Str.{bytes_eq}
 use Rattle.grammars.proofs.Keeps.{Keeps, BehindTurn, keeps_done, keeps_in_turn, keeps_turns, keeps_nothing}
 use Rattle.bsdl_parser.specs.declared.entity.Attr.{Attr}
+use Rattle.bsdl_parser.specs.declared.entity.Attribute.{Attribute}
+use Rattle.bsdl_parser.specs.declared.entity.Attribute.TheVariants as attributes
 use Rattle.bsdl_parser.specs.declared.entity.Entity.{Entity}
+use Rattle.bsdl_parser.specs.AttributeNumbers.{attribute_number}
 use Rattle.bsdl_parser.specs.declared.draft.ItemWord.{ItemWord}
 use Rattle.bsdl_parser.specs.declared.draft.ItemWord.TheVariants as words
 use Rattle.bsdl_parser.specs.declared.draft.AttrForm.{AttrForm}
@@ -15,7 +18,7 @@ use Rattle.grammars.specs.Values.{some_if}
 use Rattle.bsdl_parser.specs.Places.{Phrase}
 use Rattle.bsdl_parser.specs.Bsdl.{used, plain_value, port_value, clock_value, number_value, text_value, value_of, attribute_of, attribute_name, attribute, listed, Items, no_items, item_of, item, file}
 use Rattle.bsdl_parser.specs.Answer.{Derives}
-use Rattle.bsdl_parser.specs.Entity.{is_among, HasKind, HaveKinds}
+use Rattle.bsdl_parser.specs.Entity.{is_among, port_attributes, number_attributes, text_attributes, HasKind, HaveKinds}
 
 -- `Fact` is true of each value that the phrase derives
 abbrev Yields : {A : Type 0} → Phrase A → (A → Type 0) → Type 0
@@ -23,17 +26,17 @@ Yields g Fact = (n : ℕ) → Keeps (λ token. 0) g n (λ m a. Fact a)
 
 -- attributes with this number have values of this form
 abbrev FitsForm : ℕ → AttrForm → Type 0
-FitsForm number forms.Plain = number ≡ 1
-FitsForm number forms.Port = IsTrue (is_among (2 ∷ 3 ∷ 4 ∷ 5 ∷ 11 ∷ []) number)
-FitsForm number forms.Clock = IsTrue (is_among (2 ∷ 3 ∷ 4 ∷ 5 ∷ 11 ∷ []) number)
-FitsForm number forms.Number = IsTrue (is_among (6 ∷ 9 ∷ []) number)
-FitsForm number forms.Text = IsTrue (is_among (7 ∷ 8 ∷ 10 ∷ 12 ∷ 13 ∷ 14 ∷ []) number)
+FitsForm number forms.Plain = number ≡ attribute_number attributes.PinMap
+FitsForm number forms.Port = IsTrue (is_among port_attributes number)
+FitsForm number forms.Clock = IsTrue (is_among port_attributes number)
+FitsForm number forms.Number = IsTrue (is_among number_attributes number)
+FitsForm number forms.Text = IsTrue (is_among text_attributes number)
 
-abbrev FitsKnown : Option (ℕ × AttrForm) → Type 0
+abbrev FitsKnown : Option (Attribute × AttrForm) → Type 0
 FitsKnown None = Unit {0}
-FitsKnown (Some known) = FitsForm known.0 known.1
+FitsKnown (Some known) = FitsForm (attribute_number known.0) known.1
 
-fits_if : (b : Bool) (known rest : Option (ℕ × AttrForm)) → FitsKnown known → FitsKnown rest → FitsKnown (cond b known rest)
+fits_if : (b : Bool) (known rest : Option (Attribute × AttrForm)) → FitsKnown known → FitsKnown rest → FitsKnown (cond b known rest)
 fits_if true known rest h k = h
 fits_if false known rest h k = k
 
@@ -54,7 +57,7 @@ used_fits name =
     fits_if (bytes_eq name (codes "COMPLIANCE_PATTERNS")) _ _ refl (
     last_fits (bytes_eq name (codes "COMPONENT_CONFORMANCE")))))))))))))))
   where
-    last_fits : (b : Bool) → FitsKnown (some_if b (14, forms.Text))
+    last_fits : (b : Bool) → FitsKnown (some_if b (attributes.ComponentConformance, forms.Text))
     last_fits true = refl
     last_fits false = tt
 
@@ -72,9 +75,9 @@ value_kind forms.Text n = keeps_in_turn keeps_nothing (λ _ _ _. keeps_in_turn k
 abbrev AttrKind : Attr → Type 0
 AttrKind attr = HasKind attr.number attr.value
 
-attribute_of_kind : (known : Option (ℕ × AttrForm)) → FitsKnown known → Yields (attribute_of known) (λ one. All AttrKind (listed one))
+attribute_of_kind : (known : Option (Attribute × AttrForm)) → FitsKnown known → Yields (attribute_of known) (λ one. All AttrKind (listed one))
 attribute_of_kind None fits n = keeps_in_turn keeps_nothing (λ _ _ _. keeps_done (All-nil AttrKind))
-attribute_of_kind (Some known) fits n = keeps_in_turn (value_kind known.1 n) (λ value m h. keeps_done (All-cons AttrKind _ [] (h known.0 fits) (All-nil AttrKind)))
+attribute_of_kind (Some known) fits n = keeps_in_turn (value_kind known.1 n) (λ value m h. keeps_done (All-cons AttrKind _ [] (h (attribute_number known.0) fits) (All-nil AttrKind)))
 
 attribute_kind : Yields attribute (λ one. All AttrKind (listed one))
 unfolding attribute

@@ -1,5 +1,6 @@
 -- Each turn of the file's grammar takes at least one token, so the grammar's reader decides the file.
 use Rattle.std.proofs.Common.{ℕ, List, Bool, true, false, Option, Some, None, inl, inr}
+use Rattle.bsdl_parser.specs.declared.entity.Attribute.{Attribute}
 use Rattle.bsdl_parser.specs.declared.draft.ItemWord.{ItemWord}
 use Rattle.bsdl_parser.specs.declared.draft.ItemWord.TheVariants as words
 use Rattle.bsdl_parser.specs.declared.draft.AttrForm.{AttrForm}
@@ -69,7 +70,7 @@ pub skipped_takes : (before : Unit {0}) → TakesToken (skipped_token before) ×
 unfolding skipped_token
 skipped_takes before = (inl tt, (tt, λ goes_on. tt))
 
-attribute_of_takes : (known : Option (ℕ × AttrForm)) → EachTurnTakes (attribute_of known)
+attribute_of_takes : (known : Option (Attribute × AttrForm)) → EachTurnTakes (attribute_of known)
 attribute_of_takes None = (skipped_takes, λ _. tt)
 attribute_of_takes (Some known) = (value_takes known.1, λ value. tt)
 

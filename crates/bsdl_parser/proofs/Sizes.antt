@@ -18,6 +18,7 @@ use Rattle.bsdl_parser.specs.declared.entity.Constant.{Constant}
 use Rattle.bsdl_parser.specs.declared.entity.Attr.{Attr}
 use Rattle.bsdl_parser.specs.declared.entity.AttrValue.{AttrValue}
 use Rattle.bsdl_parser.specs.declared.entity.AttrValue.TheVariants as values
+use Rattle.bsdl_parser.specs.declared.entity.Attribute.{Attribute}
 use Rattle.bsdl_parser.specs.declared.entity.Entity.{Entity}
 use Rattle.bsdl_parser.specs.declared.draft.ItemWord.{ItemWord}
 use Rattle.bsdl_parser.specs.declared.draft.ItemWord.TheVariants as words
@@ -159,7 +160,7 @@ value_covers forms.Text n = keeps_in_turn keeps_more (λ _ a ha. keeps_in_turn (
 abbrev attr_cost : Attr → ℕ
 attr_cost attr = 1 + value_cost attr.value
 
-attribute_of_cost : (known : Option (ℕ × AttrForm)) (n : ℕ) → Keeps weight (attribute_of known) n (λ m one. n + total attr_cost (listed one) ≤ m + 1)
+attribute_of_cost : (known : Option (Attribute × AttrForm)) (n : ℕ) → Keeps weight (attribute_of known) n (λ m one. n + total attr_cost (listed one) ≤ m + 1)
 attribute_of_cost None n = keeps_in_turn keeps_more (λ _ a ha. keeps_done (omega arith))
 attribute_of_cost (Some known) n = keeps_in_turn (value_covers known.1 n) (λ value a ha. keeps_done (omega arith))
 
@@ -167,7 +168,7 @@ attribute_cost : (n : ℕ) → Keeps weight attribute n (λ m one. n + total att
 unfolding attribute
 attribute_cost n = keeps_in_turn keeps_more (λ known a ha. weaker a known ha)
   where
-    weaker : (a : ℕ) (known : Option (ℕ × AttrForm)) → n ≤ a → Keeps weight (attribute_of known) a (λ m one. n + total attr_cost (listed one) ≤ m + 1)
+    weaker : (a : ℕ) (known : Option (Attribute × AttrForm)) → n ≤ a → Keeps weight (attribute_of known) a (λ m one. n + total attr_cost (listed one) ≤ m + 1)
     weaker a known ha = record { kept = λ tokens one whole. let k : a + total attr_cost (listed one) ≤ a + total weight tokens + 1 = (attribute_of_cost known a).kept tokens one whole in omega arith }
 
 abbrev items_cost : Items → ℕ

@@ -11,12 +11,15 @@ use Rattle.bsdl_parser.specs.declared.entity.Constant.{Constant}
 use Rattle.bsdl_parser.specs.declared.entity.Attr.{Attr}
 use Rattle.bsdl_parser.specs.declared.entity.AttrValue.{AttrValue}
 use Rattle.bsdl_parser.specs.declared.entity.AttrValue.TheVariants as values
+use Rattle.bsdl_parser.specs.declared.entity.Attribute.{Attribute}
+use Rattle.bsdl_parser.specs.declared.entity.Attribute.TheVariants as attributes
 use Rattle.bsdl_parser.specs.declared.entity.Entity.{Entity}
 use Rattle.bsdl_parser.specs.declared.draft.ItemWord.{ItemWord}
 use Rattle.bsdl_parser.specs.declared.draft.ItemWord.TheVariants as words
 use Rattle.bsdl_parser.specs.declared.draft.AttrForm.{AttrForm}
 use Rattle.bsdl_parser.specs.declared.draft.AttrForm.TheVariants as forms
 use Rattle.grammars.specs.Values.{some_if}
+use Rattle.bsdl_parser.specs.AttributeNumbers.{attribute_number}
 use Rattle.bsdl_parser.specs.Places.{Phrase, is_word, keyword, mark, either_word, either_mark, any_word, any_number, any_text, integer, mode, other_than, word_or_mark}
 
 -- string = text { "&" text }, followed by the mark `close`
@@ -121,23 +124,23 @@ constant = do
   text ← string (codes ";")
   done (record { name = name; text = text })
 
--- the number and the form of the attribute with this name, if the attribute is used
-abbrev pub used : List ℕ → Option (ℕ × AttrForm)
+-- the attribute with this name and its form, if the attribute is used
+abbrev pub used : List ℕ → Option (Attribute × AttrForm)
 used name =
-    if bytes_eq name (codes "PIN_MAP") then Some (1, forms.Plain) else
-    if bytes_eq name (codes "TAP_SCAN_IN") then Some (2, forms.Port) else
-    if bytes_eq name (codes "TAP_SCAN_OUT") then Some (3, forms.Port) else
-    if bytes_eq name (codes "TAP_SCAN_MODE") then Some (4, forms.Port) else
-    if bytes_eq name (codes "TAP_SCAN_CLOCK") then Some (5, forms.Clock) else
-    if bytes_eq name (codes "INSTRUCTION_LENGTH") then Some (6, forms.Number) else
-    if bytes_eq name (codes "INSTRUCTION_OPCODE") then Some (7, forms.Text) else
-    if bytes_eq name (codes "INSTRUCTION_CAPTURE") then Some (8, forms.Text) else
-    if bytes_eq name (codes "BOUNDARY_LENGTH") then Some (9, forms.Number) else
-    if bytes_eq name (codes "BOUNDARY_REGISTER") then Some (10, forms.Text) else
-    if bytes_eq name (codes "TAP_SCAN_RESET") then Some (11, forms.Port) else
-    if bytes_eq name (codes "IDCODE_REGISTER") then Some (12, forms.Text) else
-    if bytes_eq name (codes "COMPLIANCE_PATTERNS") then Some (13, forms.Text) else
-    some_if (bytes_eq name (codes "COMPONENT_CONFORMANCE")) (14, forms.Text)
+    if bytes_eq name (codes "PIN_MAP") then Some (attributes.PinMap, forms.Plain) else
+    if bytes_eq name (codes "TAP_SCAN_IN") then Some (attributes.TapScanIn, forms.Port) else
+    if bytes_eq name (codes "TAP_SCAN_OUT") then Some (attributes.TapScanOut, forms.Port) else
+    if bytes_eq name (codes "TAP_SCAN_MODE") then Some (attributes.TapScanMode, forms.Port) else
+    if bytes_eq name (codes "TAP_SCAN_CLOCK") then Some (attributes.TapScanClock, forms.Clock) else
+    if bytes_eq name (codes "INSTRUCTION_LENGTH") then Some (attributes.InstructionLength, forms.Number) else
+    if bytes_eq name (codes "INSTRUCTION_OPCODE") then Some (attributes.InstructionOpcode, forms.Text) else
+    if bytes_eq name (codes "INSTRUCTION_CAPTURE") then Some (attributes.InstructionCapture, forms.Text) else
+    if bytes_eq name (codes "BOUNDARY_LENGTH") then Some (attributes.BoundaryLength, forms.Number) else
+    if bytes_eq name (codes "BOUNDARY_REGISTER") then Some (attributes.BoundaryRegister, forms.Text) else
+    if bytes_eq name (codes "TAP_SCAN_RESET") then Some (attributes.TapScanReset, forms.Port) else
+    if bytes_eq name (codes "IDCODE_REGISTER") then Some (attributes.IdcodeRegister, forms.Text) else
+    if bytes_eq name (codes "COMPLIANCE_PATTERNS") then Some (attributes.CompliancePatterns, forms.Text) else
+    some_if (bytes_eq name (codes "COMPONENT_CONFORMANCE")) (attributes.ComponentConformance, forms.Text)
 
 -- "of" word ":" class "is"
 unfoldable pub of_class : List ℕ → Phrase (List ℕ)
@@ -207,15 +210,15 @@ skipped_token before = do
   done (turn_of goes_on tt)
 
 -- used ";" | other { any token but ";" } ";", after the attribute's name
-abbrev pub attribute_of : Option (ℕ × AttrForm) → Phrase (Option Attr)
+abbrev pub attribute_of : Option (Attribute × AttrForm) → Phrase (Option Attr)
 attribute_of None = do
   _ ← turns skipped_token tt
   done None
 attribute_of (Some known) = do
   value ← value_of known.1
-  done (Some (record { number = known.0; value = value }))
+  done (Some (record { number = attribute_number known.0; value = value }))
 
-abbrev pub attribute_name : Phrase (Option (ℕ × AttrForm))
+abbrev pub attribute_name : Phrase (Option (Attribute × AttrForm))
 attribute_name = do
   name ← any_word
   done (used name)

@@ -4,17 +4,33 @@ use Rattle.std.specs.Prelude.{◌≡◌, ℕ, ◌^◌, ◌<◌, List, [], ◌∷
 use Rattle.std.specs.List.{list_any}
 use Rattle.bsdl_parser.specs.declared.entity.AttrValue.{AttrValue}
 use Rattle.bsdl_parser.specs.declared.entity.AttrValue.TheVariants as values
+use Rattle.bsdl_parser.specs.declared.entity.Attribute.{Attribute}
+use Rattle.bsdl_parser.specs.declared.entity.Attribute.TheVariants.{PinMap, TapScanIn, TapScanOut, TapScanMode, TapScanClock, InstructionLength, InstructionOpcode, InstructionCapture, BoundaryLength, BoundaryRegister, TapScanReset, IdcodeRegister, CompliancePatterns, ComponentConformance}
 use Rattle.bsdl_parser.specs.declared.entity.Entity.{Entity}
+use Rattle.bsdl_parser.specs.AttributeNumbers.{attribute_number}
 
-abbrev pub is_among : List ℕ → ℕ → Bool
-is_among numbers number = list_any (λ k. k == number) numbers
+-- the number is that of one of the attributes
+abbrev pub is_among : List Attribute → ℕ → Bool
+is_among attributes number = list_any (λ attribute. attribute_number attribute == number) attributes
+
+-- the attributes whose values are ports
+abbrev pub port_attributes : List Attribute
+port_attributes = TapScanIn ∷ TapScanOut ∷ TapScanMode ∷ TapScanClock ∷ TapScanReset ∷ []
+
+-- the attributes whose values are numbers
+abbrev pub number_attributes : List Attribute
+number_attributes = InstructionLength ∷ BoundaryLength ∷ []
+
+-- the attributes whose values are strings
+abbrev pub text_attributes : List Attribute
+text_attributes = InstructionOpcode ∷ InstructionCapture ∷ BoundaryRegister ∷ IdcodeRegister ∷ CompliancePatterns ∷ ComponentConformance ∷ []
 
 -- an attribute with this number may have a value of this kind
 abbrev pub HasKind : ℕ → AttrValue → Type 0
-HasKind number values.Plain = number ≡ 1
-HasKind number (values.Port port) = IsTrue (is_among (2 ∷ 3 ∷ 4 ∷ 5 ∷ 11 ∷ []) number)
-HasKind number (values.Number value) = IsTrue (is_among (6 ∷ 9 ∷ []) number)
-HasKind number (values.Text text) = IsTrue (is_among (7 ∷ 8 ∷ 10 ∷ 12 ∷ 13 ∷ 14 ∷ []) number)
+HasKind number values.Plain = number ≡ attribute_number PinMap
+HasKind number (values.Port port) = IsTrue (is_among port_attributes number)
+HasKind number (values.Number value) = IsTrue (is_among number_attributes number)
+HasKind number (values.Text text) = IsTrue (is_among text_attributes number)
 
 -- each attribute has a number from 1 to 14, and its value has the kind that this number requires
 abbrev pub HaveKinds : Entity → Type 0

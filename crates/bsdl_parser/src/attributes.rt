@@ -8,50 +8,50 @@ ghost use Rattle.bsdl_parser.specs.Bsdl.{used, of_class, plain_value, port_value
 
 use crate::cursor::Cursor;
 use crate::draft::AttrForm;
-use crate::entity::{Attr, AttrValue};
+use crate::entity::{Attr, AttrValue, Attribute};
 use crate::stop::Stop;
 use board_defs::Name;
 use grammars::spells;
 
-/// Returns the number and the form of the attribute with this name, or None if the attribute is not used.
-fn used_attribute(name: &[u8]) -> Option<(u32, AttrForm)>
+/// Returns the attribute with this name and its form, or None if the attribute is not used.
+fn used_attribute(name: &[u8]) -> Option<(Attribute, AttrForm)>
     ensures { result ≡ used (map to_ascii_uppercase name.now) }
 {
     if spells(name, b"PIN_MAP") {
-        Some((1, AttrForm::Plain))
+        Some((Attribute::PinMap, AttrForm::Plain))
     } else if spells(name, b"TAP_SCAN_IN") {
-        Some((2, AttrForm::Port))
+        Some((Attribute::TapScanIn, AttrForm::Port))
     } else if spells(name, b"TAP_SCAN_OUT") {
-        Some((3, AttrForm::Port))
+        Some((Attribute::TapScanOut, AttrForm::Port))
     } else if spells(name, b"TAP_SCAN_MODE") {
-        Some((4, AttrForm::Port))
+        Some((Attribute::TapScanMode, AttrForm::Port))
     } else if spells(name, b"TAP_SCAN_CLOCK") {
-        Some((5, AttrForm::Clock))
+        Some((Attribute::TapScanClock, AttrForm::Clock))
     } else if spells(name, b"INSTRUCTION_LENGTH") {
-        Some((6, AttrForm::Number))
+        Some((Attribute::InstructionLength, AttrForm::Number))
     } else if spells(name, b"INSTRUCTION_OPCODE") {
-        Some((7, AttrForm::Text))
+        Some((Attribute::InstructionOpcode, AttrForm::Text))
     } else if spells(name, b"INSTRUCTION_CAPTURE") {
-        Some((8, AttrForm::Text))
+        Some((Attribute::InstructionCapture, AttrForm::Text))
     } else if spells(name, b"BOUNDARY_LENGTH") {
-        Some((9, AttrForm::Number))
+        Some((Attribute::BoundaryLength, AttrForm::Number))
     } else if spells(name, b"BOUNDARY_REGISTER") {
-        Some((10, AttrForm::Text))
+        Some((Attribute::BoundaryRegister, AttrForm::Text))
     } else if spells(name, b"TAP_SCAN_RESET") {
-        Some((11, AttrForm::Port))
+        Some((Attribute::TapScanReset, AttrForm::Port))
     } else if spells(name, b"IDCODE_REGISTER") {
-        Some((12, AttrForm::Text))
+        Some((Attribute::IdcodeRegister, AttrForm::Text))
     } else if spells(name, b"COMPLIANCE_PATTERNS") {
-        Some((13, AttrForm::Text))
+        Some((Attribute::CompliancePatterns, AttrForm::Text))
     } else if spells(name, b"COMPONENT_CONFORMANCE") {
-        Some((14, AttrForm::Text))
+        Some((Attribute::ComponentConformance, AttrForm::Text))
     } else {
         None
     }
 }
 
 impl<'a> Cursor<'a> {
-    fn attribute_name(&mut self) -> Result<Option<(u32, AttrForm)>, Stop>
+    fn attribute_name(&mut self) -> Result<Option<(Attribute, AttrForm)>, Stop>
         ensures { ReadsTokens (reader_of attribute_name) self.old self.new result (λ known. known) }
     {
         let name = self.word_bytes()?;
@@ -159,9 +159,12 @@ impl<'a> Cursor<'a> {
         ensures { ReadsTokens (reader_of attribute) self.old self.new result (λ attribute. attribute) }
     {
         match self.attribute_name()? {
-            Some((number, form)) => {
+            Some((attribute, form)) => {
                 let value = self.value(form)?;
-                Ok(Some(Attr { number, value }))
+                Ok(Some(Attr {
+                    number: attribute.number(),
+                    value,
+                }))
             }
             None => {
                 self.skipped()?;

@@ -1,4 +1,7 @@
 //! The contents of a BSDL text's entity. All names and texts are in upper case.
+ghost use Rattle.std.specs.Prelude.{◌≡◌};
+ghost use Rattle.bsdl_parser.specs.AttributeNumbers.{attribute_number};
+
 use board_defs::{Items, Mode, Name};
 
 /// The range of a vector port: `left to right` if `up` is true, and `left downto right` otherwise.
@@ -38,11 +41,53 @@ pub enum AttrValue {
     Text(Name),
 }
 
-/// An attribute that is used. The numbers from 1 to 14 mean, in this order, PIN_MAP, TAP_SCAN_IN, TAP_SCAN_OUT,
-/// TAP_SCAN_MODE, TAP_SCAN_CLOCK, INSTRUCTION_LENGTH, INSTRUCTION_OPCODE, INSTRUCTION_CAPTURE, BOUNDARY_LENGTH,
-/// BOUNDARY_REGISTER, TAP_SCAN_RESET, IDCODE_REGISTER, COMPLIANCE_PATTERNS, COMPONENT_CONFORMANCE.
+/// An attribute that is used (IEEE 1149.1-2001, B.8). The variants are in the order of the attributes' numbers.
+#[derive(Clone, Copy)]
+pub enum Attribute {
+    PinMap,
+    TapScanIn,
+    TapScanOut,
+    TapScanMode,
+    TapScanClock,
+    InstructionLength,
+    InstructionOpcode,
+    InstructionCapture,
+    BoundaryLength,
+    BoundaryRegister,
+    TapScanReset,
+    IdcodeRegister,
+    CompliancePatterns,
+    ComponentConformance,
+}
+
+impl Attribute {
+    /// Returns the number, from 1 to 14, by which an entity and a fault name the attribute.
+    pub fn number(self) -> u32
+        ensures { result ≡ attribute_number self }
+    {
+        match self {
+            Attribute::PinMap => 1,
+            Attribute::TapScanIn => 2,
+            Attribute::TapScanOut => 3,
+            Attribute::TapScanMode => 4,
+            Attribute::TapScanClock => 5,
+            Attribute::InstructionLength => 6,
+            Attribute::InstructionOpcode => 7,
+            Attribute::InstructionCapture => 8,
+            Attribute::BoundaryLength => 9,
+            Attribute::BoundaryRegister => 10,
+            Attribute::TapScanReset => 11,
+            Attribute::IdcodeRegister => 12,
+            Attribute::CompliancePatterns => 13,
+            Attribute::ComponentConformance => 14,
+        }
+    }
+}
+
+/// An attribute item of an entity.
 #[derive(Drop)]
 pub struct Attr {
+    /// The number of the attribute, as `Attribute::number` returns it.
     pub number: u32,
     pub value: AttrValue,
 }

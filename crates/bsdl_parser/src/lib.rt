@@ -17,5 +17,5 @@ mod stop;
 mod strings;
 
 pub use answer::parse;
-pub use entity::{Attr, AttrValue, Constant, Entity, Port, Range};
+pub use entity::{Attr, AttrValue, Attribute, Constant, Entity, Port, Range};
 pub use fault::ParseFault;
