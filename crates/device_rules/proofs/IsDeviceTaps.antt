@@ -12,8 +12,10 @@ use Rattle.board_defs.specs.declared.device.Mode.TheVariants.{Inward, Outward, B
 use Rattle.board_defs.specs.declared.device.PortBit.{PortBit}
 use Rattle.board_defs.specs.DeviceRules.{may_drive, may_receive, IsTapBit, HasTap}
 use Rattle.board_defs.proofs.Members.{Has, has_at, has_append, map_has, any_has, all_has, find_has, all_from_has}
+use Rattle.bsdl_parser.specs.declared.entity.Attribute.TheVariants.{TapScanIn, TapScanOut, TapScanMode, TapScanClock, TapScanReset, CompliancePatterns}
 use Rattle.bsdl_parser.specs.declared.entity.Port.{Port}
 use Rattle.bsdl_parser.specs.declared.entity.Range.{Range}
+use Rattle.bsdl_parser.specs.AttributeNumbers.{attribute_number}
 use Rattle.bsdl_strings.specs.declared.values.Compliance.{Compliance}
 use Rattle.device_rules.specs.declared.draft.Draft.{Draft}
 use Rattle.device_rules.specs.declared.draft.TapPorts.{TapPorts}
@@ -103,18 +105,18 @@ not_broken n false e = refl
 are_taps : (ports : List Port) (taps : TapPorts) (compliance : Option Compliance) → v3 ports taps compliance ≡ None → AreTaps ports (tap_names taps) (tap_modes taps.reset)
 unfolding v3
 are_taps ports taps compliance e =
-    let z = either_none (wrong_tap ports taps) (broken_by 13 (not (complies ports compliance))) e in
-    let a = either_none (broken_by 2 (breaks_tap is_inward ports [] taps.scan_in)) _ z.0 in
-    let b = either_none (broken_by 3 (breaks_tap is_outward ports (taps.scan_in ∷ []) taps.scan_out)) _ a.1 in
-    let c = either_none (broken_by 4 (breaks_tap is_inward ports (taps.scan_in ∷ taps.scan_out ∷ []) taps.mode)) _ b.1 in
-    let d = either_none (broken_by 5 (breaks_tap is_inward ports (taps.scan_in ∷ taps.scan_out ∷ taps.mode ∷ []) taps.clock)) (broken_by 11 (reset_breaks ports (four_taps taps) taps.reset)) c.1 in
-    let one : AreTaps ports (taps.scan_in ∷ []) (Inward ∷ []) = next_tap ports [] [] taps.scan_in is_inward Inward inward tt (not_broken 2 _ a.0) in
-    let two : AreTaps ports (taps.scan_in ∷ taps.scan_out ∷ []) (Inward ∷ Outward ∷ []) = next_tap ports (taps.scan_in ∷ []) (Inward ∷ []) taps.scan_out is_outward Outward outward one (not_broken 3 _ b.0) in
+    let z = either_none (wrong_tap ports taps) (broken_by (attribute_number CompliancePatterns) (not (complies ports compliance))) e in
+    let a = either_none (broken_by (attribute_number TapScanIn) (breaks_tap is_inward ports [] taps.scan_in)) _ z.0 in
+    let b = either_none (broken_by (attribute_number TapScanOut) (breaks_tap is_outward ports (taps.scan_in ∷ []) taps.scan_out)) _ a.1 in
+    let c = either_none (broken_by (attribute_number TapScanMode) (breaks_tap is_inward ports (taps.scan_in ∷ taps.scan_out ∷ []) taps.mode)) _ b.1 in
+    let d = either_none (broken_by (attribute_number TapScanClock) (breaks_tap is_inward ports (taps.scan_in ∷ taps.scan_out ∷ taps.mode ∷ []) taps.clock)) (broken_by (attribute_number TapScanReset) (reset_breaks ports (four_taps taps) taps.reset)) c.1 in
+    let one : AreTaps ports (taps.scan_in ∷ []) (Inward ∷ []) = next_tap ports [] [] taps.scan_in is_inward Inward inward tt (not_broken (attribute_number TapScanIn) _ a.0) in
+    let two : AreTaps ports (taps.scan_in ∷ taps.scan_out ∷ []) (Inward ∷ Outward ∷ []) = next_tap ports (taps.scan_in ∷ []) (Inward ∷ []) taps.scan_out is_outward Outward outward one (not_broken (attribute_number TapScanOut) _ b.0) in
     let three : AreTaps ports (taps.scan_in ∷ taps.scan_out ∷ taps.mode ∷ []) (Inward ∷ Outward ∷ Inward ∷ []) =
-    next_tap ports (taps.scan_in ∷ taps.scan_out ∷ []) (Inward ∷ Outward ∷ []) taps.mode is_inward Inward inward two (not_broken 4 _ c.0) in
+    next_tap ports (taps.scan_in ∷ taps.scan_out ∷ []) (Inward ∷ Outward ∷ []) taps.mode is_inward Inward inward two (not_broken (attribute_number TapScanMode) _ c.0) in
     let four : AreTaps ports (four_taps taps) (Inward ∷ Outward ∷ Inward ∷ Inward ∷ []) =
-    next_tap ports (taps.scan_in ∷ taps.scan_out ∷ taps.mode ∷ []) (Inward ∷ Outward ∷ Inward ∷ []) taps.clock is_inward Inward inward three (not_broken 5 _ d.0) in
-    by_reset taps.reset four (not_broken 11 (reset_breaks ports (four_taps taps) taps.reset) d.1)
+    next_tap ports (taps.scan_in ∷ taps.scan_out ∷ taps.mode ∷ []) (Inward ∷ Outward ∷ Inward ∷ []) taps.clock is_inward Inward inward three (not_broken (attribute_number TapScanClock) _ d.0) in
+    by_reset taps.reset four (not_broken (attribute_number TapScanReset) (reset_breaks ports (four_taps taps) taps.reset) d.1)
   where
     by_reset : (reset : Option (List ℕ)) → AreTaps ports (four_taps taps) (Inward ∷ Outward ∷ Inward ∷ Inward ∷ []) → reset_breaks ports (four_taps taps) reset ≡ false → AreTaps ports (four_taps taps ++ listed reset) (tap_modes reset)
     by_reset None four r = four

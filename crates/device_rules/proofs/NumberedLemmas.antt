@@ -4,7 +4,10 @@ use Rattle.std.proofs.Common.{◌≡◌, ℕ, List, [], ◌∷◌, ◌++◌, Boo
 use Rattle.std.specs.Prelude.{nat_le, find, option_map}
 use Rattle.board_defs.specs.declared.device.Symbol.{Symbol}
 use Rattle.board_defs.specs.declared.device.Edition.{Edition}
+use Rattle.bsdl_parser.specs.declared.entity.Attribute.{Attribute}
+use Rattle.bsdl_parser.specs.declared.entity.Attribute.TheVariants.{TapScanIn, TapScanOut, TapScanMode, TapScanClock, TapScanReset, CompliancePatterns}
 use Rattle.bsdl_parser.specs.declared.entity.Port.{Port}
+use Rattle.bsdl_parser.specs.AttributeNumbers.{attribute_number}
 use Rattle.bsdl_strings.specs.declared.values.Compliance.{Compliance}
 use Rattle.bsdl_strings.specs.declared.values.Entry.{Entry}
 use Rattle.bsdl_strings.specs.declared.values.Opcode.{Opcode}
@@ -17,8 +20,10 @@ use Rattle.device_rules.specs.Numbered.{breaks_attribute, lacks_code, breaks_pat
 use Rattle.device_rules.proofs.LeastLemmas.{is_least}
 
 six_cases : (a b c d e f : Bool) → ◌≡◌ {A = Option ℕ}
-    (if a then Some 2 else if b then Some 3 else if c then Some 4 else if d then Some 5 else if e then Some 11 else if f then Some 13 else None)
-    (or_else (or_else (broken_by 2 a) (or_else (broken_by 3 b) (or_else (broken_by 4 c) (or_else (broken_by 5 d) (broken_by 11 e))))) (broken_by 13 f))
+    (if a then Some (attribute_number TapScanIn) else if b then Some (attribute_number TapScanOut) else if c then Some (attribute_number TapScanMode) else
+    if d then Some (attribute_number TapScanClock) else if e then Some (attribute_number TapScanReset) else if f then Some (attribute_number CompliancePatterns) else None)
+    (or_else (or_else (broken_by (attribute_number TapScanIn) a) (or_else (broken_by (attribute_number TapScanOut) b) (or_else (broken_by (attribute_number TapScanMode) c)
+    (or_else (broken_by (attribute_number TapScanClock) d) (broken_by (attribute_number TapScanReset) e))))) (broken_by (attribute_number CompliancePatterns) f))
 six_cases true b c d e f = refl
 six_cases false true c d e f = refl
 six_cases false false true d e f = refl
@@ -31,7 +36,8 @@ pub v3_finds : (ports : List Port) (taps : TapPorts) (compliance : Option Compli
 unfolding v3
 v3_finds ports taps compliance =
     let breaks = breaks_attribute ports taps compliance in
-    subst (IsLeast breaks 14) (six_cases (breaks 2) (breaks 3) (breaks 4) (breaks 5) (breaks 11) (breaks 13)) (is_least breaks 14)
+    let by : Attribute → Bool = λ attribute. breaks (attribute_number attribute) in
+    subst (IsLeast breaks 14) (six_cases (by TapScanIn) (by TapScanOut) (by TapScanMode) (by TapScanClock) (by TapScanReset) (by CompliancePatterns)) (is_least breaks 14)
 
 three_cases : (a b c : Bool) → ◌≡◌ {A = Option ℕ} (if not a then Some 1 else if not b then Some 2 else if not c then Some 3 else None) (if not a then Some 1 else if not b then Some 2 else if c then None else Some 3)
 three_cases true true true = refl

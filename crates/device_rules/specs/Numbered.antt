@@ -4,7 +4,9 @@
 use Rattle.std.specs.Prelude.{◌≡◌, ℕ, ◌==◌, List, [], ◌∷◌, ◌++◌, Bool, true, false, ◌&&◌, not, if◌then◌else◌, Option, Some, None, ◌⊎◌, codes, nat_le}
 use Rattle.board_defs.specs.declared.device.Symbol.{Symbol}
 use Rattle.board_defs.specs.declared.device.Edition.{Edition}
+use Rattle.bsdl_parser.specs.declared.entity.Attribute.TheVariants.{TapScanIn, TapScanOut, TapScanMode, TapScanClock, TapScanReset, CompliancePatterns}
 use Rattle.bsdl_parser.specs.declared.entity.Port.{Port}
+use Rattle.bsdl_parser.specs.AttributeNumbers.{attribute_number}
 use Rattle.bsdl_strings.specs.declared.values.Compliance.{Compliance}
 use Rattle.bsdl_strings.specs.declared.values.Entry.{Entry}
 use Rattle.bsdl_strings.specs.declared.values.Opcode.{Opcode}
@@ -14,15 +16,15 @@ use Rattle.instruction_rules.specs.Instructions.{has_length, ends_in_01, may_be_
 use Rattle.device_rules.specs.Taps.{is_inward, is_outward, breaks_tap, reset_breaks, four_taps, complies}
 use Rattle.device_rules.specs.Cells.{is_missing}
 
--- the attribute with this number breaks V3: a TAP attribute, or COMPLIANCE_PATTERNS (13)
+-- the attribute with this number breaks V3: a TAP attribute, or COMPLIANCE_PATTERNS
 abbrev pub breaks_attribute : List Port → TapPorts → Option Compliance → ℕ → Bool
 breaks_attribute ports taps compliance number =
-    if number == 2 then breaks_tap is_inward ports [] taps.scan_in else
-    if number == 3 then breaks_tap is_outward ports (taps.scan_in ∷ []) taps.scan_out else
-    if number == 4 then breaks_tap is_inward ports (taps.scan_in ∷ taps.scan_out ∷ []) taps.mode else
-    if number == 5 then breaks_tap is_inward ports (taps.scan_in ∷ taps.scan_out ∷ taps.mode ∷ []) taps.clock else
-    if number == 11 then reset_breaks ports (four_taps taps) taps.reset else
-    if number == 13 then not (complies ports compliance) else false
+    if number == attribute_number TapScanIn then breaks_tap is_inward ports [] taps.scan_in else
+    if number == attribute_number TapScanOut then breaks_tap is_outward ports (taps.scan_in ∷ []) taps.scan_out else
+    if number == attribute_number TapScanMode then breaks_tap is_inward ports (taps.scan_in ∷ taps.scan_out ∷ []) taps.mode else
+    if number == attribute_number TapScanClock then breaks_tap is_inward ports (taps.scan_in ∷ taps.scan_out ∷ taps.mode ∷ []) taps.clock else
+    if number == attribute_number TapScanReset then reset_breaks ports (four_taps taps) taps.reset else
+    if number == attribute_number CompliancePatterns then not (complies ports compliance) else false
 
 -- the instruction with this number has no usable code: the preload instruction (1), EXTEST (2) or BYPASS (3)
 abbrev pub lacks_code : Edition → List Opcode → ℕ → Bool

@@ -4,7 +4,9 @@ use Rattle.std.specs.List.{list_any, list_all}
 use Rattle.std.specs.Str.{bytes_eq}
 use Rattle.board_defs.specs.declared.device.Mode.{Mode}
 use Rattle.board_defs.specs.declared.device.Mode.TheVariants.{Inward, Outward, Both, Buffer, Linkage}
+use Rattle.bsdl_parser.specs.declared.entity.Attribute.TheVariants.{TapScanIn, TapScanOut, TapScanMode, TapScanClock, TapScanReset, CompliancePatterns}
 use Rattle.bsdl_parser.specs.declared.entity.Port.{Port}
+use Rattle.bsdl_parser.specs.AttributeNumbers.{attribute_number}
 use Rattle.bsdl_strings.specs.declared.values.Compliance.{Compliance}
 use Rattle.device_rules.specs.declared.draft.TapPorts.{TapPorts}
 use Rattle.first_places.specs.Items.{or_else, broken_by}
@@ -58,11 +60,11 @@ tap_names taps = four_taps taps ++ listed taps.reset
 -- TAP_SCAN_RESET
 abbrev pub wrong_tap : List Port → TapPorts → Option ℕ
 wrong_tap ports taps =
-    or_else (broken_by 2 (breaks_tap is_inward ports [] taps.scan_in))
-    (or_else (broken_by 3 (breaks_tap is_outward ports (taps.scan_in ∷ []) taps.scan_out))
-    (or_else (broken_by 4 (breaks_tap is_inward ports (taps.scan_in ∷ taps.scan_out ∷ []) taps.mode))
-    (or_else (broken_by 5 (breaks_tap is_inward ports (taps.scan_in ∷ taps.scan_out ∷ taps.mode ∷ []) taps.clock))
-    (broken_by 11 (reset_breaks ports (four_taps taps) taps.reset)))))
+    or_else (broken_by (attribute_number TapScanIn) (breaks_tap is_inward ports [] taps.scan_in))
+    (or_else (broken_by (attribute_number TapScanOut) (breaks_tap is_outward ports (taps.scan_in ∷ []) taps.scan_out))
+    (or_else (broken_by (attribute_number TapScanMode) (breaks_tap is_inward ports (taps.scan_in ∷ taps.scan_out ∷ []) taps.mode))
+    (or_else (broken_by (attribute_number TapScanClock) (breaks_tap is_inward ports (taps.scan_in ∷ taps.scan_out ∷ taps.mode ∷ []) taps.clock))
+    (broken_by (attribute_number TapScanReset) (reset_breaks ports (four_taps taps) taps.reset)))))
 
 -- the compliance patterns name port bits only, and each pattern has a symbol for each of these bits
 abbrev pub complies : List Port → Option Compliance → Bool
@@ -72,4 +74,4 @@ complies ports (Some compliance) = list_all (λ word. is_some (bit_number ports 
 -- V3: the number of the first TAP attribute that breaks the rule; if there is none, the number of COMPLIANCE_PATTERNS if this
 -- attribute breaks the rule
 unfoldable pub v3 : List Port → TapPorts → Option Compliance → Option ℕ
-v3 ports taps compliance = or_else (wrong_tap ports taps) (broken_by 13 (not (complies ports compliance)))
+v3 ports taps compliance = or_else (wrong_tap ports taps) (broken_by (attribute_number CompliancePatterns) (not (complies ports compliance)))

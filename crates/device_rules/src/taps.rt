@@ -9,7 +9,7 @@ ghost use Rattle.device_rules.specs.Taps.{is_inward, is_outward, is_plain, break
 use crate::draft::TapPorts;
 use crate::port_index::{Near, PortIndex};
 use board_defs::{Code, Mode, Name};
-use bsdl_parser::Port;
+use bsdl_parser::{Attribute, Port};
 use bsdl_strings::{Compliance, PortWord};
 
 /// Returns whether there is a port, and it has type bit and mode in.
@@ -80,15 +80,15 @@ fn wrong_tap(ports: &PortIndex, taps: &TapPorts) -> Option<u32>
         taps.clock.bytes(),
     ];
     if breaks_inward(ports, &names[..0], names[0]) {
-        Some(2)
+        Some(Attribute::TapScanIn.number())
     } else if breaks_outward(ports, &names[..1], names[1]) {
-        Some(3)
+        Some(Attribute::TapScanOut.number())
     } else if breaks_inward(ports, &names[..2], names[2]) {
-        Some(4)
+        Some(Attribute::TapScanMode.number())
     } else if breaks_inward(ports, &names[..3], names[3]) {
-        Some(5)
+        Some(Attribute::TapScanClock.number())
     } else if breaks_reset(ports, &names, &taps.reset) {
-        Some(11)
+        Some(Attribute::TapScanReset.number())
     } else {
         None
     }
@@ -165,7 +165,7 @@ pub(crate) fn wrong_attribute(
             if complies(ports, compliance) {
                 None
             } else {
-                Some(13)
+                Some(Attribute::CompliancePatterns.number())
             }
         }
     }
