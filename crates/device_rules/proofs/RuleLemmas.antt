@@ -2,6 +2,8 @@
 use Rattle.std.proofs.Common.{◌≡◌, ℕ, List, Option, Some, None, Bool, refl, subst}
 use Rattle.device_rules.specs.declared.draft.Draft.{Draft}
 use Rattle.device_rules.specs.declared.broken.Broken.{Broken}
+use Rattle.device_rules.specs.declared.broken.Rule.{Rule}
+use Rattle.device_rules.specs.declared.broken.Rule.TheVariants.{Ports, TestPort, PinMap, Opcodes, Instructions, Patterns, Cells, Places, Controls, DisableValues, Stages, Drivers, Modes}
 use Rattle.first_places.specs.Items.{first_break, least_below, Holds, IsFound, IsLeast}
 use Rattle.device_rules.specs.Ports.{v2}
 use Rattle.device_rules.specs.Taps.{v3}
@@ -18,48 +20,48 @@ BothNone item after = (item ≡ None) × (after ≡ None)
 
 -- if neither this rule nor a later one is broken, the rule finds no item, and `after`, the result
 -- for the later rules, is None
-none_found : (number : ℕ) (item : Option ℕ) (after : Option Broken) → rule number item after ≡ None → BothNone item after
-none_found number None after e = (refl, e)
-none_found number (Some item) after e = cc e
+none_found : (which : Rule) (item : Option ℕ) (after : Option Broken) → rule which item after ≡ None → BothNone item after
+none_found which None after e = (refl, e)
+none_found which (Some item) after e = cc e
 
 from_11_none : (draft : Draft) → from_11 draft ≡ None → (v11 draft.boundary draft.entries ≡ None) × (v12 draft.boundary draft.entries ≡ None) × (v13 draft.ports draft.entries ≡ None) × (v14 draft.ports draft.taps draft.entries ≡ None)
 unfolding from_11
 from_11_none draft e =
-    let a = none_found 11 _ _ e in
-    let b = none_found 12 _ _ a.1 in
-    let c = none_found 13 _ _ b.1 in
-    let d = none_found 14 _ _ c.1 in
+    let a = none_found DisableValues _ _ e in
+    let b = none_found Stages _ _ a.1 in
+    let c = none_found Drivers _ _ b.1 in
+    let d = none_found Modes _ _ c.1 in
     (a.0, b.0, c.0, d.0)
 
 from_9_none : (draft : Draft) → from_9 draft ≡ None → (v9 draft.ports draft.entries ≡ None) × (v10 draft.entries ≡ None) × (from_11 draft ≡ None)
 unfolding from_9
 from_9_none draft e =
-    let a = none_found 9 _ _ e in
-    let b = none_found 10 _ _ a.1 in
+    let a = none_found Places _ _ e in
+    let b = none_found Controls _ _ a.1 in
     (a.0, b.0, b.1)
 
 from_8_none : (draft : Draft) → from_8 draft ≡ None → (v8 draft.boundary draft.entries ≡ None) × (from_9 draft ≡ None)
 unfolding from_8
-from_8_none draft e = none_found 8 _ _ e
+from_8_none draft e = none_found Cells _ _ e
 
 from_5_none : (draft : Draft) → from_5 draft ≡ None → (v5 draft.ir draft.opcodes ≡ None) × (v6 draft.edition draft.opcodes ≡ None) × (v7 draft.ir draft.capture draft.idcode ≡ None) × (from_8 draft ≡ None)
 unfolding from_5
 from_5_none draft e =
-    let a = none_found 5 _ _ e in
-    let b = none_found 6 _ _ a.1 in
-    let c = none_found 7 _ _ b.1 in
+    let a = none_found Opcodes _ _ e in
+    let b = none_found Instructions _ _ a.1 in
+    let c = none_found Patterns _ _ b.1 in
     (a.0, b.0, c.0, c.1)
 
 from_3_none : (draft : Draft) → from_3 draft ≡ None → (v3 draft.ports draft.taps draft.compliance ≡ None) × (v4 draft.ports draft.map ≡ None) × (from_5 draft ≡ None)
 unfolding from_3
 from_3_none draft e =
-    let a = none_found 3 _ _ e in
-    let b = none_found 4 _ _ a.1 in
+    let a = none_found TestPort _ _ e in
+    let b = none_found PinMap _ _ a.1 in
     (a.0, b.0, b.1)
 
 from_2_none : (draft : Draft) → first_rule draft ≡ None → (v2 draft.ports ≡ None) × (from_3 draft ≡ None)
 unfolding first_rule
-from_2_none draft e = none_found 2 _ _ e
+from_2_none draft e = none_found Ports _ _ e
 
 -- if a draft breaks no rule, the function of each rule returns None
 pub keeps_rules : (draft : Draft) → first_rule draft ≡ None → KeepsRules draft

@@ -3,6 +3,7 @@ pub mod Taps
 pub mod PinMap
 pub mod Cells
 pub mod Places
+pub mod RuleNumbers
 pub mod Rules
 pub mod Numbered
 pub mod Raw

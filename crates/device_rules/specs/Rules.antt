@@ -4,6 +4,9 @@ use Rattle.device_rules.specs.declared.draft.Draft.{Draft}
 use Rattle.device_rules.specs.declared.broken.Broken.{Broken}
 use Rattle.device_rules.specs.declared.fault.DraftFault.{DraftFault}
 use Rattle.device_rules.specs.declared.fault.DraftFault.TheVariants as faults
+use Rattle.device_rules.specs.declared.broken.Rule.{Rule}
+use Rattle.device_rules.specs.declared.broken.Rule.TheVariants.{Ports, TestPort, PinMap, Opcodes, Instructions, Patterns, Cells, Places, Controls, DisableValues, Stages, Drivers, Modes}
+use Rattle.device_rules.specs.RuleNumbers.{broken_at}
 use Rattle.device_rules.specs.Ports.{v2}
 use Rattle.device_rules.specs.Taps.{v3}
 use Rattle.device_rules.specs.PinMap.{v4}
@@ -13,47 +16,47 @@ use Rattle.device_rules.specs.Places.{v9, v13, v14}
 
 -- the rule and the first item that breaks it, or `after`, the result for the later rules, if no
 -- item breaks it
-abbrev pub rule : ℕ → Option ℕ → Option Broken → Option Broken
-rule number None after = after
-rule number (Some item) after = Some (record { rule = number; item = item })
+abbrev pub rule : Rule → Option ℕ → Option Broken → Option Broken
+rule which None after = after
+rule which (Some item) after = Some (broken_at which item)
 
 -- the first of the rules V11 to V14 that the draft breaks, with the item that breaks it
 unfoldable pub from_11 : Draft → Option Broken
 from_11 draft =
-    rule 11 (v11 draft.boundary draft.entries) (
-    rule 12 (v12 draft.boundary draft.entries) (
-    rule 13 (v13 draft.ports draft.entries) (
-    rule 14 (v14 draft.ports draft.taps draft.entries) None)))
+    rule DisableValues (v11 draft.boundary draft.entries) (
+    rule Stages (v12 draft.boundary draft.entries) (
+    rule Drivers (v13 draft.ports draft.entries) (
+    rule Modes (v14 draft.ports draft.taps draft.entries) None)))
 
 -- the first of the rules V9 to V14 that the draft breaks, with the item that breaks it
 unfoldable pub from_9 : Draft → Option Broken
 from_9 draft =
-    rule 9 (v9 draft.ports draft.entries) (
-    rule 10 (v10 draft.entries) (
+    rule Places (v9 draft.ports draft.entries) (
+    rule Controls (v10 draft.entries) (
     from_11 draft))
 
 -- the first of the rules V8 to V14 that the draft breaks, with the item that breaks it
 unfoldable pub from_8 : Draft → Option Broken
-from_8 draft = rule 8 (v8 draft.boundary draft.entries) (from_9 draft)
+from_8 draft = rule Cells (v8 draft.boundary draft.entries) (from_9 draft)
 
 -- the first of the rules V5 to V14 that the draft breaks, with the item that breaks it
 unfoldable pub from_5 : Draft → Option Broken
 from_5 draft =
-    rule 5 (v5 draft.ir draft.opcodes) (
-    rule 6 (v6 draft.edition draft.opcodes) (
-    rule 7 (v7 draft.ir draft.capture draft.idcode) (
+    rule Opcodes (v5 draft.ir draft.opcodes) (
+    rule Instructions (v6 draft.edition draft.opcodes) (
+    rule Patterns (v7 draft.ir draft.capture draft.idcode) (
     from_8 draft)))
 
 -- the first of the rules V3 to V14 that the draft breaks, with the item that breaks it
 unfoldable pub from_3 : Draft → Option Broken
 from_3 draft =
-    rule 3 (v3 draft.ports draft.taps draft.compliance) (
-    rule 4 (v4 draft.ports draft.map) (
+    rule TestPort (v3 draft.ports draft.taps draft.compliance) (
+    rule PinMap (v4 draft.ports draft.map) (
     from_5 draft))
 
 -- the first of the rules V2 to V14 that the draft breaks, with the item that breaks it
 unfoldable pub first_rule : Draft → Option Broken
-first_rule draft = rule 2 (v2 draft.ports) (from_3 draft)
+first_rule draft = rule Ports (v2 draft.ports) (from_3 draft)
 
 -- No rule is broken, and `IsWanted` is true of the value. Otherwise the fault is the first rule that the draft breaks. If memory was
 -- refused, nothing is claimed.

@@ -19,7 +19,7 @@ mod raw;
 mod rules;
 mod taps;
 
-pub use broken::Broken;
+pub use broken::{Broken, Rule};
 pub use draft::{Draft, TapPorts};
 pub use fault::DraftFault;
 pub use raw::raw_device;

@@ -2,7 +2,7 @@
 ghost use Rattle.std.specs.Prelude.{◌≡◌, ◌<◌, All, IfOk};
 ghost use Rattle.device_rules.specs.Rules.{HasShortLists, from_3, from_5, from_8, from_9, from_11, IfSound};
 
-use crate::broken::Broken;
+use crate::broken::{Broken, Rule};
 use crate::cells::{crowded_cell, two_valued_control, wrong_cell};
 use crate::controls::wrong_control;
 use crate::draft::Draft;
@@ -23,16 +23,16 @@ fn first_from_11(alloc: Global, draft: &IndexedDraft) -> Result<Option<Broken>, 
     let text = draft.text();
     let entries = text.entries.as_slice();
     if let Some(item) = two_valued_control(alloc, text.boundary, entries)? {
-        return Ok(Some(Broken { rule: 11, item }));
+        return Ok(Some(Rule::DisableValues.broken_at(item)));
     }
     if let Some(item) = crowded_cell(alloc, text.boundary, entries)? {
-        return Ok(Some(Broken { rule: 12, item }));
+        return Ok(Some(Rule::Stages.broken_at(item)));
     }
     if let Some(item) = second_driver(alloc, draft.ports(), entries)? {
-        return Ok(Some(Broken { rule: 13, item }));
+        return Ok(Some(Rule::Drivers.broken_at(item)));
     }
     match misfit(draft.ports(), &text.taps, entries) {
-        Some(item) => Ok(Some(Broken { rule: 14, item })),
+        Some(item) => Ok(Some(Rule::Modes.broken_at(item))),
         None => Ok(None),
     }
 }
@@ -47,10 +47,10 @@ fn first_from_9(alloc: Global, draft: &IndexedDraft) -> Result<Option<Broken>, A
     let text = draft.text();
     let entries = text.entries.as_slice();
     if let Some(item) = wrong_place(draft.ports(), entries) {
-        return Ok(Some(Broken { rule: 9, item }));
+        return Ok(Some(Rule::Places.broken_at(item)));
     }
     if let Some(item) = wrong_control(alloc, text.boundary, entries)? {
-        return Ok(Some(Broken { rule: 10, item }));
+        return Ok(Some(Rule::Controls.broken_at(item)));
     }
     first_from_11(alloc, draft)
 }
@@ -62,7 +62,7 @@ fn first_from_8(alloc: Global, draft: &IndexedDraft) -> Result<Option<Broken>, A
 {
     let text = draft.text();
     match wrong_cell(alloc, text.boundary, text.entries.as_slice())? {
-        Some(item) => Ok(Some(Broken { rule: 8, item })),
+        Some(item) => Ok(Some(Rule::Cells.broken_at(item))),
         None => first_from_9(alloc, draft),
     }
 }
@@ -75,13 +75,13 @@ fn first_from_5(alloc: Global, draft: &IndexedDraft) -> Result<Option<Broken>, A
     let text = draft.text();
     let opcodes = text.opcodes.as_slice();
     if let Some(item) = wrong_opcode(alloc, text.ir, opcodes)? {
-        return Ok(Some(Broken { rule: 5, item }));
+        return Ok(Some(Rule::Opcodes.broken_at(item)));
     }
     if let Some(item) = wrong_instruction(text.edition, opcodes) {
-        return Ok(Some(Broken { rule: 6, item }));
+        return Ok(Some(Rule::Instructions.broken_at(item)));
     }
     if let Some(item) = wrong_pattern(text.ir, &text.capture, &text.idcode) {
-        return Ok(Some(Broken { rule: 7, item }));
+        return Ok(Some(Rule::Patterns.broken_at(item)));
     }
     first_from_8(alloc, draft)
 }
@@ -93,10 +93,10 @@ fn first_from_3(alloc: Global, draft: &IndexedDraft) -> Result<Option<Broken>, A
 {
     let text = draft.text();
     if let Some(item) = wrong_attribute(draft.ports(), &text.taps, &text.compliance) {
-        return Ok(Some(Broken { rule: 3, item }));
+        return Ok(Some(Rule::TestPort.broken_at(item)));
     }
     if let Some(item) = wrong_map_entry(alloc, draft.ports(), text.map.as_slice())? {
-        return Ok(Some(Broken { rule: 4, item }));
+        return Ok(Some(Rule::PinMap.broken_at(item)));
     }
     first_from_5(alloc, draft)
 }
@@ -109,7 +109,7 @@ pub(crate) fn checked<'a>(alloc: Global, draft: &'a Draft) -> Result<IndexedDraf
     ensures { IfSound draft.now (λ checked. checked ≡ draft.now) result }
 {
     if let Some(item) = wrong_port(alloc, draft.ports.as_slice())? {
-        return Err(DraftFault::Rule(Broken { rule: 2, item }));
+        return Err(DraftFault::Rule(Rule::Ports.broken_at(item)));
     }
     let indexed = IndexedDraft::of(alloc, draft)?;
     match first_from_3(alloc, &indexed)? {
