@@ -8,12 +8,14 @@ use Rattle.board_defs.specs.declared.device.RawDevice.{RawDevice}
 use Rattle.bsdl_parser.specs.declared.entity.Entity.{Entity}
 use Rattle.bsdl_parser.specs.Entity.{IsSmall}
 use Rattle.bsdl_strings.proofs.Lists.{can_maps, can_opcodes, can_entries}
+use Rattle.device_rules.specs.declared.broken.Rule.TheVariants.{Mandatory}
+use Rattle.device_rules.specs.RuleNumbers.{rule_number}
 use Rattle.device_rules.specs.declared.draft.Draft.{Draft}
 use Rattle.device_rules.specs.Rules.{HasShortLists}
 use Rattle.device_rules.specs.Raw.{HasLengths}
 use Rattle.device_check.specs.declared.fault.DeviceFault.{DeviceFault}
 use Rattle.device_check.specs.declared.fault.DeviceFault.TheVariants.{Rule, Text, Memory}
-use Rattle.device_check.specs.declared.sources.Attribute.TheVariants.{InstructionLength, BoundaryLength}
+use Rattle.bsdl_parser.specs.declared.entity.Attribute.TheVariants.{InstructionLength, BoundaryLength}
 use Rattle.device_check.specs.declared.sources.Source.{Source}
 use Rattle.device_check.specs.declared.strings.Strings.{Strings}
 use Rattle.device_check.specs.Sources.{source_number}
@@ -28,7 +30,7 @@ use Rattle.device_check.proofs.TextLemmas.{short_strings}
 
 -- if V1 fails, the answer is the fault of rule 1 whose item is the number of the source that V1
 -- returns
-pub needs_answer : (entity : Entity) (given : Option (List ℕ)) (source : Source) → v1 entity given ≡ Err source → IsAnswer entity given (Err (Rule 1 (source_number source)))
+pub needs_answer : (entity : Entity) (given : Option (List ℕ)) (source : Source) → v1 entity given ≡ Err source → IsAnswer entity given (Err (Rule (rule_number Mandatory) (source_number source)))
 needs_answer entity given source e = inl (record { number_is = refl; source = source; wrong = e; item_is = refl })
 
 -- if V1 holds and a string leaves its grammar, the fault of the first such string is the answer

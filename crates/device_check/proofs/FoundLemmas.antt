@@ -4,8 +4,8 @@ use Rattle.std.proofs.Common.{◌≡◌, ℕ, ◌≤◌, ◌&&◌, nat_le, if◌
 use Rattle.std.proofs.lemmas.Bool.{and_parts, leb-true}
 use Rattle.board_defs.specs.Limits.{most_bits, most_instruction_bits}
 use Rattle.bsdl_parser.specs.declared.entity.Entity.{Entity}
-use Rattle.device_check.specs.declared.sources.Attribute.{Attribute}
-use Rattle.device_check.specs.declared.sources.Attribute.TheVariants.{InstructionLength, InstructionOpcode, InstructionCapture, BoundaryLength, BoundaryRegister}
+use Rattle.bsdl_parser.specs.declared.entity.Attribute.{Attribute}
+use Rattle.bsdl_parser.specs.declared.entity.Attribute.TheVariants.{InstructionLength, InstructionOpcode, InstructionCapture, BoundaryLength, BoundaryRegister}
 use Rattle.device_check.specs.declared.sources.Source.{Source}
 use Rattle.device_check.specs.declared.sources.Source.TheVariants as sources
 use Rattle.device_check.specs.Attributes.{only_number, only_text, chosen}

@@ -20,7 +20,7 @@ use Rattle.device_rules.specs.Raw.{raw_device}
 use Rattle.device_check.specs.declared.fault.DeviceFault.{DeviceFault}
 use Rattle.device_check.specs.declared.fault.DeviceFault.TheVariants.{Rule, Text, Memory}
 use Rattle.device_check.specs.declared.strings.Strings.{Strings}
-use Rattle.device_check.specs.declared.sources.Attribute.TheVariants.{IdcodeRegister, CompliancePatterns}
+use Rattle.bsdl_parser.specs.declared.entity.Attribute.TheVariants.{IdcodeRegister, CompliancePatterns}
 use Rattle.device_check.specs.declared.sources.Source.{Source}
 use Rattle.device_check.specs.Sources.{source_number}
 use Rattle.device_check.specs.Attributes.{text_of}

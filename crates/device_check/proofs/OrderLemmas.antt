@@ -9,7 +9,7 @@ use Rattle.bsdl_strings.specs.declared.values.Opcode.{Opcode}
 use Rattle.bsdl_strings.specs.Strings.{IsPinMap, AreOpcodes, IsPattern, IsCompliance}
 use Rattle.device_check.specs.declared.fault.DeviceFault.{DeviceFault}
 use Rattle.device_check.specs.declared.fault.DeviceFault.TheVariants.{Rule, Text, Memory}
-use Rattle.device_check.specs.declared.sources.Attribute.TheVariants.{IdcodeRegister, CompliancePatterns}
+use Rattle.bsdl_parser.specs.declared.entity.Attribute.TheVariants.{IdcodeRegister, CompliancePatterns}
 use Rattle.device_check.specs.Attributes.{text_of}
 use Rattle.device_check.specs.Needed.{Found}
 use Rattle.device_check.specs.DeviceStrings.{MayBe, DeviceString, pin_map, opcodes, capture, idcode, compliance, boundary, IsRead, LeavesBy, LeavesFirst, in_order}

@@ -15,13 +15,15 @@ use Rattle.bsdl_strings.specs.Strings.{first_parenthesis, IsListOf, IsNoListOf, 
 use Rattle.bsdl_strings.specs.Strings as grammar
 use Rattle.bsdl_strings.proofs.Lists.{can_maps, can_opcodes, can_entries}
 use Rattle.bsdl_strings.proofs.ComplianceLemmas.{compliance_takes}
+use Rattle.device_rules.specs.declared.broken.Rule.TheVariants.{Mandatory}
+use Rattle.device_rules.specs.RuleNumbers.{rule_number}
 use Rattle.device_rules.specs.declared.broken.Broken.{Broken}
 use Rattle.device_rules.specs.Rules.{first_rule}
 use Rattle.device_rules.specs.Raw.{raw_device}
 use Rattle.device_check.specs.declared.fault.DeviceFault.{DeviceFault}
 use Rattle.device_check.specs.declared.fault.DeviceFault.TheVariants.{Rule, Text}
 use Rattle.device_check.specs.declared.strings.Strings.{Strings}
-use Rattle.device_check.specs.declared.sources.Attribute.TheVariants.{IdcodeRegister, CompliancePatterns}
+use Rattle.bsdl_parser.specs.declared.entity.Attribute.TheVariants.{IdcodeRegister, CompliancePatterns}
 use Rattle.device_check.specs.declared.sources.Source.{Source}
 use Rattle.device_check.specs.Sources.{source_number}
 use Rattle.device_check.specs.Attributes.{text_of}
@@ -129,7 +131,7 @@ module _ (entity : Entity) (given : Option (List ℕ)) where
   by_strings needs e (leaves attribute entry l) = (Err (Text attribute entry), record { found = needs; needed = e; leaves = l })
 
   by_need : (r : Result Found Source) → v1 entity given ≡ r → (answer : Result RawDevice DeviceFault) × IsAnswer entity given answer
-  by_need (Err source) e = (Err (Rule 1 (source_number source)), inl (record { number_is = refl; source = source; wrong = e; item_is = refl }))
+  by_need (Err source) e = (Err (Rule (rule_number Mandatory) (source_number source)), inl (record { number_is = refl; source = source; wrong = e; item_is = refl }))
   by_need (Ok needs) e = by_strings needs e (from_pin_map entity needs (read_or_left entity needs pin_map))
 
   pub some_answer : (answer : Result RawDevice DeviceFault) × IsAnswer entity given answer

@@ -9,9 +9,9 @@ use Rattle.bsdl_parser.specs.declared.entity.AttrValue.TheVariants as values
 use Rattle.bsdl_parser.specs.declared.entity.Constant.{Constant}
 use Rattle.bsdl_parser.specs.declared.entity.Entity.{Entity}
 use Rattle.bsdl_parser.specs.Entity.{IsShort, HasShortText, IsSmall}
-use Rattle.device_check.specs.declared.sources.Attribute.{Attribute}
-use Rattle.device_check.specs.declared.sources.Attribute.TheVariants.{InstructionOpcode, InstructionCapture, BoundaryRegister}
-use Rattle.device_check.specs.Sources.{attribute_number}
+use Rattle.bsdl_parser.specs.declared.entity.Attribute.{Attribute}
+use Rattle.bsdl_parser.specs.declared.entity.Attribute.TheVariants.{InstructionOpcode, InstructionCapture, BoundaryRegister}
+use Rattle.bsdl_parser.specs.AttributeNumbers.{attribute_number}
 use Rattle.device_check.specs.Attributes.{is_numbered, times, value_of, text_in, text_of, only_text, is_constant, only_constant, chosen}
 use Rattle.device_check.specs.Needed.{FoundPackage, Found, pin_map_in, found_package, v1}
 use Rattle.device_check.specs.inner.Reading.{HasShortStrings}

@@ -9,9 +9,9 @@ use Rattle.bsdl_parser.specs.declared.entity.AttrValue.{AttrValue}
 use Rattle.bsdl_parser.specs.declared.entity.AttrValue.TheVariants as values
 use Rattle.bsdl_parser.specs.declared.entity.Constant.{Constant}
 use Rattle.bsdl_parser.specs.declared.entity.Entity.{Entity}
-use Rattle.device_check.specs.declared.sources.Attribute.{Attribute}
-use Rattle.device_check.specs.declared.sources.Attribute.TheVariants.{ComponentConformance}
-use Rattle.device_check.specs.Sources.{attribute_number}
+use Rattle.bsdl_parser.specs.declared.entity.Attribute.{Attribute}
+use Rattle.bsdl_parser.specs.declared.entity.Attribute.TheVariants.{ComponentConformance}
+use Rattle.bsdl_parser.specs.AttributeNumbers.{attribute_number}
 
 -- the attribute has this number
 abbrev pub is_numbered : ℕ → Attr → Bool

@@ -9,7 +9,7 @@ use Rattle.bsdl_strings.specs.declared.values.Entry.{Entry}
 use Rattle.bsdl_strings.specs.declared.values.Compliance.{Compliance}
 use Rattle.bsdl_strings.specs.Strings.{IsPinMap, IsNoPinMap, AreOpcodes, AreNoOpcodes, IsPattern, IsNoPattern, IsCompliance, IsNoCompliance, IsBoundary, IsNoBoundary}
 use Rattle.device_check.specs.declared.strings.Strings.{Strings}
-use Rattle.device_check.specs.declared.sources.Attribute.TheVariants.{InstructionOpcode, InstructionCapture, IdcodeRegister, CompliancePatterns, BoundaryRegister}
+use Rattle.bsdl_parser.specs.declared.entity.Attribute.TheVariants.{InstructionOpcode, InstructionCapture, IdcodeRegister, CompliancePatterns, BoundaryRegister}
 use Rattle.device_check.specs.declared.sources.Source.{Source}
 use Rattle.device_check.specs.declared.sources.Source.TheVariants as sources
 use Rattle.device_check.specs.Sources.{source_number}

@@ -3,8 +3,8 @@ use Rattle.std.specs.Prelude.{ℕ, ◌==◌, List, Bool, ◌&&◌, ◌||◌, if�
 use Rattle.board_defs.specs.Limits.{most_bits, most_instruction_bits}
 use Rattle.bsdl_parser.specs.declared.entity.Constant.{Constant}
 use Rattle.bsdl_parser.specs.declared.entity.Entity.{Entity}
-use Rattle.device_check.specs.declared.sources.Attribute.{Attribute}
-use Rattle.device_check.specs.declared.sources.Attribute.TheVariants.{PinMap, TapScanIn, TapScanOut, TapScanMode, TapScanClock, InstructionLength, InstructionOpcode, InstructionCapture, BoundaryLength, BoundaryRegister, TapScanReset, IdcodeRegister, CompliancePatterns, ComponentConformance}
+use Rattle.bsdl_parser.specs.declared.entity.Attribute.{Attribute}
+use Rattle.bsdl_parser.specs.declared.entity.Attribute.TheVariants.{PinMap, TapScanIn, TapScanOut, TapScanMode, TapScanClock, InstructionLength, InstructionOpcode, InstructionCapture, BoundaryLength, BoundaryRegister, TapScanReset, IdcodeRegister, CompliancePatterns, ComponentConformance}
 use Rattle.device_check.specs.declared.sources.Source.{Source}
 use Rattle.device_check.specs.declared.sources.Source.TheVariants as sources
 use Rattle.device_check.specs.Attributes.{times, only_value, only_port, only_number, only_text, chosen, only_constant, is_text}

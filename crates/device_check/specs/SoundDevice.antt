@@ -5,11 +5,13 @@ use Rattle.board_defs.specs.declared.device.RawDevice.{RawDevice}
 use Rattle.bsdl_parser.specs.declared.entity.Entity.{Entity}
 use Rattle.device_rules.specs.declared.draft.TapPorts.{TapPorts}
 use Rattle.device_rules.specs.declared.draft.Draft.{Draft}
+use Rattle.device_rules.specs.declared.broken.Rule.TheVariants.{Mandatory}
+use Rattle.device_rules.specs.RuleNumbers.{rule_number}
 use Rattle.device_rules.specs.Rules.{first_rule}
 use Rattle.device_rules.specs.Raw.{raw_device}
 use Rattle.device_check.specs.declared.fault.DeviceFault.{DeviceFault}
 use Rattle.device_check.specs.declared.fault.DeviceFault.TheVariants.{Rule, Text, Memory}
-use Rattle.device_check.specs.declared.sources.Attribute.TheVariants.{TapScanReset}
+use Rattle.bsdl_parser.specs.declared.entity.Attribute.TheVariants.{TapScanReset}
 use Rattle.device_check.specs.declared.sources.Source.{Source}
 use Rattle.device_check.specs.declared.strings.Strings.{Strings}
 use Rattle.device_check.specs.Sources.{source_number}
@@ -70,7 +72,7 @@ pub record FailsText (entity : Entity) (given : Option (List ℕ)) (attribute en
 
 -- V1 fails, and `item` is the number of the first source that is missing, repeated or has a wrong value
 pub record FailsNeed (entity : Entity) (given : Option (List ℕ)) (number item : ℕ) : Type 0 where
-  pub number_is : number ≡ 1
+  pub number_is : number ≡ rule_number Mandatory
   pub source : Source
   pub wrong : v1 entity given ≡ Err source
   pub item_is : item ≡ source_number source

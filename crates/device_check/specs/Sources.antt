@@ -1,29 +1,18 @@
--- The numbers of the attributes, and the numbers by which a fault names an attribute or the pin map
--- of an entity.
-use Rattle.std.specs.Prelude.{ℕ}
-use Rattle.device_check.specs.declared.sources.Attribute.{Attribute}
-use Rattle.device_check.specs.declared.sources.Attribute.TheVariants as attributes
+-- The places in an entity that a fault may name: their numbers, and the names of their strings.
+use Rattle.std.specs.Prelude.{ℕ, ◌==◌, List, codes, if◌then◌else◌}
+use Rattle.bsdl_parser.specs.declared.entity.Attribute.TheVariants.{InstructionOpcode, InstructionCapture, BoundaryRegister, IdcodeRegister, CompliancePatterns}
+use Rattle.bsdl_parser.specs.AttributeNumbers.{attribute_number}
 use Rattle.device_check.specs.declared.sources.Source.{Source}
 use Rattle.device_check.specs.declared.sources.Source.TheVariants as sources
-
--- the number by which the parser identifies the attribute
-abbrev pub attribute_number : Attribute → ℕ
-attribute_number attributes.PinMap = 1
-attribute_number attributes.TapScanIn = 2
-attribute_number attributes.TapScanOut = 3
-attribute_number attributes.TapScanMode = 4
-attribute_number attributes.TapScanClock = 5
-attribute_number attributes.InstructionLength = 6
-attribute_number attributes.InstructionOpcode = 7
-attribute_number attributes.InstructionCapture = 8
-attribute_number attributes.BoundaryLength = 9
-attribute_number attributes.BoundaryRegister = 10
-attribute_number attributes.TapScanReset = 11
-attribute_number attributes.IdcodeRegister = 12
-attribute_number attributes.CompliancePatterns = 13
-attribute_number attributes.ComponentConformance = 14
 
 -- the number by which a fault names the source
 abbrev pub source_number : Source → ℕ
 source_number (sources.Attribute attribute) = attribute_number attribute
 source_number sources.PinMapConstant = 15
+
+-- the name by which a fault names the string of the source with this number
+abbrev pub string_name : ℕ → List ℕ
+string_name source =
+    if source == attribute_number InstructionOpcode then codes "INSTRUCTION_OPCODE" else (if source == attribute_number InstructionCapture then codes "INSTRUCTION_CAPTURE"
+    else (if source == attribute_number BoundaryRegister then codes "BOUNDARY_REGISTER" else (if source == attribute_number IdcodeRegister then codes "IDCODE_REGISTER"
+    else (if source == attribute_number CompliancePatterns then codes "COMPLIANCE_PATTERNS" else codes "PIN_MAP_STRING"))))

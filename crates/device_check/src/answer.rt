@@ -17,7 +17,7 @@ use crate::needed::find_needed;
 use crate::strings::read_strings;
 use board_defs::Device;
 use bsdl_parser::Entity;
-use device_rules::{Draft, DraftFault, raw_device};
+use device_rules::{Draft, DraftFault, Rule, raw_device};
 use std::alloc::Global;
 
 /// Returns the device of a draft, or a fault: the first of the rules V2 to V14 that the draft
@@ -46,7 +46,7 @@ fn answer(alloc: Global, entity: &Entity, package: Option<&[u8]>) -> Result<Devi
         Ok(needed) => needed,
         Err(source) => {
             return Err(DeviceFault::Rule {
-                number: 1,
+                number: Rule::Mandatory.number(),
                 item: source.number(),
             });
         }

@@ -4,9 +4,8 @@ ghost use Rattle.std.specs.List.{list_any};
 ghost use Rattle.std.specs.Str.{bytes_eq};
 ghost use Rattle.device_check.specs.Attributes.{is_numbered, times, value_of, only_value, port_in, number_in, text_in, port_of, text_of, only_port, only_number, only_text, chosen, is_constant, only_constant, is_text, is_of_2001, edition};
 
-use crate::sources::Attribute;
 use board_defs::Edition;
-use bsdl_parser::{AttrValue, Constant, Entity};
+use bsdl_parser::{AttrValue, Attribute, Constant, Entity};
 
 fn count_numbered(entity: &Entity, number: u32) -> usize
     ensures { result ≡ count_by (is_numbered number) entity.now.attributes }

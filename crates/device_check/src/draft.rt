@@ -1,16 +1,15 @@
 //! The draft of a device, made from an entity.
 ghost use Rattle.std.specs.Prelude.{◌≡◌, IfOk};
-ghost use Rattle.device_check.specs.declared.sources.Attribute.TheVariants.{TapScanReset};
+ghost use Rattle.bsdl_parser.specs.declared.entity.Attribute.TheVariants.{TapScanReset};
 ghost use Rattle.device_check.specs.Attributes.{port_of};
 ghost use Rattle.device_check.specs.inner.Reading.{needed_view};
 ghost use Rattle.device_check.specs.SoundDevice.{taps_of, draft_of};
 
 use crate::attributes::{edition, port_of};
 use crate::needed::Needed;
-use crate::sources::Attribute;
 use crate::strings::Strings;
 use board_defs::{Items, Name};
-use bsdl_parser::{Entity, Port};
+use bsdl_parser::{Attribute, Entity, Port};
 use device_rules::{Draft, TapPorts};
 use std::alloc::{AllocError, Global};
 

@@ -2,6 +2,7 @@
 ghost use Rattle.std.specs.Prelude.{◌≡◌, alloc_error};
 ghost use Rattle.device_check.specs.declared.fault.DeviceFault.TheVariants.{Memory};
 
+use crate::sources::string_name;
 use std::alloc::{AllocError, AllocFailed};
 use thiserror::Error;
 
@@ -17,23 +18,10 @@ pub enum DeviceFault {
     /// A string that leaves its grammar. `attribute` is the number of its attribute, or 15 for the
     /// pin map of the package. `entry` is the number, from 1, of the entry at which the string
     /// leaves the grammar.
-    #[error("{} entry {entry}", attribute_name(*.attribute))]
+    #[error("{} entry {entry}", string_name(*.attribute))]
     Text { attribute: u32, entry: u32 },
     #[error("out of memory")]
     Memory(AllocError),
-}
-
-// Returns the name of the attribute with this number, which is one of the attributes whose value is
-// a string with a grammar of its own.
-fn attribute_name(attribute: u32) -> &'static str {
-    match attribute {
-        7 => "INSTRUCTION_OPCODE",
-        8 => "INSTRUCTION_CAPTURE",
-        10 => "BOUNDARY_REGISTER",
-        12 => "IDCODE_REGISTER",
-        13 => "COMPLIANCE_PATTERNS",
-        _ => "PIN_MAP_STRING",
-    }
 }
 
 impl From<AllocError> for DeviceFault {

@@ -16,3 +16,4 @@ mod strings;
 pub use answer::device;
 pub use fault::DeviceFault;
 pub use listing::write_device;
+pub use sources::string_name;

@@ -7,9 +7,9 @@ ghost use Rattle.device_check.specs.inner.Reading.{Says, taps_view, registers_vi
 use crate::attributes::{
     chosen, is_text, only_constant, only_number, only_port, only_text, only_value, times,
 };
-use crate::sources::{Attribute, Source};
+use crate::sources::Source;
 use board_defs::{MOST_BITS, MOST_INSTRUCTION_BITS};
-use bsdl_parser::Entity;
+use bsdl_parser::{Attribute, Entity};
 
 /// The ports that the mandatory TAP attributes name.
 #[derive(Clone, Copy)]

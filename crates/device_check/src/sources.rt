@@ -1,49 +1,8 @@
 //! The attributes that describe a device, and the places in an entity that a fault may name.
 ghost use Rattle.std.specs.Prelude.{◌≡◌};
-ghost use Rattle.device_check.specs.Sources.{attribute_number, source_number};
+ghost use Rattle.device_check.specs.Sources.{source_number, string_name};
 
-/// An attribute that describes a device. The variants are in the order of the attributes' numbers.
-#[derive(Clone, Copy)]
-pub enum Attribute {
-    PinMap,
-    TapScanIn,
-    TapScanOut,
-    TapScanMode,
-    TapScanClock,
-    InstructionLength,
-    InstructionOpcode,
-    InstructionCapture,
-    BoundaryLength,
-    BoundaryRegister,
-    TapScanReset,
-    IdcodeRegister,
-    CompliancePatterns,
-    ComponentConformance,
-}
-
-impl Attribute {
-    /// Returns the number, from 1 to 14, that `bsdl_parser::Attr` gives the attribute.
-    pub(crate) fn number(self) -> u32
-        ensures { result ≡ attribute_number self }
-    {
-        match self {
-            Attribute::PinMap => 1,
-            Attribute::TapScanIn => 2,
-            Attribute::TapScanOut => 3,
-            Attribute::TapScanMode => 4,
-            Attribute::TapScanClock => 5,
-            Attribute::InstructionLength => 6,
-            Attribute::InstructionOpcode => 7,
-            Attribute::InstructionCapture => 8,
-            Attribute::BoundaryLength => 9,
-            Attribute::BoundaryRegister => 10,
-            Attribute::TapScanReset => 11,
-            Attribute::IdcodeRegister => 12,
-            Attribute::CompliancePatterns => 13,
-            Attribute::ComponentConformance => 14,
-        }
-    }
-}
+use bsdl_parser::Attribute;
 
 /// A place in an entity that has a value for the device: an attribute, or the constant of the pin
 /// map.
@@ -63,5 +22,25 @@ impl Source {
             Source::Attribute(attribute) => attribute.number(),
             Source::PinMapConstant => 15,
         }
+    }
+}
+
+/// Returns the name by which a fault names the string of the source with this number: the name of the attribute, or
+/// PIN_MAP_STRING for the pin map. A number of no source with a string is taken for that of the pin map.
+pub fn string_name(source: u32) -> &'static str
+    ensures { result.now ≡ string_name source }
+{
+    if source == Attribute::InstructionOpcode.number() {
+        "INSTRUCTION_OPCODE"
+    } else if source == Attribute::InstructionCapture.number() {
+        "INSTRUCTION_CAPTURE"
+    } else if source == Attribute::BoundaryRegister.number() {
+        "BOUNDARY_REGISTER"
+    } else if source == Attribute::IdcodeRegister.number() {
+        "IDCODE_REGISTER"
+    } else if source == Attribute::CompliancePatterns.number() {
+        "COMPLIANCE_PATTERNS"
+    } else {
+        "PIN_MAP_STRING"
     }
 }

@@ -3,7 +3,7 @@ ghost use Rattle.std.specs.Prelude.{◌≡◌, ◌<◌, ◌^◌, length, All, If
 ghost use Rattle.bsdl_parser.specs.Entity.{HasShortText};
 ghost use Rattle.bsdl_strings.specs.Strings.{IsPinMap, IsNoPinMap, AreOpcodes, AreNoOpcodes, IsPattern, IsNoPattern, IsCompliance, IsBoundary, IsNoBoundary};
 ghost use Rattle.bsdl_parser.specs.declared.entity.Entity.{Entity};
-ghost use Rattle.device_check.specs.declared.sources.Attribute.TheVariants.{IdcodeRegister, CompliancePatterns};
+ghost use Rattle.bsdl_parser.specs.declared.entity.Attribute.TheVariants.{IdcodeRegister, CompliancePatterns};
 ghost use Rattle.device_check.specs.Attributes.{text_of};
 ghost use Rattle.device_check.specs.Needed.{Found};
 ghost use Rattle.device_check.specs.DeviceStrings.{MayBe, LeavesBy, pin_map, opcodes, capture, idcode, compliance, boundary};
@@ -12,9 +12,9 @@ ghost use Rattle.device_check.specs.inner.Reading.{fault_of, needed_view, HasSho
 use crate::attributes::text_of;
 use crate::fault::DeviceFault;
 use crate::needed::Needed;
-use crate::sources::{Attribute, Source};
+use crate::sources::Source;
 use board_defs::{Code, Items};
-use bsdl_parser::Entity;
+use bsdl_parser::{Attribute, Entity};
 use bsdl_strings::{Compliance, Entry, MapEntry, Opcode, StringFault};
 use std::alloc::Global;
 

@@ -1,9 +1,9 @@
 //! Tests that values may go to another thread and be shared between threads.
 use bsdl_lexer::{LexFault, Token, TokenKind};
-use bsdl_parser::{Attr, AttrValue, Constant, Entity, ParseFault, Port, Range};
+use bsdl_parser::{Attr, AttrValue, Attribute, Constant, Entity, ParseFault, Port, Range};
 use bsdl_strings::{Compliance, Entry, MapEntry, Opcode, PortWord, StringFault};
 use device_check::DeviceFault;
-use device_rules::{Broken, Draft, DraftFault, TapPorts};
+use device_rules::{Broken, Draft, DraftFault, Rule, TapPorts};
 
 fn is_shared<T: Send + Sync>() {}
 
@@ -18,6 +18,7 @@ fn tokens_and_entities_may_be_shared() {
     is_shared::<Constant>();
     is_shared::<Attr>();
     is_shared::<AttrValue>();
+    is_shared::<Attribute>();
     is_shared::<ParseFault>();
 }
 
@@ -34,6 +35,7 @@ fn values_of_strings_may_be_shared() {
 #[test]
 fn drafts_and_faults_of_devices_may_be_shared() {
     is_shared::<Broken>();
+    is_shared::<Rule>();
     is_shared::<Draft>();
     is_shared::<DraftFault>();
     is_shared::<TapPorts>();

@@ -1,5 +1,5 @@
 use Rattle.std.proofs.Common.{sym}
-use Rattle.device_check.specs.declared.sources.Attribute.TheVariants.{IdcodeRegister}
+use Rattle.bsdl_parser.specs.declared.entity.Attribute.TheVariants.{IdcodeRegister}
 use Rattle.device_check.proofs.TextLemmas.{short_text}
 use Rattle.device_check.proofs.strings.read_idcode.Goals as goal
 
