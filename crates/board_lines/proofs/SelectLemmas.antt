@@ -11,7 +11,7 @@ use Rattle.board_files.specs.declared.chain_file.ChainLine.{ChainLine}
 use Rattle.bsdl_parser.specs.declared.entity.Entity.{Entity}
 use Rattle.board_defs.specs.declared.spot.Spot.{Spot}
 use Rattle.board_lines.specs.declared.fault.BoardFault.{BoardFault}
-use Rattle.board_lines.specs.declared.fault.BoardFault.TheVariants.{PartTwice, Limit}
+use Rattle.board_lines.specs.declared.fault.BoardFault.TheVariants.{PartTwice}
 use Rattle.board_lines.specs.declared.names.Naming.TheVariants.{Part as PartName, Entity as EntityName}
 use Rattle.answers.specs.Gives.{Gives}
 use Rattle.board_lines.specs.Faults.{unless, board_told}
@@ -68,7 +68,7 @@ some_parts (p ∷ parts) e = omega arith
 
 few_parts : (parts : List Named) → chain_limit parts ≡ None → length parts ≤ most_parts
 unfolding chain_limit
-few_parts parts e = limit_kept most_parts (length parts) (Limit 1) e
+few_parts parts e = limit_kept most_parts (length parts) _ e
 
 unless_ok : {V : Type 0} (o : Option BoardFault) (v w : V) → unless o v ≡ Ok w → (o ≡ None) × (v ≡ w)
 unless_ok None v w e = (refl, cc e)

@@ -1,4 +1,5 @@
 pub mod Faults
+pub mod BoardLimits
 pub mod Names
 pub mod Selection
 pub mod NetWords

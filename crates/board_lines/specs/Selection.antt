@@ -7,9 +7,11 @@ use Rattle.bsdl_parser.specs.declared.entity.Entity.{Entity}
 use Rattle.board_defs.specs.declared.spot.Spot.{Spot}
 use Rattle.board_lines.specs.declared.fault.BoardFault.{BoardFault}
 use Rattle.board_lines.specs.declared.fault.BoardFault.TheVariants.{NoChain, PartTwice, NoEntity, EntityTwice, Limit}
+use Rattle.board_lines.specs.declared.limit.Limit.TheVariants.{ChainParts}
 use Rattle.board_lines.specs.declared.names.Naming.TheVariants.{Part, Entity as EntityName}
 use Rattle.board_files.specs.Names.{same_word}
 use Rattle.board_lines.specs.Names.{Named, named, names_of}
+use Rattle.board_lines.specs.BoardLimits.{limit_number}
 use Rattle.board_lines.specs.Faults.{◌then◌, unless}
 
 -- the spot of the name at this place of the list; its word is always 1, since a fault of a chain
@@ -39,7 +41,7 @@ entity_twice entities = option_map EntityTwice (first_repeat same_word entities)
 
 -- the fault of a chain with more than 255 parts
 unfoldable pub chain_limit : List Named → Option BoardFault
-chain_limit parts = if nat_lt most_parts (length parts) then Some (Limit 1) else None
+chain_limit parts = if nat_lt most_parts (length parts) then Some (Limit (limit_number ChainParts)) else None
 
 -- the first fault of the chain, by the rules in their order
 unfoldable pub first_fault : List Named → List Named → List (Option ℕ) → List (List ℕ) → Option BoardFault

@@ -2,6 +2,7 @@
 ghost use Rattle.std.specs.Prelude.{◌≡◌, alloc_error};
 ghost use Rattle.board_lines.specs.declared.fault.BoardFault.TheVariants.{Memory};
 
+use crate::limit::limit_name;
 use board_defs::Spot;
 use std::alloc::{AllocError, AllocFailed};
 
@@ -28,6 +29,7 @@ pub enum BoardFault {
     GuardedDriver(Spot),
     #[error("line {} word {}: two drivers always on", .0.line, .0.word)]
     TwoAlwaysOn(Spot),
+    /// A limit that is exceeded, by its number (`Limit::number`).
     #[error("limit: {}", limit_name(*.0))]
     Limit(u32),
     #[error("out of memory")]
@@ -36,16 +38,6 @@ pub enum BoardFault {
     NoPullNet(Spot),
     #[error("line {}: net pulled twice", .0.line)]
     PullTwice(Spot),
-}
-
-// Returns the words for the things that limit number `which` counts.
-fn limit_name(which: u32) -> &'static str {
-    match which {
-        1 => "chain parts",
-        2 => "boundary bits",
-        3 => "nets",
-        _ => "pins",
-    }
 }
 
 impl From<AllocError> for BoardFault {

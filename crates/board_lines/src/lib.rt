@@ -3,6 +3,7 @@
 #![tactic(auto)]
 
 mod fault;
+mod limit;
 mod line_rules;
 mod names;
 mod parts;
@@ -12,6 +13,7 @@ mod selection;
 mod words;
 
 pub use fault::BoardFault;
+pub use limit::{Limit, limit_name};
 pub use line_rules::{line_fault, names_in, pull_of_net, pulls_by_net, pulls_of};
 pub use names::{Naming, first_places_of, place_of};
 pub use parts::{chain_parts, described_names};

@@ -8,6 +8,7 @@ ghost use Rattle.board_lines.specs.ChainParts.{IsChain};
 ghost use Rattle.board_lines.specs.Selection.{spot_at, no_chain, part_twice, no_entity, entity_twice, chain_limit, first_fault, entity_names, entity_places, answer, selection};
 
 use crate::fault::BoardFault;
+use crate::limit::Limit;
 use crate::names::{Naming, first_repeat_of, named, names_of, places_among};
 use board_defs::{MOST_PARTS, Spot};
 use board_files::ChainFile;
@@ -145,7 +146,7 @@ fn chain_limit(parts: &[(u32, &[u8])]) -> Option<BoardFault>
     ensures { result ≡ chain_limit (map (λ n. (n.0, n.1.now)) parts.now) }
 {
     if MOST_PARTS < parts.len() {
-        Some(BoardFault::Limit(1))
+        Some(BoardFault::Limit(Limit::ChainParts.number()))
     } else {
         None
     }
