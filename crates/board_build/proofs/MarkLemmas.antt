@@ -21,6 +21,8 @@ use Rattle.board_defs.specs.Pins.{drive_by, drive_where, entry_at, device_at, le
 use Rattle.board_lines.specs.declared.fault.BoardFault.{BoardFault}
 use Rattle.board_lines.specs.declared.fault.BoardFault.TheVariants.{Limit, NoPin, PinTwice, GuardedDriver, TwoAlwaysOn}
 use Rattle.board_lines.specs.declared.names.Naming.TheVariants.{Inert, Supply}
+use Rattle.board_lines.specs.declared.limit.Limit.TheVariants.{Pins}
+use Rattle.board_lines.specs.BoardLimits.{limit_number}
 use Rattle.board_lines.specs.Faults.{◌then◌, unless}
 use Rattle.board_lines.specs.Names.{named, names_of}
 use Rattle.board_lines.specs.NetWords.{Pin, NetWord, net_of, pin_of, is_among, net_names, standing_words, pins_of_net, have_same_pin}
@@ -94,7 +96,7 @@ module _ (chain : List ChainLine) (parts : List Part) (names : List (List ℕ)) 
 
   pub limit_same : marked_limit (map marked words) ≡ pin_limit words
   unfolding marked_limit pin_limit
-  limit_same = ap (λ n. if nat_lt most_pins n then Some (Limit 4) else None) (ap length (sym (once-map marked same_pins words)) ∙ length-map (once have_same_pin words) marked)
+  limit_same = ap (λ n. if nat_lt most_pins n then Some (Limit (limit_number Pins)) else None) (ap length (sym (once-map marked same_pins words)) ∙ length-map (once have_same_pin words) marked)
 
   pub unknown_same : marked_unknown (map marked words) ≡ no_pin (described_names parts) (pin_places parts) words
   unfolding marked_unknown no_pin

@@ -17,7 +17,7 @@ use Rattle.board_defs.specs.declared.board.RawBoard.{RawBoard}
 use Rattle.board_defs.specs.declared.spot.Spot.{Spot}
 use Rattle.board_defs.specs.Pins.{data_length}
 use Rattle.board_lines.specs.declared.fault.BoardFault.{BoardFault}
-use Rattle.board_lines.specs.declared.fault.BoardFault.TheVariants.{Limit, InertInChain}
+use Rattle.board_lines.specs.declared.fault.BoardFault.TheVariants.{InertInChain}
 use Rattle.board_lines.specs.declared.names.Naming.TheVariants.{Part as PartName, Inert}
 use Rattle.board_files.specs.Names.{same_word}
 use Rattle.board_lines.specs.Names.{Named, named, names_of}
@@ -46,9 +46,9 @@ limits_kept parts names words e =
     let first = then_none _ _ e in
     let second = then_none _ _ first.1 in
     record {
-      bits = limit_kept most_bits (sum_by (λ part. data_length part.kind) parts) (Limit 2) first.0;
-      nets = limit_kept most_nets (length names) (Limit 3) second.0;
-      pins = limit_kept most_pins (length (once have_same_pin words)) (Limit 4) second.1;
+      bits = limit_kept most_bits (sum_by (λ part. data_length part.kind) parts) _ first.0;
+      nets = limit_kept most_nets (length names) _ second.0;
+      pins = limit_kept most_pins (length (once have_same_pin words)) _ second.1;
     }
 
 pub record PinsKept (parts : List Part) (words : List NetWord) : Type 0 where

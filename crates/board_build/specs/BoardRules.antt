@@ -13,6 +13,8 @@ use Rattle.board_defs.specs.Pins.{data_length, drive, is_test_pin}
 use Rattle.board_defs.specs.Decided.{is_always_on}
 use Rattle.board_lines.specs.declared.fault.BoardFault.{BoardFault}
 use Rattle.board_lines.specs.declared.fault.BoardFault.TheVariants.{Limit, NoPin, PinTwice, GuardedDriver, TwoAlwaysOn}
+use Rattle.board_lines.specs.declared.limit.Limit.TheVariants.{BoundaryBits, Nets, Pins}
+use Rattle.board_lines.specs.BoardLimits.{limit_number}
 use Rattle.board_lines.specs.Faults.{◌then◌, unless}
 use Rattle.board_lines.specs.NetWords.{Pin, NetWord, net_of, pin_of, spot_of, have_same_pin, is_among, net_names, standing_words}
 use Rattle.board_lines.specs.ChainParts.{PinPlace, chain_parts, pin_places, place_of_pin, described_names}
@@ -22,15 +24,15 @@ use Rattle.board_build.specs.BoardNets.{Marks, marks_of, net_pin, board_with}
 -- the fault if a data scan has more than 65,535 bits: a bit for each boundary cell of a described
 -- part, and a bit for each part in BYPASS
 unfoldable pub data_limit : List Part → Option BoardFault
-data_limit parts = if nat_lt most_bits (sum_by (λ part. data_length part.kind) parts) then Some (Limit 2) else None
+data_limit parts = if nat_lt most_bits (sum_by (λ part. data_length part.kind) parts) then Some (Limit (limit_number BoundaryBits)) else None
 
 -- the fault if there are more than 16,382 nets
 unfoldable pub net_limit : List (List ℕ) → Option BoardFault
-net_limit names = if nat_lt most_nets (length names) then Some (Limit 3) else None
+net_limit names = if nat_lt most_nets (length names) then Some (Limit (limit_number Nets)) else None
 
 -- the fault if the nets have more than 65,535 different pins
 unfoldable pub pin_limit : List NetWord → Option BoardFault
-pin_limit words = if nat_lt most_pins (length (once have_same_pin words)) then Some (Limit 4) else None
+pin_limit words = if nat_lt most_pins (length (once have_same_pin words)) then Some (Limit (limit_number Pins)) else None
 
 -- the pin's part is described, and the part's pin map does not have the pin
 abbrev pub is_unknown : List (List ℕ) → List PinPlace → Pin → Bool

@@ -4,7 +4,9 @@ ghost use Rattle.std.specs.List.{list_any};
 ghost use Rattle.board_defs.specs.Limits.{most_parts, most_pins};
 ghost use Rattle.first_places.specs.Places.{first_repeated, once};
 ghost use Rattle.board_defs.specs.Pins.{data_length, is_test_pin};
-ghost use Rattle.board_lines.specs.declared.fault.BoardFault.TheVariants.{Limit, NoPin, PinTwice, GuardedDriver, TwoAlwaysOn};
+ghost use Rattle.board_lines.specs.declared.fault.BoardFault.TheVariants.{Limit as LimitFault, NoPin, PinTwice, GuardedDriver, TwoAlwaysOn};
+ghost use Rattle.board_lines.specs.declared.limit.Limit.TheVariants.{Pins};
+ghost use Rattle.board_lines.specs.BoardLimits.{limit_number};
 ghost use Rattle.board_lines.specs.NetWords.{lent_pin, same_pin};
 ghost use Rattle.board_build.specs.BoardRules.{data_limit, net_limit, is_kept};
 ghost use Rattle.board_build.specs.inner.Marked.{always_on, file_fault, marked_drivers, marked_guarded, marked_limit, marked_pins, marked_twice, marked_two, marked_unknown, seen};
@@ -13,7 +15,7 @@ use crate::marked::MarkedWord;
 use crate::selected_chain::SelectedChain;
 use crate::standing::StandingWords;
 use board_defs::{MOST_BITS, MOST_NETS, MOST_PINS, Net, NetPin, Part, RawBoard, Spot};
-use board_lines::{BoardFault, PinName, line_fault};
+use board_lines::{BoardFault, Limit, PinName, line_fault};
 use first_places::{first_repeated, once_by};
 use lists::is_set;
 use std::alloc::{AllocError, Global};
@@ -36,7 +38,7 @@ fn data_limit(parts: &[Part]) -> Option<BoardFault>
     ensures { result ≡ data_limit parts.now }
 {
     if u64::from(MOST_BITS) < data_bits(parts) {
-        Some(BoardFault::Limit(2))
+        Some(BoardFault::Limit(Limit::BoundaryBits.number()))
     } else {
         None
     }
@@ -47,7 +49,7 @@ fn net_limit(names: &[&[u8]]) -> Option<BoardFault>
     ensures { result ≡ net_limit (map (λ n. n.now) names.now) }
 {
     if MOST_NETS < names.len() {
-        Some(BoardFault::Limit(3))
+        Some(BoardFault::Limit(Limit::Nets.number()))
     } else {
         None
     }
@@ -74,11 +76,11 @@ fn count_pins(alloc: Global, pins: &[(PinName<'_>, Spot)]) -> Result<usize, Allo
 }
 
 fn pin_limit(alloc: Global, pins: &[(PinName<'_>, Spot)]) -> Result<Option<BoardFault>, AllocError>
-    ensures { IfOk result (λ fault. fault ≡ (if nat_lt most_pins (length (once (λ a b. same_pin (lent_pin a.0) (lent_pin b.0)) pins.now)) then Some (Limit 4) else None)) }
+    ensures { IfOk result (λ fault. fault ≡ (if nat_lt most_pins (length (once (λ a b. same_pin (lent_pin a.0) (lent_pin b.0)) pins.now)) then Some (LimitFault (limit_number Pins)) else None)) }
 {
     let count = count_pins(alloc, pins)?;
     if MOST_PINS < count {
-        Ok(Some(BoardFault::Limit(4)))
+        Ok(Some(BoardFault::Limit(Limit::Pins.number())))
     } else {
         Ok(None)
     }

@@ -18,6 +18,8 @@ use Rattle.first_places.specs.Places.{once, first_repeated}
 use Rattle.board_lines.specs.declared.fault.BoardFault.{BoardFault}
 use Rattle.board_lines.specs.declared.fault.BoardFault.TheVariants.{Limit, NoPin, PinTwice, GuardedDriver, TwoAlwaysOn}
 use Rattle.board_lines.specs.declared.names.Naming.TheVariants.{Supply}
+use Rattle.board_lines.specs.declared.limit.Limit.TheVariants.{Pins}
+use Rattle.board_lines.specs.BoardLimits.{limit_number}
 use Rattle.board_lines.specs.Faults.{◌then◌, unless}
 use Rattle.board_lines.specs.Names.{named, names_of}
 use Rattle.board_lines.specs.LineRules.{Pulled, pulls_of, pull_of_net, line_fault}
@@ -147,7 +149,7 @@ same_pins a b = same_pin (pin_in a) (pin_in b)
 
 -- the fault if the marked words name more than 65,535 different pins
 unfoldable pub marked_limit : List Marked → Option BoardFault
-marked_limit words = if nat_lt most_pins (length (once same_pins words)) then Some (Limit 4) else None
+marked_limit words = if nat_lt most_pins (length (once same_pins words)) then Some (Limit (limit_number Pins)) else None
 
 -- the fault of the first word that names a pin of a described part that is not in the part's pin
 -- map

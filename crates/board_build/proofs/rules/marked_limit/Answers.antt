@@ -7,6 +7,8 @@ use Rattle.board_defs.specs.Limits.{most_pins}
 use Rattle.first_places.specs.Places.{once}
 use Rattle.first_places.proofs.OnceLemmas.{once_few}
 use Rattle.board_lines.specs.declared.fault.BoardFault.TheVariants.{Limit}
+use Rattle.board_lines.specs.declared.limit.Limit.TheVariants.{Pins}
+use Rattle.board_lines.specs.BoardLimits.{limit_number}
 use Rattle.board_build.specs.inner.Marked.{marked_limit, same_pins, seen}
 use Rattle.board_lines.proofs.DifferLemmas.{same_lent}
 use Rattle.board_build.proofs.SeenLemmas.{pins_counted}
@@ -18,9 +20,9 @@ returns-then-words-le-MOST_PINS c =
     let few = once_few same_pins [] (map seen c.args.words.now) in
     let count = length-map c.args.words.now seen in
     let past : nat_lt most_pins (length (once same_pins (map seen c.args.words.now))) ≡ false = grind (arith, few, count, c.if-words-le-MOST_PINS.true) in
-    ap (λ b. if b then Some (Limit 4) else None) (sym past)
+    ap (λ b. if b then Some (Limit (limit_number Pins)) else None) (sym past)
 
 pub returns : goal.returns
 unfolding marked_limit
 returns c =
-    IfOk-weaker c.pin_limit.result _ _ (λ fault e. e ∙ ap (λ n. if nat_lt most_pins n then Some (Limit 4) else None) (ap (λ v. length (once same_lent v)) (c.deref.ensures.value ∙ c.in_ok-pins.ensures) ∙ pins_counted c.args.words.now)) c.pin_limit.ensures
+    IfOk-weaker c.pin_limit.result _ _ (λ fault e. e ∙ ap (λ n. if nat_lt most_pins n then Some (Limit (limit_number Pins)) else None) (ap (λ v. length (once same_lent v)) (c.deref.ensures.value ∙ c.in_ok-pins.ensures) ∙ pins_counted c.args.words.now)) c.pin_limit.ensures
