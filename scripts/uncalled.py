@@ -38,6 +38,7 @@ TESTS = {
     "bench_tests",
     "run_bench",
     "worked_rows",
+    "device_rows",
     "log_rows",
     "fault_rows",
     "outer_tests",

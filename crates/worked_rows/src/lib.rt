@@ -4,23 +4,13 @@
 #[cfg(test)]
 mod boards;
 #[cfg(test)]
-mod chain;
-#[cfg(test)]
 mod cover;
 #[cfg(test)]
-mod device;
-#[cfg(test)]
 mod generated;
-#[cfg(test)]
-mod ident;
-#[cfg(test)]
-mod long_registers;
 #[cfg(test)]
 mod long_words;
 #[cfg(test)]
 mod make;
-#[cfg(test)]
-mod makers;
 #[cfg(test)]
 mod orders;
 #[cfg(test)]

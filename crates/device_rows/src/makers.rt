@@ -98,20 +98,35 @@ const CODES_AND_PINS: [Change; 3] = [
     ("TDI:T1", "TDI:(T1,T9)", ": rule V4 item 1"),
 ];
 
-// A device whose EXTEST code is not all zeros, although its text says 2013 and not 2001.
-const OF_2013: [Run; 1] = [(
-    Edited(
-        DRV1,
-        &[
-            ("use STD_1149_1_2001.all;", "use STD_1149_1_2013.all;"),
-            (
-                "attribute COMPONENT_CONFORMANCE of DRV1 : entity is \"STD_1149_1_2001\";\n",
-                "",
-            ),
-        ],
+// The code of EXTEST is not all zeros. The text says 2013, or 1994, and not 2001.
+const NOT_OF_2001: [Run; 2] = [
+    (
+        Edited(
+            DRV1,
+            &[
+                ("use STD_1149_1_2001.all;", "use STD_1149_1_2013.all;"),
+                (
+                    "attribute COMPONENT_CONFORMANCE of DRV1 : entity is \"STD_1149_1_2001\";\n",
+                    "",
+                ),
+            ],
+        ),
+        Ending::Refused("drv: rule V6 item 2\n"),
     ),
-    Ending::Refused("drv: rule V6 item 2\n"),
-)];
+    (
+        Edited(
+            DRV1,
+            &[
+                ("use STD_1149_1_2001.all;", "use STD_1149_1_1994.all;"),
+                (
+                    "attribute COMPONENT_CONFORMANCE of DRV1 : entity is \"STD_1149_1_2001\";\n",
+                    "",
+                ),
+            ],
+        ),
+        Ending::Refused("drv: rule V6 item 2\n"),
+    ),
+];
 
 static TABLES: [Table; 5] = [
     Table {
@@ -135,9 +150,9 @@ static TABLES: [Table; 5] = [
         rows: Rows::Devices(DRV, &CODES_AND_PINS),
     },
     Table {
-        name: "an edition after 2001 does not say 2001",
+        name: "only the edition of 2001 says 2001",
         texts: &[],
-        rows: Rows::Texts("device drv", "drv", &OF_2013),
+        rows: Rows::Texts("device drv", "drv", &NOT_OF_2001),
     },
 ];
 
