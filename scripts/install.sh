@@ -24,11 +24,11 @@ man_page() {
     chmod 644 "$page"
 }
 
-# Removes files below the folder, and each folder of btest's own that is empty then. What someone else put there stays.
-remove() {
+# Removes files below share/btest, and each folder there that is empty then. What someone else put there stays.
+unshare() {
     local file
     for file in "$@"; do
-        rm -f "$to/$file"
+        rm -f "$to/share/btest/$file"
     done
     find "$to/share/btest" -depth -type d -name __pycache__ -exec rm -rf {} + 2>/dev/null || true
     find "$to/share/btest" -depth -type d -empty -delete 2>/dev/null || true
@@ -52,5 +52,6 @@ if [ -n "$program" ]; then
     man_page "$page"
     share "${files[@]}"
 else
-    remove bin/btest "$completion" "$page" "${files[@]/#/share/btest/}"
+    rm -f "$to/bin/btest" "$to/$completion" "$to/$page"
+    unshare "${files[@]}"
 fi

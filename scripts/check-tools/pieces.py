@@ -32,8 +32,8 @@ def refusing(program, words, call, folder):
     """Runs a command in which a call is refused. Returns the status and both streams, and whether there was such a call."""
     refused = folder / 'refused'
     refused.unlink(missing_ok=True)
-    setting = {'LD_PRELOAD': folder / 'refuse.so', 'REFUSE': call, 'REFUSED': refused}
-    seen = run([program, *words], folder, env={**os.environ, **{name: str(value) for name, value in setting.items()}})
+    setting = refusals.refusing(folder / 'refuse.so', call, refused)
+    seen = run([program, *words], folder, env={**os.environ, **setting})
     return (seen.returncode, seen.stdout, seen.stderr), refused.exists()
 
 

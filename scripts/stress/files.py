@@ -98,7 +98,7 @@ def try_change(folder, library, row):
     os.mkdir(folder)
     chain = pathlib.Path(folder, 'c')
     chain.write_bytes(TWO)
-    setting = {'LD_PRELOAD': library, 'REFUSE': 'stop 2', 'REFUSED': f'{folder}/stopped'}
+    setting = refusals.refusing(library, 'stop 2', f'{folder}/stopped')
     with subprocess.Popen([program.PROGRAM, 'chain', 'c'], cwd=folder, env=setting, stdout=subprocess.PIPE, stderr=subprocess.PIPE) as process:
         os.waitpid(process.pid, os.WUNTRACED)
         change(chain)

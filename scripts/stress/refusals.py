@@ -19,6 +19,12 @@ def build(folder):
     return f'{folder}/refuse.so'
 
 
+def refusing(library, call, made):
+    """The setting of a program of which one call is refused: the library in front of the C library, the kind and the number of the
+    call, and the file that is made when the call comes."""
+    return {'LD_PRELOAD': str(library), 'REFUSE': call, 'REFUSED': str(made)}
+
+
 def is_allowed(kind, case, answer, is_silent):
     """Whether this may come where a call of the kind is refused."""
     whole = (answer.status, answer.out, answer.err) == (case.status, case.out, case.err)
@@ -38,7 +44,7 @@ def try_case(name, case, kind, only, library, progress):
     """Refuses one call after the other, and returns how many runs ended with each status."""
     counts, is_silent = {}, True
     for number in range(only or 1, only + 1 if only else 1_000_000):
-        answer = run(case.words, setting={'LD_PRELOAD': library, 'REFUSE': f'{kind} {number}', 'REFUSED': '../refused'})
+        answer = run(case.words, setting=refusing(library, f'{kind} {number}', '../refused'))
         again = f"\nto run it again: make stress WITH='refusals --case \"{name}\" --kind {kind} --number {number}'"
         if not os.path.exists('../refused'):   # there is no such call any more
             if (answer.status, answer.out, answer.err) != (case.status, case.out, case.err):
