@@ -54,6 +54,14 @@ const NAMES: Names<'static, 'static> = Names {
     bsdl: TextNames::One("d"),
 };
 
+// The names of a command with two BSDL texts.
+const TWO_TEXTS: Names<'static, 'static> = Names {
+    log: "g",
+    chain: "c",
+    nets: "n",
+    bsdl: TextNames::Several(&["d", "e"]),
+};
+
 // The number of rows that a log must have.
 const ROWS: u64 = 8;
 
@@ -196,7 +204,7 @@ static BOARDS: [(InputFault, &str, &str); 17] = [
     ),
 ];
 
-static DEVICES: [(InputFault, &str, &str); 15] = [
+static DEVICES: [(InputFault, &str, &str); 16] = [
     (
         InputFault::Lex {
             text: 0,
@@ -335,6 +343,75 @@ static DEVICES: [(InputFault, &str, &str); 15] = [
         "",
         "out of memory",
     ),
+    // The command has one BSDL text, so a second one has no name.
+    (
+        InputFault::Lex {
+            text: 1,
+            fault: LexFault::Byte(5),
+        },
+        " ",
+        "line 5: byte not allowed",
+    ),
+];
+
+// The line names the text of the fault. A third text has no name.
+static SECOND_TEXTS: [(InputFault, &str, &str); 7] = [
+    (
+        InputFault::Lex {
+            text: 0,
+            fault: LexFault::Byte(5),
+        },
+        "d ",
+        "line 5: byte not allowed",
+    ),
+    (
+        InputFault::Lex {
+            text: 1,
+            fault: LexFault::Byte(5),
+        },
+        "e ",
+        "line 5: byte not allowed",
+    ),
+    (
+        InputFault::Lex {
+            text: 2,
+            fault: LexFault::Byte(5),
+        },
+        " ",
+        "line 5: byte not allowed",
+    ),
+    (
+        InputFault::Parse {
+            text: 1,
+            fault: ParseFault::Expected(5),
+        },
+        "e ",
+        "line 5: not in the grammar",
+    ),
+    (
+        InputFault::Device {
+            text: 1,
+            fault: DeviceFault::Rule { number: 4, item: 2 },
+        },
+        "e: ",
+        "rule V4 item 2",
+    ),
+    (
+        InputFault::Device {
+            text: 1,
+            fault: DeviceFault::Text {
+                attribute: 7,
+                entry: 3,
+            },
+        },
+        "e: ",
+        "INSTRUCTION_OPCODE entry 3",
+    ),
+    (
+        InputFault::Board(BoardFault::EntityTwice(1)),
+        "e: ",
+        "entity given twice",
+    ),
 ];
 
 // The line for missing rows ends with the number of rows that the log must have, which the fault does not hold.
@@ -447,12 +524,16 @@ fn is_joined(alloc: Global, bytes: &[u8], pieces: &[&str]) -> Result<bool, Alloc
     Ok(bytes == joined.as_bytes())
 }
 
-// Checks a table of faults of texts.
-fn inputs_hold(alloc: Global, rows: &[(InputFault, &str, &str)]) -> Result<(), Missed> {
+// Checks a table of faults of texts that have these names.
+fn inputs_hold(
+    alloc: Global,
+    names: Names<'static, 'static>,
+    rows: &[(InputFault, &str, &str)],
+) -> Result<(), Missed> {
     for (row, (fault, start, text)) in rows.iter().enumerate() {
         expect(row, fault.to_string(alloc)?.as_str() == *text)?;
         let mut notes = MemSink::with_room(alloc, 100)?;
-        put_input_fault(NAMES, fault, &mut notes)?;
+        put_input_fault(names, fault, &mut notes)?;
         expect(row, is_joined(alloc, notes.bytes(), &[start, text, "\n"])?)?;
     }
     Ok(())
@@ -460,17 +541,22 @@ fn inputs_hold(alloc: Global, rows: &[(InputFault, &str, &str)]) -> Result<(), M
 
 #[test]
 fn faults_of_files(rt: HostRuntime) -> Result<(), Missed> {
-    inputs_hold(rt.alloc(), &FILES)
+    inputs_hold(rt.alloc(), NAMES, &FILES)
 }
 
 #[test]
 fn faults_of_boards(rt: HostRuntime) -> Result<(), Missed> {
-    inputs_hold(rt.alloc(), &BOARDS)
+    inputs_hold(rt.alloc(), NAMES, &BOARDS)
 }
 
 #[test]
 fn faults_of_devices(rt: HostRuntime) -> Result<(), Missed> {
-    inputs_hold(rt.alloc(), &DEVICES)
+    inputs_hold(rt.alloc(), NAMES, &DEVICES)
+}
+
+#[test]
+fn faults_of_the_second_of_two_texts(rt: HostRuntime) -> Result<(), Missed> {
+    inputs_hold(rt.alloc(), TWO_TEXTS, &SECOND_TEXTS)
 }
 
 #[test]
