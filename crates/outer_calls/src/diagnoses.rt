@@ -8,9 +8,10 @@ ghost use Rattle.scan_planner.specs.Plans.{IsPlanOf};
 ghost use Rattle.diagnoser.specs.Diagnosis.{AreExplaining, IsNamed};
 ghost use Rattle.response_log.specs.LogRows.{HasSize};
 ghost use Rattle.batch_diag.specs.Batch.{IsOfLines, batch_of, batch_told};
+ghost use Rattle.batch_diag.specs.Laws.{OneBatchText};
 ghost use Rattle.batch_diag.specs.Verdicts.{AreLogs, AreVerdicts};
 
-use batch_diag::{BatchFault, Block, Verdict};
+use batch_diag::{BatchFault, Block, Verdict, law};
 use board_defs::{Board, Single};
 use bt_base::Gate;
 use response_log::Log;
@@ -70,4 +71,11 @@ pub fn diagnose_all<R: Threads + Sync, G: Gate>(
     ensures named { IfOk result (λ verdicts. All (λ verdict. All (IsNamed board.now) verdict.faults) verdicts.items) }
 {
     batch_diag::diagnose_all(rt, alloc, board, plan, blocks, workers, gate)
+}
+
+/// A batch has at most one text of its diagnoses.
+pub fn one_batch_text()
+    ensures { OneBatchText }
+{
+    law::one_batch_text();
 }

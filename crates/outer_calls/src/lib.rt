@@ -7,3 +7,7 @@ pub mod diagnoses;
 pub mod explaining;
 pub mod net_questions;
 pub mod plans;
+pub mod rows;
+pub mod sinks;
+pub mod stores;
+pub mod taps;
