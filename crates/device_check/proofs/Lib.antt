@@ -1,6 +1,7 @@
 mod TextLemmas
 mod OrderLemmas
 mod StringLemmas
+mod NumberedLemmas
 mod FoundLemmas
 mod AnswerLemmas
 mod OneAnswer
