@@ -1,17 +1,19 @@
 -- The lines on standard error.
-use Rattle.std.specs.Prelude.{ℕ, List, [], ◌∷◌, codes, decimal, slice_get, unwrap_or, ◌==◌, if◌then◌else◌}
+use Rattle.std.specs.Prelude.{ℕ, List, [], ◌∷◌, codes, decimal, slice_get, unwrap_or}
 use Rattle.line_printer.specs.Prints.{whole}
 use Rattle.board_defs.specs.declared.spot.Spot.{Spot}
 use Rattle.board_files.specs.declared.fault.LineFault.{LineFault}
 use Rattle.board_files.specs.declared.fault.LineFault.TheVariants as line
 use Rattle.board_lines.specs.declared.fault.BoardFault.{BoardFault}
 use Rattle.board_lines.specs.declared.fault.BoardFault.TheVariants as board
+use Rattle.board_lines.specs.BoardLimits.{limit_name}
 use Rattle.bsdl_lexer.specs.declared.token.LexFault.{LexFault}
 use Rattle.bsdl_lexer.specs.declared.token.LexFault.TheVariants as lex
 use Rattle.bsdl_parser.specs.declared.fault.ParseFault.{ParseFault}
 use Rattle.bsdl_parser.specs.declared.fault.ParseFault.TheVariants as parse
 use Rattle.device_check.specs.declared.fault.DeviceFault.{DeviceFault}
 use Rattle.device_check.specs.declared.fault.DeviceFault.TheVariants as device
+use Rattle.device_check.specs.Sources.{string_name}
 use Rattle.series_parts.specs.declared.fault.LinkFault.{LinkFault}
 use Rattle.series_parts.specs.declared.fault.LinkFault.TheVariants as link
 use Rattle.btest_core.specs.declared.fault.InputFault.{InputFault}
@@ -70,10 +72,9 @@ pub record Names : Type 0 where
 abbrev pub text_name : List Text → ℕ → Text
 text_name names n = unwrap_or (slice_get names n) []
 
+-- the line for the limit with this number
 abbrev pub limit_line : ℕ → Text
-limit_line which =
-    if which == 1 then codes "limit: chain parts\n" else (if which == 2 then codes "limit: boundary bits\n"
-    else (if which == 3 then codes "limit: nets\n" else codes "limit: pins\n"))
+limit_line which = whole (codes "limit: " ∷ limit_name which ∷ codes "\n" ∷ [])
 
 -- the line for a board rule that fails
 abbrev pub board_fault_line : Names → BoardFault → Text
@@ -105,20 +106,13 @@ parse_fault_line name (parse.Expected n) = at_line name n (codes ": not in the g
 parse_fault_line name (parse.Package n) = at_line name n (codes ": package text\n")
 parse_fault_line name (parse.Memory e) = memory_line
 
--- the name of the attribute with this number, whose string has a grammar of its own
-abbrev pub attribute_name : ℕ → Text
-attribute_name n =
-    if n == 7 then codes "INSTRUCTION_OPCODE" else (if n == 8 then codes "INSTRUCTION_CAPTURE"
-    else (if n == 10 then codes "BOUNDARY_REGISTER" else (if n == 12 then codes "IDCODE_REGISTER"
-    else (if n == 13 then codes "COMPLIANCE_PATTERNS" else codes "PIN_MAP_STRING"))))
-
 -- the line for a device rule that fails, with the first item that breaks the rule
 abbrev pub rule_line : Text → ℕ → ℕ → Text
 rule_line name number item = whole (name ∷ codes ": rule V" ∷ decimal number ∷ codes " item " ∷ decimal item ∷ codes "\n" ∷ [])
 
 -- the line for a string of a device, with the entry at which the string leaves its grammar
 abbrev pub string_line : Text → ℕ → ℕ → Text
-string_line name attribute entry = whole (name ∷ codes ": " ∷ attribute_name attribute ∷ codes " entry " ∷ decimal entry ∷ codes "\n" ∷ [])
+string_line name attribute entry = whole (name ∷ codes ": " ∷ string_name attribute ∷ codes " entry " ∷ decimal entry ∷ codes "\n" ∷ [])
 
 -- the line for the first rule or string of a device that fails
 abbrev pub device_fault_line : Text → DeviceFault → Text

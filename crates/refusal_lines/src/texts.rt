@@ -1,7 +1,7 @@
 // Writes the lines for the first fault of a chain file, a net file and BSDL texts.
 ghost use Rattle.std.specs.Prelude.{◌≡◌};
 ghost use Rattle.bt_base.specs.Puts.{Puts};
-ghost use Rattle.refusal_lines.specs.Refusals.{attribute_name, board_fault_line, device_fault_line, input_fault_line, lex_fault_line, limit_line, line_fault_line, link_fault_line, parse_fault_line, rule_line, string_line};
+ghost use Rattle.refusal_lines.specs.Refusals.{board_fault_line, device_fault_line, input_fault_line, lex_fault_line, limit_line, line_fault_line, link_fault_line, parse_fault_line, rule_line, string_line};
 ghost use Rattle.refusal_lines.specs.NamesView.{names_view};
 
 use crate::ends::put_memory;
@@ -9,11 +9,12 @@ use crate::names::{Names, text_name};
 use crate::pieces::{put_about, put_all, put_at_line, put_at_spot};
 use board_build::BoardFault;
 use board_files::LineFault;
+use board_lines::limit_name;
 use bsdl_lexer::LexFault;
 use bsdl_parser::ParseFault;
 use bt_base::{PutFault, Sink};
 use btest_core::InputFault;
-use device_check::DeviceFault;
+use device_check::{DeviceFault, string_name};
 use itoa::Buffer;
 use series_parts::LinkFault;
 
@@ -33,12 +34,11 @@ fn put_line_fault<N: Sink>(name: &str, fault: &LineFault, notes: &mut N) -> Resu
 fn put_limit<N: Sink>(which: u32, notes: &mut N) -> Result<(), PutFault>
     ensures { Puts (N.shown notes.old) (N.shown notes.new) (limit_line which) result }
 {
-    match which {
-        1 => notes.put(b"limit: chain parts\n"),
-        2 => notes.put(b"limit: boundary bits\n"),
-        3 => notes.put(b"limit: nets\n"),
-        _ => notes.put(b"limit: pins\n"),
-    }
+    put_all(
+        b"limit: ",
+        &[limit_name(which).as_bytes(), b"\n".as_slice()],
+        notes,
+    )
 }
 
 // Writes the line for a board rule that fails.
@@ -124,20 +124,6 @@ fn put_rule<N: Sink>(name: &str, rule: u32, item: u32, notes: &mut N) -> Result<
     )
 }
 
-// Returns the name of this attribute, which has a string with a grammar of its own.
-fn attribute_name(attribute: u32) -> &'static [u8]
-    ensures { result.now ≡ attribute_name attribute }
-{
-    match attribute {
-        7 => b"INSTRUCTION_OPCODE",
-        8 => b"INSTRUCTION_CAPTURE",
-        10 => b"BOUNDARY_REGISTER",
-        12 => b"IDCODE_REGISTER",
-        13 => b"COMPLIANCE_PATTERNS",
-        _ => b"PIN_MAP_STRING",
-    }
-}
-
 // Writes the line for a string that leaves its grammar.
 fn put_string_fault<N: Sink>(
     name: &str,
@@ -153,7 +139,7 @@ fn put_string_fault<N: Sink>(
         name.as_bytes(),
         &[
             b": ".as_slice(),
-            attribute_name(attribute),
+            string_name(attribute).as_bytes(),
             b" entry ".as_slice(),
             entry,
             b"\n".as_slice(),
