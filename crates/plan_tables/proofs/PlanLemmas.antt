@@ -34,7 +34,7 @@ use Rattle.plan_tables.specs.declared.tables.PlanTables.{PlanTables}
 use Rattle.plan_tables.specs.inner.Laid.{laid, quiet_bits}
 use Rattle.plan_tables.specs.inner.Codes.{AreCodes, seen_in}
 use Rattle.plan_tables.specs.inner.Steady.{ArePassTables}
-use Rattle.plan_tables.specs.Plans.{controls_in, controls_some, ArePlannable, code_or_zero, IsPlanOf}
+use Rattle.plan_tables.specs.Plans.{controls_in, controls_some, ArePlannable, code_or_zero, IsPlanOf, most_rows}
 use Rattle.plan_tables.proofs.LaidLemmas.{laid_at, laid_same, tdi_laid}
 use Rattle.plan_tables.proofs.HeldLemmas.{quiet_steady, control_below}
 use Rattle.plan_tables.proofs.TableLemmas.{reader_is, is_reader}
@@ -130,11 +130,11 @@ code_width_is n width enough least = by_order (cases_lt width (code_width n)) (c
     by_order (inr le) (inl less) = absurd (omega (arith, least (code_width n) less, (width_is n).enough))
     by_order (inr le) (inr ge) = omega (arith, le, ge)
 
-pub width_most : (n width : ℕ) → n ≤ most_nets → ((less : ℕ) → less < width → 2 ^ less < n + 2) → width ≤ 14
-width_most n width few least = by_order (cases_lt 14 width)
+pub width_most : (n width : ℕ) → n ≤ most_nets → ((less : ℕ) → less < width → 2 ^ less < n + 2) → width ≤ most_rows
+width_most n width few least = by_order (cases_lt most_rows width)
   where
-    by_order : (14 < width) ⊎ (width ≤ 14) → width ≤ 14
-    by_order (inl more) = let h : 16384 < n + 2 = least 14 more in absurd (omega (arith, h, few))
+    by_order : (most_rows < width) ⊎ (width ≤ most_rows) → width ≤ most_rows
+    by_order (inl more) = let h : most_nets + 2 < n + 2 = least most_rows more in absurd (omega (arith, h, few))
     by_order (inr most) = most
 
 -- a net has at most as many pins as a board may have

@@ -13,6 +13,10 @@ use Rattle.plan_tables.specs.declared.tables.PlanTables.{PlanTables}
 use Rattle.plan_tables.specs.Tables.{ArePlanTables}
 use Rattle.net_pins.specs.Tables.{AreNetTables}
 
+-- The largest number of rows of a pass, which is the largest number of bits of a code. `most_nets` nets need 14 bits, since `most_nets + 2` is 2^14.
+abbrev pub most_rows : ℕ
+most_rows = 14
+
 -- the part of control `c` has a device, and the control controls a driver of this device
 abbrev pub controls_in : RawBoard → Ctl → Option RawDevice → Bool
 controls_in board c None = false

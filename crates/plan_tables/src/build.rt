@@ -6,7 +6,7 @@ ghost use Rattle.plan_tables.specs.inner.Building.{table_of};
 ghost use Rattle.plan_tables.specs.inner.Codes.{AreCodes, seen_in};
 ghost use Rattle.plan_tables.specs.inner.Laid.{laid, quiet_bits};
 ghost use Rattle.plan_tables.specs.inner.Rows.{AreBoardRows};
-ghost use Rattle.plan_tables.specs.Plans.{ArePlannable, IsPlanOf};
+ghost use Rattle.plan_tables.specs.Plans.{ArePlannable, IsPlanOf, most_rows};
 ghost use Rattle.plan_tables.specs.inner.Steady.{ArePassTables, moving, steady_cells};
 
 use crate::codes::{NetCodes, net_codes};
@@ -163,7 +163,7 @@ pub fn tables_of(
     requires plannable { ArePlannable board.now passes }
     ensures plan { IfOk result (λ tables. IsPlanOf board.now tables) }
     ensures passes { IfOk result (λ tables. tables.passes ≡ passes) }
-    ensures width { IfOk result (λ tables. tables.width ≤ 14) }
+    ensures width { IfOk result (λ tables. tables.width ≤ most_rows) }
 {
     let _ = board.raw();
     let parts = plan_parts(alloc, board, &pins, passes.as_slice())?;

@@ -1,7 +1,7 @@
 // A board with a plan of it, and a pass of the plan.
 ghost use Rattle.std.specs.Prelude.{◌≡◌, ◌<◌, ◌≤◌, ◌^◌, length};
 ghost use Rattle.board_defs.specs.BoardRules.{IsBoard};
-ghost use Rattle.plan_tables.specs.Plans.{IsPlanOf};
+ghost use Rattle.plan_tables.specs.Plans.{IsPlanOf, most_rows};
 ghost use Rattle.scan_planner.specs.PassRows.{AreCommonRows};
 ghost use Rattle.scan_planner.specs.Planned.{planned_board, planned_pass};
 ghost use Rattle.scan_planner.specs.Plans.{scan_count};
@@ -118,7 +118,7 @@ impl<'a> BoardPlan<'a> {
         ensures rules { IsBoard self.now.board }
         ensures plan { IsPlanOf self.now.board self.now.plan }
         ensures counted { length self.now.plan.passes < 2 ^ 32 }
-        ensures few { self.now.plan.width ≤ 14 }
+        ensures few { self.now.plan.width ≤ most_rows }
     {
         let _rules = self.board.raw();
         let _counted = self.plan.pass_count();
@@ -162,7 +162,7 @@ impl<'a> PassOfPlan<'a> {
         ensures rules { IsBoard self.now.test.board }
         ensures plan { IsPlanOf self.now.test.board self.now.test.plan }
         ensures within { self.now.number < length self.now.test.plan.passes }
-        ensures few { self.now.test.plan.width ≤ 14 }
+        ensures few { self.now.test.plan.width ≤ most_rows }
     {
         self.test.laws();
     }

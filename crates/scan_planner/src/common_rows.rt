@@ -1,4 +1,5 @@
 // The rows that all passes of a plan share. They are made once.
+ghost use Rattle.plan_tables.specs.Plans.{most_rows};
 ghost use Rattle.std.specs.Prelude.{◌≡◌, ◌<◌, ◌≤◌, Some, length, slice_get, IfOk};
 ghost use Rattle.scan_planner.specs.PassRows.{AreCommonRows, AreFirstRows};
 
@@ -21,7 +22,7 @@ pub struct CommonRows {
 impl CommonRows {
     /// Creates the rows that all passes of a plan share.
     pub fn of(alloc: Global, tables: &PlanTables) -> Result<CommonRows, AllocError>
-        requires { tables.now.width ≤ 14 }
+        requires { tables.now.width ≤ most_rows }
         ensures { IfOk result (AreCommonRows tables.now) }
     {
         let stacked = StackedRows::common(alloc, tables)?;
@@ -47,7 +48,7 @@ fn row_at(rows: &[Row], j: usize) -> &Row
 
 // Returns the first `count` rows of a stack as separate rows.
 fn first_rows(alloc: Global, stack: &RowStack, count: u32) -> Result<Items<Row>, AllocError>
-    requires { count ≤ 14 }
+    requires { count ≤ most_rows }
     ensures count { IfOk result (λ rows. length rows ≡ count) }
     ensures rows { IfOk result (AreFirstRows stack.now) }
 {

@@ -25,6 +25,7 @@ pub struct Plan {
 }
 
 impl Model for Plan {
+    ghost use Rattle.plan_tables.specs.Plans.{most_rows};
     ghost use Rattle.std.specs.Prelude.{◌<◌, ◌≤◌, ◌^◌, length};
     ghost use Rattle.plan_tables.specs.declared.tables.PlanTables.{PlanTables};
     ghost use Rattle.scan_planner.specs.PassRows.{AreCommonRows};
@@ -33,7 +34,7 @@ impl Model for Plan {
 
     ghost view = { λ a. a.tables };
 
-    ghost invariant = { λ a. (length a.tables.passes < 2 ^ 32) × (a.tables.width ≤ 14) × AreCommonRows a.tables a.common };
+    ghost invariant = { λ a. (length a.tables.passes < 2 ^ 32) × (a.tables.width ≤ most_rows) × AreCommonRows a.tables a.common };
 }
 
 impl Plan {

@@ -5,7 +5,7 @@ ghost use Rattle.board_defs.specs.Settings.{holds};
 ghost use Rattle.net_pins.specs.Enabled.{enabled_on, readers_on};
 ghost use Rattle.tap_defs.specs.board.BoardScans.{first_row_scan, row_bits};
 ghost use Rattle.tap_defs.specs.chain.Scan.{joined, tdi_bits};
-ghost use Rattle.plan_tables.specs.Plans.{IsPlanOf};
+ghost use Rattle.plan_tables.specs.Plans.{IsPlanOf, most_rows};
 
 use crate::pass_cells::pass_at;
 use crate::plan::Plan;
@@ -50,7 +50,7 @@ impl Plan {
     /// Returns the number of rows of each pass, which is the number of bits of the codes.
     pub fn width(&self) -> u32
         ensures width { result ≡ self.now.width }
-        ensures few { result ≤ 14 }
+        ensures few { result ≤ most_rows }
     {
         self.tables.width
     }
