@@ -1,4 +1,5 @@
--- Lemmas about nets that a list of nets closes: each of their tested drivers has a control with a driver on a net of the list.
+-- Lemmas about the nets that a list of nets closes. A list closes a covered net if each tested driver of the net has a control that also
+-- has a driver on some net in the list.
 use Rattle.std.proofs.Common.{◌≡◌, inl, inr, ℕ, ◌+◌, ◌<◌, Bool, true, false, ◌&&◌, ◌||◌, List, [], ◌∷◌, ◌++◌, Contains, length, get_or, take, Option, Some, None, refl, sym, ◌∙◌, ap, subst}
 use Rattle.std.specs.Prelude.{slice_get, filter}
 use Rattle.std.specs.List.{list_any, list_all}
@@ -38,7 +39,7 @@ use Rattle.net_classes.proofs.ControlSetLemmas.{same_set}
 use Rattle.net_classes.proofs.Paired.{has_cells}
 use Rattle.net_classes.proofs.SharedLemmas.{driven_has}
 
--- the facts about the pins of a net say whether a control drives the net
+-- control `c` has a driver on the net if and only if, by the facts about the net's pins, `c` enables the driver of some pin
 pub pins_drive : (board : RawBoard) (c : Ctl) (net : Option Net) → list_any (λ (pin : PinFacts). is_by c pin.drive) (pins_there board net) ≡ drives_there board c net
 pins_drive board c None = refl
 pins_drive board c (Some net) = list_any-map (pin_facts_of board net) (λ (pin : PinFacts). is_by c pin.drive) net.pins
@@ -68,7 +69,8 @@ pub cells_there : (board : RawBoard) (net : Option Net) (d : Drive) → IsBoard 
 cells_there board None d rules h = absurd h
 cells_there board (Some net) d rules h = has_cells board net d rules h
 
--- if a set has the controls with a driver on these nets, the nets that are found from the set are the nets that these nets close
+-- if `set` is the set of the controls with a driver on one of `nets`, and `closed` has the nets that `closed_in` finds from `set`, then
+-- `closed` has exactly the nets that `nets` closes
 pub closed_are : (known : KnownBoard) (set : ControlSet) (nets closed : List ℕ) → IsKnown known → IsSet known.board (drives_some known.board nets) set → closed ≡ closed_in known set set.members.items → AreClosed known.board nets closed
 closed_are known set nets closed is in_set e n = (there, back)
   where
@@ -137,7 +139,7 @@ closed_are known set nets closed is in_set e n = (there, back)
     there : is_closed_by board nets n ≡ true → Contains closed n
     there h = has_contains closed n (by_net (slice_get board.nets n) refl h)
 
--- drivers cannot all have a control that passes if no control passes
+-- if no control satisfies the predicate, `are_by_some` is false for every list of drivers
 nobody : (ds : List Drive) → are_by_some (λ c. false) ds ≡ true → ⊥
 nobody [] h = cc h
 nobody (AlwaysOn ∷ ds) h = cc h

@@ -1,4 +1,4 @@
--- Lemmas about the row of a control. It is the row of the covered nets, without the closed nets on which the control has no tested driver.
+-- Lemmas about the row of a control. It has the covered nets except the closed nets on which the control has no tested driver.
 use Rattle.std.proofs.Common.{◌≡◌, inl, inr, ℕ, ◌+◌, ◌/◌, ◌<◌, ◌==◌, Bool, true, false, not, ◌&&◌, ◌||◌, List, [], ◌∷◌, Contains, Decides, length, slice_index_or, nat_lt, Option, Some, None, refl, sym, ◌∙◌, ap, subst, arith, All}
 use Rattle.std.specs.Prelude.{slice_get, filter}
 use Rattle.std.specs.List.{list_any, list_all}
@@ -27,7 +27,7 @@ use Rattle.net_classes.proofs.ContendedLemmas.{has_shares, share_has}
 use Rattle.net_classes.proofs.PairRowLemmas.{covered_bit}
 use Rattle.net_classes.proofs.WordLemmas.{same_row}
 
--- two different controls share a net if and only if the second has a driver on one of the nets that the first shares
+-- two different controls `c` and `d` share a net if and only if `d` has a driver on one of the nets that `c` shares
 shares : (board : RawBoard) (c d : Ctl) → same_ctl c d ≡ false → drives_some board (shared_nets board c) d ≡ share_net board c d
 shares board c d differ = same_truth (drives_some board (shared_nets board c) d) (share_net board c d) there back
   where
@@ -47,7 +47,7 @@ shares board c d differ = same_truth (drives_some board (shared_nets board c) d)
         let s : (net : Net) × (slice_get board.nets r.0 ≡ Some net) × (is_contended board d net ≡ true) = has_shares board d r.0 r.2 in
         has_any drives (shared_nets board c) r.0 r.1 (ap (drives_there board d) s.1 ∙ and_left (drives_net board d s.0) _ s.2)
 
--- control `c` enables the driver, or does not share a net with the driver's control
+-- control `c` enables the driver, or the driver has no control with a driver on a net that `c` shares
 abbrev may_fit : RawBoard → Ctl → Drive → Bool
 may_fit board c d = is_by c (Some d) || not (is_by_one (drives_some board (shared_nets board c)) d)
 
@@ -70,7 +70,7 @@ any_on : {X : Type 0} (p q : X → Bool) (xs : List X) → ((x : X) → Has xs x
 any_on p q [] h = refl
 any_on p q (x ∷ xs) h = ap (λ t. t || list_any p xs) (h x (inl refl)) ∙ ap (λ t. q x || t) (any_on p q xs (λ y k. h y (inr k)))
 
--- some driver is the control's own or does not pass `one`, unless all pass `one` and none is the control's own
+-- some driver satisfies `own` or fails `one`, if and only if it is not the case that all drivers satisfy `one` and none satisfies `own`
 each_kept : (own one : Drive → Bool) (ds : List Drive) → list_any (λ d. own d || not (one d)) ds ≡ not (list_all one ds && not (list_any own ds))
 each_kept own one [] = refl
 each_kept own one (d ∷ ds) = by_driver (own d) (one d) (each_kept own one ds)
@@ -94,7 +94,7 @@ all_kept own p (d ∷ ds) =
     let some : nat_lt 0 (length (d ∷ ds)) ≡ true = grind arith in
     each_kept own (is_by_one p) (d ∷ ds) ∙ sym (ap (λ t. t && not (are_by_some p (d ∷ ds) && not (list_any own (d ∷ ds)))) some)
 
--- a filtered list has a number if and only if the list has the number and the test passes it
+-- a filtered list has the number `n` if and only if the list has `n` and the predicate `q` is true of `n`
 stands_filter : (q : ℕ → Bool) (xs : List ℕ) (n : ℕ) → stands_in (filter q xs) n ≡ (stands_in xs n && q n)
 stands_filter q xs n = same_truth (stands_in (filter q xs) n) (stands_in xs n && q n) there back
   where
@@ -143,7 +143,7 @@ row_made board c closed failing row safe are e bits = same_row (λ n. fits_at bo
 pub none_fail : (board : RawBoard) (failing row : List ℕ) → failing ≡ [] → AreRowBits (fits_at board AlwaysOn) row → AreRowBits (λ n. fits_at board AlwaysOn n && not (stands_in failing n)) row
 none_fail board failing row e bits = same_row (fits_at board AlwaysOn) (λ n. fits_at board AlwaysOn n && not (stands_in failing n)) (λ n. sym (and-true (fits_at board AlwaysOn n)) ∙ sym (ap (λ v. fits_at board AlwaysOn n && not (stands_in v n)) e)) row bits
 
--- a closed net is a net of the board, so a row has a bit for it
+-- if a list of nets closes net number `n`, then `n` is less than the number of nets
 closed_within : (board : RawBoard) (nets : List ℕ) (n : ℕ) → is_closed_by board nets n ≡ true → n < length board.nets
 closed_within board nets n h = by_net (slice_get board.nets n) refl h
   where

@@ -22,7 +22,7 @@ use Rattle.net_facts.specs.Kept.{is_by_other, is_contended, contends_there, shar
 use Rattle.net_classes.proofs.SharedLemmas.{kept_ascend, item_has}
 use Rattle.net_facts.proofs.Contended.{differ_back}
 
--- if the net at place `n` has drivers of control `c` and of another control, the list of the nets that `c` shares has `n`
+-- if net `n` has a driver of control `c` and a driver of another control, `n` is in the list of the nets that `c` shares
 shares_has : (board : RawBoard) (c : Ctl) (n : ℕ) (net : Net) → slice_get board.nets n ≡ Some net → is_contended board c net ≡ true → Has (shared_nets board c) n
 shares_has board c n net e d =
     let less : n < length board.nets = slice_get_within board.nets n net e in

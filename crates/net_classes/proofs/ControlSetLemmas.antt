@@ -15,7 +15,7 @@ use Rattle.net_facts.specs.Cells.{filled, put, item_of, table, at_control, holds
 use Rattle.net_classes.specs.inner.ControlSets.{IsSet, has_control, put_all}
 use Rattle.net_facts.proofs.Notes.{at_same, at_other}
 
--- if a table has an item for a cell, a filled table of the same shape has the new item for this cell
+-- if a table has an item for cell `c`, the table filled with `item` has `item` for `c`
 pub filled_item : {X Y : Type 0} (item : Y) (rows : List (List X)) (c : Ctl) → is_some (item_of rows c) ≡ true → item_of (filled item rows) c ≡ Some item
 filled_item {X} {Y} item rows c h = ap (option_and_then (λ row. slice_get row c.cell)) (slice_get-map (map (λ before. item)) rows c.part) ∙ by_row (slice_get rows c.part) h
   where
@@ -33,14 +33,14 @@ empty_set board set blank = record { marks_are = blank; members_are = λ c is h.
 pub same_set : (board : RawBoard) (p q : Ctl → Bool) (set : ControlSet) → ((c : Ctl) → p c ≡ q c) → IsSet board p set → IsSet board q set
 same_set board p q set same is = record { marks_are = λ c cell. is.marks_are c cell ∙ ap Some (same c); members_are = λ c cell h. is.members_are c cell (same c ∙ h) }
 
--- putting an item in a table at `c` gives `c` this item, and leaves the item of any other control unchanged
+-- if `item` is put in a table at control `c`, the table has `item` for `c` and the old item for each other control
 pub put_item : {X : Type 0} (c d : Ctl) (item before : X) (rows : List (List X)) → item_of rows d ≡ Some before → (same_ctl c d ≡ true → item_of (at_control c (put item) rows) d ≡ Some item) × (same_ctl c d ≡ false → item_of (at_control c (put item) rows) d ≡ Some before)
 put_item c d item before rows h = (
   λ same. ap (λ (x : Ctl). item_of (at_control x (put item) rows) d) (same_equal c d same) ∙ at_same d (put item) rows ∙ ap (option_map (put item)) h,
   λ differ. at_other c d (put item) rows differ ∙ h,
 )
 
--- if the set already has `c`, it is also the set of the controls that pass and of `c`
+-- if the set of the controls that satisfy `passes` has `c`, it is also the set of the controls that satisfy `passes` or equal `c`
 pub had : (board : RawBoard) (passes : Ctl → Bool) (set : ControlSet) (c : Ctl) → IsSet board passes set → has_control set c ≡ true → IsSet board (λ d. passes d || same_ctl c d) set
 had board passes set c is h = record {
   marks_are = λ d cell. is.marks_are d cell ∙ ap Some (by_same d cell (same_ctl c d) refl);
@@ -54,7 +54,7 @@ had board passes set c is h = record {
         p ∙ sym (ap (λ s. s || same_ctl c d) p)
     by_same d cell false e = sym (or-false (passes d)) ∙ ap (λ s. passes d || s) (sym e)
 
--- after `c` is marked and listed, the set has `c` and the controls that it had
+-- after `c` is marked and listed, the set has `c` and the controls that satisfy `passes`
 pub added : (board : RawBoard) (passes : Ctl → Bool) (set after : ControlSet) (c : Ctl) → IsSet board passes set → table after.marks.items ≡ at_control c (put true) (table set.marks.items) → after.members.items ≡ set.members.items ++ c ∷ [] → IsSet board (λ d. passes d || same_ctl c d) after
 added board passes set after c is e f = record {
   marks_are = λ d cell. ap (λ rows. item_of rows d) e ∙ by_same d cell (same_ctl c d) refl;
@@ -73,7 +73,7 @@ added board passes set after c is e f = record {
     by_member d cell false k true g p = has_contains (set.members.items ++ c ∷ []) d (has_right set.members.items (c ∷ []) d (inl (same_equal c d g)))
     by_member d cell false k false g p = cc p
 
--- after the marks of all listed controls are cleared, no control is marked
+-- if each marked control is listed, then after the marks of all listed controls are cleared, control `d` is not marked
 off : (members : List Ctl) (rows : List (List Bool)) (d : Ctl) (t : Bool) → item_of rows d ≡ Some t → (t ≡ true → Has members d) → item_of (put_all false rows members) d ≡ Some false
 off [] rows d true h listed = absurd (listed refl)
 off [] rows d false h listed = h

@@ -1,4 +1,4 @@
--- Lemmas about rows of bits that say which nets are paired with a net.
+-- Lemmas about rows of bits that say which nets are paired.
 use Rattle.std.proofs.Common.{◌≡◌, ◌≢◌, inl, ℕ, suc, ◌+◌, ◌<◌, ◌≤◌, ◌==◌, Bool, true, false, not, ◌&&◌, ◌||◌, List, [], ◌∷◌, length, get_or, nat_lt, take, Option, Some, None, refl, sym, ◌∙◌, ap, subst, arith}
 use Rattle.std.specs.Prelude.{slice_get}
 use Rattle.std.specs.List.{list_any}
@@ -20,7 +20,7 @@ use Rattle.net_classes.specs.Pairs.{drivers_at, drivers_there, fits_at, fit}
 use Rattle.net_classes.specs.NetRows.{AreRowBits, stands_in}
 use Rattle.net_classes.proofs.WordLemmas.{same_row}
 
--- if no number is taken out, the row stays unchanged
+-- if a row has the numbers that satisfy `passes`, it also has those that satisfy `passes` and are not in the empty list
 pub nothing_out : (passes : ℕ → Bool) (row less : List ℕ) → less ≡ row → AreRowBits passes row → AreRowBits (λ n. passes n && not (stands_in [] n)) less
 nothing_out passes row less e are = same_row passes (λ n. passes n && not (stands_in [] n)) (λ n. sym (and-true (passes n))) less (subst (AreRowBits passes) (sym e) are)
 
@@ -60,7 +60,7 @@ covered_bit board n = by_net (slice_get board.nets n)
     by_net None = refl
     by_net (Some net) = by_drivers net (tested_drivers board net) refl
 
--- no number is below 0, so no number passes
+-- `n` is not below 0, so it is false that `n` is below 0 and satisfies `passes`
 pub none_below : (passes : ℕ → Bool) (n : ℕ) → false ≡ (nat_lt n 0 && passes n)
 none_below passes n = let least : nat_lt n 0 ≡ false = grind arith in sym (ap (λ t. t && passes n) least)
 

@@ -1,4 +1,4 @@
--- Lemmas which say that the words of the rows of a net's tested drivers together say which nets are paired with the net.
+-- Lemmas about the words of the rows of a net's tested drivers. Together, the words say which nets are paired with the net.
 use Rattle.std.proofs.Common.{◌≡◌, ℕ, ◌+◌, ◌<◌, ◌≤◌, true, false, ◌||◌, List, [], ◌∷◌, ◌++◌, length, take, get_or, Option, None, Some, refl, sym, ◌∙◌, ap, subst}
 use Rattle.std.specs.Prelude.{slice_get}
 use Rattle.std.specs.List.{list_any}
@@ -33,7 +33,7 @@ tested_useful : (board : RawBoard) (n : ℕ) (net : Net) (c : Ctl) → slice_get
 tested_useful board n net c at has =
     sym (useful_is board c) ∙ any_at (λ (other : Net). list_any (λ d. is_by c (Some d)) (tested_drivers board other)) board.nets n net at (has_any (λ d. is_by c (Some d)) (tested_drivers board net) (By c) has (same_refl c))
 
--- the word of a tested driver says which nets have a tested driver that a safe setting enables together with it
+-- word `w` of the row of tested driver `d` has a 1 for each net on which a safe setting with `d` enables a tested driver
 pub driver_word : (board : RawBoard) (pairs : PairRows) (n w : ℕ) (d : Drive) → IsBoard board → ArePairRows board pairs → Has (drivers_at board n) d → AreBitsOf (fits_at board d) w (drive_word pairs d w)
 driver_word board pairs n w d rules are has = by_net (slice_get board.nets n) refl d has
   where

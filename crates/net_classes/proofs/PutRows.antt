@@ -1,4 +1,4 @@
--- Lemmas about the rows after the row of one more control is added.
+-- Lemmas about the rows of a board after the row of one more control is added.
 use Rattle.std.proofs.Common.{◌≡◌, ◌⊎◌, inl, inr, ℕ, ◌+◌, ◌<◌, ◌≤◌, Bool, true, false, List, [], ◌∷◌, ◌++◌, length, take, get_or, Option, Some, None, refl, sym, ◌∙◌, ap, subst, arith, length-append}
 use Rattle.std.specs.Prelude.{is_some, option_map, slice_index_or}
 use Rattle.std.specs.Option.{option_to_list}
@@ -22,7 +22,7 @@ use Rattle.net_classes.specs.Pairs.{fits_at}
 use Rattle.net_classes.specs.Kept.{number_in, or_none, row_in}
 use Rattle.net_facts.proofs.Notes.{at_same, at_other}
 
--- if rows are appended, the earlier rows do not change
+-- if rows are appended, row number `k` of the earlier rows stays the same
 row_stays : (before after : PairRows) (k : ℕ) (more : List (List ℕ)) → k < length before.rows.items → after.rows.items ≡ before.rows.items ++ more → row_in after k ≡ row_in before k
 row_stays before after k more less e = ap (λ v. slice_index_or v k []) e ∙ get_or_append_left before.rows.items more [] k less
 
@@ -83,7 +83,8 @@ adds_row board before after c number row has cell for_c e f g = record {
         let Q : ℕ → Type 0 = λ n. AreRowBits (fits_at board (By c)) (row_in after n) in
         record { there = subst P (sym at) (omega (arith, size)); bits = subst Q (sym at) (subst (AreRowBits (fits_at board (By c))) (sym row) is) }
 
--- if each of the first `i` useful controls has its row, and the row of control `c` is added, each of the first `i + 1` has its row
+-- If each of the first `i` useful controls has its row in `before`, and `after` adds the row of useful control number `i`, then each of the
+-- first `i + 1` useful controls has its row in `after`.
 pub rows_more : (board : RawBoard) (before after : PairRows) (useful : List Ctl) (i : ℕ) (c d : Ctl) → i < length useful → c ≡ get_or useful i c → AddsRow board before after c → ((d : Ctl) → Has (take i useful) d → IsRowOf board before d) → Has (take (i + 1) useful) d → IsRowOf board after d
 rows_more board before after useful i c d less at adds rows has =
     let P : List Ctl → Type 0 = λ v. Has v d in
@@ -98,7 +99,7 @@ rows_more board before after useful i c d less at adds rows has =
     by_place (inr (inl same)) = let P : Ctl → Type 0 = λ v. IsRowOf board after v in subst P (at ∙ same) adds.own
     by_place (inr (inr none)) = absurd none
 
--- after all useful controls are handled, each useful control is among the handled controls
+-- if `i` is at least the number of useful controls, the first `i` useful controls contain each useful control
 pub listed : (board : RawBoard) (useful : List Ctl) (i : ℕ) (c : Ctl) → useful ≡ useful_controls board → length useful ≤ i → holds (useful_controls board) c ≡ true → Has (take i useful) c
 listed board useful i c e most h =
     let r : (d : Ctl) × Has (useful_controls board) d × (same_ctl c d ≡ true) = any_has (same_ctl c) (useful_controls board) h in

@@ -1,4 +1,4 @@
--- Lemmas which say that the controls of tested drivers are among the useful controls.
+-- Lemmas which say that each control of a tested driver is useful.
 use Rattle.std.proofs.Common.{◌≡◌, ℕ, true, not, ◌&&◌, List, [], get_or, Option, Some, None, refl, sym, ◌∙◌, ap, subst}
 use Rattle.std.specs.Prelude.{slice_get, All, Contains}
 use Rattle.std.proofs.lemmas.Bool.{and_parts}
@@ -16,7 +16,7 @@ use Rattle.board_defs.specs.Laws.{PassesAre, DecidesTerms, HasTestedDriver}
 use Rattle.net_classes.specs.Pairs.{drivers_at, drivers_there}
 use Rattle.net_classes.specs.inner.Pairs.{IsUsefulDriver}
 
--- if control `c` enables a tested driver of net `n`, `c` is among the useful controls
+-- if a tested driver of net `n` has a control, this control is among the useful controls
 net_useful : (board : RawBoard) (n : ℕ) (net : Net) (drivers : List Drive) → PassesAre board → DecidesTerms board → slice_get board.nets n ≡ Some net → drivers ≡ tested_drivers board net → All (IsUsefulDriver board) drivers
 net_useful board n net drivers are decides e f k d less c by = (are.said.useful c).1 (useful (tested.0 here))
   where

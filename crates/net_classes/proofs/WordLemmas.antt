@@ -1,4 +1,4 @@
--- Lemmas about words of 64 bits that say which numbers pass a test.
+-- Lemmas about words of 64 bits that say which numbers satisfy a predicate.
 use Rattle.std.proofs.Common.{◌≡◌, ◌≢◌, ◌⊎◌, inl, inr, ℕ, zero, suc, ◌+◌, ◌*◌, ◌/◌, ◌%◌, ◌<◌, Bool, true, false, ◌||◌, List, length, set, replicate, refl, sym, ◌∙◌, ap, arith, cond, max}
 use Rattle.std.specs.Prelude.{slice_index}
 use Rattle.std.specs.Int.{bit_at}
@@ -9,14 +9,14 @@ use Rattle.std.proofs.lemmas.List.{get_or-set_other, get_or-set_same}
 use Rattle.net_classes.specs.NetRows.{AreRowBits}
 use Rattle.net_classes.specs.Pairs.{AreBitsOf}
 
--- if no number passes, the word is 0
+-- if no number satisfies the predicate, the word is 0
 pub no_word : (w : ℕ) → AreBitsOf (λ n. false) w 0
 no_word w i less = bit_at-zero i
 
 pub same_word : (p q : ℕ → Bool) → ((n : ℕ) → p n ≡ q n) → (w word : ℕ) → AreBitsOf p w word → AreBitsOf q w word
 same_word p q same w word are i less = are i less ∙ ap (λ t. cond t 1 0) (same (64 * w + i))
 
--- the union of two words has the numbers of both
+-- the bitwise OR of a word for `p` and a word for `q` is the word for the numbers that satisfy `p` or `q`
 pub either_word : (p q : ℕ → Bool) (w x y : ℕ) → AreBitsOf p w x → AreBitsOf q w y → AreBitsOf (λ n. p n || q n) w (bit_or x y)
 either_word p q w x y first second i less = bit_at_or x y i ∙ ap (λ k. max k (bit_at y i)) (first i less) ∙ ap (max (cond (p (64 * w + i)) 1 0)) (second i less) ∙ by_bits (p (64 * w + i)) (q (64 * w + i))
   where
@@ -37,7 +37,8 @@ no_words (suc count) (suc w) = no_words count w
 pub blank_bits : (count : ℕ) → AreRowBits (λ n. false) (replicate count 0)
 blank_bits count w i less = ap (λ word. bit_at word i) (no_words count w) ∙ bit_at-zero i
 
--- if one bit of a row is written, the row has the new bit for this number and the old bits for all others
+-- if the bit of number `n` is set to `after n`, and `after` equals `before` for every other number, the row has the numbers that satisfy
+-- `after`
 pub row_put : (before after : ℕ → Bool) (row : List ℕ) (n word : ℕ) → AreRowBits before row → n / 64 < length row → bit_at word (n % 64) ≡ cond (after n) 1 0 → ((i : ℕ) → i < 64 → i ≢ n % 64 → bit_at word i ≡ bit_at (slice_index row (n / 64)) i) → ((k : ℕ) → k ≢ n → after k ≡ before k) → AreRowBits after (set row (n / 64) word)
 row_put before after row n word are within here others same w i less = by_word (cases_eq w (n / 64))
   where

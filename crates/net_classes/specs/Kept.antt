@@ -1,4 +1,5 @@
--- The contents of a board's classes. Each item is the result of the test that decides the matter for all safe settings.
+-- The contents of a board's classes. A fact that depends on safe settings is the result of the function that decides it, such as
+-- `is_useful`.
 use Rattle.std.specs.Prelude.{◌≡◌, ℕ, true, List, [], map, Option, Some, None, slice_index_or}
 use Rattle.board_defs.specs.declared.board.Ctl.{Ctl}
 use Rattle.board_defs.specs.declared.board.RawBoard.{RawBoard}
@@ -17,15 +18,15 @@ abbrev pub or_none : Option ℕ → ℕ
 or_none None = 0
 or_none (Some n) = n
 
--- the number of the row of a control
+-- the number of the row of control `c`
 abbrev pub number_in : PairRows → Ctl → ℕ
 number_in pairs c = or_none (item_of (table pairs.numbers.items) c)
 
--- the words of the row with this number
+-- the words of row number `k`
 abbrev pub row_in : PairRows → ℕ → List ℕ
 row_in pairs k = slice_index_or pairs.rows.items k []
 
--- The first row has the covered nets. The row of a useful control has the nets that some safe setting with this control observes.
+-- Row 0 has a 1 for each covered net. The row of a useful control `c` has a 1 for each net that some safe setting with `c` observes.
 pub record ArePairRows (board : RawBoard) (pairs : PairRows) : Type 0 where
   pub covered : AreRowBits (fits_at board AlwaysOn) (row_in pairs 0)
   pub each : (c : Ctl) → IsCell board c → is_useful board c ≡ true → AreRowBits (fits_at board (By c)) (row_in pairs (number_in pairs c))

@@ -35,7 +35,7 @@ fn add_pins(set: &mut ControlSet, pins: &[PinFacts]) -> Result<(), AllocError>
     Ok(())
 }
 
-/// Makes `set` the set of the controls with a driver on one of the nets.
+/// Makes `set` the set of the controls with a driver on one of `nets`.
 fn gather(set: &mut ControlSet, known: &Known<'_>, nets: &[u32]) -> Result<(), AllocError>
     ensures { (passes : Ctl → Bool) → IsSet known.now.board passes set.old → OnOk result (IsSet known.now.board (drives_some known.now.board nets.now) set.new) }
 {
@@ -98,7 +98,7 @@ fn add_other_pins(
     Ok(())
 }
 
-/// Makes `others` the set of the controls that have a driver on one of the nets and are not in `set`. `set` must have the controls with a
+/// Makes `others` the set of the controls that have a driver on one of `nets` and are not in `set`. `set` must have the controls with a
 /// driver on net `core`.
 fn gather_others(
     others: &mut ControlSet,
@@ -156,7 +156,8 @@ fn add_closed_by(
     Ok(())
 }
 
-/// Returns the nets that `set` closes, followed by the nets with a driver of a control in `others` that the two sets close together.
+/// Returns `closed`, the nets that `set` closes, followed by the nets with a driver of a control in `others` on which each tested driver
+/// has a control in one of the two sets.
 fn closed_by_both(
     alloc: Global,
     closed: &[u32],
@@ -239,7 +240,7 @@ pub struct ClosedNets {
     pub(crate) by: NetNumbers,
     pub(crate) set: ControlSet,
     pub(crate) nets: NetNumbers,
-    /// A set that is filled with the controls of the other nets during a call. It is kept so that its memory is reused.
+    /// A set that each call fills with the controls of the other nets. It is kept so that the next call reuses its memory.
     pub(crate) others: ControlSet,
 }
 
@@ -256,8 +257,8 @@ impl ClosedNets {
         })
     }
 
-    /// Returns the nets that these nets close. If one of these nets is a bus with most of the controls, the nets that
-    /// the bus closes are kept for the next call.
+    /// Returns the nets that `nets` closes. If one of `nets` is a bus with most of the controls, the nets that the bus closes are kept for
+    /// the next call.
     pub fn closed_by(
         &mut self,
         alloc: Global,
@@ -298,7 +299,7 @@ impl ClosedNets {
         copy_of(alloc, self.nets.as_slice())
     }
 
-    /// Finds and keeps the nets that these nets close, unless they are kept already.
+    /// Finds and keeps the nets that `nets` closes, unless they are kept already.
     fn turn_to(&mut self, alloc: Global, known: &Known<'_>, nets: &[u32]) -> Result<(), AllocError>
         requires closed { AreClosedNets known.now.board self.old }
         ensures closed { OnOk result (AreClosedNets known.now.board self.new) }

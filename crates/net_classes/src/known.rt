@@ -88,7 +88,7 @@ impl<'a> Known<'a> {
         })
     }
 
-    /// Does nothing. Its contract has the facts about the board.
+    /// Does nothing. Its contract says that the board keeps the rules, and that the table has the class of each control.
     pub fn laws(&self)
         ensures { IsKnown self.now }
     {

@@ -46,7 +46,7 @@ impl NetRow {
         }
     }
 
-    /// Sets or clears the bit of a net.
+    /// Sets the bit of the net if `on` is true, and clears it if not.
     pub(crate) fn put(&mut self, net: u32, on: bool)
         requires { net / 64 < length self.old }
         ensures bits { (before after : ℕ → Bool) → AreRowBits before self.old → after net ≡ on → ((n : ℕ) → n ≢ net → after n ≡ before n) → AreRowBits after self.new }

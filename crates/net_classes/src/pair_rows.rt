@@ -21,10 +21,10 @@ use lists::Items;
 use net_facts::{NetNumbers, filled_table, item_at, push_if, put_at};
 use std::alloc::{AllocError, Global};
 
-/// For each useful control, the nets that some safe setting with this control observes.
+/// The row of the covered nets, and for each useful control the row of the nets that some safe setting with this control observes.
 #[derive(Drop)]
 pub struct PairRows {
-    /// The rows. The first row has all covered nets.
+    /// The rows. Row 0 is the row of the covered nets.
     pub(crate) rows: Vec<NetRow>,
     /// The number of the row of each control.
     pub(crate) numbers: Vec<Vec<usize>>,
@@ -79,7 +79,7 @@ fn owns(known: &Known<'_>, c: Ctl, net: u32) -> bool
     known.drivers(net).iter().any(|d| is_by(c, Some(*d)))
 }
 
-/// Returns the nets in `closed` without a tested driver of the control.
+/// Returns the nets in `closed` on which the control has no tested driver.
 fn failing_nets(
     alloc: Global,
     known: &Known<'_>,

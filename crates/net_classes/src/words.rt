@@ -1,8 +1,8 @@
-// Words of 64 bits that say which numbers pass a test: bit `n % 64` is for number `n`.
+// Words of 64 bits that say which numbers satisfy a predicate: bit `n % 64` is for number `n`.
 ghost use Rattle.std.specs.Prelude.{◌≡◌, ◌≢◌, ◌<◌, ◌==◌, ◌%◌, ℕ, if◌then◌else◌};
 ghost use Rattle.std.specs.Int.{bit_at};
 
-/// Returns the word with the bit of this number set or cleared.
+/// Returns `word` with the bit of `number` set if `on` is true, and cleared if not.
 pub fn put_bit(word: u64, number: u32, on: bool) -> u64
     ensures here { bit_at result (number % 64) ≡ (if on then 1 else 0) }
     ensures others { (i : ℕ) → i < 64 → i ≢ number % 64 → bit_at result i ≡ bit_at word i }
@@ -11,7 +11,7 @@ pub fn put_bit(word: u64, number: u32, on: bool) -> u64
     if on { word | bit } else { word & !bit }
 }
 
-/// Returns whether the bit of this number is set.
+/// Returns whether the bit of `number` is set.
 pub fn has_bit(word: u64, number: u32) -> bool
     ensures { result ≡ (bit_at word (number % 64) == 1) }
 {

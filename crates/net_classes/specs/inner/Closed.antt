@@ -17,33 +17,33 @@ use Rattle.net_classes.specs.inner.ControlSets.{IsSet, has_control}
 use Rattle.net_facts.specs.Kept.{drives_there}
 use Rattle.net_classes.specs.Pairs.{drivers_at}
 
--- the control has a driver on one of these nets
+-- control `c` has a driver on one of these nets
 abbrev pub drives_some : RawBoard → List ℕ → Ctl → Bool
 drives_some board nets c = list_any (λ n. drives_there board c (slice_get board.nets n)) nets
 
--- the driver has a control that passes
+-- the driver has a control, and `passes` is true of the control
 abbrev pub is_by_one : (Ctl → Bool) → Drive → Bool
 is_by_one passes AlwaysOn = false
 is_by_one passes OneSided = false
 is_by_one passes (By c) = passes c
 
--- there are drivers, and each has a control that passes
+-- there are drivers, and each has a control of which `passes` is true
 abbrev pub are_by_some : (Ctl → Bool) → List Drive → Bool
 are_by_some passes [] = false
 are_by_some passes (d ∷ ds) = list_all (is_by_one passes) (d ∷ ds)
 
--- the net is covered, and all its tested drivers have a control with a driver on one of these nets
+-- net `n` is covered, and each of its tested drivers has a control with a driver on one of these nets
 abbrev pub is_closed_by : RawBoard → List ℕ → ℕ → Bool
 is_closed_by board nets n = are_by_some (drives_some board nets) (drivers_at board n)
 
 abbrev pub AreClosed : RawBoard → List ℕ → List ℕ → Type 0
 AreClosed board nets closed = (n : ℕ) → Decides (is_closed_by board nets n) (Contains closed n)
 
--- `c` is the control of the net's first tested driver, and all tested drivers have a control in the set
+-- `c` is the control of the first tested driver of net `n`, and each tested driver of net `n` has a control in the set
 abbrev pub closes : RawBoard → ControlSet → Ctl → ℕ → Bool
 closes board set c n = is_by c (slice_get (drivers_at board n) 0) && list_all (is_by_one (has_control set)) (drivers_at board n)
 
--- the nets that a set closes, each found by the control of its first tested driver
+-- the nets whose first tested driver has a control in `controls`, and whose tested drivers all have a control in the set
 abbrev pub closed_in : KnownBoard → ControlSet → List Ctl → List ℕ
 closed_in known set controls = flat_map (λ c. filter (closes known.board set c) (driven_in known c)) controls
 
@@ -51,11 +51,11 @@ closed_in known set controls = flat_map (λ c. filter (closes known.board set c)
 abbrev pub has_either : ControlSet → ControlSet → Ctl → Bool
 has_either set others c = has_control set c || has_control others c
 
--- the net is covered, and all its tested drivers have a control in one of the two sets
+-- net `n` is covered, and each of its tested drivers has a control in one of the two sets
 abbrev pub closes_beside : RawBoard → ControlSet → ControlSet → ℕ → Bool
 closes_beside board set others n = nat_lt 0 (length (drivers_at board n)) && list_all (is_by_one (has_either set others)) (drivers_at board n)
 
--- the nets with a driver of this control that the two sets close together
+-- the covered nets with a driver of control `c` on which each tested driver has a control in one of the two sets
 abbrev pub closed_beside : KnownBoard → ControlSet → ControlSet → Ctl → List ℕ
 closed_beside known set others c = filter (closes_beside known.board set others) (driven_in known c)
 
@@ -66,12 +66,12 @@ pub record AreOthers (board : RawBoard) (set : ControlSet) (nets : List ℕ) (ot
   pub drive : (c : Ctl) → passes c ≡ true → drives_some board nets c ≡ true
   pub all : (c : Ctl) → IsCell board c → drives_some board nets c ≡ true → has_control set c ≡ false → passes c ≡ true
 
--- the set is the set of some controls
+-- there is a predicate `passes` such that the set is the set of the controls that satisfy it
 pub record IsSomeSet (board : RawBoard) (set : ControlSet) : Type 0 where
   pub passes : Ctl → Bool
   pub is_set : IsSet board passes set
 
--- the kept nets are the nets that `by` closes, and the kept set has the controls with a driver on a net in `by`
+-- `closed.nets` are the nets that `closed.by` closes, and `closed.set` has the controls with a driver on a net in `closed.by`
 pub record AreClosedNets (board : RawBoard) (closed : ClosedNets) : Type 0 where
   pub set_is : IsSet board (drives_some board closed.by) closed.set
   pub nets_are : AreClosed board closed.by closed.nets

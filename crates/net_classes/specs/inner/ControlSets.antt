@@ -10,11 +10,11 @@ use Rattle.net_facts.specs.Cells.{put, item_of, table, at_control, holds_there}
 abbrev pub has_control : ControlSet → Ctl → Bool
 has_control set c = holds_there (item_of (table set.marks.items) c)
 
--- the set has the cells of the board that pass
+-- the set is the set of the board's cells of which `passes` is true
 pub record IsSet (board : RawBoard) (passes : Ctl → Bool) (set : ControlSet) : Type 0 where
   pub marks_are : (c : Ctl) → IsCell board c → item_of (table set.marks.items) c ≡ Some (passes c)
   pub members_are : (c : Ctl) → IsCell board c → passes c ≡ true → Contains set.members.items c
 
--- sets or clears the marks of these controls
+-- the table of marks in which the mark of each of these controls is `mark`
 abbrev pub put_all : Bool → List (List Bool) → List Ctl → List (List Bool)
 put_all mark rows controls = fold (λ r c. at_control c (put mark) r) rows controls

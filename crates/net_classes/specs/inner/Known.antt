@@ -11,7 +11,7 @@ use Rattle.net_facts.specs.Cells.{item_of}
 use Rattle.net_facts.specs.Facts.{pin_facts_of}
 use Rattle.net_facts.specs.Kept.{control_class_of}
 
--- a board with a table that has an item for each cell of each part
+-- a board, and a table with a row of control classes for each part
 pub record KnownBoard : Type 0 where
   pub board : RawBoard
   pub controls : List (List ControlClass)
@@ -24,12 +24,12 @@ pub record IsKnown (known : KnownBoard) : Type 0 where
   pub rules : IsBoard known.board
   pub controls_are : (c : Ctl) → IsCell known.board c → item_of known.controls c ≡ Some (control_class_of known.board c)
 
--- the facts about the pins of the net, if there is one
+-- the facts about the pins of the net, or no facts if there is no net
 abbrev pub pins_there : RawBoard → Option Net → List PinFacts
 pins_there board None = []
 pins_there board (Some net) = map (pin_facts_of board net) net.pins
 
--- the numbers of the nets in a control's class
+-- the numbers of the nets in a control's class, or no numbers if there is no class
 abbrev pub nets_of : Option ControlClass → List ℕ
 nets_of None = []
 nets_of (Some class) = class.nets

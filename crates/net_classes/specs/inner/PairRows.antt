@@ -1,4 +1,4 @@
--- Rows of bits that say which nets are paired with a net.
+-- Rows of bits that say which nets are paired.
 use Rattle.std.specs.Prelude.{◌≡◌, ℕ, ◌<◌, ◌+◌, ◌/◌, Bool, true, false, List, length, Option, None, Some, is_some, slice_index}
 use Rattle.std.specs.List.{list_any}
 use Rattle.board_defs.specs.declared.board.Ctl.{Ctl}
@@ -14,23 +14,23 @@ use Rattle.net_facts.specs.Cells.{item_of, table}
 use Rattle.net_classes.specs.NetRows.{AreRowBits}
 use Rattle.net_classes.specs.Pairs.{drivers_at, fits_at}
 
--- the control enables a tested driver of net number `n`
+-- control `c` enables a tested driver of net `n`
 abbrev pub owns_at : RawBoard → Ctl → ℕ → Bool
 owns_at board c n = list_any (λ d. is_by c (Some d)) (drivers_at board n)
 
--- the first row has the covered nets, and each cell has the number of a row
+-- row 0 has a 1 for each covered net, and the table of numbers has a number for each cell
 pub record HasCovered (board : RawBoard) (pairs : PairRows) : Type 0 where
   pub some : 0 < length pairs.rows.items
   pub covered : AreRowBits (fits_at board AlwaysOn) (row_in pairs 0)
   pub room : length (row_in pairs 0) ≡ length board.nets / 64 + 1
   pub cells : (c : Ctl) → IsCell board c → is_some (item_of (table pairs.numbers.items) c) ≡ true
 
--- the row of the control has the nets that some safe setting with this control observes
+-- the row of control `c` has a 1 for each net that some safe setting with `c` observes
 pub record IsRowOf (board : RawBoard) (pairs : PairRows) (c : Ctl) : Type 0 where
   pub there : number_in pairs c < length pairs.rows.items
   pub bits : AreRowBits (fits_at board (By c)) (row_in pairs (number_in pairs c))
 
--- `row` is the row of the control, or None if the row of the control is the row of the covered nets
+-- `row` is the row of control `c`. If `row` is None, the row of `c` is `covered`, the row of the covered nets.
 abbrev pub IsRowFor : RawBoard → Ctl → List ℕ → Option (List ℕ) → Type 0
 IsRowFor board c covered None = AreRowBits (fits_at board (By c)) covered
 IsRowFor board c covered (Some row) = AreRowBits (fits_at board (By c)) row
@@ -39,13 +39,13 @@ abbrev pub number_for : ℕ → Option (List ℕ) → ℕ
 number_for count None = 0
 number_for count (Some row) = count
 
--- `after` also has the row of control `c`, and the rows of other controls do not change
+-- `after` has the row of control `c`, and each other control that has its row in `before` has its row in `after`
 pub record AddsRow (board : RawBoard) (before after : PairRows) (c : Ctl) : Type 0 where
   pub covered : HasCovered board after
   pub own : IsRowOf board after c
   pub others : (d : Ctl) → same_ctl c d ≡ false → IsRowOf board before d → IsRowOf board after d
 
--- the word of a driver's row
+-- word `w` of the driver's row, or 0 if the driver is one-sided
 abbrev pub drive_word : PairRows → Drive → ℕ → ℕ
 drive_word pairs AlwaysOn w = slice_index (row_in pairs 0) w
 drive_word pairs OneSided w = 0

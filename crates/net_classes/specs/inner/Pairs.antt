@@ -1,4 +1,4 @@
--- Drivers whose control is a cell of the board or useful, and drivers of two nets that one safe setting enables
+-- Predicates on a driver's control (the control is a cell of the board, or is useful), and lists with drivers that one safe setting enables
 -- together.
 use Rattle.std.specs.Prelude.{◌≡◌, Bool, true, List}
 use Rattle.std.specs.List.{list_any}
