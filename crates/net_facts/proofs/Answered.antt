@@ -1,5 +1,5 @@
--- Lemmas which say that the class that the code finds for each net from the facts and the table is the class that the definitions on the
--- board give.
+-- Lemmas about the class of a net. They say that the class that the code finds from the facts and the table is the class that the
+-- definitions on the board give.
 use Rattle.std.proofs.Common.{◌≡◌, ℕ, ◌==◌, Bool, true, false, not, ◌&&◌, List, [], ◌∷◌, map, length, Option, Some, None, refl, sym, ◌∙◌, ap, subst, cond, inl}
 use Rattle.std.specs.Prelude.{slice_get, option_map, filter_map, is_some}
 use Rattle.std.specs.List.{list_any, range_with_len, cons_option}
@@ -35,7 +35,7 @@ use Rattle.net_facts.specs.Kept.{pin_class_of, net_class_of}
 use Rattle.net_facts.specs.inner.Answers.{safe_in, enabled_in, drive_of_pin, drive_of, reads_in, reads_at, enables_at_place, readers_of, enablers_of, tested_in, reader_tested_in, pin_class_in, tested_drive_in, drivers_in, first_reason_in, reason_in, class_in}
 use Rattle.net_facts.proofs.FoundLemmas.{elsewhere_is, passes_in}
 
--- the table has for each control whether it is safe alone
+-- the table says for each control whether it is safe alone
 abbrev pub SaysSafe : RawBoard → List (List ControlClass) → Type 0
 SaysSafe board rows = (c : Ctl) → IsCell board c → safe_in rows c ≡ is_safe_alone board c
 
@@ -113,7 +113,7 @@ filter_map_same : {X Y : Type 0} (f g : X → Option Y) → ((x : X) → f x ≡
 filter_map_same f g h [] = refl
 filter_map_same f g h (x ∷ xs) = ap (λ o. cons_option o (filter_map f xs)) (h x) ∙ ap (λ ys. cons_option (g x) ys) (filter_map_same f g h xs)
 
--- if the table has for each control whether it is safe alone, `tested_drive_in` returns the same as `tested_drive`
+-- if the table says for each control whether it is safe alone, `tested_drive_in` returns the same as `tested_drive`
 drive_tested_is : (board : RawBoard) (rows : List (List ControlClass)) (net : Net) (place : ℕ) → IsBoard board → SaysSafe board rows → tested_drive_in rows (net_facts_of board net) place ≡ tested_drive board net place
 drive_tested_is board rows net place rules says =
     ap (λ t. cond t (drive_of (map (pin_facts_of board net) net.pins) place) None) (tested_is board rows net place rules says) ∙
@@ -124,7 +124,7 @@ drivers_is board rows net rules says =
     ap (λ n. filter_map (tested_drive_in rows (net_facts_of board net)) (range_with_len 0 n)) (length-map net.pins (pin_facts_of board net)) ∙
     filter_map_same (tested_drive_in rows (net_facts_of board net)) (tested_drive board net) (λ k. drive_tested_is board rows net k rules says) (range_with_len 0 (length net.pins))
 
--- a net is covered if and only if it has a tested driver
+-- a net has no tested driver if and only if it is not covered
 pub covered_is : (board : RawBoard) (net : Net) → (length (tested_drivers board net) == 0) ≡ not (is_covered board net)
 covered_is board net = by_list (tested_drivers board net) refl
   where
@@ -139,7 +139,7 @@ covered_is board net = by_list (tested_drivers board net) refl
         let t : Tested board net d = tested_has board net d (subst P (sym e) (inl refl)) in
         suc-eqb_zero (length ds) ∙ ap not (sym (below_at (length net.pins) (is_tested_driver board net) t.place (tested_below board net t.place t.tested) t.tested))
 
--- if the table has for each control whether it is safe alone, the code finds the reason that the definition gives
+-- if the table says for each control whether it is safe alone, `first_reason_in` returns the same as `first_reason`
 first_is : (board : RawBoard) (rows : List (List ControlClass)) (net : Net) → IsBoard board → SaysSafe board rows → first_reason_in rows (net_facts_of board net) ≡ first_reason board net
 first_is board rows net rules says =
     ap (λ t. last t (list_any (λ (pin : PinFacts). enabled_in rows pin.drive) (map (pin_facts_of board net) net.pins))) (list_any-map (pin_facts_of board net) (λ (pin : PinFacts). is_some pin.drive) net.pins) ∙

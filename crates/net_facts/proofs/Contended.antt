@@ -43,7 +43,7 @@ several_stays (pin ∷ pins) = ap (λ s. controls_from s pins) (step pin.drive) 
     step (Some OneSided) = refl
     step (Some (By c)) = refl
 
--- if one control was found before these pins, there are several if and only if some pin has another control
+-- if only control `d` was found before these pins, several controls are found if and only if some pin has a driver of another control
 one_is : (d : Ctl) (pins : List PinFacts) → is_several (controls_from (One d) pins) ≡ list_any (other_pin d) pins
 one_is d [] = refl
 one_is d (pin ∷ pins) = by_drive pin.drive (one_is d pins)
@@ -105,7 +105,7 @@ filter_same : (p q : ℕ → Bool) → ((n : ℕ) → p n ≡ q n) → (xs : Lis
 filter_same p q h [] = refl
 filter_same p q h (x ∷ xs) = ap (λ t. cond t (x ∷ filter p xs) (filter p xs)) (h x) ∙ ap (λ ys. cond (q x) (x ∷ ys) ys) (filter_same p q h xs)
 
--- the nets of a control that have a flag are the nets that it shares with another control
+-- the nets of control `c` whose flag is set are the nets that `c` shares with another control
 pub shared_are : (board : RawBoard) (c : Ctl) → filter (λ n. slice_index_or (flags_of (map (net_facts_of board) board.nets)) n false) (driven_nets board c) ≡ shared_nets board c
 shared_are board c = filter_both flagged driven (range_with_len 0 (length board.nets)) ∙ filter_same (λ n. driven n && flagged n) (λ n. contends_there board c (slice_get board.nets n)) each (range_with_len 0 (length board.nets))
   where
@@ -132,7 +132,7 @@ map_item f rows c = ap (option_and_then (λ row. slice_get row c.cell)) (slice_g
     by_row None = refl
     by_row (Some r) = slice_get-map f r c.cell
 
--- the table of shared nets has the nets that each control shares
+-- if the table of controls has the class of each control, the table `shared` has for each control the nets that it shares
 pub shared_rows : (board : RawBoard) (facts : List NetFacts) (flags : List Bool) (rows : List (List ControlClass)) (shared : List (List (List ℕ))) → facts ≡ map (net_facts_of board) board.nets → flags ≡ flags_of facts → ((c : Ctl) → IsCell board c → item_of rows c ≡ Some (control_class_of board c)) →
     shared ≡ map (λ row. map (shared_in flags) row) rows → (c : Ctl) → IsCell board c → item_of shared c ≡ Some (shared_nets board c)
 shared_rows board facts flags rows shared e f says g c is =

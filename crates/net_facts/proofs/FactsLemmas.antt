@@ -1,4 +1,4 @@
--- Lemmas which say that the facts that the code computes are the facts that the definitions on the board give.
+-- Lemmas which say that the code computes the facts that the definitions on the board give.
 use Rattle.std.proofs.Common.{◌≡◌, ℕ, ◌+◌, ◌<◌, Bool, true, false, ◌&&◌, ◌||◌, List, [], ◌∷◌, ◌++◌, length, map, take, get_or, Option, Some, None, refl, sym, ◌∙◌, ap}
 use Rattle.std.specs.Prelude.{option_map, slice_get}
 use Rattle.std.specs.List.{list_any}
@@ -41,8 +41,8 @@ any_either f g (x ∷ xs) = turn (f x) (g x) (list_any f xs) (list_any g xs) ∙
     turn false true false d = refl
     turn false false c d = refl
 
--- If some item passes `f`, then `s` is true or some item passes `f` or `g`. So testing this condition first does not change the answer for
--- `f`, nor for `g`.
+-- If some item satisfies `f`, then `s` is true or some item satisfies `f` or `g`. So testing this condition first does not change whether
+-- some item satisfies `f`. The same is true for `g`.
 any_guarded : {X : Type 0} (s : Bool) (f g : X → Bool) (xs : List X) → ((s || list_any (λ x. f x || g x) xs) && list_any f xs ≡ list_any f xs) × ((s || list_any (λ x. f x || g x) xs) && list_any g xs ≡ list_any g xs)
 any_guarded true f g xs = (refl, refl)
 any_guarded false f g xs =

@@ -1,4 +1,4 @@
--- Lemmas about the places of the items that pass a test.
+-- Lemmas about the places at which the items of a list satisfy a predicate.
 use Rattle.std.proofs.Common.{◌≡◌, ◌≢◌, ℕ, zero, suc, ◌+◌, ◌<◌, ◌==◌, Bool, true, false, not, ◌&&◌, List, length, Option, Some, None, refl, sym, ◌∙◌, ap, subst, arith, add-one, cond}
 use Rattle.std.specs.Prelude.{slice_get, if◌then◌else◌}
 use Rattle.std.proofs.lemmas.Option.{slice_get_within}
@@ -10,12 +10,13 @@ use Rattle.net_facts.specs.declared.found.Found.{Found}
 use Rattle.net_facts.specs.declared.found.Found.TheVariants.{Nowhere, At, Several}
 use Rattle.net_facts.specs.inner.Found.{with_place, is_elsewhere_of, found_below}
 
--- if `found` has the places below `k` that pass, and place `k` is added if it passes, the result has the places below `k + 1` that pass
+-- if `found` has the places below `k` that satisfy `test`, and `next` also has place `k` if it satisfies `test`, then `next` has the places
+-- below `k + 1` that satisfy `test`
 pub found_more : (test : ℕ → Bool) (k : ℕ) (found next : Found) (passes : Bool) → found ≡ found_below test k → passes ≡ test k → next ≡ (if passes then with_place found k else found) → next ≡ found_below test (k + 1)
 found_more test k found next passes f p g =
     g ∙ ap (λ v. cond passes (with_place v k) v) f ∙ ap (λ t. cond t (with_place (found_below test k) k) (found_below test k)) p ∙ ap (found_below test) (sym (add-one k))
 
--- what `found` says about the places below `k`: no place passes, only place `i` passes, or at least two places pass
+-- what `found` says about the places below `k`: none satisfies `test`, only place `i` satisfies it, or at least two places satisfy it
 data Places (test : ℕ → Bool) (k : ℕ) (found : Found) : Type 0 where
   none : found ≡ Nowhere → ((j : ℕ) → j < k → test j ≡ false) → Places test k found
   one : (i : ℕ) → found ≡ At i → i < k → test i ≡ true → ((j : ℕ) → j < k → test j ≡ true → j ≡ i) → Places test k found
@@ -68,7 +69,7 @@ elsewhere_below test k i = by_places (places test k)
         by_first false e = below_at k (other_than test i) p l (and_from (test p) (not (p == i)) tp (not_from_false (p == i) e))
         by_first true e = below_at k (other_than test i) q m (and_from (test q) (not (q == i)) tq (differs q i (λ s. ne (eqb-true p i e ∙ sym s))))
 
--- there is an item, and it passes
+-- there is an item, and `test` is true of it
 abbrev pub passes_in : {X : Type 0} → (X → Bool) → Option X → Bool
 passes_in test None = false
 passes_in test (Some x) = test x
@@ -77,7 +78,7 @@ some_passes : {X : Type 0} (test : X → Bool) (o : Option X) → passes_in test
 some_passes test None h = cc h
 some_passes test (Some x) h = (x, refl, h)
 
--- `is_elsewhere_of` returns whether an item at another place of the list passes
+-- `is_elsewhere_of` returns whether an item at a place other than `place` satisfies the predicate
 pub elsewhere_is : {X : Type 0} (holds : X → Bool) (test : ℕ → Bool) (xs : List X) (place : ℕ) → ((k : ℕ) → test k ≡ passes_in holds (slice_get xs k)) → is_elsewhere_of (found_below test (length xs)) place ≡ any_other holds place xs
 elsewhere_is holds test xs place h = elsewhere_below test (length xs) place ∙ same_truth (any_below (length xs) (other_than test place)) (any_other holds place xs) there back
   where

@@ -9,7 +9,7 @@ use Rattle.lists.proofs.ListLemmas.{below_more}
 pub filter_map_more : {X : Type 0} (f : ℕ → Option X) (k : ℕ) → filter_map f (range_with_len 0 (k + 1)) ≡ filter_map f (range_with_len 0 k) ++ cons_option (f k) []
 filter_map_more f k = ap (λ n. filter_map f (range_with_len 0 n)) (add-one k) ∙ ap (filter_map f) (below_more k) ∙ filter_map-append f (range_with_len 0 k) (k ∷ [])
 
--- a list of copies that is as long as another list has one copy for each item of that list
+-- `length xs` copies of `y` are the list `xs` with each item replaced by `y`
 replicate_each : {X Y : Type 0} (y : Y) (xs : List X) → replicate (length xs) y ≡ map (λ x. y) xs
 replicate_each y [] = refl
 replicate_each y (x ∷ xs) = ap (λ ys. y ∷ ys) (replicate_each y xs)

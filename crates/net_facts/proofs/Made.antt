@@ -30,7 +30,7 @@ use Rattle.net_facts.specs.inner.Rows.{unsafe_too, ends_with, note_net, note_net
 use Rattle.net_facts.proofs.RowLemmas.{copies_get}
 use Rattle.net_facts.proofs.Notes.{at_same, at_other, by_pin, run, pins_row, run_first, ends_other}
 
--- in a table that is not filled yet, the item of a control says that the control has no drivers
+-- in the table before any net is noted, each control has no drivers
 fresh_at : (board : RawBoard) (c : Ctl) → IsCell board c → item_of (fresh_rows board.chain) c ≡ Some fresh
 fresh_at board c h = ap (option_and_then (λ r. slice_get r c.cell)) (slice_get-map (λ (part : Part). copies fresh (cell_count (described part.kind))) board.chain c.part) ∙ by_part (slice_get board.chain c.part) h
   where
@@ -38,7 +38,7 @@ fresh_at board c h = ap (option_and_then (λ r. slice_get r c.cell)) (slice_get-
     by_part None g = absurd (omega arith)
     by_part (Some part) g = copies_get fresh (cell_count (described part.kind)) c.cell g
 
--- the numbers of the nets below `k` that have a driver of this control
+-- the numbers of the nets below `k` that have a driver of control `c`
 abbrev pub driven : RawBoard → Ctl → ℕ → List ℕ
 driven board c k = filter (λ n. drives_there board c (slice_get board.nets n)) (range_with_len 0 k)
 
@@ -72,7 +72,7 @@ none_is_one test (x ∷ xs) h = by_head (test x) h (none_is_one test xs)
     by_head true g rest = cc g
     by_head false g rest = rest g
 
--- the net exists and does not admit the control: the control makes any setting with it unsafe on this net
+-- there is a net, and it does not admit control `c`: no setting with `c` is safe on this net
 abbrev pub refuses : RawBoard → Ctl → Option Net → Bool
 refuses board c None = false
 refuses board c (Some net) = not (admits board c net)
@@ -225,7 +225,7 @@ cell_part board c h = by_part (slice_get board.chain c.part) refl h
     by_part None e g = absurd (omega arith)
     by_part (Some part) e g = slice_get_within board.chain c.part part e
 
--- a control alone is safe if and only if no net refuses it and it enables no one-sided driver
+-- control `c` is safe alone if and only if it enables no one-sided driver and no net of the board refuses it
 safe_alone_is : (board : RawBoard) (c : Ctl) → (not (enables_one_sided board c) && not (refused board c (length board.nets))) ≡ is_safe_alone board c
 safe_alone_is board c = ap (λ t. not (enables_one_sided board c) && not t) all ∙ turn (enables_one_sided board c) (list_all (admits board c) board.nets)
   where

@@ -81,7 +81,7 @@ marks_row (net ∷ nets) rows c =
     ap (option_map (mark_if (list_any (by_net c) nets))) (drivers_row net.drivers rows c) ∙
     mark_join (by_net c net) (list_any (by_net c) nets) (item_of rows c)
 
--- A control enables a tested driver if and only if it is useful, since such a control is safe alone.
+-- A control enables a tested driver if and only if it is useful, since a control that enables a tested driver is safe alone.
 pub useful_is : (board : RawBoard) (c : Ctl) → list_any (λ net. list_any (by_drive c) (tested_drivers board net)) board.nets ≡ is_useful board c
 useful_is board c = same_truth (list_any some board.nets) (is_useful board c) there back
   where
@@ -116,7 +116,7 @@ marked_row board rows c h =
     ap (λ b. Some (let r : ControlClass = record { nets = driven_nets board c; safe = is_safe_alone board c; useful = b } in r))
     (or-false (list_any (by_net c) (map (net_class_of board) board.nets)) ∙ list_any-map (net_class_of board) (by_net c) board.nets ∙ useful_is board c)
 
--- `facts_by` returned the facts about the board
+-- these lists have the facts about the nets and controls of the board
 pub record Made (board : RawBoard) (nets : List NetClass) (controls : List (List ControlClass)) (useful : List Ctl) : Type 0 where
   pub nets_are : nets ≡ map (net_class_of board) board.nets
   pub controls_are : (c : Ctl) → IsCell board c → item_of controls c ≡ Some (control_class_of board c)

@@ -16,7 +16,7 @@ use Rattle.net_facts.specs.declared.classes.ControlClass.{ControlClass}
 use Rattle.net_facts.specs.Cells.{item_of, update_at, at_control}
 use Rattle.net_facts.specs.inner.Rows.{added, ends_with, is_number, note_drive, note_pins}
 
--- after a change at place `i`, the item at place `i` is the changed item
+-- if the item at place `i` is changed by `f`, `f` of the old item is at place `i`
 pub get_update_same : {X : Type 0} (i : ℕ) (f : X → X) (xs : List X) → slice_get (update_at i f xs) i ≡ option_map f (slice_get xs i)
 get_update_same i f [] = refl
 get_update_same zero f (x ∷ xs) = refl
@@ -68,7 +68,7 @@ ends_appended xs n = ap (λ k. is_number n (slice_get (xs ++ n ∷ []) k)) (appe
 pub ends_other : (xs : List ℕ) (m n : ℕ) → m < n → ends_with (xs ++ m ∷ []) n ≡ false
 ends_other xs m n h = ap (λ k. is_number n (slice_get (xs ++ m ∷ []) k)) (appended_length xs m) ∙ ap (is_number n) (get_appended xs m) ∙ false_from_ne_true (m == n) (λ e. let same : m ≡ n = eqb-true m n e in omega arith)
 
--- the item of a control after the pins of a net are noted
+-- the item of control `c` after the pins of net `n` are noted
 abbrev pub run : ℕ → Bool → Ctl → List PinFacts → ControlClass → ControlClass
 run n closed c [] row = row
 run n closed c (pin ∷ pins) row = run n closed c pins (cond (is_by c pin.drive) (added n closed row) row)
@@ -105,7 +105,8 @@ by_pin c pin = is_by c pin.drive
 abbrev row_with : ControlClass → List ℕ → Bool → ControlClass
 row_with row nets safe = record { nets = nets; safe = safe; useful = row.useful }
 
--- if a control already has the net, noting the net's pins again keeps its nets, and marks it unsafe if one of the pins has its driver
+-- If a control already has net `n`, noting the net's pins again leaves the control's nets unchanged. The control becomes unsafe if one of
+-- the pins has a driver of it.
 pub run_again : (n : ℕ) (closed : Bool) (c : Ctl) (pins : List PinFacts) (row : ControlClass) → ends_with row.nets n ≡ true → run n closed c pins row ≡ row_with row row.nets (row.safe && not (list_any (by_pin c) pins))
 run_again n closed c [] row h = ap (λ b. row_with row row.nets b) (sym (and-true row.safe))
 run_again n closed c (pin ∷ pins) row h = by_head (is_by c pin.drive) refl (run_again n closed c pins row h) (run_again n closed c pins (row_with row row.nets false) h)
@@ -120,7 +121,7 @@ run_again n closed c (pin ∷ pins) row h = by_head (is_by c pin.drive) refl (ru
         ap (λ t. row_with row row.nets t) (sym (and-false row.safe)) ∙
         ap (λ t. row_with row row.nets (row.safe && not (t || list_any (by_pin c) pins))) (sym e)
 
--- the item of a control that did not have the net, after the pins of the net are noted
+-- the item of a control that did not have net `n`, after the pins of net `n` are noted
 abbrev pub after_net : ℕ → Bool → Ctl → List PinFacts → ControlClass → ControlClass
 after_net n closed c pins row = cond (list_any (by_pin c) pins) (record { nets = row.nets ++ n ∷ []; safe = row.safe && not closed && at_most_one (by_pin c) pins; useful = row.useful }) row
 

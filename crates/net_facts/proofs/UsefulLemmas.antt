@@ -47,7 +47,8 @@ joined : (xs ys zs : List Ctl) → (xs ++ ys) ++ zs ≡ xs ++ (ys ++ zs)
 joined [] ys zs = refl
 joined (x ∷ xs) ys zs = ap (λ v. x ∷ v) (joined xs ys zs)
 
--- if `before` has the cells of a part below `cell` that pass, and `cell` is appended if it passes, `after` has those below `cell + 1`
+-- If `before` ends with the cells of the part below `cell` that satisfy `p`, and cell `cell` is appended if it satisfies `p`, then `after`
+-- ends with the cells below `cell + 1` that satisfy `p`.
 pub cell_more : (p : Ctl → Bool) (part cell : ℕ) (initial before after : List Ctl) (t : Bool) → before ≡ initial ++ filter p (map (cell_in part) (range_with_len 0 cell)) → t ≡ p (cell_in part cell) → after ≡ before ++ cond t (cell_in part cell ∷ []) [] →
     after ≡ initial ++ filter p (map (cell_in part) (range_with_len 0 (cell + 1)))
 cell_more p part cell initial before after t e f g =

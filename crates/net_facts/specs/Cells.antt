@@ -26,10 +26,10 @@ update_at (suc i) f (x ∷ xs) = x ∷ update_at i f xs
 abbrev pub at_control : {X : Type 0} → Ctl → (X → X) → List (List X) → List (List X)
 at_control c f rows = update_at c.part (update_at c.cell f) rows
 
--- replaces the old item by `item`
+-- returns `item`, whatever the old item is
 abbrev pub put : {X : Type 0} → X → X → X
 put item before = item
 
--- a table with rows of the same lengths, in which every item is `item`
+-- the table `rows` with every item replaced by `item`
 abbrev pub filled : {X Y : Type 0} → Y → List (List X) → List (List Y)
 filled item rows = map (λ row. map (λ before. item) row) rows

@@ -1,4 +1,4 @@
--- The facts about nets, pins and controls. If a fact depends on safe settings, it is the result of the function that decides it, such as
+-- The facts about nets, pins and controls. A fact that depends on safe settings is the result of the function that decides it, such as
 -- `is_tested_driver`.
 use Rattle.std.specs.Prelude.{◌≡◌, ℕ, Bool, false, not, ◌&&◌, List, map, filter, length, Option, Some, None, slice_get, is_some}
 use Rattle.std.specs.List.{list_any, range_with_len}
@@ -18,23 +18,23 @@ use Rattle.net_facts.specs.declared.classes.BoardFacts.{BoardFacts}
 use Rattle.net_facts.specs.Cells.{item_of, table}
 use Rattle.net_facts.specs.Facts.{net_facts_of}
 
--- there is a net, and the control enables a driver of it
+-- there is a net, and control `c` enables a driver on it
 abbrev pub drives_there : RawBoard → Ctl → Option Net → Bool
 drives_there board c None = false
 drives_there board c (Some net) = drives_net board c net
 
--- the numbers of the nets with a driver of this control, in net order
+-- the numbers of the nets with a driver of control `c`, in net order
 abbrev pub driven_nets : RawBoard → Ctl → List ℕ
 driven_nets board c = filter (λ n. drives_there board c (slice_get board.nets n)) (range_with_len 0 (length board.nets))
 
--- the driver has a control other than `c`
+-- there is a driver, and it has a control other than `c`
 abbrev pub is_by_other : Ctl → Option Drive → Bool
 is_by_other c None = false
 is_by_other c (Some AlwaysOn) = false
 is_by_other c (Some OneSided) = false
 is_by_other c (Some (By d)) = not (same_ctl d c)
 
--- the net has a driver of this control and a driver of another control
+-- the net has a driver of control `c` and a driver of another control
 abbrev pub is_contended : RawBoard → Ctl → Net → Bool
 is_contended board c net = drives_net board c net && list_any (λ p. is_by_other c (drive board net p)) net.pins
 
@@ -43,11 +43,11 @@ abbrev pub contends_there : RawBoard → Ctl → Option Net → Bool
 contends_there board c None = false
 contends_there board c (Some net) = is_contended board c net
 
--- the numbers of the nets that this control shares with another control, in net order
+-- the numbers of the nets that control `c` shares with another control, in net order
 abbrev pub shared_nets : RawBoard → Ctl → List ℕ
 shared_nets board c = filter (λ n. contends_there board c (slice_get board.nets n)) (range_with_len 0 (length board.nets))
 
--- the class of the pin at `place` of a net
+-- the class of the pin at `place` of the net
 abbrev pub pin_class_of : RawBoard → Net → ℕ → PinClass
 pin_class_of board net place = record { driver_tested = is_tested_driver board net place; receiver_tested = is_tested_receiver board net place; drives = is_some (place_drive board net place); receives = receives_of board (slice_get net.pins place) }
 

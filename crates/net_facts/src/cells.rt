@@ -40,7 +40,7 @@ fn filled_row<S, T: Copy>(alloc: Global, row: &[S], item: T) -> Result<Vec<T>, A
     Ok(items)
 }
 
-/// Returns a table with rows of the same lengths, in which every item is `item`.
+/// Returns the table `rows` with every item replaced by `item`.
 pub fn filled_table<S, T: Copy>(
     alloc: Global,
     rows: &[Vec<S>],

@@ -1,4 +1,5 @@
-// The table of the controls: the nets whose drivers each control enables, and whether the control is safe alone.
+// The table of the controls. For each control, it has the nets on which the control has drivers, and says whether the control is safe
+// alone.
 ghost use Rattle.std.specs.Prelude.{◌≡◌, ◌<◌, ◌≤◌, length, fold, map, OnOk, IfOk};
 ghost use Rattle.board_defs.specs.Limits.{most_bits, most_nets};
 ghost use Rattle.board_defs.specs.Pins.{cell_count, described};
@@ -90,7 +91,7 @@ fn note_net(
     Ok(())
 }
 
-/// Notes for each control the nets with its drivers, and whether one of these nets makes the control unsafe.
+/// Notes for each control the nets on which it has drivers, and whether one of these nets makes the control unsafe.
 fn note_all(rows: &mut [Vec<ControlClass>], nets: &[NetFacts]) -> Result<(), AllocError>
     requires { length nets.now ≤ most_nets }
     ensures { OnOk result (table rows.new ≡ note_nets nets.now (length nets.now) (table rows.old)) }
@@ -159,8 +160,8 @@ pub fn mark_useful(rows: &mut [Vec<ControlClass>], nets: &[NetClass])
     }
 }
 
-/// Returns the number of the part's boundary cells, each of which has an item in the table of controls. A part without a description has no
-/// such cell.
+/// Returns the number of the part's boundary cells. Each has an item in the table of controls. A part without a description has no boundary
+/// cells.
 pub fn cells_of(kind: &PartKind) -> u32
     ensures { result ≡ cell_count (described kind.now) }
 {

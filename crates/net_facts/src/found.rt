@@ -1,4 +1,4 @@
-// The places of the items of a list that pass a test. At most one of these places is remembered.
+// The places at which the items of a list satisfy a predicate. At most one of these places is remembered.
 ghost use Rattle.std.specs.Prelude.{◌≡◌, ◌↔◌, IsTrue, if◌then◌else◌};
 ghost use Rattle.net_facts.specs.Found.{IsAscending, Meet};
 ghost use Rattle.net_facts.specs.inner.Found.{is_elsewhere_of, with_place};

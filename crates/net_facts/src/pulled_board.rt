@@ -1,4 +1,4 @@
-// A board with the port bits that are on pulled nets. These port bits decide which drivers are one-sided.
+// A board with tables of the port bits that are on pulled nets. These port bits decide which drivers are one-sided.
 ghost use Rattle.std.specs.Prelude.{◌≡◌, ◌<◌, length, map, option_and_then, IfOk};
 ghost use Rattle.board_defs.specs.BoardRules.{IsBoard};
 ghost use Rattle.board_defs.specs.Decided.{is_switching, own_control, own_where, port_bits};

@@ -11,7 +11,7 @@ use board_defs::{Ctl, Drive};
 use lists::{Items, is_set};
 use std::alloc::{AllocError, Global};
 
-/// The controls of the drivers that were seen so far. At most one of these controls is remembered.
+/// The controls of the drivers that have been seen. At most one of these controls is remembered.
 #[derive(Clone, Copy)]
 pub enum Controls {
     Nobody,

@@ -1,5 +1,4 @@
-// The facts about nets that depend on safe settings. The code finds them from the other facts about nets and from the table of the
-// controls.
+// The facts about nets that depend on safe settings. The code finds them from the other facts about nets and the table of the controls.
 ghost use Rattle.std.specs.Prelude.{◌≡◌, ◌++◌, [], None, if◌then◌else◌, length, map, option_copied, is_some, IfOk, OnOk};
 ghost use Rattle.std.specs.List.{cons_option, list_any, range_with_len};
 ghost use Rattle.net_facts.specs.Cells.{item_of, table};
@@ -21,7 +20,7 @@ fn row_of(rows: &[Vec<ControlClass>], c: Ctl) -> Option<&ControlClass>
     }
 }
 
-/// Returns whether the table has the control and marks it as safe alone.
+/// Returns whether the table has the control and says that it is safe alone.
 pub fn is_safe(rows: &[Vec<ControlClass>], c: Ctl) -> bool
     ensures { result ≡ safe_in (table rows.now) c }
 {
@@ -31,7 +30,7 @@ pub fn is_safe(rows: &[Vec<ControlClass>], c: Ctl) -> bool
     }
 }
 
-/// Returns whether the table has the control and marks the control as useful.
+/// Returns whether the table has the control and says that it is useful.
 pub fn is_useful(rows: &[Vec<ControlClass>], c: Ctl) -> bool
     ensures { result ≡ useful_in (table rows.now) c }
 {
@@ -41,7 +40,7 @@ pub fn is_useful(rows: &[Vec<ControlClass>], c: Ctl) -> bool
     }
 }
 
-/// Returns whether there is a driver, and some safe setting enables it.
+/// Returns whether there is a driver that some safe setting enables.
 pub fn can_enable(rows: &[Vec<ControlClass>], drive: Option<Drive>) -> bool
     ensures { result ≡ enabled_in (table rows.now) drive }
 {
@@ -198,7 +197,7 @@ fn has_enabled(rows: &[Vec<ControlClass>], pins: &[PinFacts]) -> bool
     pins.iter().any(|pin| can_enable(rows, pin.drive))
 }
 
-/// Returns the first reason that applies to a net that is not covered.
+/// Returns the first reason that applies to the net, which must not be covered.
 fn first_reason(rows: &[Vec<ControlClass>], net: &NetFacts) -> Reason
     ensures { result ≡ first_reason_in (table rows.now) net.now }
 {

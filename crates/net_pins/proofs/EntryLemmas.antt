@@ -1,5 +1,5 @@
--- Lemmas which say that the entries that read a port bit belong to the compared cells, and that all entries of a port bit belong to cells
--- of its part.
+-- Lemmas which say that the receiving entries of a port bit give its compared cells, and that each entry of a port bit belongs to a cell of
+-- the bit's part.
 use Rattle.std.proofs.Common.{◌≡◌, ℕ, ◌<◌, Bool, true, false, cond, ◌&&◌, ◌||◌, List, [], ◌∷◌, map, Option, Some, None, refl, ap, ◌∙◌, arith}
 use Rattle.std.specs.Prelude.{slice_get, option_and_then, filter, All}
 use Rattle.std.specs.List.{list_any}
@@ -17,7 +17,7 @@ use Rattle.port_entries.specs.Entries.{entries_on, entries_of}
 use Rattle.net_pins.specs.NetCells.{reader_of, readers_in, readers_at}
 use Rattle.net_pins.specs.inner.Receiving.{receives_by}
 
--- filtering the entries of a port bit by their functions is filtering all entries by port bit and function
+-- filtering the entries of port bit `k` by `roles` gives the entries that are on port bit `k` and satisfy `roles`
 filter_on : (roles : Cell → Bool) (k : ℕ) (cells : List Cell) → filter roles (entries_on cells k) ≡ filter (λ cell. is_on k cell.bit && roles cell) cells
 filter_on roles k [] = refl
 filter_on roles k (cell ∷ cells) = by_test (is_on k cell.bit) (filter_on roles k cells)
@@ -29,7 +29,8 @@ filter_on roles k (cell ∷ cells) = by_test (is_on k cell.bit) (filter_on roles
     by_test false rest = rest
 
 module _ (board : RawBoard) (at : PinAt) where
-  -- the receiving entries of a port bit give the compared cells of its pin
+  -- if the part can receive from the port bit, the receiving entries of the bit give the compared cells of its pin; otherwise the pin has
+  -- none
   pub readers_is : (place : ℕ) →
       cond (receives_by (bit_at board at)) (map (reader_of board at.part place) (filter (λ cell. is_receiving cell.role) (entries_of (device_at board at.part) at.bit))) [] ≡ readers_at board place (Some at)
   readers_is place = by_device (device_at board at.part)
@@ -64,7 +65,7 @@ module _ (board : RawBoard) (at : PinAt) where
           ap (λ (l : List Cell). cond (receives_by (slice_get device.bits at.bit)) (map (reader_of board at.part place) l) []) (filter_on (λ cell. is_receiving cell.role) at.bit device.cells)
           ∙ by_bit device (slice_get device.bits at.bit)
 
-  -- the entries of a port bit belong to cells of the part
+  -- each entry of a port bit belongs to a cell of the bit's part
   pub entries_below : IsBoard board → All (λ cell. cell.num < cell_count (device_at board at.part)) (entries_of (device_at board at.part) at.bit)
   entries_below rules = by_device (device_at board at.part) refl
     where

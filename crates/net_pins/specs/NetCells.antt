@@ -12,7 +12,7 @@ use Rattle.net_pins.specs.declared.nets.NetDriver.{NetDriver}
 use Rattle.net_pins.specs.declared.nets.ReaderCell.{ReaderCell}
 use Rattle.net_pins.specs.Positions.{first_position}
 
--- The results of `f` for each item of a list and the item's place, joined in order. The first item has place `place`.
+-- The lists that `f` returns for the items of a list, joined in order. `f` gets each item with its place. The first item has place `place`.
 abbrev pub gathered : {X Y : Type 0} → (ℕ → X → List Y) → ℕ → List X → List Y
 gathered f place [] = []
 gathered f place (x ∷ xs) = f place x ++ gathered f (suc place) xs
@@ -22,11 +22,11 @@ abbrev pub optional : {X : Type 0} → Option X → List X
 optional None = []
 optional (Some x) = x ∷ []
 
--- the driver with this driving entry, on the pin at `place`
+-- the driver on the pin at `place` whose driving entry is this entry of part `part`
 abbrev pub net_driver : RawBoard → ℕ → ℕ → Cell → NetDriver
 net_driver board part place cell = record { place = place; ctl = option_map (λ control. record { part = part; cell = control.cell }) cell.ctl; own = record { part = part; cell = cell.num }; position = first_position board part + cell.num }
 
--- the driver on the pin, if the pin is a driver
+-- the driver on the pin at `place`, if the pin is a driver
 abbrev pub driver_of : RawBoard → ℕ → Option PinAt → Option NetDriver
 driver_of board place None = None
 driver_of board place (Some at) = option_map (net_driver board at.part place) (entry_at board at)
@@ -39,7 +39,7 @@ drivers_of_pins board pins = gathered (λ place pin. optional (driver_of board p
 abbrev pub drivers_of : RawBoard → Net → List NetDriver
 drivers_of board net = cond (guarded board net) [] (drivers_of_pins board net.pins)
 
--- a cell that reads the pin at `place`
+-- the compared cell with this entry of part `part`, for the pin at `place`
 abbrev pub reader_of : RawBoard → ℕ → ℕ → Cell → ReaderCell
 reader_of board part place cell = record { place = place; position = first_position board part + cell.num }
 
@@ -48,7 +48,7 @@ abbrev pub readers_in : RawBoard → ℕ → PinAt → Option RawDevice → List
 readers_in board place at None = []
 readers_in board place at (Some device) = map (reader_of board at.part place) (filter (reads_bit at.bit) device.cells)
 
--- the compared cells of a pin, if it is a receiver
+-- the compared cells of a pin that is a receiver, or none if it is not
 abbrev pub readers_at : RawBoard → ℕ → Option PinAt → List ReaderCell
 readers_at board place None = []
 readers_at board place (Some at) = cond (receives_where board (Some at)) (readers_in board place at (device_at board at.part)) []
@@ -57,10 +57,10 @@ readers_at board place (Some at) = cond (receives_where board (Some at)) (reader
 abbrev pub readers_of : RawBoard → List NetPin → List ReaderCell
 readers_of board pins = gathered (λ place pin. readers_at board place pin.at) 0 pins
 
--- for each net, its drivers that a setting may enable
+-- for each net, the drivers that a setting may enable
 abbrev pub all_drivers : RawBoard → List (List NetDriver)
 all_drivers board = map (drivers_of board) board.nets
 
--- for each net, its compared cells
+-- for each net, the compared cells
 abbrev pub all_readers : RawBoard → List (List ReaderCell)
 all_readers board = map (λ net. readers_of board net.pins) board.nets

@@ -8,7 +8,7 @@ use Rattle.board_defs.specs.Pins.{data_length}
 abbrev pub first_position : RawBoard → ℕ → ℕ
 first_position board part = sum_by (λ p. data_length p.kind) (drop (suc part) board.chain)
 
--- the position of the first bit of each part of a chain
+-- `firsts` has the position of the first bit of each part of the chain
 pub record AreFirsts (chain : List Part) (firsts : List ℕ) : Type 0 where
   pub count : length firsts ≡ length chain
   pub each : (part : ℕ) → part < length chain → slice_index_or firsts part 0 ≡ sum_by (λ p. data_length p.kind) (drop (part + 1) chain)

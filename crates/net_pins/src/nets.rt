@@ -51,7 +51,7 @@ pub struct ReaderCell {
     pub position: u32,
 }
 
-// Returns the driver with this driving entry, on the pin at `place`.
+// Returns the driver on the pin at `place` whose driving entry is this entry of part `part`.
 fn net_driver(board: &BoardPins<'_>, part: u32, place: u32, cell: Cell) -> NetDriver
     requires { cell.num < cell_count (device_at board.now part) }
     ensures { result ≡ net_driver board.now part place cell }
@@ -156,7 +156,7 @@ fn may_receive(raw: &RawBoard, at: PinAt) -> bool
     }
 }
 
-// Appends the compared cells of the pin at `at`, if the pin is a receiver.
+// Appends the compared cells of the pin at `at` if the pin is a receiver.
 fn push_at(
     board: &BoardPins<'_>,
     place: u32,
@@ -172,7 +172,7 @@ fn push_at(
     }
 }
 
-// Appends the compared cells of a pin, if it is a receiver.
+// Appends the compared cells of the pin if it is a receiver.
 fn push_pin(
     board: &BoardPins<'_>,
     place: u32,

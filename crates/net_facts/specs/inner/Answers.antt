@@ -52,10 +52,11 @@ reads_at pins place = reads_in (slice_get pins place)
 abbrev pub enables_at_place : List (List ControlClass) → List PinFacts → ℕ → Bool
 enables_at_place rows pins place = enabled_in rows (drive_of pins place)
 
--- The places of a net's receivers. `enablers_of` gives the places of the drivers that some safe setting enables.
+-- the places of the net's receivers
 abbrev pub readers_of : List PinFacts → Found
 readers_of pins = found_below (reads_at pins) (length pins)
 
+-- the places of the net's drivers that some safe setting enables
 abbrev pub enablers_of : List (List ControlClass) → List PinFacts → Found
 enablers_of rows pins = found_below (enables_at_place rows pins) (length pins)
 

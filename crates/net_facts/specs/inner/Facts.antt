@@ -14,7 +14,8 @@ use Rattle.board_defs.specs.Decided.{is_always_on}
 use Rattle.net_facts.specs.declared.facts.PinFacts.{PinFacts}
 use Rattle.net_facts.specs.declared.facts.NetFacts.{NetFacts}
 
--- The way in which a driver with this entry and this control is enabled, on a net with this pull. `guarded` is true if the net is guarded.
+-- How a driver with entry `cell` of part `part` and with this control is enabled, on a net with this pull. `guarded` says whether the net
+-- is guarded.
 abbrev pub drive_from : Bool → Option Bool → ℕ → Cell → Option Control → Drive
 drive_from guarded pull part cell None = AlwaysOn
 drive_from guarded pull part cell (Some control) =

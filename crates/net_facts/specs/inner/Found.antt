@@ -1,21 +1,21 @@
--- The places of the items of a list that pass a test. At most one of these places is remembered.
+-- The places at which the items of a list satisfy a predicate. At most one of these places is remembered.
 use Rattle.std.specs.Prelude.{ℕ, zero, suc, ◌==◌, Bool, true, false, not, cond}
 use Rattle.net_facts.specs.declared.found.Found.{Found}
 use Rattle.net_facts.specs.declared.found.Found.TheVariants.{Nowhere, At, Several}
 
--- adds one more place to the places that were found
+-- the places after `place` is added
 abbrev pub with_place : Found → ℕ → Found
 with_place Nowhere place = At place
 with_place (At other) place = Several
 with_place Several place = Several
 
--- one of the places differs from `place`
+-- some remembered or counted place differs from `place`
 abbrev pub is_elsewhere_of : Found → ℕ → Bool
 is_elsewhere_of Nowhere place = false
 is_elsewhere_of (At other) place = not (other == place)
 is_elsewhere_of Several place = true
 
--- the numbers below a bound that pass the test, as places
+-- the numbers below the bound that satisfy `test`, as places
 abbrev pub found_below : (ℕ → Bool) → ℕ → Found
 found_below test zero = Nowhere
 found_below test (suc k) = cond (test k) (with_place (found_below test k) k) (found_below test k)

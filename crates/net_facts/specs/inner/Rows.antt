@@ -34,7 +34,8 @@ unsafe_too row = record row { safe = false }
 abbrev pub useful_too : ControlClass → ControlClass
 useful_too row = record row { useful = true }
 
--- notes the driver of a pin of net `n` at the driver's control
+-- The table after a driver on net `n` is noted at the driver's control. If there is no driver, or it has no control, the table stays the
+-- same.
 abbrev pub note_drive : ℕ → Bool → Option Drive → List (List ControlClass) → List (List ControlClass)
 note_drive n closed None rows = rows
 note_drive n closed (Some AlwaysOn) rows = rows
@@ -85,7 +86,7 @@ block_parts board (suc k) rows = block_bits board k (port_bits board k) (block_p
 abbrev pub made_rows : RawBoard → List NetFacts → List (List ControlClass)
 made_rows board nets = block_parts board (length board.chain) (note_nets nets (length nets) (fresh_rows board.chain))
 
--- marks the control of a tested driver as useful
+-- the table in which the control of a tested driver is marked as useful
 abbrev pub mark_drive : List (List ControlClass) → Drive → List (List ControlClass)
 mark_drive rows AlwaysOn = rows
 mark_drive rows OneSided = rows

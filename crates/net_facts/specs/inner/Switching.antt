@@ -28,6 +28,6 @@ pulled_bits chain nets value = fold (mark_pulled value) (blank_bits chain) nets
 abbrev pub is_marked : List (List Bool) → PinAt → Bool
 is_marked rows at = holds_there (item_of rows (record { part = at.part; cell = at.bit }))
 
--- the table has the port bits whose pins are on unguarded nets that are pulled to `value`
+-- the flag of each port bit says whether the bit's pin is on an unguarded net that is pulled to `value`
 abbrev pub SaysPulled : RawBoard → List (List Bool) → Bool → Type 0
 SaysPulled board rows value = (at : PinAt) → at.bit < port_bits board at.part → is_marked rows at ≡ is_switching board at value
