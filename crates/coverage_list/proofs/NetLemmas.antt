@@ -24,7 +24,8 @@ use Rattle.coverage_list.specs.inner.CoverForms.{of_item, texts_from, net_reason
 pub same_item : {X : Type 0} {o : Option X} {x y : X} → o ≡ Some x → o ≡ Some y → x ≡ y
 same_item {X} {o} {x} {y} e f = cc
 
--- the number of passing items among the first `i + 1` items is their number among the first `i`, and one more if item `i` passes
+-- Among the first `i + 1` items, the number of items that satisfy `p` is the same as among the first `i` items, plus one if item `i`
+-- satisfies `p`.
 pub count_more : {X : Type 0} (p : X → Bool) (xs : List X) (i : ℕ) (x : X) → slice_get xs i ≡ Some x → length (filter p (take (i + 1) xs)) ≡ length (filter p (take i xs)) + cond (p x) 1 0
 count_more p xs i x e =
     ap (λ l. length (filter p l)) (take_more xs i x (slice_get_within xs i x e) ∙ ap (λ y. take i xs ++ y ∷ []) (get_or_from_slice_get xs i x x e))
@@ -39,7 +40,7 @@ counted p nets i covered t less is so_far =
     let net = item_there nets i less in
     ap (λ n. n + cond t 1 0) so_far ∙ ap (λ b. length (filter p (take i nets)) + cond b 1 0) (is net.0 net.1) ∙ sym (count_more p nets i net.0 net.1)
 
--- a net has no reason if and only if it is covered
+-- a net has no reason for not being covered if and only if it is covered
 pub no_reason : (board : RawBoard) (net : Net) → is_none (reason_of board net) ≡ is_covered board net
 no_reason board net = by (is_covered board net)
   where
@@ -47,12 +48,12 @@ no_reason board net = by (is_covered board net)
     by true = refl
     by false = refl
 
--- net `high` is unpaired with net `low` if it is covered and the two nets are not paired
+-- net `high` is unpaired with net `low` if and only if net `high` is covered and the two nets are not paired
 unpaired_is : (board : RawBoard) (low high : ℕ) (one two : Net) → slice_get board.nets low ≡ Some one → slice_get board.nets high ≡ Some two → unpaired_with board low high ≡ is_unpaired board one two
 unpaired_is board low high one two at at' =
     ap (λ o. covered_there board o && not (pair_there board (slice_get board.nets low) o)) at' ∙ ap (λ o. is_covered board two && not (pair_there board o (Some two))) at
 
--- if each text is empty, the joined texts are empty
+-- if the text of each number from `n` up to but not including `count` is empty, the joined texts are empty
 texts_empty : (f : ℕ → List ℕ) (n count : ℕ) → ((i : ℕ) → n ≤ i → i < count → f i ≡ []) → texts_from f n count ≡ []
 texts_empty f n count each = by (count - n) n (λ i past below. each i past (omega (arith, past, below)))
   where
@@ -75,7 +76,7 @@ free_pairs_none board n net at free =
     same true none = refl
     same false none = refl
 
--- the bit of net `high` says whether the net is unpaired with net `low`
+-- bit `high % 64` of the word says whether net `high` is unpaired with net `low`
 pub bit_says : (board : RawBoard) (low high word : ℕ) (one two : Net) → AreBitsOf (unpaired_with board low) (high / 64) word → slice_get board.nets low ≡ Some one → slice_get board.nets high ≡ Some two → (bit_at word (high % 64) == 1) ≡ is_unpaired board one two
 bit_says board low high word one two are at at' =
     let here : 64 * (high / 64) + high % 64 ≡ high = omega arith in
@@ -85,7 +86,7 @@ bit_says board low high word one two are at at' =
     by_bit true = refl
     by_bit false = refl
 
--- if no bit of a word is set, the nets of the word have no lines
+-- If a word of nets that are unpaired with net `low` is 0, no net `from..end` in this word has a line with net `low`.
 pub empty_word : (board : RawBoard) (low from end word : ℕ) (one : Net) → AreBitsOf (unpaired_with board low) (from / 64) word → word ≡ 0 → end ≤ 64 * (from / 64 + 1) → slice_get board.nets low ≡ Some one → texts_from (pair_at board one) from end ≡ []
 empty_word board low from end word one are none most at = texts_empty (pair_at board one) from end (λ n past below. by_net n past below (slice_get board.nets n) refl)
   where
@@ -99,7 +100,7 @@ empty_word board low from end word one are none most at = texts_empty (pair_at b
         let P : ℕ → Type 0 = λ k. AreBitsOf (unpaired_with board low) k word in
         ap (λ t. cond t (pair_line one other) []) (sym (bit_says board low n word one other (subst P same are) at e) ∙ unset n)
 
--- the line that the reason of net `n` gives is the text for the number `n`
+-- if `reason` is the reason of net `n`, its line is the text for the number `n`
 pub reason_is : (board : RawBoard) (n : ℕ) (net : Net) (reason : Option Reason) → slice_get board.nets n ≡ Some net → reason ≡ reason_of board net → reason_line net.name reason ≡ reason_at board n
 reason_is board n net reason at e = ap (reason_line net.name) e ∙ sym (ap (of_item (net_reason board)) at)
 
@@ -117,7 +118,7 @@ pub pairs_is : (board : RawBoard) (n : ℕ) (net : Net) → slice_get board.nets
 pairs_is board n net at e =
     sym (ap (of_item (net_pairs board n)) at ∙ ap (λ t. cond t (texts_from (pair_at board net) (n + 1) (length board.nets)) []) e)
 
--- a net has at most `most_pins` pins
+-- if the board keeps the rules, a net of the board has at most `most_pins` pins
 pub few_pins : (board : RawBoard) (n : ℕ) (net : Net) → IsBoard board → slice_get board.nets n ≡ Some net → length net.pins ≤ most_pins
 few_pins board n net rules at =
     let size : Net → ℕ = λ net. length net.pins in

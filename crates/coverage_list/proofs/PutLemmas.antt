@@ -1,5 +1,4 @@
--- Lemmas about a list of texts that are written in turn. The texts that were written, followed by the texts that are left, are the whole
--- list.
+-- Lemmas about texts that are written in turn. The texts that have been written, followed by the remaining texts, are the whole text.
 use Rattle.std.proofs.Common.{◌≡◌, ℕ, ◌+◌, ◌-◌, ◌<◌, ◌≤◌, zero, suc, append_assoc, List, [], ◌++◌, refl, sym, ◌∙◌, ap, Result, Ok, Err, IsErr, arith}
 use Rattle.std.specs.List.{flat_map, range_with_len}
 use Rattle.bt_base.specs.Puts.{Shown}
@@ -36,27 +35,29 @@ texts_split f n m count least most =
 pub each_start : (start : Shown) (whole : List ℕ) → Completes start start whole whole
 each_start start whole new r p = p
 
--- if the text of number `n` is put, the texts from `n + 1` on complete the whole text
+-- if the texts from `n` on complete the whole text, and the text of number `n` is written, then the texts from `n + 1` on complete the
+-- whole text
 pub each_ok : (f : ℕ → List ℕ) (n count : ℕ) (whole : List ℕ) {start now new : Shown} {r : Result (Unit {0}) PutFault} {x : Unit {0}} → Completes start now (texts_from f n count) whole → n < count → Prints now new [] [] (f n) r → r ≡ Ok x → Completes start new (texts_from f (n + 1) count) whole
 each_ok f n count whole {start} {now} {new} {r} {x} completes less first ok last q rest =
     completes last q (prints_same (sym (texts_next f n count less)) (prints_ok first ok rest))
 
--- if the text of number `n` is cut short, so is the whole text
+-- if the texts from `n` on complete the whole text, and the text of number `n` is cut short, then the whole text is cut short
 pub each_err : (f : ℕ → List ℕ) (n count : ℕ) (whole : List ℕ) {start now new : Shown} {r q : Result (Unit {0}) PutFault} {e : PutFault} → Completes start now (texts_from f n count) whole → n < count → Prints now new [] [] (f n) r → r ≡ Err e → IsErr q → Prints start new [] [] whole q
 each_err f n count whole {start} {now} {new} {r} {q} {e} completes less first err is =
     completes new q (prints_same (sym (texts_next f n count less)) (prints_err (texts_from f (n + 1) count) first err is))
 
--- if the texts of the numbers from `n` up to `m` are put, the texts from `m` on complete the whole text
+-- if the texts from `n` on complete the whole text, and the texts of the numbers `n..m` are written, then the texts from `m` on complete
+-- the whole text
 pub some_ok : (f : ℕ → List ℕ) (n m count : ℕ) (whole : List ℕ) {start now new : Shown} {r : Result (Unit {0}) PutFault} {x : Unit {0}} → Completes start now (texts_from f n count) whole → n ≤ m → m ≤ count → Prints now new [] [] (texts_from f n m) r → r ≡ Ok x → Completes start new (texts_from f m count) whole
 some_ok f n m count whole {start} {now} {new} {r} {x} completes least most first ok last q rest =
     completes last q (prints_same (sym (texts_split f n m count least most)) (prints_ok first ok rest))
 
--- if the texts of the numbers from `n` up to `m` are cut short, so is the whole text
+-- if the texts from `n` on complete the whole text, and the texts of the numbers `n..m` are cut short, then the whole text is cut short
 pub some_err : (f : ℕ → List ℕ) (n m count : ℕ) (whole : List ℕ) {start now new : Shown} {r q : Result (Unit {0}) PutFault} {e : PutFault} → Completes start now (texts_from f n count) whole → n ≤ m → m ≤ count → Prints now new [] [] (texts_from f n m) r → r ≡ Err e → IsErr q → Prints start new [] [] whole q
 some_err f n m count whole {start} {now} {new} {r} {q} {e} completes least most first err is =
     completes new q (prints_same (sym (texts_split f n m count least most)) (prints_err (texts_from f m count) first err is))
 
--- if no number is left, the whole text was put
+-- if the texts from `n` on complete the whole text, and there is no number from `n` on, then the whole text has been written
 pub each_end : (f : ℕ → List ℕ) (n count : ℕ) (whole : List ℕ) {start now : Shown} → Completes start now (texts_from f n count) whole → count ≤ n → Prints {T = Unit {0}} {E = PutFault} start now [] [] whole (Ok tt)
 each_end f n count whole {start} {now} completes past =
     completes now (Ok tt) (prints_same (sym (texts_none f n count past)) (prints_none tt refl))

@@ -1,4 +1,4 @@
--- Samples of the lines of the coverage list, worked by hand.
+-- Samples of the lines of the coverage list, worked out by hand.
 use Rattle.std.proofs.Common.{◌≡◌, ℕ, false, List, [], ◌∷◌, map, Some, None, codes, decimal, refl}
 use Rattle.std.specs.Fmt.{digits}
 use Rattle.line_printer.specs.Prints.{line_of, whole}
@@ -12,7 +12,7 @@ counts : line_of (codes "NETS " ∷ decimal 16382 ∷ codes " COVERED " ∷ deci
 unfolding digits
 counts = refl
 
--- a net without a reason, which is covered, has no line
+-- each reason has its line; a covered net has no reason and so no line
 reasons : whole (map (reason_line (codes "A")) (None ∷ Some Supply ∷ Some TestPort ∷ Some Dark ∷ Some NoDriver ∷ Some Blocked ∷ Some NoReceiver ∷ []))
     ≡ codes "NET A SUPPLY\nNET A TESTPORT\nNET A DARK\nNET A NODRIVER\nNET A BLOCKED\nNET A NORECEIVER\n"
 reasons = refl

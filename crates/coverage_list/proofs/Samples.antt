@@ -20,7 +20,7 @@ use Rattle.board_defs.specs.declared.board.Net.{Net}
 use Rattle.board_defs.specs.declared.board.RawBoard.{RawBoard}
 use Rattle.coverage_list.specs.CoverText.{cover_text}
 
--- one port bit of this mode for each of these pins
+-- port bits of this mode, one for each of these pins
 abbrev bits : Mode → List (List ℕ) → List PortBit
 bits mode [] = []
 bits mode (pin ∷ pins) = record { port = 0; index = None; mode = mode; pin = Some pin; tap = false; compliance = false } ∷ bits mode pins
@@ -90,13 +90,13 @@ board devices nets = record { chain = parts 0 devices; nets = nets }
 abbrev lines : List (List ℕ) → List ℕ
 lines ls = flat_map (λ l. l ++ 10 ∷ []) ls
 
--- A net with a driver of each of two controls is paired with both other nets. These two nets are not paired with each other.
+-- Net X has a driver of each of two controls and is paired with nets A and B. Nets A and B are not paired with each other.
 crossing : cover_text (board (two ∷ rcv ∷ rcv ∷ []) (net (codes "A") None (pin 0 0 ∷ pin 1 0 ∷ []) ∷ net (codes "X") None (pin 0 1 ∷ pin 0 2 ∷ pin 1 1 ∷ []) ∷ net (codes "B") None (pin 0 3 ∷ pin 2 0 ∷ []) ∷ []))
     ≡ lines (codes "NETS 3 COVERED 3" ∷ codes "PAIR A B" ∷ [])
 unfolding cover_text digits
 crossing = refl
 
--- no other pin of the net can receive from the bidirectional pin, so its driver is untested
+-- the driver of the bidirectional pin is untested, since no other pin of its net can receive
 shared : cover_text (board (bi ∷ ts ∷ []) (net (codes "N") None (pin 0 0 ∷ pin 1 0 ∷ []) ∷ []))
     ≡ lines (codes "NETS 1 COVERED 1" ∷ codes "DRIVER U1.1" ∷ [])
 unfolding cover_text digits
@@ -114,7 +114,7 @@ inert : cover_text (beside true) ≡ lines (codes "NETS 2 COVERED 2" ∷ [])
 unfolding cover_text digits
 inert = refl
 
--- On a net that is pulled to another value than the disable value, a driver that its own cell enables is one-sided. It cannot be enabled.
+-- An open-drain driver on a net that is not pulled to the driver's disable value is one-sided. No safe setting enables it.
 blocked : cover_text (board (od ∷ rcv ∷ []) (net (codes "N") (Some false) (pin 0 0 ∷ pin 1 0 ∷ []) ∷ []))
     ≡ lines (codes "NETS 1 COVERED 0" ∷ codes "NET N BLOCKED" ∷ [])
 unfolding cover_text digits
@@ -126,7 +126,7 @@ one_sided : cover_text (board (od ∷ ts ∷ rcv ∷ []) (net (codes "N") None (
 unfolding cover_text digits
 one_sided = refl
 
--- a receiver is untested if the only driver of its net is on its own pin
+-- the receiver of a bidirectional pin is untested if its net has no driver on another pin
 lone : cover_text (board (bi ∷ rcv ∷ []) (net (codes "N") None (pin 0 0 ∷ pin 1 0 ∷ []) ∷ net (codes "M") None (pin 1 1 ∷ []) ∷ []))
     ≡ lines (codes "NETS 2 COVERED 1" ∷ codes "NET M NODRIVER" ∷ codes "RECEIVER U1.1" ∷ [])
 unfolding cover_text digits

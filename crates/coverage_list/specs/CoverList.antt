@@ -14,8 +14,8 @@ use Rattle.coverage_list.specs.declared.lines.PinUse.{PinUse}
 use Rattle.coverage_list.specs.declared.lines.PinUse.TheVariants.{Driver, Receiver}
 use Rattle.coverage_list.specs.CoverText.{reason_line, pin_line, pair_line}
 
--- The answers from which the list is made. `covered` says whether a net is covered, and `reason` why it is not covered. `tested` says
--- whether the pin at a place of a net is tested in a role, as a driver or as a receiver. `paired` says whether two nets are paired.
+-- The answers from which the list is made. `covered` says whether a net is covered. `reason` says why a net is not covered. `tested` says
+-- whether the pin at a place of a net is tested as a driver, or as a receiver. `paired` says whether two nets are paired.
 pub record Answers : Type 0 where
   pub covered : Net → Bool
   pub reason : Net → Option Reason
@@ -47,12 +47,12 @@ counts answers board = line_of (codes "NETS " ∷ decimal (length board.nets) �
 abbrev pub reasons : Answers → RawBoard → List ℕ
 reasons answers board = flat_map (λ net. reason_line net.name (answers.reason net)) board.nets
 
--- the lines of a net's pins that are untested in this role
+-- the lines of those pins of a net that have this role but are untested in it
 abbrev pub untested_in : Answers → RawBoard → PinUse → Net → List ℕ
 untested_in answers board pin_use net =
     flat_map (λ place. pin_line pin_use (slice_get net.pins place)) (filter (λ place. serves board pin_use net place && not (answers.tested pin_use net place)) (range_with_len 0 (length net.pins)))
 
--- the lines of all covered nets' pins that are untested in this role
+-- the lines of those pins of covered nets that have this role but are untested in it
 abbrev pub untested_pins : Answers → RawBoard → PinUse → List ℕ
 untested_pins answers board pin_use = flat_map (untested_in answers board pin_use) (filter answers.covered board.nets)
 

@@ -1,4 +1,4 @@
--- The coverage list of a board: the number of covered nets, and everything that no safe setting tests.
+-- The coverage list of a board. It has the number of covered nets, and everything that no safe setting tests.
 use Rattle.std.specs.Prelude.{ℕ, Bool, not, ◌&&◌, List, [], ◌∷◌, ◌++◌, length, codes, decimal, filter, Option, None, Some, is_some, slice_get}
 use Rattle.std.specs.List.{flat_map, range_with_len}
 use Rattle.line_printer.specs.Prints.{line_of}
@@ -13,7 +13,7 @@ use Rattle.board_defs.specs.Passes.{pairs_within}
 use Rattle.coverage_list.specs.declared.lines.PinUse.{PinUse}
 use Rattle.coverage_list.specs.declared.lines.PinUse.TheVariants.{Driver, Receiver}
 
--- the word for each reason; `pin_word` below has the word for each role of a pin
+-- the word for each reason
 abbrev pub reason_word : Reason → List ℕ
 reason_word Supply = codes "SUPPLY"
 reason_word TestPort = codes "TESTPORT"
@@ -42,7 +42,7 @@ reason_line name (Some reason) = line_of (codes "NET " ∷ name ∷ codes " " �
 abbrev pub reason_lines : RawBoard → List ℕ
 reason_lines board = flat_map (λ net. reason_line net.name (reason_of board net)) board.nets
 
--- the pin at this place of the net has this role, and is not tested in it
+-- the pin at this place of the net has this role, and no safe setting tests the pin in it
 abbrev pub is_untested : RawBoard → PinUse → Net → ℕ → Bool
 is_untested board Driver net place = is_some (place_drive board net place) && not (is_tested_driver board net place)
 is_untested board Receiver net place = receives_of board (slice_get net.pins place) && not (is_tested_receiver board net place)

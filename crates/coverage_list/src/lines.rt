@@ -16,7 +16,7 @@ pub enum PinUse {
     Receiver,
 }
 
-/// A section of the list. It has the lines of one kind, net by net.
+/// A section of the list: lines of one kind, in net order.
 #[derive(Clone, Copy, Debug, PartialEq, Eq)]
 pub enum Section {
     /// The nets that are not covered, each with its reason.

@@ -43,7 +43,7 @@ fn put_count<K: Sink>(
     put_counts(board.net_count() as u32, covered_count(board), line, out)
 }
 
-/// Writes the line of a net that is not covered, or nothing if the net is covered.
+/// Writes the line of net `n` if the net is not covered, or nothing if it is covered.
 fn put_reason_at<K: Sink>(
     board: &BoardClasses<'_>,
     n: u32,
@@ -57,7 +57,7 @@ fn put_reason_at<K: Sink>(
     put_reason(&net.name, board.reason(n), line, out)
 }
 
-/// Writes the line of a pin if the pin is untested in this role.
+/// Writes the line of the pin at a place of the net if the pin is untested in this role.
 fn put_place<K: Sink>(
     board: &BoardClasses<'_>,
     pin_use: PinUse,
@@ -77,7 +77,7 @@ fn put_place<K: Sink>(
     }
 }
 
-/// Writes the lines of the untested pins of a net.
+/// Writes the lines of the net's pins that are untested in this role.
 fn put_net_pins<K: Sink>(
     board: &BoardClasses<'_>,
     pin_use: PinUse,
@@ -96,7 +96,7 @@ fn put_net_pins<K: Sink>(
     Ok(())
 }
 
-/// Writes the lines of the untested pins of a net if the net is covered.
+/// Writes the lines of the net's pins that are untested in this role, if the net is covered.
 fn put_pins_at<K: Sink>(
     board: &BoardClasses<'_>,
     pin_use: PinUse,
@@ -114,7 +114,7 @@ fn put_pins_at<K: Sink>(
     }
 }
 
-/// Returns whether a bit of the word is set.
+/// Returns whether bit `place` of the word is set.
 fn has_bit(word: u64, place: u32) -> bool
     requires { place < 64 }
     ensures { result ≡ (bit_at word place == 1) }

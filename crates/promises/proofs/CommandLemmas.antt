@@ -99,7 +99,7 @@ module _ (run : Run) (is : IsRun run) (one : SayOne) where
       prints run is (Make parts) on.0 [] on.1 _ refl _ (λ line gives. not_both (one.board chain nets (bsdl_text ∷ []) (Ok board) (Err gives.0) denotes gives.1))
       (λ text gives worth. gives.2 ∙ ap summary (same_board chain nets (bsdl_text ∷ []) board gives.0 denotes gives.1))
 
-  -- if a log can be read for the board that the files denote, neither the log nor the other files have a fault
+  -- if the files denote a board, and a log can be read for this board, then the log has no fault for any board that the files denote
   read_well : {L E : Type 0} (read : Text → RawBoard → Result L E) (log chain nets : Text) (bsdl : List Text) (board : RawBoard) (contents : L) → Denotes chain nets bsdl board → read log board ≡ Ok contents
       → (other : RawBoard) (fault : E) → Denotes chain nets bsdl other → read log other ≡ Err fault → ⊥
   read_well {L} {E} read log chain nets bsdl board contents denotes holds other fault also fails =

@@ -1,4 +1,4 @@
--- Lemmas which say that the files of a command give exactly the outcome that the clauses of `run` state.
+-- Lemmas which say that the outcome that the files of a command give is the outcome that the clauses of `run` state.
 use Rattle.std.proofs.Common.{◌≡◌, ◌∙◌, List, [], ◌∷◌, Result, Ok, Err, refl, sym, ap, inl, inr}
 use Rattle.std.specs.Prelude.{Bool, codes}
 use Rattle.board_defs.specs.declared.board.RawBoard.{RawBoard}
@@ -83,7 +83,7 @@ Diagnosis = Bool × List Single
 each_back : (board : RawBoard) (blocks : List Block) (found : List Block × List Verdict) → (found.0 ≡ blocks) × AreVerdicts board blocks found.1 → (verdicts : List Verdict) × AreVerdicts board blocks verdicts × (verdicts_text (board, found) ≡ batch_text board blocks verdicts)
 each_back board blocks found is = (found.1, is.1, ap (λ (l : List Block). batch_text board l found.1) is.0)
 
--- if the files give an outcome, it is an outcome in the sense of `run`
+-- if the texts give an outcome, it is the outcome in the sense of `IsOutcome`
 pub gives_is : (command : Command) (texts : List Text) (outcome : Result Text Text) → Gives command texts outcome → IsOutcome command (Read texts) outcome
 gives_is (Chain names) [] outcome gives = absurd gives
 gives_is (Chain names) (chain ∷ bsdl) outcome gives = (Chain (chain_texts chain bsdl), refl, said (AreChainLengths chain bsdl) chain_text (of_chain names) outcome gives)
@@ -115,7 +115,7 @@ gives_is (Batch workers log names) (rows ∷ []) outcome gives = absurd gives
 gives_is (Batch workers log names) (rows ∷ chain ∷ []) outcome gives = absurd gives
 gives_is (Batch workers log names) (rows ∷ chain ∷ nets ∷ bsdl) outcome gives = (Batch workers rows (board_texts chain nets bsdl), refl, logs_said judging_each AreVerdicts batch_text verdicts_text (λ board fault. batch_fault_line log (test_rows board) fault) (of_board log names) (λ board fault. refl) (λ board blocks verdicts is. ((blocks, verdicts), (refl, is), refl)) each_back rows chain nets bsdl outcome gives)
 
--- if an outcome is an outcome in the sense of `run`, the files give it
+-- if an outcome is the outcome in the sense of `IsOutcome`, the texts give it
 pub is_gives : (command : Command) (texts : List Text) (outcome : Result Text Text) → IsOutcome command (Read texts) outcome → Gives command texts outcome
 is_gives command texts outcome (asked, is, given) =
     by_request (λ command texts asked. IsGiven (roles_of command) asked outcome → Gives command texts outcome)

@@ -26,7 +26,7 @@ module _ (are_lines : (text : List ℕ) (rows len : ℕ) (log : List (List Bool)
     (shape : (board : RawBoard) (passes : List (List Ctl)) (width : ℕ) (log : List (List Bool)) → IsBoard board → ArePasses board passes → HasShape board (row_scans (code_row board passes) width passes) log ↔ ((length log ≡ length passes * width) × All (λ row. length row ≡ data_bits board) log))
     (compare : (board : RawBoard) (walk : List Ctl) → IsBoard board → CompareRows (walk_row board) (count_by (is_walked board walk) board.nets) (walk ∷ []) (compared_scans board (walk_row_scans board walk)))
     (counted : (board : RawBoard) (scans : List RowScan) → count_by is_compared (board_scans board scans) ≡ length (compared_scans board scans)) where
-  -- if a text holds a log of `count` rows, it is read as this log
+  -- if a text holds a log of `count` rows, `log_rows` returns the rows of this log
   is_read : (board : RawBoard) (scans : List RowScan) (count : ℕ) (log : Text) (rows : List (List Bool)) → HoldsLog board scans log rows → length rows ≡ count → log_rows log count (data_bits board) ≡ Ok rows
   is_read board scans count log rows holds number = (are_lines log count (data_bits board) rows).1 (record { lines = holds.lines; count = number })
 
@@ -50,7 +50,7 @@ module _ (are_lines : (text : List ℕ) (rows len : ℕ) (log : List (List Bool)
   blocks_read : (board : RawBoard) → IsBoard board → (logs : Text) (blocks : List Block) → HoldsBlocks board logs blocks → HoldsBlockLogs logs (test_rows board) (data_bits board) blocks
   blocks_read board rules logs blocks holds = record { front = holds.front; texts = holds.texts; cut = holds.cut; each = read_each board rules holds.texts blocks holds.each }
 
-  -- The converse: if a text is read as a log of the right shape, it holds this log.
+  -- The converse: if `log_rows` returns rows of the right shape, the text holds the log with these rows.
 
   is_held : (board : RawBoard) (scans : List RowScan) (count : ℕ) (log : Text) (rows : List (List Bool)) → log_rows log count (data_bits board) ≡ Ok rows → (HasSize count (data_bits board) rows → HasShape board scans rows) → HoldsLog board scans log rows
   is_held board scans count log rows read shaped =

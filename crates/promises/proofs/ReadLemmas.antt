@@ -22,7 +22,7 @@ files_are (Diagnose workers log names) = refl
 files_are (Groups log names) = refl
 files_are (Batch workers log names) = refl
 
--- if a file's text is short enough, the reading is this text, followed by the reading of the other files
+-- if a file's text is within the limit, the reading is this text, followed by the reading of the other files
 then_rest : (file : Wanted) (text : Text) (rest : Option Reading) → length text ≤ file.limit → read_first file (Some text) rest ≡ and_text text rest
 then_rest file text rest short = ap (λ (b : Bool). if b then Some (TooLong file) else and_text text rest) (not_long file.limit (length text) (nat_lt file.limit (length text)) refl short)
 
@@ -53,7 +53,7 @@ reads_long None before file after texts text each is long = absurd is
 reads_long (Some held) [] file after texts text each is long = long_of held [] file after texts text each is long
 reads_long (Some held) (first ∷ before) file after texts text each is long = long_of held (first ∷ before) file after texts text each is long
 
--- if the files were read, the store holds the texts that were read
+-- if reading the files gives texts, these are the texts that the store holds for the files
 pub holds_read : (held : Text → Option Text) (files : List Wanted) (texts : List Text) → reading_of held files ≡ Some (Read texts) → HoldsEach (Some held) files texts
 holds_read held [] [] e = tt
 holds_read held [] (text ∷ texts) e = absurd cc
@@ -79,7 +79,7 @@ holds_read held (file ∷ files) texts e = by_text (held file.name) refl (readin
     by_text None is rest later texts e = absurd cc
     by_text (Some text) is rest later texts e = by_length text is (nat_lt file.limit (length text)) refl rest later texts e
 
--- the texts of the store are known
+-- the texts that the store holds are known
 abbrev pub Tells : Held → Type 0
 Tells held = (of_name : Text → Option Text) × (held ≡ Some of_name)
 
@@ -87,7 +87,7 @@ pub read_holds : (held : Held) → Tells held → (files : List Wanted) (texts :
 read_holds None (of_name, tells) files texts read = absurd cc
 read_holds (Some held) tells files texts read = holds_read held files texts read
 
--- if the first file is short enough, the first file that is too long among the others is also the first among all files
+-- if the first file is within its limit, the first file that is too long among the others is also the first one among all files
 after_first : (held : Text → Option Text) (first : Wanted) (text : Text) (files : List Wanted) (file : Wanted) → held first.name ≡ Some text → length text ≤ first.limit → IsTooLong (Some held) files file → IsTooLong (Some held) (first ∷ files) file
 after_first held first text files file is short long = record {
   before = first ∷ long.before;
@@ -127,7 +127,7 @@ pub read_long : (held : Held) → Tells held → (files : List Wanted) (file : W
 read_long None (of_name, tells) files file read = absurd cc
 read_long (Some held) tells files file read = long_held held files file read
 
--- the first file that is too long has only one place among the files
+-- if the files before each of two places have texts within their limits, and the same too long file is at both, the places are the same
 same_cut : (held : Text → Option Text) (before others after behind : List Wanted) (file : Wanted) (texts found : List Text) (text : Text) → held file.name ≡ Some text → file.limit < length text → HoldsEach (Some held) before texts → HoldsEach (Some held) others found
     → before ++ file ∷ after ≡ others ++ file ∷ behind → others ≡ before
 same_cut held [] [] after behind file texts found text is long each also e = refl
@@ -157,7 +157,7 @@ pub long_cut : (held : Held) (before others after behind : List Wanted) (file : 
 long_cut None before others after behind file texts found text is long each read e = absurd is
 long_cut (Some held) before others after behind file texts found text is long each read e = same_cut held before others after behind file texts found text is long each (holds_read held others found read) e
 
--- if `SomeRose` holds of these names, the count of one of these names rose
+-- if `SomeRose` holds for these names, the count of some name among them rose
 pub some_rose : (before now : Text → ℕ) (names : List Text) → SomeRose before now names → (name : Text) × Contains names name × Rose (before name) (now name)
 some_rose before now [] rose = absurd rose
 some_rose before now (name ∷ names) (inl rose) = (name, (zero, omega arith, refl), rose)

@@ -9,12 +9,12 @@ use Rattle.bt_bits.specs.Hex.{digit_count, digit_bits, joined_bits, text_bits, c
 use Rattle.text_lines.specs.Words.{Word}
 use Rattle.response_log.specs.LogRows.{NumberedLine, bits_of_line, only_word}
 
--- if there are bits, there are `n` bits
+-- there are no bits, or there are `n` bits
 abbrev AreMany : ℕ → Option (List Bool) → Type 0
 AreMany n bits = IfSome bits (λ b. length b ≡ n)
 
--- If a digit has bits, it has four. This is a record so that a proof can go through the tests of a digit without naming the cases that each
--- test leaves.
+-- If there are bits, there are four. This is a record so that a proof can go through the tests of a hexadecimal digit without naming the
+-- cases that each test leaves.
 record AreFour (bits : Option (List Bool)) : Type 0 where
   four : AreMany 4 bits
 

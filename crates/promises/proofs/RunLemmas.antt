@@ -42,14 +42,14 @@ pub apart : {s : Status} (a b : Status) → s ≡ a → s ≡ b → (a ≡ b →
 apart a b one other differ = differ (sym one ∙ other)
 
 module _ (run : Run) (is : IsRun run) (command : Command) (asks : Asks run command) where
-  -- a fact that the clauses of `run` state for the command of the words holds for this command
+  -- if a clause of `run` states P of the command that the words ask for, P holds for `command`
   pub here : (P : Command → Type 0) → IfSome (command_of run.words) P → P command
   here P all = subst (λ (c : Option Command). IfSome c P) (command_is run command asks) all
 
   pub none_rose : NoReadFailed run command → SomeRose run.old.unread run.new.unread (names_of command) → ⊥
   none_rose calm rose = let one = some_rose run.old.unread run.new.unread (names_of command) rose in calm one.0 one.1 one.2
 
-  -- unless a read failed, the outcome of the texts that were read settles the status
+  -- if no read failed, the outcome of the texts that were read determines the status
   pub settled : (reading : Reading) → known_reading run.old.held (wanted_of command) ≡ Some reading → NoReadFailed run command → (outcome : Result Text Text) × IsOutcome command reading outcome × Settles (Rose run.old.unwritten run.new.unwritten) outcome run.status
   settled reading known calm =
       here (λ c. IsComplete run.old.held c (SomeRose run.old.unread run.new.unread (names_of c)) (Rose run.old.unwritten run.new.unwritten) run.status) is.complete reading known (none_rose calm)
@@ -63,7 +63,7 @@ module _ (run : Run) (is : IsRun run) (command : Command) (asks : Asks run comma
   pub cut_here : run.status ≡ WriteFault → IsCutShort run.old.held command run.old.asked run.new.asked (out_of run.old) (out_of run.new)
   cut_here e = here (λ c. IsCutShort run.old.held c run.old.asked run.new.asked (out_of run.old) (out_of run.new)) (is.cut e)
 
-  -- if the texts that were read have a fault, the run ends as Refused
+  -- if the outcome of the texts that were read is a fault, the run ends as Refused
   pub ends_refused : SayOne → (reading : Reading) (line : Text) → known_reading run.old.held (wanted_of command) ≡ Some reading → IsOutcome command reading (Err line) → EndsWith run command Refused
   ends_refused one reading line known fault calm = let told = settled reading known calm in by_outcome told.0 told.1 told.2
     where
@@ -71,7 +71,7 @@ module _ (run : Run) (is : IsRun run) (command : Command) (asks : Asks run comma
       by_outcome (Ok text) given settles = absurd (not_both (one.outcome command reading (Ok text) (Err line) given fault))
       by_outcome (Err other) given settles = settles
 
-  -- if the texts that were read have a fault, no text is written
+  -- if the outcome of the texts that were read is a fault, the status is not Done
   pub not_done : SayOne → (reading : Reading) (line : Text) → known_reading run.old.held (wanted_of command) ≡ Some reading → IsOutcome command reading (Err line) → run.status ≢ Done
   not_done one reading line known fault e =
       let told = done_here e in
@@ -93,18 +93,18 @@ module _ (run : Run) (is : IsRun run) (command : Command) (asks : Asks run comma
         let same = one_reading run.old.held (wanted_of command) (Read texts) (Read others) known read in
         cc
 
-    -- if the texts that were read give a text, the texts of the files give this text
+    -- if the texts that were read give `text`, the texts of the files give `text`
     given : (request : Request) (text : Text) → IsReadAs run.old.held command run.old.asked run.new.asked request → IsGiven (roles_of command) request (Ok text) → Gives command texts (Ok text)
     given request text read gives =
         let made = subst (λ (l : List Text). request_of command l ≡ Some request) (texts_are read.texts read.read) read.made in
         is_gives command texts (Ok text) (request, made, gives)
 
-    -- if a text was printed in whole or in part, the files give a text
+    -- if the status is Done or WriteFault, the texts of the files give a text
     pub gives_text : (run.status ≡ Done) ⊎ (run.status ≡ WriteFault) → (text : Text) × Gives command texts (Ok text)
     gives_text (inl e) = let told = done_here e in (told.text, given told.request told.text told.read told.gives)
     gives_text (inr e) = let told = cut_here e in (told.text, given told.request told.text told.read told.gives)
 
-    -- if the text of a command has the property P, the command keeps the promise to print
+    -- if the files give no fault, and each text that they give has the property P, the run keeps the promise to print a text with P
     pub prints : (request : Request) → request_of command texts ≡ Some request → (P : Text → Type 0) → ((line : Text) → Gives command texts (Err line) → ⊥) → ((text : Text) → Gives command texts (Ok text) → IsWorthFor request text → P text) → Prints run command P
     prints request made P sound worth = record {
       asks = λ e. (done_here e).read.asks;

@@ -1,6 +1,6 @@
--- Samples of the promise of each command, in terms of the text that a run wrote. A run breaks the promise if it wrote another text, or a
+-- Samples of the promise of each command, stated for the text that a run wrote. A run breaks the promise if it wrote another text, or a
 -- text without the promised properties. It also breaks the promise if it wrote a text, in whole or in part, although the files denote no
--- board or hold no log of the board. The files may have any texts with the properties stated here.
+-- board or hold no log of the board. The samples hold for any files with the stated properties.
 use Rattle.std.proofs.Common.{◌≡◌, ◌≢◌, ◌↔◌, ◌⊎◌, ◌∙◌, ℕ, ◌+◌, ◌≤◌, Bool, true, false, List, [], ◌∷◌, ◌++◌, length, sum, Option, Some, None, Ok, refl, sym, ap, subst, length-append, arith}
 use Rattle.std.specs.Prelude.{codes}
 use Rattle.board_defs.specs.declared.board.RawBoard.{RawBoard}
@@ -67,7 +67,7 @@ board_files = codes "c" ∷ codes "n" ∷ codes "b" ∷ []
 abbrev log_files : List Text
 log_files = codes "g" ∷ board_files
 
--- the commands on a log, with one worker
+-- the command `diagnose` with one worker; `batch` below is like it
 abbrev diagnose : Command
 diagnose = Diagnose 1 (codes "g") board_names
 
@@ -77,7 +77,7 @@ batch = Batch 1 (codes "g") board_names
 abbrev groups : Command
 groups = Groups (codes "g") board_names
 
--- the words of these commands
+-- the words of the command `diagnose`
 abbrev diagnose_words : List Text
 diagnose_words = codes "diagnose" ∷ codes "1" ∷ log_files
 
@@ -87,7 +87,7 @@ batch_words = codes "batch" ∷ codes "1" ∷ log_files
 abbrev groups_words : List Text
 groups_words = codes "groups" ∷ log_files
 
--- a text with one more line end is a different text, although its meaning may be the same
+-- a text followed by a newline is a different text
 past : (text : Text) → text ++ 10 ∷ [] ≡ text → ⊥
 past text same =
     let more : length (text ++ 10 ∷ []) ≡ length text + 1 = length-append text (10 ∷ []) in
@@ -95,7 +95,7 @@ past text same =
     omega (arith, more, count)
 
 module _ (held : Held) where
-  -- runs that wrote the given text
+  -- a run of `chain` that wrote `text`
   abbrev chain_run : Text → Run
   chain_run text = run_of chain_words held Done chain_files text []
 
@@ -111,7 +111,7 @@ module _ (held : Held) where
         let told = (tests chain_names lines bsdl lengths (((refl, omega arith), refl), each) are).puts refl in
         (told.2.2, ap meaning told.1 ∙ told.2.3, told.2.4 wiring parts same)
 
-    -- if the text keeps the promise, it fails on a chain with another number of parts
+    -- if `text` keeps the promise, it fails on each chain with another number of parts and no more bits
     chain_fails : (text : Text) → TestsChain (chain_run text) → (wiring : Wiring) (parts : List TestLogic) → AreIrLengths (ir_lengths parts) → length parts ≢ length lengths → sum (ir_lengths parts) ≤ sum lengths
         → (clocks : List Clock) × (meaning text ≡ Some clocks) × FailsOn wiring parts clocks
     chain_fails text tests wiring parts wide other within =
@@ -227,10 +227,10 @@ module _ (held : Held) where
   other_summary : (board : RawBoard) → Denotes (made.chain_text 2) (made.net_text 2) (bsdl_text ∷ []) board → SumsUp (run_of (codes "make" ∷ codes "2" ∷ []) None Done [] (summary board ++ 10 ∷ []) []) → ⊥
   other_summary board denotes sums = let told = (sums 2 board (((codes "2", refl, refl), refl), tt) denotes).puts refl in past (summary board) (told.1 ∙ told.2)
 
--- Runs that wrote a text, in whole or in part, although the files denote no board, or the log is not a log of the board.
+-- Runs that wrote a text, in whole or in part, although the files denote no board or the log is not a log of the board.
 module _ (held : Held) (lines nets : Text) (bsdl : List Text) (status : Status) (ended : (status ≡ Done) ⊎ (status ≡ WriteFault)) (text : Text) where
   module _ (log : Text) (each : HoldsEach held (files_of diagnose) (log ∷ lines ∷ nets ∷ bsdl)) where
-    -- the file holds a log of some board, but the other files denote no board
+    -- the log file holds a log of some board, but the other files denote no board
     diagnosed_without_board : (other : RawBoard) (rows : List (List Bool)) → HoldsLog other (svf_row_scans other) log rows → ((board : RawBoard) → Denotes lines nets bsdl board → ⊥) → RestsOnLog (run_of diagnose_words held status log_files text []) → ⊥
     diagnosed_without_board other rows holds none rests =
         let told = rests 1 (codes "g") board_names log lines nets bsdl (((codes "1", refl, (refl, omega arith)), refl), each) ended in
@@ -263,7 +263,7 @@ module _ (held : Held) (lines nets : Text) (bsdl : List Text) (status : Status) 
         let told = rests (codes "g") board_names log lines nets bsdl (((refl, omega arith), refl), each) ended in
         none told.0 told.2 told.1 told.3
 
--- Samples of wrong diagnoses.
+-- Samples of diagnoses that are wrong for a log.
 module _ (board : RawBoard) (log : List (List Bool)) where
   unexpected_pass : (faults : List Single) → (IsExpected board (svf_row_scans board) log → ⊥) → IsDiagnosed board log true faults → ⊥
   unexpected_pass faults differs is = differs (is.passes.0 refl)
@@ -286,7 +286,7 @@ module _ (board : RawBoard) (log : List (List Bool)) where
   faults_out_of_order : (one other : Single) (pass : Bool) → (SinglePrecedes one other → ⊥) → IsDiagnosed board log pass (one ∷ other ∷ []) → ⊥
   faults_out_of_order one other pass none is = none (is.in_order 0 1 one (omega arith) (omega arith))
 
--- Samples of boards without the responses that a diagnosis needs.
+-- Samples of boards whose test lacks a property that a diagnosis needs.
 module _ (board : RawBoard) where
   test_without_meaning : meaning (board_text board) ≡ None → HasResponses board → ⊥
   test_without_meaning none has =

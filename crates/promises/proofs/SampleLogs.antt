@@ -20,7 +20,7 @@ Holds text log = HoldsLog wires (svf_row_scans wires) text log
 abbrev HoldsNone : Text → Type 0
 HoldsNone text = (log : List (List Bool)) → Holds text log → ⊥
 
--- row 1 of the samples, whose digit is 1; `row_2` below has the digit 2
+-- the row of the digit 1
 abbrev row_1 : List Bool
 row_1 = true ∷ false ∷ false ∷ false ∷ []
 
@@ -37,7 +37,7 @@ two_rows : Holds (codes "1\n2\n") both
 unfolding words_of
 two_rows = record { lines = refl; shape = both_shaped }
 
--- a text with comments, a line without words and a carriage return, but without a newline after the last row
+-- a text with comments, an empty line and a carriage return, and with no newline after the last row
 with_comments : Holds (codes "# x\n\n1 # y\r\n2") both
 unfolding words_of
 with_comments = record { lines = refl; shape = both_shaped }
@@ -56,7 +56,7 @@ three_rows log holds =
     let wanted : length log ≡ 2 = holds.shape.rows in
     absurd (omega (arith, count, wanted))
 
--- a block of a batch that has two blocks, lines of all kinds, and a comment at the start
+-- a block with this id and the log `both`
 abbrev block : Text → Block
 block id = record { id = id; log = both }
 
@@ -105,7 +105,7 @@ no_blocks = record {
   each = tt;
 }
 
--- a block does not hold its log if it has only one row, or if its title has two ids
+-- a block of one row does not hold a log of two rows
 block_of_one_row : (found : Block) → HoldsBlock wires (record { title = codes "BOARD A"; below = codes "1" ∷ [] }) found → ⊥
 unfolding words_of
 block_of_one_row found holds =

@@ -1,6 +1,6 @@
 -- Samples of runs that break a promise, worked out by hand. For each fact that a promise states, there is a run in which only this fact is
--- false. In other runs, only the read of another name or a write to the notes failed, so a promise still covers them. Some runs break
--- nothing. The files may have any texts with the properties stated here.
+-- false. In other runs, only the read of another name or a write to the notes failed, and the promise still covers these runs. Some runs
+-- break nothing. The samples hold for any files with the stated properties.
 use Rattle.std.proofs.Common.{◌≡◌, ◌⊎◌, ◌∙◌, ℕ, zero, suc, ◌+◌, ◌<◌, ◌≤◌, Bool, true, false, List, [], ◌∷◌, ◌++◌, length, map, cond, Option, Some, None, Result, Ok, Err, refl, sym, ap, subst, inl, inr, length-append, arith}
 use Rattle.std.specs.Prelude.{Contains, codes, take}
 use Rattle.std.specs.Str.{bytes_eq}
@@ -20,16 +20,16 @@ use Rattle.promises.specs.Promises.{FilesGive, FindsOutcome, RestsOnFiles, Tells
 use Rattle.promises.proofs.WordLemmas.{command_is, none_asked}
 use Rattle.promises.proofs.RunLemmas.{same_some}
 
--- The ends of a run in which no read and no write failed: the texts of the store, the names asked for, the output and the notes.
+-- The state after a run in which no read and no write failed: what the store holds, the names asked for, the output and the notes.
 abbrev pub ends : Held → List Text → Text → Text → Ends
 ends held asked out notes = record { held = held; asked = asked; unread = λ name. 0; out = out; unwritten = 0; notes = notes; unnoted = 0 }
 
--- A run of these words. At its start nothing had been asked for, written or noted. At its end, the store was asked for these names, and
--- these texts were written.
+-- A run of these words. Before the run, no name had been asked for, and nothing had been written to the output or the notes. In the run,
+-- the store was asked for the names `asked`, and `out` and `notes` were written.
 abbrev pub run_of : List Text → Held → Status → List Text → Text → Text → Run
 run_of words held status asked out notes = record { words = words; old = ends held [] [] []; new = ends held asked out notes; status = status }
 
--- the words of `device`, `chain` and `svf`, and the names of their files
+-- the words of `device`
 abbrev pub device_words : List Text
 device_words = codes "device" ∷ codes "b" ∷ []
 
@@ -57,7 +57,7 @@ svf = Svf (record { chain = codes "c"; nets = codes "n"; bsdl = codes "b" ∷ []
 abbrev b_asked : List Text
 b_asked = codes "b" ∷ []
 
--- a store that is known to hold no file
+-- a store that holds no file, and of which this is known
 abbrev empty : Held
 empty = Some (λ name. None)
 
@@ -65,18 +65,18 @@ calm : Rose 0 0 → ⊥
 calm (inl less) = omega (arith, less)
 calm (inr last) = omega (arith, last)
 
--- if `bytes_eq` says that two texts differ, they are not equal
+-- two texts of which `bytes_eq` is false are not equal
 apart : (one other : Text) → bytes_eq one one ≡ true → bytes_eq one other ≡ false → one ≡ other → ⊥
 apart one other same differ is =
     let z : true ≡ false = sym same ∙ ap (bytes_eq one) is ∙ differ in
     cc z
 
--- if `bytes_eq` says that no beginning of the line is this text, the line does not begin with the text
+-- if `bytes_eq` is false for `one` and every beginning of `line`, `line` does not begin with `one`
 no_front : (one line : Text) → bytes_eq one one ≡ true → bytes_eq one [] ≡ false → ((count : ℕ) → bytes_eq one (take (suc count) line) ≡ false) → (count : ℕ) → one ≡ take count line → ⊥
 no_front one line same some differ zero is = apart one [] same some is
 no_front one line same some differ (suc count) is = apart one (take (suc count) line) same (differ count) is
 
--- if the notes took nothing, they did not take this line
+-- if nothing was written to the notes and `line` is not empty, the notes did not take `line`
 none_noted : (words : List Text) (held : Held) (status : Status) (asked : List Text) (out line : Text) → bytes_eq [] line ≡ false → Notes (run_of words held status asked out []) line → ⊥
 none_noted words held status asked out line some (inl is) = apart [] line refl some is
 none_noted words held status asked out line some (inr (rose, cut)) = calm rose
@@ -86,7 +86,7 @@ neither : (status one other : Status) → (status ≡ one → ⊥) → (status �
 neither status one other first second (inl is) = first is
 neither status one other first second (inr is) = second is
 
--- The same run, but with one failed write to the notes.
+-- The run `run`, but with one failed write to the notes.
 
 abbrev unnoted : Run → Run
 unnoted run = record run { new = record run.new { unnoted = 1 } }
@@ -100,17 +100,17 @@ noted_whole line = inl refl
 noted_in_part : (line : Text) (count : ℕ) → Notes (unnoted (noting (take count line))) line
 noted_in_part line count = inr (inl (omega arith), (count, refl))
 
--- unless a write failed, the notes must not take only the first bytes of the line
+-- if no write failed, the notes must not have only the first bytes of the line
 noted_in_part_alone : Notes (noting (codes "us")) usage_line → ⊥
 noted_in_part_alone (inl is) = apart (codes "us") usage_line refl refl is
 noted_in_part_alone (inr (rose, cut)) = calm rose
 
--- although a write failed, the notes must not take bytes with which the line does not begin
+-- even if a write failed, the notes must not have bytes with which the line does not begin
 noted_other : Notes (unnoted (noting (codes "x"))) usage_line → ⊥
 noted_other (inl is) = apart (codes "x") usage_line refl refl is
 noted_other (inr (rose, (count, is))) = no_front (codes "x") usage_line refl refl (λ n. refl) count is
 
--- `device` prints the text with the single byte 1
+-- the run keeps the promise that `device` prints the text that is the single byte 1
 abbrev PrintsOne : Run → Type 0
 PrintsOne run = Prints run device (λ text. text ≡ 1 ∷ [])
 
@@ -135,7 +135,7 @@ prints_more prints =
 prints_with_note : PrintsOne (run_of device_words empty Done b_asked (1 ∷ []) (1 ∷ [])) → ⊥
 prints_with_note prints = let count : 1 ≡ 0 = ap length (prints.silent refl) in absurd (omega (arith, count))
 
--- although a write to the notes failed, a run that prints must not write a part of a line to the notes
+-- a run that prints its text must not write a part of a line to the notes, even if a write to the notes failed
 prints_with_part : PrintsOne (unnoted (run_of device_words empty Done b_asked (1 ∷ []) (codes "us"))) → ⊥
 prints_with_part prints = let count : 2 ≡ 0 = ap length (prints.silent refl) in absurd (omega (arith, count))
 
@@ -150,7 +150,7 @@ prints_unwritten prints = neither WriteFault Done NoMemory (λ e. cc) (λ e. cc)
 prints_unnoted : PrintsOne (unnoted (run_of device_words empty WriteFault b_asked [] [])) → ⊥
 prints_unnoted prints = neither WriteFault Done NoMemory (λ e. cc) (λ e. cc) (prints.ends calm (λ name among rose. calm rose))
 
--- The same run, but on a store in which the read of this name failed once.
+-- The run `run`, but with one failed read of the file `name`.
 
 abbrev failing : Text → Run → Run
 failing name run = record run { new = record run.new { unread = λ other. cond (bytes_eq name other) 1 0 } }
@@ -159,7 +159,7 @@ only_name : (name : Text) → Contains (codes "b" ∷ []) name → name ≡ code
 only_name name (zero, below, is) = sym is
 only_name name (suc k, below, is) = absurd (omega (arith, below))
 
--- if only the read of another file failed, no read of this file failed
+-- if only the read of the file `name` failed, no read of another file failed
 was_read : (name other : Text) → bytes_eq name other ≡ false → (file : Text) → file ≡ other → Rose 0 (cond (bytes_eq name file) 1 0) → ⊥
 was_read name other differ file is rose =
     let same : cond (bytes_eq name file) 1 0 ≡ 0 = ap (λ (n : Text). cond (bytes_eq name n) 1 0) is ∙ ap (λ (b : Bool). cond b 1 0) differ in
@@ -171,7 +171,7 @@ b_read words asked held status out notes name among rose = was_read (codes "x") 
 other_read_failed : PrintsOne (failing (codes "x") (run_of device_words empty ReadFault [] [] (read_line (codes "x")))) → ⊥
 other_read_failed prints = neither ReadFault Done NoMemory (λ e. cc) (λ e. cc) (prints.ends calm (b_read device_words [] empty ReadFault [] (read_line (codes "x"))))
 
--- These words ask for no command.
+-- An empty list of words asks for no command.
 
 nothing_asked : (held : Held) (status : Status) (asked : List Text) (out notes : Text) → AsksNothing (run_of [] held status asked out notes)
 nothing_asked held status asked out notes = none_asked (run_of [] held status asked out notes) refl
@@ -197,7 +197,7 @@ usage_that_read tells =
     let count : 1 ≡ 0 = ap (λ (unread : Text → ℕ). unread (codes "b")) (tells.1 nothing).2 in
     absurd (omega (arith, count))
 
--- a run before which the store is known to hold no file, and after which its texts are not known
+-- a run before which the store is known to hold no file, and after which it is not known what the store holds
 abbrev forgotten : Run
 forgotten = let run = run_of [] empty Usage [] [] usage_line in record run { new = record run.new { held = None } }
 
@@ -211,7 +211,7 @@ is_device run command one other =
     let same : ◌≡◌ {A = Option Command} (Some command) (Some device) = sym (command_is run command other) ∙ command_is run device one in
     cc
 
--- A listing is not empty. The next lemma says that it does not begin with an x.
+-- A listing is not empty.
 some_listing : (described : RawDevice) → ◌≡◌ {A = Text} [] (device_text described) → ⊥
 unfolding device_text
 some_listing described is = apart [] (device_text described) refl refl is
@@ -220,7 +220,7 @@ no_listing : (described : RawDevice) (count : ℕ) → codes "x" ≡ take count 
 unfolding device_text
 no_listing described count is = no_front (codes "x") (device_text described) refl refl (λ n. refl) count is
 
--- A store that holds this text under each name.
+-- A store that holds `text` under each name.
 module _ (text : Text) (short : length text ≤ 4194304) where
   abbrev holding : Held
   holding = Some (λ name. Some text)
@@ -228,7 +228,7 @@ module _ (text : Text) (short : length text ≤ 4194304) where
   on_text : (status : Status) (asked : List Text) (out notes : Text) → RunsOn (run_of device_words holding status asked out notes) device (text ∷ [])
   on_text status asked out notes = ((refl, refl), (refl, short, tt))
 
-  -- if the files of this store give an outcome, the text gives it
+  -- if the store holds `texts` for the files of `device`, `texts` is the list with only `text`
   only_text : (texts : List Text) → HoldsEach holding (files_of device) texts → text ∷ [] ≡ texts
   only_text [] each = absurd each
   only_text (one ∷ []) each = ap (λ (t : Text). t ∷ []) (same_some each.0)
@@ -283,7 +283,7 @@ module _ (text : Text) (short : length text ≤ 4194304) where
     refused_unasked : TellsFault (run_of device_words holding Refused [] [] line) → ⊥
     refused_unasked tells = let count : 0 ≡ 1 = ap length ((tells.1 device (text ∷ []) (on_text Refused [] [] line)).0 refl).0 in absurd (omega (arith, count))
 
-    -- although a read of the file failed, the status must not be Done, nor WriteFault
+    -- if a read of the file failed, the status must still not be Done
     fault_done : TellsFault (failing (codes "b") (run_of device_words holding Done b_asked [] [])) → ⊥
     fault_done tells = ((tells.1 device (text ∷ []) ((refl, refl), (refl, short, tt))).1 line gives).0 refl
 
@@ -294,7 +294,7 @@ module _ (text : Text) (short : length text ≤ 4194304) where
     fault_as_usage tells =
         neither Usage Refused NoMemory (λ e. cc) (λ e. cc) (((tells.1 device (text ∷ []) (on_text Usage b_asked [] [])).1 line gives).2 (λ name among rose. calm rose))
 
-    -- the run must be refused if only the read of another name failed
+    -- if only the read of another name failed, the status must not be ReadFault
     fault_as_unread : TellsFault (failing (codes "x") (run_of device_words holding ReadFault [] [] (read_line (codes "x")))) → ⊥
     fault_as_unread tells =
         neither ReadFault Refused NoMemory (λ e. cc) (λ e. cc) (((tells.1 device (text ∷ []) ((refl, refl), (refl, short, tt))).1 line gives).2 (b_read device_words [] holding ReadFault [] (read_line (codes "x"))))
@@ -302,7 +302,7 @@ module _ (text : Text) (short : length text ≤ 4194304) where
     refused_as_told : RestsOnFiles (run_of device_words holding Refused b_asked [] line)
     refused_as_told = (λ e. absurd cc, λ e. absurd cc, λ e. (device, (refl, refl), line, inl (text ∷ [], (refl, short, tt), gives), inl refl))
 
-    -- the status must not be Refused if the words ask for no command
+    -- if the words ask for no command, the status must not be Refused
     refused_without_words : RestsOnFiles (run_of [] holding Refused b_asked [] line) → ⊥
     refused_without_words rests = let told = rests.2 refl in nothing_asked holding Refused b_asked [] line told.0 told.1
 
@@ -319,7 +319,7 @@ module _ (text : Text) (short : length text ≤ 4194304) where
   unwritten_without_fault : TellsUnwritten (run_of device_words holding WriteFault b_asked [] write_line) → ⊥
   unwritten_without_fault tells = calm (tells refl).0
 
-  -- the status must not be WriteFault if only a write to the notes failed
+  -- if only a write to the notes failed, the status must not be WriteFault
   unwritten_as_unnoted : TellsUnwritten (unnoted (run_of device_words holding WriteFault b_asked [] write_line)) → ⊥
   unwritten_as_unnoted tells = calm (tells refl).0
 
@@ -360,14 +360,14 @@ module _ (text : Text) (short : length text ≤ 4194304) where
     unwritten_as_told : RestsOnFiles (run_of device_words holding WriteFault b_asked (take 3 (device_text described)) [])
     unwritten_as_told = (λ e. absurd cc, λ e. (device, (refl, refl), device_text described, inl (text ∷ [], (refl, short, tt), (described, is, refl)), 3, refl), λ e. absurd cc)
 
-    -- the status must not be Done if the words ask for no command
+    -- if the words ask for no command, the status must not be Done
     done_without_words : RestsOnFiles (run_of [] holding Done b_asked (device_text described) []) → ⊥
     done_without_words rests = let told = rests.0 refl in nothing_asked holding Done b_asked (device_text described) [] told.0 told.1
 
     unwritten_without_words : RestsOnFiles (run_of [] holding WriteFault b_asked [] []) → ⊥
     unwritten_without_words rests = let told = rests.1 refl in nothing_asked holding WriteFault b_asked [] [] told.0 told.1
 
-    -- the output must not take more than the listing, since the text describes only one device
+    -- if the text describes only one device, the output must not be the device's listing followed by a newline
     done_past_text : ((other : RawDevice) → IsDeviceText text (Ok other) → other ≡ described) → RestsOnFiles (run_of device_words holding Done b_asked (device_text described ++ 10 ∷ []) []) → ⊥
     done_past_text only rests =
         let told = rests.0 refl in
@@ -377,7 +377,7 @@ module _ (text : Text) (short : length text ≤ 4194304) where
         let count : length (device_text described ++ 10 ∷ []) ≡ length (device_text described) = ap length same in
         absurd (omega (arith, more, count))
 
-  -- The text gives an outcome even if memory ran out.
+  -- Even if memory ran out, the text of the file gives an outcome.
   something_given : FindsOutcome (run_of device_words holding NoMemory [] [] []) → (outcome : Result Text Text) × Gives device (text ∷ []) outcome
   something_given finds = finds.1 device (text ∷ []) (on_text NoMemory [] [] [])
 
@@ -392,7 +392,7 @@ module _ (text : Text) (over : 4194304 < length text) where
   abbrev long_c : IsTooLong too_long (files_of chain) c_file
   long_c = record { before = []; after = b_file ∷ []; are = refl; texts = []; each = tt; text = text; holds = refl; long = over }
 
-  -- the run must not ask for the file after the long one
+  -- if the first file is too long, the run must not ask for the second file
   long_and_next : TellsLong (run_of chain_words too_long Refused (codes "c" ∷ codes "b" ∷ []) [] (long_line (codes "c") 4194304)) → ⊥
   long_and_next tells = let count : 2 ≡ 1 = ap length ((tells chain c_file ((refl, omega arith), refl) long_c).0 refl).0 in absurd (omega (arith, count))
 
@@ -402,7 +402,7 @@ module _ (text : Text) (over : 4194304 < length text) where
   long_without_note : TellsLong (run_of device_words too_long Refused b_asked [] []) → ⊥
   long_without_note tells = none_noted device_words too_long Refused b_asked [] (long_line (codes "b") 4194304) refl ((tells device b_file (refl, refl) long_b).0 refl).1
 
-  -- although a read of the file failed, the status must not be Done, nor WriteFault
+  -- if a read of the file failed, the status must still not be Done
   long_done : TellsLong (failing (codes "b") (run_of device_words too_long Done b_asked [] [])) → ⊥
   long_done tells = (tells device b_file (refl, refl) long_b).1 refl
 
@@ -415,7 +415,7 @@ module _ (text : Text) (over : 4194304 < length text) where
   long_as_unread : TellsLong (failing (codes "x") (run_of device_words too_long ReadFault [] [] (read_line (codes "x")))) → ⊥
   long_as_unread tells = neither ReadFault Refused NoMemory (λ e. cc) (λ e. cc) ((tells device b_file (refl, refl) long_b).3 (b_read device_words [] too_long ReadFault [] (read_line (codes "x"))))
 
--- If a store holds no file, its files give nothing. Only `make` needs no file.
+-- If a store holds no file, the files of `device` give nothing.
 
 no_file_given : (run : Run) → run.old.held ≡ empty → (outcome : Result Text Text) → FilesGive run device outcome → ⊥
 no_file_given run none outcome (inl (texts, each, gives)) = by_texts texts (subst (λ (held : Held). HoldsEach held (files_of device) texts) none each)
@@ -447,7 +447,7 @@ refused_on_no_file rests =
     let told = rests.2 refl in
     rests_on_no_file (run_of device_words empty Refused b_asked [] []) refl (refl, refl) told.0 told.1 (Err told.2) told.3
 
--- a read of the file must fail, or the status must be NoMemory, if the store holds no file
+-- if the store holds no file and no read failed, the status must be NoMemory
 nothing_found : (status : Status) → (status ≡ NoMemory → ⊥) → FindsOutcome (run_of device_words empty status b_asked [] []) → ⊥
 nothing_found status other finds =
     let told = finds.0 device (refl, refl) (λ name among rose. calm rose) other in
@@ -466,7 +466,7 @@ memory_with_text tells = let count : 1 ≡ 0 = ap length (tells refl).0 in absur
 memory_without_note : TellsMemory (run_of device_words empty NoMemory [] [] []) → ⊥
 memory_without_note tells = none_noted device_words empty NoMemory [] [] memory_line refl (tells refl).1
 
--- the run must not ask for the second file before the first
+-- the run must not ask for the second file before it asks for the first
 memory_out_of_order : TellsMemory (run_of svf_words empty NoMemory (codes "n" ∷ []) [] memory_line) → ⊥
 memory_out_of_order tells = let told = (tells refl).2 svf ((refl, omega arith), refl) in by_count told.0 told.1
   where
@@ -478,7 +478,7 @@ memory_out_of_order tells = let told = (tells refl).2 svf ((refl, omega arith), 
         first_of default [] = default
         first_of default (name ∷ names) = name
 
--- At ReadFault the notes must name a file whose read failed, and this file must be the last that was asked for.
+-- The last name in the list of `first` and `names`.
 
 abbrev last_of : Text → List Text → Text
 last_of first [] = first
@@ -488,7 +488,7 @@ last_is : (first : Text) (before : List Text) (name : Text) → last_of first (b
 last_is first [] name = refl
 last_is first (other ∷ before) name = last_is other before name
 
--- if the names asked for end with the name of the file, the last of them is this name
+-- if the last name that was asked for is the name of the file, `last_of` returns this name
 last_named : (first : Text) (others : List Text) (before : List Wanted) (file : Wanted) → first ∷ others ≡ map (λ f. f.name) before ++ file.name ∷ [] → file.name ≡ last_of first others
 last_named first others before file asked = sym (last_is first (map (λ f. f.name) before) file.name) ∙ sym (ap (last_of first) asked)
 
@@ -508,7 +508,7 @@ unread_without_words tells = let told = tells refl in none_asked (unread [] b_as
 unread_without_fault : TellsUnread (run_of device_words empty ReadFault b_asked [] (read_line (codes "b"))) → ⊥
 unread_without_fault tells = calm (tells refl).7
 
--- the notes must not name a file if only the read of another name failed, or of another file of the command
+-- if only the read of another name failed, the notes must not name this file
 unread_otherwise : TellsUnread (failing (codes "x") (run_of device_words empty ReadFault b_asked [] (read_line (codes "b")))) → ⊥
 unread_otherwise tells = let told = tells refl in was_read (codes "x") (codes "b") refl told.5.name (last_named (codes "b") [] told.3 told.5 told.8) told.7
 
@@ -529,7 +529,7 @@ unread_without_note tells = let told = tells refl in by_note (read_line told.5.n
     by_note line some (inl is) = apart [] line refl some is
     by_note line some (inr (rose, cut)) = calm rose
 
--- a run that asked for the second file, while the notes name the first file, which the store holds
+-- a run that asked for the second file last, although the notes name the first file, which the store holds
 abbrev first_for_second : Run
 first_for_second = none_read (Some (λ name. Some [])) svf_words (codes "c" ∷ codes "n" ∷ []) [] (read_line (codes "c"))
 
@@ -557,7 +557,7 @@ other_file tells =
         let more : length (before ++ file ∷ after) ≡ length before + suc (length after) = length-append before (file ∷ after) in
         absurd (omega (arith, count, more))
 
--- the run must not ask for the second file if the store does not hold the first file
+-- if the store does not hold the first file, the run must not ask for the second file
 first_not_held : TellsUnread (unread svf_words (codes "c" ∷ codes "n" ∷ []) [] (read_line (codes "n"))) → ⊥
 first_not_held tells = let told = tells refl in by_before told.3 told.5 told.8 (told.10 (λ name. None) refl)
   where

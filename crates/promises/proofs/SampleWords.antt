@@ -1,4 +1,4 @@
--- Samples of words that ask for a command, for each command, and of words that ask for no command. They are worked out by hand.
+-- Samples of words, worked out by hand: words that ask for each of the commands, and words that ask for no command.
 use Rattle.std.proofs.Common.{ℕ, List, [], ◌∷◌, replicate, codes, refl, arith}
 use Rattle.command_line.specs.declared.command.Command.TheVariants.{Chain, Ident, Device, Cover, Svf, Walk, Make, Diagnose, Groups, Batch}
 use Rattle.command_line.specs.Words.{Text, ChainNames, BoardNames, board_called, log_called}

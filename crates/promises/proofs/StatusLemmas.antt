@@ -1,4 +1,4 @@
--- Lemmas which say what each status other than Done implies, given the clauses of `run`.
+-- Lemmas which say what follows from each status other than Done.
 use Rattle.std.proofs.Common.{◌≡◌, ◌≢◌, ◌⊎◌, ◌∙◌, ℕ, List, [], ◌∷◌, ◌++◌, map, Option, Some, None, Result, Ok, Err, refl, sym, subst, inl, inr}
 use Rattle.std.specs.Prelude.{take}
 use Rattle.command_line.specs.Words.{Text, Command, command_of, names_of}
@@ -118,7 +118,7 @@ tells_memory run is e = (
   λ command asks. here run is command asks (λ c. AsksSome c run.old.asked run.new.asked) (is.memory_asks e),
 )
 
--- Done, WriteFault and Refused come only if the files give what these statuses need
+-- A run ends as Done, WriteFault or Refused only if the files give what this status needs.
 module _ (run : Run) (is : IsRun run) (tells : Tells run.old.held) where
   held_texts : (command : Command) (texts : List Text) → IsRead run.old.held (wanted_of command) (Read texts) → HoldsEach run.old.held (files_of command) texts
   held_texts command texts read = subst (λ (files : List Wanted). HoldsEach run.old.held files texts) (sym (files_are command)) (read_holds run.old.held tells (wanted_of command) texts read)

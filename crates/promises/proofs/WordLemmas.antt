@@ -1,4 +1,4 @@
--- Lemmas which say that the grammar makes a command of exactly the words that ask for this command.
+-- Lemmas which say that the grammar makes a command of words if and only if the words ask for this command.
 use Rattle.std.proofs.Common.{◌≡◌, ◌∙◌, ◌≤◌, ℕ, Bool, true, false, List, [], ◌∷◌, ◌++◌, length, Option, Some, None, refl, sym, ap, subst, arith}
 use Rattle.std.specs.Prelude.{nat_le, codes, option_map, option_and_then, if◌then◌else◌, IfSome}
 use Rattle.std.specs.List.{list_all}
@@ -34,7 +34,7 @@ parsed_is (Batch workers log names) words (number, is, (are, few)) =
 pub command_is : (run : Run) (command : Command) → Asks run command → command_of run.words ≡ Some command
 command_is run command (are, plain) = ap (λ (b : Bool). if b then parsed run.words else None) plain ∙ parsed_is command run.words are
 
--- The lemmas up to the end prove the converse: if the grammar makes a command of words, the words ask for this command.
+-- The lemmas below prove the converse: if the grammar makes a command of words, the words ask for this command.
 
 few : (n : ℕ) → nat_le n 255 ≡ true → n ≤ 255
 few n test = grind (arith, common_steps)
@@ -60,7 +60,7 @@ then_board front (chain ∷ nets ∷ names) = by_count (nat_le (length names) 25
 abbrev AreOf : List Text → Option Command → Type 0
 AreOf words command = IfSome command (λ c. AreWords c words)
 
--- if the words give the names of a command, they are the words of the command with these names
+-- if the words give names, they are the words of the command with these names
 of_names : {A : Type 0} (command : A → Command) (P : A → Type 0) (words : List Text) → ((names : A) → P names → AreWords (command names) words) → (names : Option A) → IfSome names P → AreOf words (option_map command names)
 of_names command P words are None is = tt
 of_names command P words are (Some names) is = are names is
@@ -108,7 +108,7 @@ of_board command name words are = of_names command (λ names. ThenBoard (name �
 of_chain : (command : ChainNames → Command) (name : Text) (words : List Text) → ((names : ChainNames) → ThenChain (name ∷ []) names (name ∷ words) → AreWords (command names) (name ∷ words)) → AreOf (name ∷ words) (option_map command (chain_of words))
 of_chain command name words are = of_names command (λ names. ThenChain (name ∷ []) names (name ∷ words)) (name ∷ words) are (chain_of words) (then_chain (name ∷ []) words)
 
--- if the first word is this name, the words can ask only for the command with this name
+-- if the first word is `name`, the words can ask only for the command that is called `name`
 module _ (word : Text) (rest : List Text) where
   by_word : (name : Text) (one other : Option Command) → AreOf (name ∷ rest) one → AreOf (word ∷ rest) other → AreOf (word ∷ rest) (if bytes_eq name word then one else other)
   by_word name one other named later = by_test (bytes_eq name word) refl

@@ -18,15 +18,14 @@ abbrev pub of_item : {X : Type 0} → (X → List ℕ) → Option X → List ℕ
 of_item text None = []
 of_item text (Some x) = text x
 
--- The line of a net that is not covered, or no text if the net is covered. `reason_at` below takes the number of the net.
+-- the line of the net if it is not covered, or no text if it is covered
 abbrev pub net_reason : RawBoard → Net → List ℕ
 net_reason board net = reason_line net.name (reason_of board net)
 
 abbrev pub reason_at : RawBoard → ℕ → List ℕ
 reason_at board n = of_item (net_reason board) (slice_get board.nets n)
 
--- The line of the pin at a place if the pin is untested. `net_pins` below has these lines for a covered net, and `pins_at` takes the number
--- of the net.
+-- the line of the pin at this place of the net if the pin is untested in this role, or no text if not
 abbrev pub place_text : RawBoard → PinUse → Net → ℕ → List ℕ
 place_text board pin_use net place = cond (is_untested board pin_use net place) (pin_line pin_use (slice_get net.pins place)) []
 
@@ -36,8 +35,7 @@ net_pins board pin_use net = cond (is_covered board net) (texts_from (place_text
 abbrev pub pins_at : RawBoard → PinUse → ℕ → List ℕ
 pins_at board pin_use n = of_item (net_pins board pin_use) (slice_get board.nets n)
 
--- True if net `high` is covered and not paired with net `low`. The next definitions have the lines of such pairs, and `pairs_at` takes the
--- number of the first net.
+-- net `high` is covered and not paired with net `low`
 abbrev pub is_unpaired : RawBoard → Net → Net → Bool
 is_unpaired board low high = is_covered board high && not (are_paired board low high)
 
@@ -53,7 +51,7 @@ net_pairs board n low = cond (is_covered board low) (texts_from (pair_at board l
 abbrev pub pairs_at : RawBoard → ℕ → List ℕ
 pairs_at board n = of_item (net_pairs board n) (slice_get board.nets n)
 
--- The lines of a section for the net with this number. `section_lines` below has the whole section.
+-- the lines that a section has for the net with this number
 abbrev pub section_at : RawBoard → Section → ℕ → List ℕ
 section_at board Reasons = reason_at board
 section_at board (Untested pin_use) = pins_at board pin_use

@@ -5,7 +5,7 @@ use Rattle.coverage_list.specs.inner.CoverForms.{pair_at, texts_from}
 use Rattle.line_printer.proofs.PutLemmas.{Completes}
 use Rattle.coverage_list.proofs.listing.put_later.Given as goal
 
--- the lines for the remaining nets complete the text
+-- the lines of net `low` with the nets from `from` on complete the text
 abbrev pub invariant-loop-from : goal.invariant-loop-from
 invariant-loop-from g l = (net : Net) → slice_get l.board.nets l.low ≡ Some net → Completes (g.K.Sink.shown l.fn.out) (g.K.Sink.shown l.out) (texts_from (pair_at l.board net) l.from (length l.board.nets)) (texts_from (pair_at l.board net) (l.low + 1) (length l.board.nets))
 
