@@ -13,22 +13,22 @@ use Rattle.batch_diag.specs.declared.fault.BatchFault.TheVariants.{Title as Wron
 use Rattle.batch_diag.specs.Batch.{is_title, id_of, names_board, begins_block, start_fault, title_fault, up_to_title, blocks_of}
 use Rattle.batch_diag.specs.inner.Cutting.{rows_from, begins_row, or_nothing}
 
--- The lines that have words, with their numbers. The first line of the list has the number `n`.
+-- The lines of `lines` that have words, with their numbers. The first of `lines` has the number `n`.
 abbrev pub rows_at : ℕ → List (List ℕ) → List NumberedLine
 rows_at n lines = filter has_words (numbered n lines)
 
--- numbered lines with one more line at the front, if this line has words
+-- the numbered lines `later`, with line `n` in front of them if it has words
 abbrev pub with_line : ℕ → List Word → List NumberedLine → List NumberedLine
 with_line n words later = cond (holds_word words) (record { number = n; words = words } ∷ later) later
 
--- the lines with words of the rest of a text, or no lines if no rest is left
+-- the lines with words in the rest of a text, or no lines if there is no rest
 abbrev pub left_at : ℕ → Option (List ℕ) → List NumberedLine
 left_at n left = rows_at n (lines_of left)
 
 pub left_line : (n : ℕ) (left after : Option (List ℕ)) (text line : List ℕ) → left ≡ Some text → slice_split is_newline text ≡ line ∷ lines_of after → left_at n left ≡ with_line n (words_of line) (left_at (n + 1) after)
 left_line n left after text line is split = ap (left_at n) is ∙ ap (rows_at n) split
 
--- if a line without words is put at the front, the first fault of a line stays the same
+-- if a line without words is put in front of `later`, `start_fault` stays the same
 pub start_blank : (n : ℕ) (words : List Word) (later : List NumberedLine) → holds_word words ≡ false → start_fault (with_line n words later) ≡ start_fault later
 start_blank n [] later none = refl
 start_blank n (word ∷ words) later none = absurd cc
@@ -37,7 +37,7 @@ pub start_here : (n : ℕ) (words : List Word) (later : List NumberedLine) → h
 start_here n [] later some = absurd cc
 start_here n (word ∷ words) later some = refl
 
--- if a line that is not a wrong title is put at the front, the first fault of a title stays the same
+-- if a line that is not a wrong title is put in front of `later`, `title_fault` stays the same
 pub title_right : (n : ℕ) (words : List Word) (later : List NumberedLine) → (is_title words && not (names_board words)) ≡ false → title_fault (with_line n words later) ≡ title_fault later
 title_right n [] later right = refl
 title_right n (word ∷ words) later right = ap (λ b. cond b (Some (WrongTitle n)) (title_fault later)) right
@@ -67,7 +67,7 @@ wrong_title_words (word ∷ words) is = refl
 pub wrong_line : (line : List ℕ) → (is_title (words_of line) && not (names_board (words_of line))) ≡ true → 0 < length line
 wrong_line line is = worded_line line (wrong_title_words (words_of line) is)
 
--- if the first byte of a line is neither a blank nor `B`, the line is not a title
+-- if the first byte of a line's first word is not `B`, the line is not a title
 other_first : (b : ℕ) (piece : List ℕ) (pieces : List (List ℕ)) (comment : Bool) → (b == 66) ≡ false → is_title (cond comment ((b ∷ piece) ∷ pieces) []) ≡ false
 other_first b piece pieces true other = ap (λ (t : Bool). t && bytes_eq piece (codes "OARD")) other
 other_first b piece pieces false other = refl
@@ -91,11 +91,11 @@ row_line (b ∷ bs) begins = by_tests (b == 66) (is_blank b) refl refl begins
     by_tests false true is is' begins = absurd cc
     by_tests false false is is' begins = no_title_at b bs is' is
 
--- cutting a text gives at least one line
+-- splitting a text at its newlines gives at least one line
 no_part : (text : List ℕ) → slice_split is_newline text ≡ [] → ⊥
 no_part text none = let count : length (slice_split is_newline text) ≡ 0 = ap length none in omega (arith, count, length-slice_split is_newline text)
 
--- If a text begins with `line` and a newline, its first line is `line`, and its other lines are the lines of the rest.
+-- The text `line`, a newline and `behind` has the first line `line`. Its other lines are the lines of `behind`.
 abbrev Stays : List ℕ → List ℕ → Type 0
 Stays line behind = slice_split is_newline (line ++ 10 ∷ behind) ≡ line ∷ slice_split is_newline behind
 
@@ -124,7 +124,7 @@ first_stays : (text line behind part : List ℕ) (parts : List (List ℕ)) → s
 first_stays [] line behind part parts is = absurd cc
 first_stays (b ∷ bs) line behind part parts is = stays_byte b bs line behind part parts (is_newline b) refl is (λ first split. first_stays bs first behind part parts split)
 
--- if `line` is the first line of some text, it is also the first line in front of any other rest
+-- if `line` is the first line of some text, it is also the first line of the text `line`, a newline and `behind`
 follows : (text line left behind : List ℕ) → slice_split is_newline text ≡ line ∷ slice_split is_newline left → slice_split is_newline (line ++ 10 ∷ behind) ≡ line ∷ slice_split is_newline behind
 follows text line left behind is = by_parts (slice_split is_newline left) refl is
   where
@@ -132,7 +132,7 @@ follows text line left behind is = by_parts (slice_split is_newline left) refl i
     by_parts [] none split = absurd (no_part left none)
     by_parts (part ∷ parts) some split = first_stays text line behind part parts split
 
--- a text is its first line, a newline and the rest
+-- if `line` is the first line of a text, and `left` has the other lines, the text is `line`, a newline and `left`
 text_of_first : (text line left : List ℕ) → slice_split is_newline text ≡ line ∷ slice_split is_newline left → text ≡ line ++ 10 ∷ left
 text_of_first text line left is =
     sym (join_with_byte-slice_split 10 text) ∙ ap (join_with_byte 10) (is ∙ sym (follows text line left left is)) ∙ join_with_byte-slice_split 10 (line ++ 10 ∷ left)
@@ -156,7 +156,7 @@ rows_append n (line ∷ lines) later =
     let next : n + 1 + length lines ≡ n + suc (length lines) = omega arith in
     front_append n (words_of line) (rows_at (n + 1) lines) (rows_at (n + suc (length lines)) later) (rows_at (n + 1) (lines ++ later)) (rows_append (n + 1) lines later ∙ ap (λ m. rows_at (n + 1) lines ++ rows_at m later) next)
 
--- if a line is not a title, it is among the lines before the first title
+-- If a line is not a title, putting it in front of `rows` and `later` puts it among the lines before the first title.
 up_to_front : (n : ℕ) (words : List Word) (rows later : List NumberedLine) → is_title words ≡ false → up_to_title (rows ++ later) ≡ rows ++ up_to_title later → up_to_title (with_line n words rows ++ later) ≡ with_line n words rows ++ up_to_title later
 up_to_front n [] rows later title below = below
 up_to_front n (word ∷ words) rows later title below =
@@ -188,7 +188,7 @@ block_here n [] later title = absurd cc
 block_here n (word ∷ words) later title =
     ap (λ b. cond b (record { id = id_of (word ∷ words); lines = up_to_title later } ∷ blocks_of later) (blocks_of later)) title
 
--- The lines of the text before the rest `left` are not titles. The text begins with line `n`, and the rest with line `k`.
+-- The text begins with line `n`, and its rest `left` begins with line `k`. No line before the rest is a title.
 pub record Passed (text : List ℕ) (n k : ℕ) (left : List ℕ) : Type 0 where
   pub done : List ℕ
   pub lines : List (List ℕ)
@@ -197,7 +197,7 @@ pub record Passed (text : List ℕ) (n k : ℕ) (left : List ℕ) : Type 0 where
   pub count : k ≡ n + length lines
   pub none : NoTitles lines
 
--- like `Passed`, but if no rest is left, no line of the whole text is a title
+-- like `Passed`, or no line of the whole text is a title if no rest is left
 abbrev pub Passes : List ℕ → ℕ → ℕ → Option (List ℕ) → Type 0
 Passes text n k None = NoTitles (slice_split is_newline text)
 Passes text n k (Some left) = Passed text n k left
@@ -215,7 +215,7 @@ passed_none text n = record {
 pub passed_at : (text : List ℕ) (n k : ℕ) (rest : Option (List ℕ)) (left : List ℕ) → Passes text n k rest → rest ≡ Some left → Passed text n k left
 passed_at text n k rest left passes is = subst (λ (o : Option (List ℕ)). Passes text n k o) is passes
 
--- if the next line is not a title, the lines before the rest after it are not titles either
+-- if no line before `left` is a title, and the first line of `left` is not a title, then no line before the rest after this line is a title
 pub passed_line : (text : List ℕ) (n k : ℕ) (left line : List ℕ) (after : Option (List ℕ)) → Passed text n k left → slice_split is_newline left ≡ line ∷ lines_of after → is_title (words_of line) ≡ false → Passes text n (k + 1) after
 passed_line text n k left line None passed split here =
     let all : slice_split is_newline text ≡ passed.lines ++ line ∷ [] = ap (slice_split is_newline) passed.text_is ∙ passed.whole left ∙ ap (λ ls. passed.lines ++ ls) split in
@@ -230,7 +230,7 @@ passed_line text n k left line (Some more) passed split here = record {
   none = no_titles_more passed.lines line passed.none here;
 }
 
--- the text without its rest is the part before the rest
+-- if a text is `done` followed by `left`, the text without as many last bytes as `left` has is `done`
 own_is : (text done left : List ℕ) → text ≡ done ++ left → take (length text - length left) text ≡ done
 own_is text done left is =
     let len : length text - length left ≡ length done + 0 = omega (arith, ap length is, length-append done left) in
@@ -265,7 +265,7 @@ module _ (text : List ℕ) (n k : ℕ) (left line : List ℕ) (after : Option (L
       ∙ block_here k (words_of line) (left_at (k + 1) after) title
       ∙ ap (λ rows. record { id = id_of (words_of line); lines = up_to_title rows } ∷ blocks_of rows) (behind_rows (k + 1) after)
 
--- if a text has no title, all its lines come before the first title
+-- if no line of a text is a title, all its lines are the lines before the first title
 pub uncut_own : (text : List ℕ) (n : ℕ) → NoTitles (slice_split is_newline text) → up_to_title (rows_from n text) ≡ rows_from n text
 uncut_own text n none =
     ap up_to_title (sym (append-nil (rows_from n text))) ∙ up_to_lines n (slice_split is_newline text) [] none ∙ append-nil (rows_from n text)
@@ -274,7 +274,7 @@ pub uncut_blocks : (text : List ℕ) (n : ℕ) → NoTitles (slice_split is_newl
 uncut_blocks text n none =
     ap blocks_of (sym (append-nil (rows_from n text))) ∙ blocks_behind n (slice_split is_newline text) [] none
 
--- if a line is not empty, the rest after it is shorter than the text by the line and a newline
+-- if the first line of `left` is not empty, the rest after the line is shorter than `left`
 pub behind_less : (after : Option (Bor (List ℕ))) (line left : List ℕ) → IfSome after (λ rest. length line + length rest.now + 1 ≡ length left) → IfNone after (length line ≡ length left) → 0 < length line → length (or_nothing (option_copied after)) + 1 ≤ length left
 behind_less None line left shorter whole filled = omega arith
 behind_less (Some rest) line left shorter whole filled = omega arith

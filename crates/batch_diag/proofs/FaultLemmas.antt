@@ -1,4 +1,4 @@
--- Lemmas which lead from the answer for a block's own text to the answer for the block's lines in the whole text.
+-- Lemmas which say that the answer for a block's lines in the whole text follows from the answer for the block's own text.
 use Rattle.std.proofs.Common.{◌≡◌, ℕ, zero, suc, ◌+◌, ◌≤◌, Bool, true, false, cond, nat_lt, Option, Some, None, Ok, Err, List, [], ◌∷◌, ◌++◌, length, map, take, drop, refl, sym, ap, ◌∙◌, subst, arith}
 use Rattle.std.specs.Prelude.{IfSome, filter_map, ◌==◌, is_some}
 use Rattle.std.specs.List.{slice_split, onto_first, cons_option}
@@ -13,7 +13,7 @@ use Rattle.batch_diag.specs.OwnTexts.{moved_fault}
 use Rattle.batch_diag.specs.inner.Cutting.{rows_from, in_block, moved_inner, IsUpTo}
 use Rattle.batch_diag.proofs.CutLemmas.{rows_at, with_line, worded_line}
 
--- the line with the number that it has in a text with `before` more lines in front
+-- the line with the number that it has if `before` more lines are in front of the text
 abbrev moved_line : ℕ → NumberedLine → NumberedLine
 moved_line before line = record { number = before + line.number; words = line.words }
 
@@ -44,7 +44,7 @@ wanted_moved before rows len lines =
     by_test true = refl
     by_test false = refl
 
--- The answer for a line and the later lines. It is the line's fault, or the later answer if the line has no fault.
+-- The answer for a line and the lines after it. It is the line's fault if it has one, and otherwise the answer for the lines after it.
 abbrev front : Option LogFault → LogAnswer → LogAnswer
 front None answer = answer
 front (Some fault) answer = Err fault
@@ -92,7 +92,7 @@ fault_at_place own before rows len board (Missing found) is = ap (in_block board
 fault_at_place own before rows len board (Extra n) is = ap (in_block board) (said_at_place own before rows len ∙ ap (moved before) is)
 fault_at_place own before rows len board (LogMemory e) is = tt
 
--- no line with words has a greater number than `last`
+-- each of these lines has a number of at most `last`
 abbrev UpTo : ℕ → List NumberedLine → Type 0
 UpTo last [] = Unit {0}
 UpTo last (line ∷ lines) = (line.number ≤ last) × UpTo last lines

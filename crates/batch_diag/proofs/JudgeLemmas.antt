@@ -53,14 +53,14 @@ module _ (b : Batch) where
   pub judged_start : (from : ℕ) (none : List Verdict) → none ≡ [] → Judged b from from none
   judged_start from none is = subst (λ (xs : List Verdict). Judged b from from xs) (sym is) (judged_none from)
 
-  -- the verdicts on a range, followed by the verdict on the next block, are the verdicts on the longer range
+  -- the verdicts on blocks `from..i`, followed by the verdict on block `i`, are the verdicts on blocks `from..i + 1`
   pub judged_more : (from i : ℕ) (xs more : List Verdict) (x : Verdict) → from ≤ i → more ≡ xs ++ x ∷ [] → Judged b from i xs → Judged b i (i + 1) (x ∷ []) → Judged b from (i + 1) more
   judged_more from i xs more x low is first second = subst (λ (l : List Verdict). Judged b from (i + 1) l) (sym is) (judged_append from i (i + 1) xs (x ∷ []) low (omega arith) first second)
 
   pub judged_end : (from i end : ℕ) (xs : List Verdict) → i ≡ end → Judged b from i xs → Judged b from end xs
   judged_end from i end xs same judged = subst (λ (n : ℕ). Judged b from n xs) same judged
 
-  -- the verdict on a block is the list of verdicts on the range of this block alone
+  -- if `verdict` is the verdict on block `i`, the list of only `verdict` has the verdicts on blocks `i..i + 1`
   pub judged_one : (i : ℕ) (block : Block) (verdict : Verdict) → i < length b.blocks.now → block ≡ get_or b.blocks.now i block → Judges b block verdict → Judged b i (i + 1) (verdict ∷ [])
   judged_one i block verdict less is judges = subst (λ (l : List Block). EachPair (Judges b) l (verdict ∷ [])) (sym (range_one b.blocks.now i block less is)) (judges, tt)
 
@@ -69,7 +69,7 @@ module _ (b : Batch) where
   judged_by i block less is (Ok verdict) right named = judged_one i block verdict less is (right, named)
   judged_by i block less is (Err e) right named = tt
 
-  -- the verdicts on two neighboring ranges, joined, are the verdicts on the range of both
+  -- the verdicts on a range, followed by the verdicts on the range that begins where it ends, are the verdicts on both ranges together
   judged_ranges : (items : ℕ) {E : Type 0} → IsOfRanges {E = E} items (λ from to said. IfOk said (Judged b from to))
   judged_ranges items = record {
     nothing = judged_none;
@@ -89,7 +89,7 @@ module _ (b : Batch) where
   seen_judged from to view (Ok v) judged = judged
   seen_judged from to view (Err e) judged = tt
 
-  -- if each piece gives the verdicts on its blocks, the joined verdicts are the verdicts on all blocks
+  -- if each piece returns the verdicts on its blocks, the joined results are the verdicts on all blocks
   pub judged_pieces : (items pieces : ℕ) → 0 < pieces → items ≡ length b.blocks.now → {V E : Type 0} (view : V → List Verdict) (Gives : Piece → Result V E → Type 0) (IsRefusal : E → Type 0) (result : Result V E) → GivesTogether view Gives IsRefusal items pieces result →
       ((number : ℕ) (answer : Result V E) → Gives (piece_of items pieces number) answer → IfOk answer (λ v. Judged b (piece_start items pieces number) (piece_start items pieces (number + 1)) (view v))) →
       IfOk result (λ v. Judged b 0 (length b.blocks.now) (view v))
@@ -99,7 +99,7 @@ module _ (b : Batch) where
       (of_pieces items (λ from to said. IfOk said (Judged b from to)) view pieces some (judged_ranges items) Gives IsRefusal result
       (λ number answer within judged. judged_seen (piece_start items pieces number) (piece_start items pieces (number + 1)) view answer (each number answer judged)) (λ fault refused. tt) gives))
 
--- the verdicts on all blocks, whose faults name nets and pins of the board
+-- Verdicts on blocks. Their faults name nets and pins of the board.
 module _ (board : RawBoard) (blocks : List Block) where
   abbrev Named : Verdict → Type 0
   Named verdict = All (IsNamed board) verdict.faults

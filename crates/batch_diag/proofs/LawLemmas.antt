@@ -1,4 +1,4 @@
--- Lemmas from which the laws of batches follow: which lines are a batch, and which fault is the first.
+-- Lemmas from which the laws of batches follow. The laws say which lines are a batch, and which fault is the first.
 use Rattle.std.proofs.Common.{◌≡◌, ℕ, ◌+◌, Bool, true, false, cond, not, Option, Some, None, Ok, Err, List, [], ◌∷◌, ◌++◌, length, suc, refl, sym, ap, ◌∙◌, subst, arith, append_assoc, append-nil}
 use Rattle.std.specs.Prelude.{All, codes, ◌&&◌}
 use Rattle.std.proofs.lemmas.List.Elements.{All-nil, All-cons, All-head, All-tail}
@@ -16,7 +16,7 @@ use Rattle.batch_diag.specs.Laws.{IsBlockOf, AreBlocksOf, BlocksAreTheLines, IsF
 abbrev IsRow : NumberedLine → Type 0
 IsRow line = begins_block line ≡ false
 
--- if a title names a board, it has two words, which are `BOARD` and the id
+-- if a title names a board, its two words are `BOARD` and the id
 pub title_words : (words : List Word) → is_title words ≡ true → names_board words ≡ true → (words ≡ codes "BOARD" ∷ id_of words ∷ []) × (is_word (id_of words) ≡ true)
 title_words [] title names = absurd cc
 title_words (word ∷ []) title names = absurd cc
@@ -33,7 +33,7 @@ not_wrong line id is word =
 row_not_wrong : (line : NumberedLine) → begins_block line ≡ false → is_wrong_title line ≡ false
 row_not_wrong line row = ap (λ (b : Bool). b && not (names_board line.words)) row
 
--- if no line in `own` is a title, the lines in `own` do not change the first fault of a title
+-- if no line in `own` is a title, `title_fault` of `own` followed by `later` is `title_fault` of `later`
 rows_right : (own later : List NumberedLine) → All IsRow own → title_fault (own ++ later) ≡ title_fault later
 rows_right [] later rows = refl
 rows_right (line ∷ own) later rows =
@@ -56,7 +56,7 @@ rows_up_to [] later rows none = none
 rows_up_to (line ∷ own) later rows none =
     up_to_row line (own ++ later) (All-head IsRow line own rows) ∙ ap (λ (ls : List NumberedLine). line ∷ ls) (rows_up_to own later (All-tail IsRow line own rows) none)
 
--- if lines are the lines of some blocks, the answer for them is these blocks
+-- If the lines are the lines of some blocks, the answer for the lines is these blocks.
 module _ (rows len : ℕ) where
   block_title : (title : NumberedLine) (own : List NumberedLine) (block : Block) → IsBlockOf rows len title own block → begins_block title ≡ true
   block_title title own block is = is_title_of title.words block.id is.words
@@ -88,7 +88,7 @@ module _ (rows len : ℕ) where
       ∙ ap (λ (log : LogAnswer). block_then block.id n log (logs_from rows len (n + 1) (blocks_of later))) is.log
       ∙ ap (onto block) (said (n + 1) later blocks more)
 
-  -- The lines are some lines that are not titles, followed by the lines of these blocks. This record is for the converse.
+  -- The lines are some lines that are not titles, followed by the lines of `blocks`. This record is for the converse.
   record Split (lines : List NumberedLine) (blocks : List Block) : Type 0 where
     own : List NumberedLine
     later : List NumberedLine
@@ -111,7 +111,7 @@ module _ (rows len : ℕ) where
     are = split.are;
   }
 
-  -- the blocks are the block of a title, whose lines are a log, followed by the blocks of the rest
+  -- the blocks are one block with this id, whose log is in the lines `own`, followed by the blocks of `rest`
   record Behind (id : Word) (own : List NumberedLine) (rest : Answer) (blocks : List Block) : Type 0 where
     log : List (List Bool)
     more : List Block
@@ -163,7 +163,7 @@ module _ (rows len : ℕ) where
       let faults = right_behind line lines (is_wrong_title line) refl none in
       split_line n line lines blocks (begins_block line) refl faults.0 is (λ m later said. split m lines later faults.1 said)
 
-  -- if no line comes before the first title, the lines are the lines of these blocks
+  -- if no line is before the first title, and the lines are split into `blocks`, then the lines are the lines of `blocks`
   from_start : (lines : List NumberedLine) (blocks : List Block) → start_fault lines ≡ None → Split lines blocks → AreBlocksOf rows len lines blocks
   from_start lines blocks none split = subst (λ (ls : List NumberedLine). AreBlocksOf rows len ls blocks) (sym (split.all ∙ ap (λ (ls : List NumberedLine). ls ++ split.later) (sym split.first ∙ by_lines lines none))) split.are
     where
@@ -175,7 +175,7 @@ module _ (rows len : ℕ) where
       by_lines [] none = refl
       by_lines (line ∷ lines) none = by_line line lines (begins_block line) refl none
 
-  -- no line and no title has a fault, and each block has a log; this is the case if the answer is blocks
+  -- no line is before the first title, no title has a fault, and the lines of each block are a log
   pub record NoFault (lines : List NumberedLine) (blocks : List Block) : Type 0 where
     pub start : start_fault lines ≡ None
     pub titles : title_fault lines ≡ None
@@ -199,7 +199,7 @@ module _ (rows len : ℕ) where
 pub blocks_are_the_lines : BlocksAreTheLines
 blocks_are_the_lines text rows len blocks = (to_blocks rows len (row_lines text) blocks, from_blocks rows len (row_lines text) blocks)
 
--- the lines before the first title, and the other lines
+-- the lines consist of the lines before the first title, none of which is a title, and the lines from the first title on
 record Front (lines : List NumberedLine) : Type 0 where
   behind : List NumberedLine
   all : lines ≡ up_to_title lines ++ behind
@@ -226,7 +226,7 @@ front (line ∷ lines) = by_title (begins_block line) refl (front lines)
 abbrev IsRight : NumberedLine → Type 0
 IsRight line = is_wrong_title line ≡ false
 
--- if no title has a fault, no title is wrong
+-- if `title_fault` finds no fault, no line is a wrong title
 all_right : (lines : List NumberedLine) → title_fault lines ≡ None → All IsRight lines
 all_right [] none = All-nil IsRight
 all_right (line ∷ lines) none = by_wrong (is_wrong_title line) refl none (all_right lines)
@@ -235,7 +235,7 @@ all_right (line ∷ lines) none = by_wrong (is_wrong_title line) refl none (all_
     by_wrong true is none below = absurd cc
     by_wrong false is none below = All-cons IsRight line lines is (below none)
 
--- `fault` is the fault of the first wrong title; `before` and `later` are the lines before and after it
+-- `fault` is the fault of the first wrong title, which is after the lines `before` and in front of the lines `later`
 record Wrong (lines : List NumberedLine) (fault : BatchFault) : Type 0 where
   before : List NumberedLine
   line : NumberedLine
@@ -264,7 +264,7 @@ none_before_start (line ∷ lines) none = by_title (begins_block line) refl none
     by_title false is none = absurd cc
 
 module _ (rows len : ℕ) where
-  -- `fault` is the fault of the first block whose lines are not a log; the first of the blocks has the number `n`
+  -- `fault` is the fault of the first block whose lines are not a log. The blocks are numbered from `n` on.
   record NoLog (n : ℕ) (lines : List NumberedLine) (fault : BatchFault) : Type 0 where
     front : List NumberedLine
     blocks : List Block
@@ -394,7 +394,7 @@ module _ (rows len : ℕ) where
   first_fault lines fault None (Some other) start title is = let same : other ≡ fault = cc in title_first lines fault start (title ∙ ap Some same)
   first_fault lines fault (Some other) title start title_is is = let same : other ≡ fault = cc in start_first lines fault (start ∙ ap Some same)
 
-  -- The converse: the first fault is the reported fault. If no line comes before the first title, no line has a fault.
+  -- The converse: the first fault is the fault in the answer. If no line is before the first title, `start_fault` finds no fault.
   starts : (lines : List NumberedLine) → up_to_title lines ≡ [] → start_fault lines ≡ None
   starts [] none = refl
   starts (line ∷ lines) none = by_title (begins_block line) refl
@@ -411,7 +411,7 @@ module _ (rows len : ℕ) where
   none_wrong : (lines : List NumberedLine) → All IsRight lines → title_fault lines ≡ None
   none_wrong lines right = ap title_fault (sym (append-nil lines)) ∙ right_before lines [] right
 
-  -- if the rest is empty or begins with a title, so do the lines of some blocks followed by the rest
+  -- if `rest` is empty or begins with a title, then the lines of some blocks followed by `rest` are empty or begin with a title
   titles_first : (before : List NumberedLine) (blocks : List Block) (rest : List NumberedLine) → AreBlocksOf rows len before blocks → up_to_title rest ≡ [] → up_to_title (before ++ rest) ≡ []
   titles_first before [] rest are first = ap (λ (ls : List NumberedLine). up_to_title (ls ++ rest)) are ∙ first
   titles_first before (block ∷ blocks) rest (title, own, later, is, more, all) first =

@@ -71,7 +71,7 @@ no_titles : (lines : List (List ℕ)) → All IsNoTitle lines → NoTitles lines
 no_titles [] none = tt
 no_titles (line ∷ lines) none = (All-head IsNoTitle line lines none, no_titles lines (All-tail IsNoTitle line lines none))
 
--- no byte of the line is a newline; this holds for each line of a text
+-- No byte of the line is a newline. Each line of a text has this property.
 abbrev IsClean : List ℕ → Type 0
 IsClean line = All (λ b. is_newline b ≡ false) line
 
@@ -115,7 +115,7 @@ own_rows_at : (n : ℕ) (lines : List (List ℕ)) → All IsClean lines → rows
 own_rows_at n [] clean = let none : words_of [] ≡ [] = words_of_empty [] refl in sym (ap (λ words. with_line n words []) none)
 own_rows_at n (line ∷ lines) clean = ap (rows_at n) (sym (split_join line lines clean))
 
--- The blocks, with the numbers that their lines have in the whole text. The first title is line `m`.
+-- The lines of each block, with their numbers in the whole text. The title of the first block is line `m`.
 abbrev placed : ℕ → List BlockText → List BlockLines
 placed m [] = []
 placed m (text ∷ texts) = record { id = id_of (words_of text.title); lines = rows_at (m + 1) text.below } ∷ placed (m + 1 + length text.below) texts
@@ -140,7 +140,7 @@ blocks_placed n front (text ∷ texts) none titles below =
     ∙ ap (λ (ls : List NumberedLine). record { id = id_of (words_of text.title); lines = ls } ∷ blocks_of (rows_at (m + 1) (text.below ++ lines_in texts))) (below_title m text texts later own)
     ∙ ap (λ (bs : List BlockLines). record { id = id_of (words_of text.title); lines = rows_at (m + 1) text.below } ∷ bs) (blocks_placed (m + 1) text.below texts own later (All-tail HasRows text texts below))
 
--- putting a line that is not a title in front of other lines does not change the first fault of a title
+-- if a line that is not a title is put in front of `rows` and `later`, `title_fault` stays the same
 title_front : (n : ℕ) (words : List Word) (rows later : List NumberedLine) → is_title words ≡ false → title_fault (rows ++ later) ≡ title_fault later → title_fault (with_line n words rows ++ later) ≡ title_fault later
 title_front n [] rows later title below = below
 title_front n (word ∷ words) rows later title below =

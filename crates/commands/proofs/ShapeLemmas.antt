@@ -18,7 +18,8 @@ none_kept : (q : ℕ → Bool) (numbers : List ℕ) → ((n : ℕ) → q n ≡ f
 none_kept q [] none = refl
 none_kept q (n ∷ numbers) none = ap (λ (b : Bool). cond b (n ∷ filter q numbers) (filter q numbers)) (none n) ∙ none_kept q numbers none
 
--- if `q` holds for each number `k + i` exactly if `p` holds for item `i`, then `q` keeps as many numbers as `p` keeps items
+-- if, for each item `x` at place `i`, `q` is true of `k + i` if and only if `p` is true of `x`, then `q` is true of as many of the numbers
+-- from `k` on as `p` of items
 module _ {X : Type 0} (p : X → Bool) (q : ℕ → Bool) where
   kept_count : (k : ℕ) (xs : List X) → ((i : ℕ) (x : X) → slice_get xs i ≡ Some x → q (k + i) ≡ p x) → length (filter q (range_with_len k (length xs))) ≡ count_by p xs
   kept_count k [] tests = refl
@@ -39,7 +40,7 @@ module _ {X : Type 0} (p : X → Bool) (q : ℕ → Bool) where
 
 module _ (board : RawBoard) (compare : (walk : List Ctl) → CompareRows (walk_row board) (count_by (is_walked board walk) board.nets) (walk ∷ []) (compared_scans board (walk_row_scans board walk)))
     (counted : (rows : List RowScan) → count_by is_compared (board_scans board rows) ≡ length (compared_scans board rows)) where
-  -- the number of rows of a log is the number of compared SDR statements
+  -- a log of the walking test has as many rows as the test has compared SDR statements
   pub walk_rows_compared : walk_rows board ≡ count_by is_compared (board_scans board (walk_row_list board))
   walk_rows_compared = by_setting (walk_setting board) refl
     where
@@ -61,7 +62,7 @@ module _ (board : RawBoard) (compare : (walk : List Ctl) → CompareRows (walk_r
           ∙ sym (counted (walk_row_scans board walk))
           ∙ ap (λ (o : Option (List Ctl)). count_by is_compared (board_scans board (scans_by board o))) (sym is)
 
-  -- if a log has the walking test's numbers of rows and bits, it has the shape of the test
+  -- if a log has as many rows and bits as a log of the walking test, it has the shape of the test
   pub walk_shaped : (log : List (List Bool)) → HasSize (walk_rows board) (data_bits board) log → HasShape board (walk_row_list board) log
   walk_shaped log size = record { rows = size.rows ∙ walk_rows_compared; bits = size.bits }
 

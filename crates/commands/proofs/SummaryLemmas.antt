@@ -14,7 +14,7 @@ use Rattle.scan_planner.specs.Plans.{IsPlanOf, scan_count}
 use Rattle.commands.specs.Summary.{counts_line, summary_text}
 use Rattle.commands.proofs.TestLemmas.{plan_text}
 
--- if the sink's count of faults does not rise, the sink takes the whole text
+-- if the sink's count of faults does not rise during a put, the sink takes the whole text
 takes_all : {T E : Type 0} {old new : Shown} {text : List ℕ} (result : Result T E) → Puts old new text result → (Rose old.faults new.faults → ⊥) → Takes old new text
 takes_all (Ok x) puts calm = puts.whole
 takes_all (Err e) puts calm = absurd (calm puts.cause)
@@ -26,7 +26,7 @@ none_rose (inr last) = omega (arith, last)
 same_amount : {a b : ℕ} → ◌≡◌ {A = Option ℕ} (Some a) (Some b) → a ≡ b
 same_amount e = cc
 
--- The state of a sink that only counts bytes. It never fails, so it counts the whole text.
+-- The state of a sink that only counts bytes. Such a sink never fails.
 abbrev counter : ℕ → Shown
 counter count = record { taken = None; amount = Some count; faults = 0 }
 
@@ -40,7 +40,7 @@ same_counts : {a a' b b' c c' d d' e e' f f' : ℕ} → a ≡ a' → b ≡ b' �
 same_counts {a} {a'} {b} {b'} {c} {c'} {d} {d'} {e} {e'} {f} {f'} p q r s t u =
     ap (λ n. counts_line n b c d e f) p ∙ ap (λ n. counts_line a' n c d e f) q ∙ ap (λ n. counts_line a' b' n d e f) r ∙ ap (λ n. counts_line a' b' c' n e f) s ∙ ap (λ n. counts_line a' b' c' d' n f) t ∙ ap (λ n. counts_line a' b' c' d' e' n) u
 
--- if a plan has the board's passes, it has as many scans as the board's test
+-- if a plan has the board's passes, its number of scans is the number of scans of the board's test
 scans_of : (board : RawBoard) (plan : PlanTables) → IsPlanOf board plan → plan.passes ≡ passes_of board → ((b : RawBoard) (passes : List (List Ctl)) (width : ℕ) → AreTestScans b passes width (test_scans b passes width)) → scan_count plan ≡ length (svf_scans board)
 scans_of board plan planned passes placed =
     sym (placed board plan.passes plan.width).count

@@ -1,4 +1,4 @@
--- Lemmas for writing the text of a test scan by scan.
+-- Lemmas for the loop that writes the text of a test scan by scan.
 use Rattle.std.proofs.Common.{◌≡◌, ◌<◌, ◌≤◌, ℕ, zero, suc, ◌+◌, ◌*◌, List, [], ◌∷◌, ◌++◌, length, take, drop, Option, Some, slice_get, Result, Ok, Err, IsErr, refl, sym, ap, ◌∙◌, subst, append_assoc, append-nil, arith}
 use Rattle.std.specs.Prelude.{IfSome}
 use Rattle.std.proofs.lemmas.List.{take_all}
@@ -20,7 +20,7 @@ use Rattle.commands.specs.LogRead.{test_rows}
 same_scan : (x y : Scan) → ◌≡◌ {A = Option Scan} (Some x) (Some y) → x ≡ y
 same_scan x y e = cc
 
--- if a number is below the number of scans, there is a scan with this number
+-- if `k` is below the number of scans, there is a scan with the number `k`
 pub scan_at : (scans : List Scan) (k : ℕ) → k < length scans → (scan : Scan) × (slice_get scans k ≡ Some scan)
 scan_at [] k within = absurd (omega (arith, within))
 scan_at (s ∷ scans) zero within = (s, refl)
@@ -38,21 +38,21 @@ texts_split [] k scan at = absurd cc
 texts_split (s ∷ scans) zero scan at = ap (λ x. scan_text x ++ scan_texts scans) (same_scan s scan at)
 texts_split (s ∷ scans) (suc k) scan at = ap (λ t. scan_text s ++ t) (texts_split scans k scan at) ∙ sym (append_assoc (scan_text s) (scan_texts (take k scans)) (scan_text scan ++ scan_texts (drop (suc k) scans)))
 
--- if a number is below the plan's count of scans, it is below the number of the test's scans
+-- if `k` is below the plan's count of scans, it is below the number of scans of the test
 pub below_count : (board : RawBoard) (passes : List (List Ctl)) (width k count : ℕ) → AreTestScans board passes width (test_scans board passes width) → count ≡ 3 + length passes * suc width → k < count → k < length (test_scans board passes width)
 below_count board passes width k count placed is below = subst (λ n. k < n) (is ∙ sym placed.count) below
 
 pub past_count : (board : RawBoard) (passes : List (List Ctl)) (width k count : ℕ) → AreTestScans board passes width (test_scans board passes width) → count ≡ 3 + length passes * suc width → count ≤ k → length (test_scans board passes width) ≤ k
 past_count board passes width k count placed is past = subst (λ n. n ≤ k) (is ∙ sym placed.count) past
 
--- like `below_count` and `past_count`, but for any list of scans whose length is the count
+-- like `below_count`, but for any list of scans whose length is `count`
 pub below : (scans : List Scan) (k count : ℕ) → count ≡ length scans → k < count → k < length scans
 below scans k count is within = subst (λ n. k < n) is within
 
 pub past : (scans : List Scan) (k count : ℕ) → count ≡ length scans → count ≤ k → length scans ≤ k
 past scans k count is beyond = subst (λ n. n ≤ k) is beyond
 
--- if the sink took the head and the scans before scan `k`, and then took scan `k`, it took the head and the scans up to scan `k`
+-- if the sink has taken the head and the first `k` scans, and then takes scan `k`, it has taken the head and the first `k + 1` scans
 pub puts_scan : {E : Type 0} {old mid new : Shown} {r : Result (Unit {0}) E} {x : Unit {0}} (head : Text) (scans : List Scan) (k : ℕ) → k < length scans → Puts {T = Unit {0}} {E = E} old mid (head ++ scan_texts (take k scans)) (Ok tt)
     → IfSome (slice_get scans k) (λ scan. Puts mid new (scan_text scan) r) → r ≡ Ok x → Puts {T = Unit {0}} {E = E} old new (head ++ scan_texts (take (k + 1) scans)) (Ok tt)
 puts_scan {E} {old} {mid} {new} {r} {x} head scans k within before put ok =
@@ -66,7 +66,8 @@ puts_scan {E} {old} {mid} {new} {r} {x} head scans k within before put ok =
     unit_put : {E : Type 0} {old new : Shown} {a b : Text} {x : Unit {0}} → a ≡ b → Puts {T = Unit {0}} {E = E} old new a (Ok x) → Puts {T = Unit {0}} {E = E} old new b (Ok tt)
     unit_put {E} {old} {new} {a} {b} {x} same put = subst (λ (t : Text). Puts {T = Unit {0}} {E = E} old new t (Ok tt)) same put
 
--- if the sink took only some first bytes of scan `k`, it took only some first bytes of the whole text
+-- if the sink has taken the head and the first `k` scans, and then takes only some first bytes of scan `k`, it has taken only some first
+-- bytes of the whole text
 pub cut_scan : {E : Type 0} {old mid new : Shown} {r s : Result (Unit {0}) E} {e : E} (head tail : Text) (scans : List Scan) (k : ℕ) → k < length scans → Puts {T = Unit {0}} {E = E} old mid (head ++ scan_texts (take k scans)) (Ok tt)
     → IfSome (slice_get scans k) (λ scan. Puts mid new (scan_text scan) r) → r ≡ Err e → IsErr s → Puts old new (head ++ (scan_texts scans ++ tail)) s
 cut_scan {E} {old} {mid} {new} {r} {s} {e} head tail scans k within before put err fails =
@@ -80,18 +81,18 @@ cut_scan {E} {old} {mid} {new} {r} {s} {e} head tail scans k within before put e
     ∙ sym (append_assoc head front (scan_text at.0 ++ (rest ++ tail))) in
     puts_cut (rest ++ tail) before one err fails text
 
--- if all scans are written, writing the tail completes the text
+-- if the sink has taken the head and all scans, writing the tail completes the text
 pub puts_tail : {E : Type 0} {old mid new : Shown} {r : Result (Unit {0}) E} (head tail : Text) (scans : List Scan) (k : ℕ) → length scans ≤ k → Puts {T = Unit {0}} {E = E} old mid (head ++ scan_texts (take k scans)) (Ok tt) → Puts mid new tail r → Puts old new (head ++ (scan_texts scans ++ tail)) r
 puts_tail {E} {old} {mid} {new} {r} head tail scans k past before put =
     let text : (head ++ scan_texts (take k scans)) ++ tail ≡ head ++ (scan_texts scans ++ tail) =
     append_assoc head (scan_texts (take k scans)) tail ∙ ap (λ l. head ++ (scan_texts l ++ tail)) (take_all k scans past) in
     subst (λ (t : Text). Puts old new t r) text (puts_ok before refl put)
 
--- if a plan has the board's passes, the text of the plan is the text of the board's test
+-- if a plan has the board's passes, the text of the plan's test is the text of the board's test
 pub plan_text : (board : RawBoard) (plan : PlanTables) → IsPlanOf board plan → plan.passes ≡ passes_of board → pass_text board plan.passes plan.width ≡ board_text board
 plan_text board plan is passes = ap (pass_text board plan.passes) is.width_is ∙ ap (λ ps. pass_text board ps (code_width (observed_count board ps))) passes
 
--- if a plan has the board's passes, it has as many rows as a log of the board's test
+-- if a plan has the board's passes, the plan's number of rows is the number of rows of a log of the board's test
 pub rows_are : (board : RawBoard) (plan : PlanTables) → IsPlanOf board plan → plan.passes ≡ passes_of board → length plan.passes * plan.width ≡ test_rows board
 rows_are board plan planned same =
     ap (λ (w : ℕ). length plan.passes * w) planned.width_is ∙ ap (λ (p : List (List Ctl)). length p * code_width (observed_count board p)) same

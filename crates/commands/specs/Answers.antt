@@ -1,4 +1,4 @@
--- The answers of the commands. An answer says what a command writes and returns, given what it finds in its texts.
+-- The answers of the commands. An answer relates what a command finds in its texts to what it writes and returns.
 use Rattle.std.specs.Prelude.{◌≡◌, ℕ, List, take, Result, Ok, Err}
 use Rattle.bt_base.specs.Counts.{Rose}
 use Rattle.bt_base.specs.Puts.{Shown, Takes}
@@ -17,7 +17,7 @@ use Rattle.commands.specs.declared.unput.Unput.TheVariants as unput
 abbrev pub Nothing : Text → Type 0
 Nothing text = Unit {0}
 
--- a value was found, and the sink failed after it had taken some first bytes of the value's text
+-- the command found a value, and the sink failed after it had taken some first bytes of the value's text
 pub record IsCutBy {A F : Type 0} (IsFound : Result A F → Type 0) (text_of : A → Text) (old new : Shown) : Type 0 where
   pub rose : Rose old.faults new.faults
   pub value : A
@@ -25,15 +25,15 @@ pub record IsCutBy {A F : Type 0} (IsFound : Result A F → Type 0) (text_of : A
   pub bytes : ℕ
   pub takes : Takes old new (take bytes (text_of value))
 
--- a value was found, the sink took its text, and `IsWorth` holds for the text
+-- the command found a value, the sink took the value's text, and `IsWorth` holds for the text
 pub record IsPutBy {A F : Type 0} (IsFound : Result A F → Type 0) (text_of : A → Text) (IsWorth : Text → Type 0) (old new : Shown) : Type 0 where
   pub value : A
   pub found : IsFound (Ok value)
   pub takes : Takes old new (text_of value)
   pub worth : IsWorth (text_of value)
 
--- The answer for what is found in the texts. If a value is found, the command writes the value's text, whole or cut short. If a fault is
--- found, the command writes nothing and returns the fault. If memory runs out, it writes nothing.
+-- The answer of a command that finds a value or a fault in its texts. If it finds a value, it writes the value's text, whole or cut short.
+-- If it finds a fault, it writes nothing and returns the fault. If memory runs out, it writes nothing.
 abbrev pub Answers : {A : Type 0} → (Result A InputFault → Type 0) → (A → Text) → (Text → Type 0) → Shown → Shown → Result (Unit {0}) Unput → Type 0
 Answers IsFound text_of IsWorth old new (Ok done) = IsPutBy IsFound text_of IsWorth old new
 Answers IsFound text_of IsWorth old new (Err (unput.Input fault)) = IsFound (Err fault) × (new ≡ old)
@@ -51,7 +51,7 @@ LogAnswers IsFound text_of IsWorth old new (Err (unput.Batch rows fault)) = IsFo
 LogAnswers IsFound text_of IsWorth old new (Err unput.Write) = IsCutBy IsFound text_of old new
 LogAnswers IsFound text_of IsWorth old new (Err unput.Memory) = new ≡ old
 
--- the answer for what is found in the texts of a chain
+-- like `Answers`, but for a command whose input texts are a chain file and BSDL files
 abbrev pub ChainAnswers : {A : Type 0} → (Text → List Text → Result A InputFault → Type 0) → (A → Text) → (ChainTexts → Text → Type 0) → ChainTexts → Shown → Shown → Result (Unit {0}) Unput → Type 0
 ChainAnswers IsFound text_of IsWorth texts old new result = Answers (IsFound texts.chain texts.bsdl) text_of (IsWorth texts) old new result
 

@@ -1,4 +1,4 @@
--- The result of reading and judging a text of response logs, for the board that other texts denote.
+-- The result of reading and judging a text of response logs for the board that other texts denote.
 use Rattle.std.specs.Prelude.{◌≡◌, ◌⊎◌, ℕ, ◌*◌, Bool, List, length, Option, Result, Ok, Err}
 use Rattle.board_defs.specs.declared.board.RawBoard.{RawBoard}
 use Rattle.board_defs.specs.declared.fault.Single.{Single}
@@ -22,39 +22,39 @@ use Rattle.btest_core.specs.declared.fault.InputFault.{InputFault}
 use Rattle.btest_core.specs.BoardRead.{IsBoardRead, Denotes}
 use Rattle.command_line.specs.Words.{Text}
 
--- The first fault of the texts of a board, of a log, or of a batch of logs. The number is the number of rows that each log must have.
+-- The first fault of the texts of a board, of a log, or of a batch of logs. A fault of a log or a batch has the number of rows that each
+-- log must have.
 pub data TextFault : Type 0 where
   Input : InputFault → TextFault
   Log : ℕ → LogFault → TextFault
   Batch : ℕ → BatchFault → TextFault
 
 -- A way to read and judge logs of a board. `row_count` is the number of rows of a log. `read` gives the contents of a text, or the cause
--- why the text cannot be read. `wrong` makes a fault from the number of rows and the cause. `Finds` relates contents to what is found in
--- them.
+-- why the text cannot be read. `wrong` makes a fault from the number of rows and the cause. `Finds` says what the contents show.
 pub record Judging (L E A : Type 0) : Type 1 where
   pub row_count : RawBoard → ℕ
   pub read : Text → RawBoard → Result L E
   pub wrong : ℕ → E → TextFault
   pub Finds : RawBoard → L → A → Type 0
 
--- the text can be read for the board, and `found` is what its contents show
+-- the text can be read for the board, and `found` is what the text's contents show
 pub record IsJudged {L E A : Type 0} (judging : Judging L E A) (text : Text) (board : RawBoard) (found : A) : Type 0 where
   pub contents : L
   pub holds : judging.read text board ≡ Ok contents
   pub finds : judging.Finds board contents found
 
--- the text cannot be read for the board, and `fault` is its fault
+-- the text cannot be read for the board, and `fault` is the fault of the text
 pub record IsWrong {L E A : Type 0} (judging : Judging L E A) (text : Text) (board : RawBoard) (fault : TextFault) : Type 0 where
   pub cause : E
   pub fails : judging.read text board ≡ Err cause
   pub is : fault ≡ judging.wrong (judging.row_count board) cause
 
--- the result is what the text shows for the board, or the fault of the text
+-- if the result is a value, the text shows this value for the board; if it is a fault, it is the fault of the text
 abbrev pub OnBoard : {L E A : Type 0} → Judging L E A → Text → RawBoard → Result A TextFault → Type 0
 OnBoard judging text board (Ok found) = IsJudged judging text board found
 OnBoard judging text board (Err fault) = IsWrong judging text board fault
 
--- the texts denote no board, and `fault` is their first fault
+-- the texts denote no board, and `fault` is the first fault of the texts
 abbrev pub IsInputFault : Text → Text → List Text → TextFault → Type 0
 IsInputFault chain nets texts (Input fault) = IsBoardRead chain nets texts (Err fault)
 IsInputFault chain nets texts (Log rows fault) = ⊥

@@ -24,7 +24,7 @@ chain_texts chain bsdl = record { chain = chain; bsdl = bsdl }
 abbrev pub board_texts : Text → Text → List Text → BoardTexts
 board_texts chain nets bsdl = record { chain = chain; nets = nets; bsdl = bsdl }
 
--- The command with these texts, one for each of its file names, in order. It is `None` if the texts do not fit the command.
+-- The command with these texts. There must be one text for each of the command's file names, in order. Otherwise the result is `None`.
 abbrev pub request_of : Command → List Text → Option Request
 request_of (Chain names) (chain ∷ bsdl) = Some (Chain (chain_texts chain bsdl))
 request_of (Ident names) (chain ∷ bsdl) = Some (Ident (chain_texts chain bsdl))

@@ -55,8 +55,8 @@ pub record ListsCover (texts : BoardTexts) (text : Text) : Type 0 where
   pub rules : IsBoard board
   pub lists : IsCoverList board text
 
--- The text is a test of the board that these texts denote. It has a meaning. The test passes if nothing is faulty. After its reset, the
--- test is quiet under every fault set. It fails under every nonempty fault set that is observable.
+-- The text is a test of the board that these texts denote, and the text has a meaning. The test passes if nothing is faulty. After its
+-- reset, the test is quiet under every fault set. The test fails under every nonempty fault set that is observable.
 pub record TestsBoard (texts : BoardTexts) (text : Text) : Type 0 where
   pub board : RawBoard
   pub denoted : Denotes texts.chain texts.nets texts.bsdl board
@@ -69,25 +69,25 @@ pub record TestsIdents (texts : ChainTexts) (text : Text) : Type 0 where
   pub bounds : ArePatterns patterns
   pub tests : IsIdentTest patterns text
 
--- The text may be applied to the board that these texts denote. It has a meaning. The test passes if nothing is faulty. After its reset,
+-- The text has a meaning and may be applied to the board that these texts denote. The test passes if nothing is faulty. After its reset,
 -- the test is quiet under every fault set.
 pub record WalksBoard (texts : BoardTexts) (text : Text) : Type 0 where
   pub board : RawBoard
   pub denoted : Denotes texts.chain texts.nets texts.bsdl board
   pub harmless : IsHarmless board text
 
--- `pass` is true exactly if every compared bit of the log is the expected bit. If `pass` is true, there are no faults. The faults are
--- exactly the single faults that explain the log, each once and in order.
+-- `pass` is true if and only if every compared bit of the log is the expected bit. If `pass` is true, `faults` is empty. `faults` has each
+-- single fault that explains the log, once and in order, and no other fault.
 pub record IsRight (board : RawBoard) (rows : List (List Bool)) (pass : Bool) (faults : List Single) : Type 0 where
   pub passes : IsTrue pass ↔ (IsExpected board (svf_row_scans board) rows)
   pub lists : ListsExplaining board rows faults
   pub none : pass ≡ true → faults ≡ []
 
--- the text of the board's test means the clocks of the test's scans, to which the logs of the test refer
+-- The text of the board's test means the clocks of the test's scans. The logs of the test refer to these clocks.
 abbrev pub TestMeans : RawBoard → Type 0
 TestMeans board = meaning (board_text board) ≡ Some (test_clocks (svf_scans board))
 
--- the text of the walking test means the clocks of the test's scans
+-- the text of the walking test means the clocks of the walking test's scans
 abbrev pub WalkMeans : RawBoard → Type 0
 WalkMeans board = meaning (board_walk_text board) ≡ Some (test_clocks (walk_scans board))
 
@@ -97,8 +97,8 @@ pub record RespondOnce (board : RawBoard) : Type 0 where
   pub some : (single : Single) → IsSingle board single → (log : List (List Bool)) × Explains board single log
   pub one : (single : Single) (log other : List (List Bool)) → Explains board single log → Explains board single other → AgreeOn board (svf_row_scans board) log other
 
--- The text is the diagnosis of a log of the test of a board. The log has a row for each compared SDR statement of the test, in the order of
--- the statements. Each row has a bit for each position.
+-- The text is the diagnosis of a log of the board's test. The log has a row for each compared SDR statement of the test, in the order of
+-- the statements. Each row has a bit for each position of a data scan.
 pub record Diagnoses (log : Text) (board : RawBoard) (text : Text) : Type 0 where
   pub means : TestMeans board
   pub respond : RespondOnce board
@@ -121,9 +121,9 @@ pub record DiagnosesEach (log : Text) (board : RawBoard) (text : Text) : Type 0 
   pub right : EachPair (λ block verdict. IsRight board block.log verdict.pass verdict.faults) blocks verdicts
   pub is : text ≡ batch_text board blocks verdicts
 
--- The text names the groups that explain a log of the walking test of a board. The log has a row for each compared SDR statement of the
--- test. `found` is the only set of groups that explains the log, or `None` if no set explains it. Each set of groups explains some log, and
--- all logs that one set explains have the same compared bits.
+-- The text names the groups that explain a log of a board's walking test. The log has a row for each compared SDR statement of the test.
+-- `found` is the only set of groups that explains the log, or `None` if no set explains it. Each set of groups explains some log, and all
+-- logs that one set explains have the same compared bits.
 pub record FindsGroups (log : Text) (board : RawBoard) (text : Text) : Type 0 where
   pub means : WalkMeans board
   pub rows : List (List Bool)
@@ -135,7 +135,7 @@ pub record FindsGroups (log : Text) (board : RawBoard) (text : Text) : Type 0 wh
   pub one : (groups : List (List ℕ)) (one other : List (List Bool)) → Explain board one groups → Explain board other groups → AgreeOn board (walk_row_list board) one other
   pub is : text ≡ groups_text board found
 
--- P holds for the text and the board that these texts denote
+-- the texts denote some board, and P holds for this board and the text
 abbrev pub OfDenoted : (RawBoard → Text → Type 0) → BoardTexts → Text → Type 0
 OfDenoted P texts text = (board : RawBoard) × Denotes texts.chain texts.nets texts.bsdl board × P board text
 

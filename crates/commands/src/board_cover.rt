@@ -17,7 +17,7 @@ use coverage_list::write_cover;
 use net_classes::{Classes, classify};
 use std::alloc::Global;
 
-/// Writes the coverage list of the board that the texts denote. All memory is allocated before the first write.
+/// Writes the coverage list of the board that the texts denote. Allocates all memory before the first write.
 pub fn cover<K: Sink>(alloc: Global, texts: &BoardTexts, out: &mut K) -> Result<(), Unput>
     ensures { BoardAnswers cover_text ListsCover texts.now (K.shown out.old) (K.shown out.new) result }
 {

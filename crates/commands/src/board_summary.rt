@@ -46,7 +46,7 @@ struct Counts {
     bytes: u64,
 }
 
-/// Writes the summary of the generated board with `number` parts, from 1 to 255. All memory is allocated before the first write.
+/// Writes the summary of the generated board with `number` parts, from 1 to 255. Allocates all memory before the first write.
 pub fn summary<K: Sink>(alloc: Global, number: PartCount, out: &mut K) -> Result<(), Unput>
     ensures { Answers (IsBoardRead (chain_text number) (net_text number) (bsdl_text ∷ [])) summary_text Nothing (K.shown out.old) (K.shown out.new) result }
 {
@@ -93,8 +93,8 @@ fn net_count(board: &Board) -> u32
     board.raw().nets.len() as u32
 }
 
-// Returns the number of bytes of the text of the plan's test, or the largest number of 64 bits if there are more. Writes the text to a sink
-// that only counts bytes.
+// Returns the number of bytes of the text of the plan's test, or the largest number of 64 bits if the text has more bytes. Writes the text
+// to a sink that only counts bytes.
 fn text_bytes(alloc: Global, test: &BoardPlan<'_>) -> Result<u64, AllocError>
     ensures { IfOk result (λ bytes. bytes ≡ min (length (pass_text test.now.board test.now.plan.passes test.now.plan.width)) last_count) }
 {

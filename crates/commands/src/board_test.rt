@@ -35,7 +35,7 @@ use tap_defs::board_law::{board_texts_test, one_log, rows_compared, scans_in_tur
 use tap_defs::chain_law::texts_mean;
 use tap_defs::{ScanRows, Shape, StoredRows};
 
-/// Writes the test of the board that the texts denote. All memory is allocated before the first write.
+/// Writes the test of the board that the texts denote. Allocates all memory before the first write.
 pub fn svf<K: Sink>(alloc: Global, texts: &BoardTexts, out: &mut K) -> Result<(), Unput>
     ensures { BoardAnswers board_text TestsBoard texts.now (K.shown out.old) (K.shown out.new) result }
 {
@@ -60,7 +60,7 @@ fn put_test<K: Sink>(alloc: Global, planned: &Planned, out: &mut K) -> Result<()
     answer_by(write_test(test.board_plan(), &mut rows, out))
 }
 
-// States that the text of the board's test tests the board. Does nothing.
+// Does nothing. Its contract says that the text of the board's test tests the board.
 fn tests_board(board: &Board)
     ensures { IsBoardTest board.now (board_text board.now) }
 {
@@ -114,7 +114,7 @@ pub fn judging_laws(board: &Board)
     passing_unexplained();
 }
 
-/// Returns the number of bits of the board's longer scan.
+/// Returns the length in bits of the board's longer scan, the instruction scan or the data scan.
 pub fn longest_scan(board: &Board) -> u32
     ensures { IsRoom board.now result }
 {

@@ -84,8 +84,7 @@ impl Walked {
     }
 }
 
-/// Reads the board that the texts denote and makes its walking test. The error is the first fault of the texts, or a lack of
-/// memory.
+/// Reads the board that the texts denote and makes its walking test. The error is the first fault of the texts, or lack of memory.
 pub fn walked_board(alloc: Global, texts: &BoardTexts) -> Result<Walked, Unput>
     ensures denoted { IfOk result (λ walked. IsBoardOf texts.now (Ok walked.board)) }
     ensures none { IfErr result (NoBoard texts.now) }
@@ -139,7 +138,7 @@ fn walk_by(
     Walk::of(alloc, board, pins, &first)
 }
 
-/// Writes the walking test of the board that the texts denote. All memory is allocated before the first write.
+/// Writes the walking test of the board that the texts denote. Allocates all memory before the first write.
 pub fn walk<K: Sink>(alloc: Global, texts: &BoardTexts, out: &mut K) -> Result<(), Unput>
     ensures { BoardAnswers board_walk_text WalksBoard texts.now (K.shown out.old) (K.shown out.new) result }
 {
@@ -154,7 +153,7 @@ pub fn walk<K: Sink>(alloc: Global, texts: &BoardTexts, out: &mut K) -> Result<(
     }
 }
 
-// Writes the walking test of a board, which is already made.
+// Writes the walking test, which is already made, of a board.
 fn put_walk<K: Sink>(alloc: Global, walked: &Walked, out: &mut K) -> Result<(), Unput>
     ensures { PutsText (board_walk_text walked.now.board) (K.shown out.old) (K.shown out.new) result }
 {

@@ -19,7 +19,7 @@ use std::alloc::Global;
 use svf_writer::{write_chain, write_head, write_tail};
 use tap_defs::chain_law::chain_tests;
 
-/// Writes the test of the length of the chain that the texts describe. All memory is allocated before the first write.
+/// Writes the test of the length of the chain that the texts describe. Allocates all memory before the first write.
 pub fn chain<K: Sink>(alloc: Global, texts: &ChainTexts, out: &mut K) -> Result<(), Unput>
     ensures { ChainAnswers AreChainLengths chain_text TestsChain texts.now (K.shown out.old) (K.shown out.new) result }
 {

@@ -15,8 +15,7 @@ use btest_core::read_device;
 use device_check::write_device;
 use std::alloc::Global;
 
-/// Writes the listing of the device that a BSDL text describes, in its default package. All memory is allocated before the
-/// first write.
+/// Writes the listing, in its default package, of the device that a BSDL text describes. Allocates all memory before the first write.
 pub fn device<K: Sink>(alloc: Global, text: &ShortText, out: &mut K) -> Result<(), Unput>
     ensures { Answers (IsDeviceText text.now) device_text (ListsDevice text.now) (K.shown out.old) (K.shown out.new) result }
 {

@@ -24,8 +24,7 @@ use std::alloc::Global;
 // 1149.1-1990 gives the length of a code.
 const MOST_CODE_BITS: u32 = 8160;
 
-/// Writes the test of the identification codes of the parts that the texts describe. All memory is allocated before the
-/// first write.
+/// Writes the test of the identification codes of the parts that the texts describe. Allocates all memory before the first write.
 pub fn ident<K: Sink>(alloc: Global, texts: &ChainTexts, out: &mut K) -> Result<(), Unput>
     ensures { ChainAnswers AreIdents ident_text TestsIdents texts.now (K.shown out.old) (K.shown out.new) result }
 {

@@ -1,5 +1,4 @@
-//! The commands. Each command reads its texts and writes its output. If it does not write the whole output, it returns the
-//! reason.
+//! The commands. Each command reads its texts and writes its output. A command that does not write its whole output returns the reason.
 //!
 //! Explicit calls of `drop` drop boards, plans and other large values, which makes the proofs short (docs/PROVING.md, "Time").
 #![tactic(auto)]

@@ -22,8 +22,8 @@ use diagnoser::Workers;
 use std::alloc::Global;
 use std::thread::Threads;
 
-/// Writes the diagnoses of a batch of logs of the test of the board that the texts denote. `workers` is the number of threads
-/// that work on the diagnoses, from 1 to 64. All memory is allocated before the first write.
+/// Writes the diagnoses of `texts.log`, a batch of logs of the board's test. The board is the one that `texts.board` denotes. `workers` is
+/// the number of threads that work on the diagnoses, from 1 to 64. Allocates all memory before the first write.
 pub fn batch<R: Threads + Sync, K: Sink, G: Gate>(
     rt: &R,
     alloc: Global,

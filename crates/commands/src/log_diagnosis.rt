@@ -30,8 +30,8 @@ struct Found {
     faults: Vec<Single>,
 }
 
-/// Writes the diagnosis of a log of the test of the board that the texts denote. `workers` is the number of threads that work
-/// on the diagnosis, from 1 to 64. All memory is allocated before the first write.
+/// Writes the diagnosis of `texts.log`, a log of the board's test. The board is the one that `texts.board` denotes. `workers` is the number
+/// of threads that work on the diagnosis, from 1 to 64. Allocates all memory before the first write.
 pub fn diagnosis<R: Threads + Sync, K: Sink, G: Gate>(
     rt: &R,
     alloc: Global,
@@ -129,7 +129,7 @@ fn found_in<R: Threads + Sync, G: Gate>(
     Ok(Found { pass, faults })
 }
 
-// Writes the diagnosis that was found for a log.
+// Writes the diagnosis `found` of a log.
 fn put_found<K: Sink>(alloc: Global, board: &Board, found: &Found, out: &mut K) -> Result<(), Unput>
     requires { All (IsNamed board.now) found.now.faults.items }
     ensures { PutsText (diag_text board.now found.now.pass found.now.faults.items) (K.shown out.old) (K.shown out.new) result }

@@ -21,8 +21,8 @@ use std::alloc::Global;
 use walk_test::law::{groups_respond, one_set};
 use walk_test::{Group, write_groups};
 
-/// Writes the groups that explain a log of the walking test of the board that the texts denote. All memory is allocated
-/// before the first write.
+/// Writes the groups of nets that explain `texts.log`, a log of the board's walking test. The board is the one that `texts.board` denotes.
+/// Allocates all memory before the first write.
 pub fn groups<K: Sink>(alloc: Global, texts: LogTexts, out: &mut K) -> Result<(), Unput>
     ensures { JudgedAnswers grouping grouping_text FindsGroups texts (K.shown out.old) (K.shown out.new) result }
 {
@@ -91,7 +91,7 @@ fn put_grouped<K: Sink>(alloc: Global, walked: &Walked, log: &Log, out: &mut K) 
     put_found(alloc, board, &found, out)
 }
 
-// Writes the groups that were found for a log.
+// Writes the groups `found` of a log.
 fn put_found<K: Sink>(
     alloc: Global,
     board: &Board,

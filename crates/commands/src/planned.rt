@@ -98,7 +98,7 @@ impl ClassesWithPins {
     }
 }
 
-/// Reads the board that the texts denote. The error is the first fault of the texts, or a lack of memory.
+/// Reads the board that the texts denote. The error is the first fault of the texts, or lack of memory.
 pub fn board_of(alloc: Global, texts: &BoardTexts) -> Result<Board, Unput>
     ensures denoted { IfOk result (λ board. IsBoardOf texts.now (Ok board)) }
     ensures none { IfErr result (NoBoard texts.now) }
@@ -110,7 +110,7 @@ pub fn board_of(alloc: Global, texts: &BoardTexts) -> Result<Board, Unput>
     }
 }
 
-/// Reads the board that the texts denote and plans its test. The error is the first fault of the texts, or a lack of memory.
+/// Reads the board that the texts denote and plans its test. The error is the first fault of the texts, or lack of memory.
 pub fn planned_board(alloc: Global, texts: &BoardTexts) -> Result<Planned, Unput>
     ensures denoted { IfOk result (λ planned. IsBoardOf texts.now (Ok planned.board)) }
     ensures none { IfErr result (NoBoard texts.now) }

@@ -43,10 +43,11 @@ device port_bits cells boundary = record {
 abbrev entry : ℕ → Role → ℕ → Option Control → Cell
 entry num role bit ctl = record { num = num; role = role; bit = Some bit; safe = Any; ctl = ctl }
 
--- an entry of a cell that disables drivers by 1, and the control of such a driver
+-- a control cell with the safe value 1
 abbrev control : ℕ → Cell
 control num = record { num = num; role = ControlRole; bit = None; safe = One; ctl = None }
 
+-- control cell `cell`, which disables its drivers by 1
 abbrev by : ℕ → Option Control
 by cell = Some (record { cell = cell; disable = true })
 

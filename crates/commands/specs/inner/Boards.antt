@@ -1,4 +1,4 @@
--- A board with its walking test. No public contract cites this definition.
+-- Definitions about a board and its walking test. No public contract cites them.
 use Rattle.board_defs.specs.declared.board.RawBoard.{RawBoard}
 use Rattle.walk_test.specs.declared.tables.WalkTables.{WalkTables}
 

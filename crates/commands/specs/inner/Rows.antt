@@ -1,4 +1,4 @@
--- The rows in which scans are made: their room, and the scan that they hold.
+-- The rows in which scans are made. The definitions say how much room the rows have, and which scan they hold.
 use Rattle.std.specs.Prelude.{ℕ}
 use Rattle.board_defs.specs.declared.board.RawBoard.{RawBoard}
 use Rattle.tap_defs.specs.declared.scan.Shape.{Shape}

@@ -1,4 +1,4 @@
--- The reasons why nothing is written if texts have a fault, and how much of an output the sink takes.
+-- The reasons why a command writes nothing, and how much of an output the sink takes.
 use Rattle.std.specs.Prelude.{◌≡◌, ℕ, take, Result, Ok, Err}
 use Rattle.bt_base.specs.Counts.{Rose}
 use Rattle.bt_base.specs.Puts.{Shown, Takes}
@@ -14,7 +14,7 @@ use Rattle.commands.specs.Requests.{BoardTexts}
 use Rattle.commands.specs.declared.unput.Unput.{Unput}
 use Rattle.commands.specs.declared.unput.Unput.TheVariants as unput
 
--- the reason why nothing is written if a log that must have `rows` rows has this fault
+-- the reason why a command writes nothing if a log that must have `rows` rows has this fault
 abbrev pub unput_log : ℕ → LogFault → Unput
 unput_log rows (log.Memory e) = unput.Memory
 unput_log rows (log.Digit line) = unput.Log rows (log.Digit line)
@@ -22,14 +22,14 @@ unput_log rows (log.Length line) = unput.Log rows (log.Length line)
 unput_log rows (log.Extra line) = unput.Log rows (log.Extra line)
 unput_log rows (log.Missing found) = unput.Log rows (log.Missing found)
 
--- the reason why nothing is written if a batch of logs that must have `rows` rows each has this fault
+-- the reason why a command writes nothing if a batch whose logs must have `rows` rows each has this fault
 abbrev pub unput_batch : ℕ → BatchFault → Unput
 unput_batch rows (batch.Memory e) = unput.Memory
 unput_batch rows (batch.Start line) = unput.Batch rows (batch.Start line)
 unput_batch rows (batch.Title line) = unput.Batch rows (batch.Title line)
 unput_batch rows (batch.Inner board fault) = unput.Batch rows (batch.Inner board fault)
 
--- the reason why there is no board: the first fault of its texts, or a lack of memory
+-- the reason says why there is no board: the first fault of the board's texts, or lack of memory
 abbrev pub NoBoard : BoardTexts → Unput → Type 0
 NoBoard texts (unput.Input fault) = IsBoardOf texts (Err fault)
 NoBoard texts (unput.Log rows fault) = ⊥
@@ -37,7 +37,7 @@ NoBoard texts (unput.Batch rows fault) = ⊥
 NoBoard texts unput.Write = ⊥
 NoBoard texts unput.Memory = Unit {0}
 
--- the reason why nothing is written if the texts have this fault
+-- the reason why a command writes nothing if the texts have this fault
 abbrev pub unput_of : InputFault → Unput
 unput_of (input.Memory e) = unput.Memory
 unput_of (input.Chain fault) = unput.Input (input.Chain fault)
@@ -55,8 +55,7 @@ pub record IsPutInPart (text : Text) (old new : Shown) : Type 0 where
   pub bytes : ℕ
   pub takes : Takes old new (take bytes text)
 
--- The sink took the whole text, or it failed after it took some first bytes, or memory ran out before the first
--- write.
+-- The sink took the whole text. Or it failed after it had taken some first bytes. Or memory ran out before the first write.
 abbrev pub PutsText : Text → Shown → Shown → Result (Unit {0}) Unput → Type 0
 PutsText text old new (Ok done) = Takes old new text
 PutsText text old new (Err (unput.Input fault)) = ⊥
