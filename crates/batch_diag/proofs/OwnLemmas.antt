@@ -190,7 +190,7 @@ titles_none m (text ∷ texts) below names =
     ∙ titles_after (m + 1) text.below texts (All-head HasRows text texts below)
     ∙ titles_none (m + 1 + length text.below) texts (All-tail HasRows text texts below) (All-tail Names text texts names)
 
--- if no line with words comes before the first title, the lines before it have no words
+-- if the first line with words is a title, the lines before the first title have no words
 blank_front : (n : ℕ) (front later : List (List ℕ)) → All IsNoTitle front → start_fault (rows_at n (front ++ later)) ≡ None → All IsBlank front
 blank_front n [] later none start = All-nil IsBlank
 blank_front n (line ∷ front) later none start =
@@ -229,7 +229,7 @@ onto_fails : (block : Block) (rest : Answer) (fault : BatchFault) → onto block
 onto_fails block (Ok more) fault is = absurd cc
 onto_fails block (Err other) fault is = cc
 
--- the answer for blocks, which follows from the answers for the own text of each block
+-- Lemmas about the answer for blocks. It follows from the answers for each block's own text.
 module _ (rows len : ℕ) where
   abbrev Rest : ℕ → ℕ → BlockText → List BlockText → Answer
   Rest k m text texts = logs_from rows len (k + 1) (placed (m + 1 + length text.below) texts)
@@ -332,7 +332,7 @@ module _ (rows len : ℕ) where
           let same : Inner k (moved_fault m why) ≡ fault = cc in
           subst (Fails k m (text ∷ texts)) same (fails_here k m text texts why own)
 
-  -- the blocks of a whole text
+  -- Lemmas about the blocks of a whole text.
   module _ (text : List ℕ) where
     text_cut : Cut (slice_split is_newline text)
     text_cut = cut (slice_split is_newline text)
@@ -377,7 +377,7 @@ module _ (rows len : ℕ) where
         ap (λ (o : Option BatchFault). unless o (unless (title_fault (row_lines text)) (logs_from rows len 1 (blocks_of (row_lines text))))) start
         ∙ ap (λ (o : Option BatchFault). unless o (logs_from rows len 1 (blocks_of (row_lines text)))) titles ∙ logs
 
--- the fault of a line before the first title is not the fault of a block
+-- the fault that `start_fault` finds is not the fault of a block
 no_inner_start : (lines : List NumberedLine) (board : ℕ) (fault : LogFault) → start_fault lines ≡ Some (Inner board fault) → ⊥
 no_inner_start [] board fault is = absurd cc
 no_inner_start (line ∷ lines) board fault is = by_test (begins_block line) is
@@ -394,7 +394,7 @@ no_inner_title (line ∷ lines) board fault is = by_test (is_wrong_title line) i
     by_test true is below = absurd cc
     by_test false is below = below is
 
--- no line and no title has a fault, and the answer for the blocks is this fault
+-- no line before the first title has words, no title is wrong, and `fault` is the fault in the answer for the blocks
 record ToldOfBlock (start title : Option BatchFault) (answer : Answer) (fault : BatchFault) : Type 0 where
   start_is : start ≡ None
   title_is : title ≡ None

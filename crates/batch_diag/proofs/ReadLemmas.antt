@@ -29,12 +29,12 @@ after_onto : (blocks : List Block) (block : Block) (later : Answer) → after bl
 after_onto blocks block (Ok later) = ap Ok (sym (append_assoc blocks (block ∷ []) later))
 after_onto blocks block (Err fault) = refl
 
--- The measure of the loop over the titles. It is 0 if there is no next title, and each step lowers it.
+-- The measure of the loop over the titles. It is 0 if there is no next title, and it gets smaller in each step.
 abbrev pub titles_left : Option Title → ℕ
 titles_left None = 0
 titles_left (Some title) = 1 + length title.behind.now
 
--- if the first block holds a log, the answer for several blocks is this block, followed by the answer for the others
+-- if the first block holds a log, the answer is this block in front of the blocks of the answer for the later blocks
 block_holds : (id : Word) (board n : ℕ) (said : LogAnswer) (log : List (List Bool)) (later : Answer) → in_block n said ≡ Ok log → block_then id board said later ≡ onto (record { id = id; log = log }) later
 block_holds id board n (Ok here) log later is = let same : here ≡ log = cc in ap (λ (l : List (List Bool)). onto (record { id = id; log = l }) later) same
 block_holds id board n (Err fault) log later is = absurd cc
@@ -43,7 +43,7 @@ block_fails : (id : Word) (board : ℕ) (said : LogAnswer) (fault : BatchFault) 
 block_fails id board (Ok log) fault later is = absurd cc
 block_fails id board (Err inner) fault later is = cc
 
--- putting a block in front of a joined answer is joining the answer that has the block in front with the later answer
+-- putting a block in front of the joined answer gives the same as putting it in front of the first answer before joining the answers
 then_onto : (block : Block) (said later : Answer) → onto block (said_then said later) ≡ said_then (onto block said) later
 then_onto block (Ok blocks) (Ok later) = refl
 then_onto block (Ok blocks) (Err fault) = refl
@@ -61,7 +61,7 @@ logs_append rows len n (x ∷ xs) ys =
     ∙ then_block x.id n (rows_of_lines rows len x.lines) (logs_from rows len (n + 1) xs) (logs_from rows len (n + 1 + length xs) ys)
     ∙ ap (λ (k : ℕ). said_then (block_then x.id n (rows_of_lines rows len x.lines) (logs_from rows len (n + 1) xs)) (logs_from rows len k ys)) number
 
--- the joined answer for two parts of the blocks, from what was read of each part
+-- Lemmas about the joined answer for two parts of the blocks. It follows from what was read of each part.
 module _ {V : Type 0} (view : V → List Block) (rows len : ℕ) (said later : Answer) where
   pub read_first : (fault : BatchFault) → IfSome (batch_told fault) (λ f. said ≡ Err f) → IfSome (batch_told fault) (λ f. said_then said later ≡ Err f)
   read_first fault fails = IfSome_then (batch_told fault) fails (λ f is. ap (λ (s : Answer). said_then s later) is)
@@ -72,7 +72,7 @@ module _ {V : Type 0} (view : V → List Block) (rows len : ℕ) (said later : A
   pub read_whole : (blocks more all : List Block) → said ≡ Ok blocks → later ≡ Ok more → all ≡ blocks ++ more → said_then said later ≡ Ok all
   read_whole blocks more all is is_more sum = ap (λ (s : Answer). said_then s later) is ∙ ap (after blocks) is_more ∙ ap Ok (sym sum)
 
--- the answers for ranges of the blocks of a reading
+-- Lemmas about the answers for ranges of the blocks of a reading.
 module _ (r : Reading) where
   said_number : (from middle to : ℕ) → from ≤ middle → middle ≤ to → to ≤ length r.unread.items → said_between r from to ≡ said_then (said_between r from middle) (said_between r middle to)
   said_number from middle to low high within =
@@ -85,7 +85,7 @@ module _ (r : Reading) where
       ∙ logs_append r.rows r.len (from + 1) first second
       ∙ ap (λ (n : ℕ). said_then (said_between r from middle) (logs_from r.rows r.len n second)) number
 
-  -- the answer for an empty range is no blocks
+  -- the answer for an empty range of blocks is a list of no blocks
   said_nothing : (i : ℕ) → said_between r i i ≡ Ok []
   said_nothing i = ap (λ (l : List UnreadBlock). logs_from r.rows r.len (i + 1) (map lines_of_unread l)) (range_none r.unread.items i)
 
@@ -102,14 +102,15 @@ module _ (r : Reading) where
     said_one : said_between r i (i + 1) ≡ block_then block.id.now (i + 1) own (Ok [])
     said_one = ap (λ (l : List UnreadBlock). logs_from r.rows r.len (i + 1) (map lines_of_unread l)) (range_one r.unread.items i block less (sym (get_or_from_slice_get r.unread.items i block block at)))
 
-    -- if block `i` holds a log, the answer for the range up to it is the blocks found before, followed by block `i`
+    -- if blocks `from..i` are read as `found`, and block `i` holds a log, then blocks `from..i + 1` are read as `found` followed by block
+    -- `i`
     pub read_more : (from board : ℕ) (found more : List Block) (read : Block) → from ≤ i → said_between r from i ≡ Ok found → read.id ≡ block.id.now → in_block board own ≡ Ok read.log → more ≡ found ++ read ∷ [] → said_between r from (i + 1) ≡ Ok more
     read_more from board found more read low said id log sum =
         said_number from i (i + 1) low (omega arith) (omega (arith, less))
         ∙ read_whole (λ (l : List Block). l) r.rows r.len (said_between r from i) (said_between r i (i + 1)) found (read ∷ []) more said
         (said_one ∙ block_holds block.id.now (i + 1) board own read.log (Ok []) log ∙ ap (λ (word : Word). Ok (record { id = word; log = read.log } ∷ [])) (sym id)) sum
 
-    -- if block `i` does not hold a log, the answer for the range is its fault, whatever blocks come after it
+    -- if blocks `from..i` are read without a fault, and block `i` holds no log, the answer for blocks `from..to` is the fault of block `i`
     pub read_none : (from to : ℕ) (found : List Block) (fault : BatchFault) → from ≤ i → i < to → to ≤ length r.unread.items → said_between r from i ≡ Ok found → IfSome (batch_told fault) (λ f. in_block (i + 1) own ≡ Err f) → IfSome (batch_told fault) (λ f. said_between r from to ≡ Err f)
     read_none from to found fault low high within said fails =
         IfSome_then (batch_told fault) fails (λ f bad.
@@ -121,7 +122,7 @@ module _ (r : Reading) where
   pub read_end : (from i end : ℕ) (found : List Block) → i ≡ end → said_between r from i ≡ Ok found → said_between r from end ≡ Ok found
   read_end from i end found same said = ap (λ (n : ℕ). said_between r from n) (sym same) ∙ said
 
-  -- the result is right for the blocks `from..to` of the reading
+  -- `said` is a right result of reading blocks `from..to`
   abbrev ReadBetween : ℕ → ℕ → Answer → Type 0
   ReadBetween from to said = IsRead (λ (l : List Block). l) r.rows r.len (said_between r from to) said
 
@@ -156,11 +157,11 @@ module _ (r : Reading) where
     all_said : said_between r 0 (length r.unread.items) ≡ said_of r
     all_said = ap (λ (l : List UnreadBlock). logs_from r.rows r.len 1 (map lines_of_unread l)) (range_whole r.unread.items)
 
-    -- if a result is right for the range of all blocks, it is right for the reading
+    -- if a result is right for the range of all blocks of the reading, it is right for the reading
     read_all : (answer : Result V BatchFault) → ReadBetween 0 (length r.unread.items) (seen view answer) → IsRead view r.rows r.len (said_of r) answer
     read_all answer read = seen_read answer (subst (λ (s : Answer). IsRead (λ (l : List Block). l) r.rows r.len s (seen view answer)) all_said read)
 
-    -- if the result of each piece is right, the joined result is right for the reading
+    -- if the result of each piece is right for the piece's blocks, the joined result is right for the reading
     pub read_of_pieces : (items pieces : ℕ) → 0 < pieces → items ≡ length r.unread.items → (Gives : Piece → Result V BatchFault → Type 0) (result : Result V BatchFault) → GivesTogether view Gives (λ fault. fault ≡ Memory alloc_error) items pieces result →
         ((number : ℕ) (answer : Result V BatchFault) → Gives (piece_of items pieces number) answer → IsRead view r.rows r.len (said_between r (piece_start items pieces number) (piece_start items pieces (number + 1))) answer) →
         IsRead view r.rows r.len (said_of r) result
@@ -174,12 +175,12 @@ module _ (r : Reading) where
     read_end_all end answer is read =
         subst (λ (s : Answer). IsRead view r.rows r.len s answer) (ap (λ (n : ℕ). said_between r 0 n) is ∙ all_said) read
 
-    -- if a result is right for the reading, it is right for the text whose blocks the reading has
+    -- if the answer for a text is the answer for the reading, a result that is right for the reading is right for the text
     pub read_text : (rows len : ℕ) (said : Answer) (answer : Result V BatchFault) → said ≡ said_of r → r.rows ≡ rows → r.len ≡ len → IsRead view r.rows r.len (said_of r) answer → IsRead view rows len said answer
     read_text rows len said answer is same_rows same_len read = subst (λ (n : ℕ). IsRead view rows n said answer) same_len (subst (λ (n : ℕ). IsRead view n r.len said answer) same_rows (subst (λ (s : Answer). IsRead view r.rows r.len s answer) (sym is) read))
 
--- after one more block is cut out of a text, the blocks so far, followed by the blocks from the next title on, are still all blocks of the
--- text
+-- If the cut blocks, followed by the blocks from the next title on, are the blocks of a text, this is still so after the block of the next
+-- title is cut too.
 pub cut_more : (lines : List BlockLines) (unread : List UnreadBlock) (next following : Option Title) (title : Title) (own : List ℕ) (block : UnreadBlock) → next ≡ Some title → lines ≡ map lines_of_unread unread ++ blocks_at next →
     up_to_title (rows_from (title.line + 1) title.behind.now) ≡ rows_from (title.line + 1) own → blocks_of (rows_from (title.line + 1) title.behind.now) ≡ blocks_at following →
     lines_of_unread block ≡ record { id = title.id.now; lines = rows_from (title.line + 1) own } → lines ≡ map lines_of_unread (unread ++ block ∷ []) ++ blocks_at following
@@ -197,7 +198,7 @@ cut_more lines unread next following title own block is now here later same =
 pub cut_all : (lines : List BlockLines) (unread : List UnreadBlock) (next : Option Title) → next ≡ None → lines ≡ map lines_of_unread unread ++ blocks_at next → lines ≡ map lines_of_unread unread
 cut_all lines unread next is now = now ∙ ap (λ (o : Option Title). map lines_of_unread unread ++ blocks_at o) is ∙ append-nil (map lines_of_unread unread)
 
--- if a fault is the fault of a line before the first title or of a title, it is not the fault of a block
+-- the fault that `start_fault` finds is a fault of the lines, and not the fault of a block
 pub start_of_lines : (lines : List NumberedLine) (fault : BatchFault) → start_fault lines ≡ Some fault → IsOfLines fault
 start_of_lines [] fault is = absurd cc
 start_of_lines (line ∷ lines) fault is = by_test (begins_block line) is
@@ -223,19 +224,19 @@ unless_start start title said (Memory e) is = tt
 pub unless_title : (start title : Option BatchFault) (said : Answer) (fault : BatchFault) → start ≡ None → title ≡ Some fault → IfSome (batch_told fault) (λ f. unless start (unless title said) ≡ Err f)
 unless_title start title said fault none is = IfSome_then (batch_told fault) (unless_start title None said fault is) (λ f fails. ap (λ (o : Option BatchFault). unless o (unless title said)) none ∙ fails)
 
--- if no line and no title has a fault, the answer for the blocks is the answer for the text
+-- if `start` and `title` are None, a result for the answer `said` is a result for the answer of the whole text
 pub unless_none : {V : Type 0} (view : V → List Block) (result : Result V BatchFault) (start title : Option BatchFault) (said : Answer) → start ≡ None → title ≡ None → Gives batch_told view (λ answer. said ≡ answer) result → Gives batch_told view (λ answer. unless start (unless title said) ≡ answer) result
 unless_none view result start title said no_start no_title gives =
     let same : unless start (unless title said) ≡ said = ap (λ (o : Option BatchFault). unless o (unless title said)) no_start ∙ ap (λ (o : Option BatchFault). unless o said) no_title in
     subst (λ (s : Answer). Gives batch_told view (λ answer. s ≡ answer) result) (sym same) gives
 
--- if no line and no title has a fault, the answer for a text is the answer for its blocks
+-- if `start` and `title` are None, the answer for the text is the answer for its blocks
 pub unread_said : (rows len : ℕ) (start title : Option BatchFault) (lines blocks : List BlockLines) → start ≡ None → title ≡ None → lines ≡ blocks → unless start (unless title (logs_from rows len 1 lines)) ≡ logs_from rows len 1 blocks
 unread_said rows len start title lines blocks no_start no_title same =
     ap (λ (o : Option BatchFault). unless o (unless title (logs_from rows len 1 lines))) no_start ∙ ap (λ (o : Option BatchFault). unless o (logs_from rows len 1 lines)) no_title ∙ ap (logs_from rows len 1) same
 
--- If there are fewer blocks than the line number of a title, then after this title's block is added there are fewer blocks than the line
--- number of the next title.
+-- If the number of blocks is less than the line number of a title, then, after the title's block is added, the number of blocks is less
+-- than the line number of the next title.
 pub next_count : (following : Option Title) (blocks : List UnreadBlock) (block : UnreadBlock) (line : ℕ) → length blocks < line → IfSome following (λ title. line + 1 ≤ title.line) → IfSome following (λ title. length (blocks ++ block ∷ []) < title.line)
 next_count None blocks block line less later = tt
 next_count (Some title) blocks block line less later = omega (arith, less, later, length_push blocks block)

@@ -1,4 +1,4 @@
--- Samples of the answers that the definition gives for small texts, and of the text of a small batch.
+-- Samples for small texts: the answers that the definition gives, and the text of a small batch.
 use Rattle.std.proofs.Common.{◌≡◌, ℕ, true, false, Ok, Err, List, [], ◌∷◌, ◌++◌, map, replicate, None, refl}
 use Rattle.std.specs.Prelude.{codes, alloc_error}
 use Rattle.std.specs.Fmt.{digits}
@@ -26,12 +26,12 @@ no_board_yet : batch_of (codes "\n1\nBOARD A B") 1 2 ≡ Err (Start 2)
 unfolding words_of
 no_board_yet = refl
 
--- the fault of a wrong title is reported even if an earlier block has a fault
+-- a wrong title is reported before the fault of a block, even if the block comes before the title
 wrong_title : batch_of (codes "BOARD A\nBOARD B\n1\nBOARD #C\n1") 1 2 ≡ Err (Title 4)
 unfolding words_of
 wrong_title = refl
 
--- if several blocks have faults, the fault of the first of them is reported
+-- if several blocks have faults, the fault of the first such block is reported
 first_block : batch_of (codes "BOARD A\nBOARD B\n4") 1 2 ≡ Err (Inner 1 (Missing 0))
 unfolding words_of
 first_block = refl
@@ -41,7 +41,7 @@ line_of_text : batch_of (codes "BOARD A\n1\nBOARD B\n#\n4") 1 2 ≡ Err (Inner 2
 unfolding words_of
 line_of_text = refl
 
--- the answer for a text whose logs have one row of two bits
+-- the answer for a batch whose logs have one row of two bits
 abbrev of_one_row : List ℕ → Answer
 of_one_row text = batch_of text 1 2
 
@@ -83,7 +83,7 @@ too_long_id : batch_of (codes "BOARD " ++ replicate 256 65) 0 2 ≡ Err (Title 1
 unfolding words_of
 too_long_id = refl
 
--- a net of a board, for the text of a batch; the text has the title of each block, followed by its diagnosis
+-- a net with this name and no pins, for the board of the samples
 abbrev named : List ℕ → Net
 named name = record { name = name; supply = false; pull = None; pins = [] }
 
@@ -97,6 +97,6 @@ two_verdicts : batch_text two_nets (rowless (codes "A") ∷ rowless (codes "B") 
 unfolding diag_text digits
 two_verdicts = refl
 
--- the fault of a block is never a refusal of memory
+-- lack of memory is never the fault of a block
 never_memory : IsOfLines (Inner 1 (LogMemory alloc_error)) ≡ ⊥
 never_memory = refl

@@ -32,11 +32,11 @@ one_batch_text one board (block ∷ blocks) text other (diagnosis, later, is, ar
     all ∙ ap (λ (d : List ℕ). title_line block.id ++ (d ++ later)) (one board block.log diagnosis diagnosis' is is')
     ∙ ap (λ (l : List ℕ). title_line block.id ++ (diagnosis' ++ l)) (one_batch_text one board blocks later later' are are') ∙ sym all'
 
--- the texts of the blocks from block `i` on
+-- the text for the blocks from block `i` on
 abbrev pub texts_after : RawBoard → List Block → List Verdict → ℕ → List ℕ
 texts_after board blocks verdicts i = batch_text board (drop i blocks) (drop i verdicts)
 
--- after the sink also takes `rest`, it has taken the whole text since `start`
+-- if printing continues with `rest` at `now`, `whole` is printed from `start` on
 abbrev pub Completes : Shown → Shown → List ℕ → List ℕ → Type 0
 Completes start now rest whole = (new : Shown) (r : Result (Unit {0}) PutFault) → Prints now new [] [] rest r → Prints start new [] [] whole r
 
@@ -63,13 +63,13 @@ module _ (board : RawBoard) (blocks : List Block) (verdicts : List Verdict) (sam
   all_put i {start} {now} past completes =
       completes now (Ok tt) (prints_same (sym (ap (λ (bs : List Block). batch_text board bs (drop i verdicts)) (drop_all i blocks past))) (prints_none tt refl))
 
--- if there are blocks, their text is not empty, so printing it is one put of it
+-- if there is a block, the text of the blocks is not empty, so printing it puts it
 pub puts_some : {T E : Type 0} {old new : Shown} {r : Result T E} (board : RawBoard) (blocks : List Block) (verdicts : List Verdict) → length verdicts ≡ length blocks → 0 < length blocks → Prints old new [] [] (batch_text board blocks verdicts) r → Puts old new (batch_text board blocks verdicts) r
 puts_some board [] verdicts same some prints = absurd (omega (arith, some))
 puts_some board (block ∷ blocks) [] same some prints = absurd (omega (arith, same))
 puts_some board (block ∷ blocks) (verdict ∷ verdicts) same some prints = puts_of prints
 
--- if there are no blocks, a put of no bytes is a put of their text
+-- if there are no blocks, putting no bytes puts the text of the blocks
 pub puts_none : {T E : Type 0} {old new : Shown} {r : Result T E} (board : RawBoard) (blocks : List Block) (verdicts : List Verdict) → true ≡ (length blocks == 0) → Puts old new [] r → Puts old new (batch_text board blocks verdicts) r
 puts_none board [] verdicts is puts = puts
 puts_none board (block ∷ blocks) verdicts is puts = let none : length (block ∷ blocks) ≡ 0 = eqb-true (length (block ∷ blocks)) 0 (sym is) in absurd (omega (arith, none))

@@ -9,7 +9,7 @@ use Rattle.batch_diag.specs.declared.block.Block.{Block}
 use Rattle.batch_diag.specs.declared.fault.BatchFault.{BatchFault}
 use Rattle.batch_diag.specs.declared.fault.BatchFault.TheVariants.{Start, Title, Inner, Memory}
 
--- true if the first word of the line is `BOARD`
+-- the first word of the line is `BOARD`
 abbrev pub is_title : List Word → Bool
 is_title [] = false
 is_title (word ∷ words) = bytes_eq word (codes "BOARD")
@@ -26,13 +26,13 @@ abbrev pub id_of : List Word → Word
 id_of [] = []
 id_of (word ∷ words) = first_or_none words
 
--- true if there is exactly one word and this word keeps the word rule
+-- there is exactly one word, and this word keeps the word rule
 abbrev pub is_id : List Word → Bool
 is_id [] = false
 is_id (id ∷ []) = is_word id
 is_id (id ∷ other ∷ words) = false
 
--- true if exactly one word follows the first word and this second word keeps the word rule
+-- exactly one word follows the first word, and this second word keeps the word rule
 abbrev pub names_board : List Word → Bool
 names_board [] = false
 names_board (word ∷ words) = is_id words

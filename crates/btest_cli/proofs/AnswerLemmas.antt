@@ -1,4 +1,4 @@
--- Lemmas which turn the answer to a request into an outcome of a run.
+-- Lemmas which say that the answer to a request is an outcome of the request.
 use Rattle.std.proofs.Common.{Result, Ok, Err, refl, inl, inr}
 use Rattle.bt_base.specs.Puts.{Shown}
 use Rattle.btest_core.specs.declared.fault.InputFault.{InputFault}
@@ -14,7 +14,7 @@ use Rattle.btest_cli.specs.Refusals.{text_fault_line}
 use Rattle.btest_cli.specs.Outcome.{IsGiven, IsSaid}
 use Rattle.btest_cli.specs.inner.Failures.{IsAnswered}
 
--- if a command reads no log, its answer is an outcome of the request
+-- the answer of a command that reads no log is an outcome of the request
 pub answered : {A : Type 0} (names : Names) (request : Request) (IsFound : Result A InputFault → Type 0) (text_of : A → Text) (IsWorth : Text → Type 0) (old new : Shown) (result : Result (Unit {0}) Unput)
     → ((outcome : Result Text Text) → IsSaid text_of (input_fault_line names) IsFound outcome → IsGiven names request outcome) → ((text : Text) → IsWorth text → IsWorthFor request text)
     → Answers IsFound text_of IsWorth old new result → IsAnswered names request old new result
@@ -27,7 +27,7 @@ answered names request IsFound text_of IsWorth old new (Err unput.Write) gives w
     record { rose = cut.rose; text = text_of cut.value; gives = gives (Ok (text_of cut.value)) (inl (cut.value, cut.found, refl)); bytes = cut.bytes; takes = cut.takes }
 answered names request IsFound text_of IsWorth old new (Err unput.Memory) gives worth same = same
 
--- if a command reads a log or a batch of logs, its answer is an outcome of the request
+-- the answer of a command that reads a log or a batch of logs is an outcome of the request
 pub log_answered : {A : Type 0} (names : Names) (request : Request) (IsFound : Result A TextFault → Type 0) (text_of : A → Text) (IsWorth : Text → Type 0) (old new : Shown) (result : Result (Unit {0}) Unput)
     → ((outcome : Result Text Text) → IsSaid text_of (text_fault_line names) IsFound outcome → IsGiven names request outcome) → ((text : Text) → IsWorth text → IsWorthFor request text)
     → LogAnswers IsFound text_of IsWorth old new result → IsAnswered names request old new result

@@ -24,7 +24,7 @@ pub is_long : (limit n : ℕ) (b : Bool) → nat_lt limit n ≡ b → limit < n 
 is_long limit n true test long = refl
 is_long limit n false test long = grind (arith, common_steps)
 
--- if a text was fetched under a name, the store holds this text under the name
+-- if the fetched text is the text that the store tells for the name, the store holds this text under the name
 pub text_told : (held : Held) (name text : Text) → Told held name (λ t. text ≡ t) → IsText held name text
 text_told None name text told = tt
 text_told (Some held) name text told = by (held name) refl told
@@ -52,7 +52,8 @@ first_read wanted text rest reading short is =
 first_long : (wanted : Wanted) (text : Text) (rest : Option Reading) → wanted.limit < length text → read_first wanted (Some text) rest ≡ Some (TooLong wanted)
 first_long wanted text rest long = ap (λ (b : Bool). if b then Some (TooLong wanted) else and_text text rest) (is_long wanted.limit (length text) (nat_lt wanted.limit (length text)) refl long)
 
--- if a text that is short enough comes before the texts of a reading, the reading with this text in front reads all of them
+-- if a text within its limit is read before the texts `others`, the reading of all these texts is the text in front of the reading of
+-- `others`
 reads_more : (held : Held) (wanted : Wanted) (text : Text) (others : List Wanted) (reading : Reading) → IsText held wanted.name text → length text ≤ wanted.limit → IsRead held others reading → IsRead held (wanted ∷ others) (behind (text ∷ []) reading)
 reads_more None wanted text others reading is short read = (text ∷ read.0, first_read wanted text (reading_in others read.0) reading short read.1)
 reads_more (Some held) wanted text others reading is short read = ap (λ o. read_first wanted o (reading_of held others)) is ∙ first_read wanted text (reading_of held others) reading short read
@@ -87,7 +88,7 @@ names_both first rest = map-append (λ (text : Wanted). text.name) first rest
 asks_both : (old mid new names more : List Text) → Asks old mid names → Asks mid new more → Asks old new (names ++ more)
 asks_both old mid new names more first second = second ∙ ap (λ (l : List Text). l ++ more) first ∙ append_assoc old names more
 
--- the read of one text, with a lemma for each way in which it may end
+-- Lemmas about the read of a single text, one for each way in which the read may end.
 module _ (held held' : Held) (before now : Text → ℕ) (asked asked' : List Text) (same : held' ≡ held) (later : (name : Text) → before name ≤ now name) (last : Lent) (asks : Asks asked asked' (last.name.now ∷ [])) where
   up_to_here : IsReadUpTo held (wanted_view last ∷ []) (wanted_view last) asked asked'
   up_to_here = record { before = []; after = []; are = refl; found = []; read = reads_none held; asked = asks }
@@ -108,7 +109,7 @@ module _ (held held' : Held) (before now : Text → ℕ) (asked asked' : List Te
   pub no_memory : Reads IsOne (wanted_view last ∷ []) held held' before now asked asked' (Err unread.Memory)
   no_memory = record { same = same; later = later; told = record { first = last.name.now ∷ []; others = []; are = refl; asks = asks } }
 
--- if not all texts of `first` were read, not all texts of `first` and `rest` were read
+-- If the texts `first` were read up to `last` only, so were the texts `first` followed by `rest`.
 module _ (first rest : List Wanted) (held : Held) (asked asked' : List Text) where
   up_to_here_too : (last : Wanted) → IsReadUpTo held first last asked asked' → IsReadUpTo held (first ++ rest) last asked asked'
   up_to_here_too last there = record {
@@ -136,7 +137,7 @@ pub lost_first : {A B : Type 0} {Of : A → List Text → Type 0} {first : List 
 lost_first {first = first} rest {held = held} {before = before} {now = now} {asked = asked} {asked' = asked'} As {lost = lost} reads =
     record { same = reads.same; later = reads.later; told = more_unread first rest held asked asked' before now lost reads.told }
 
--- if memory ran out after the first texts were read, memory ran out for the whole list
+-- if memory ran out after the texts `first` were read, memory ran out for the texts `first` followed by `rest`
 lost_between : {A B : Type 0} {Of : A → List Text → Type 0} {first : List Wanted} (rest : List Wanted) {held held' : Held} {before now : Text → ℕ} {asked asked' : List Text} (As : B → List Text → Type 0) {value : A} → Reads Of first held held' before now asked asked' (Ok value)
     → Reads As (first ++ rest) held held' before now asked asked' (Err unread.Memory)
 lost_between {first = first} rest As reads = record {
@@ -145,7 +146,7 @@ lost_between {first = first} rest As reads = record {
   told = record { first = names_in first; others = names_in rest; are = names_both first rest; asks = reads.told.asks };
 }
 
--- if the texts of `first` were read, but not all texts of `rest`, then not all texts of both lists were read
+-- If the texts `first` were read, and the texts `rest` only up to `last`, then the texts of both lists were read only up to `last`.
 module _ (first rest : List Wanted) (held : Held) (front asked asked_mid asked' : List Text) (continues : Continues held first front) (asks : Asks asked asked_mid (names_in first)) where
   up_to_there : (last : Wanted) → IsReadUpTo held rest last asked_mid asked' → IsReadUpTo held (first ++ rest) last asked asked'
   up_to_there last there = record {
@@ -173,7 +174,7 @@ module _ (first rest : List Wanted) (held : Held) (front asked asked_mid asked' 
 both_later : (before between now : Text → ℕ) → ((name : Text) → before name ≤ between name) → ((name : Text) → between name ≤ now name) → (name : Text) → before name ≤ now name
 both_later before between now one other name = let first = one name in let more = other name in omega (arith, first, more)
 
--- if the first of two reads succeeded and the second failed, the joined read failed
+-- if the read of `first` succeeded and the read of `rest` failed, the read of both lists failed
 pub lost_then : {A B C : Type 0} {Of : A → List Text → Type 0} {Then : B → List Text → Type 0} {first rest : List Wanted} {held mid held' : Held} {before between now : Text → ℕ} {asked asked_mid asked' : List Text} {value : A} {lost : Unread} (As : C → List Text → Type 0)
     → Reads Of first held mid before between asked asked_mid (Ok value) → Reads Then rest mid held' between now asked_mid asked' (Err lost) → Reads As (first ++ rest) held held' before now asked asked' (Err lost)
 lost_then {first = first} {rest = rest} {held = held} {before = before} {between = between} {now = now} {asked = asked} {asked_mid = asked_mid} {asked' = asked'} {lost = lost} As one other = record {
@@ -184,7 +185,7 @@ lost_then {first = first} {rest = rest} {held = held} {before = before} {between
       (subst (λ (h : Held). IsUnread rest h between now asked_mid asked' lost) one.same other.told);
 }
 
--- if two reads in turn succeeded, the joined read succeeded
+-- if the reads of `first` and of `rest` succeeded, the read of both lists succeeded
 pub read_then : {A B C : Type 0} {Of : A → List Text → Type 0} {Then : B → List Text → Type 0} {first rest : List Wanted} {held mid held' : Held} {before between now : Text → ℕ} {asked asked_mid asked' : List Text} {value : A} {found : B} (As : C → List Text → Type 0) (made : C)
     → Reads Of first held mid before between asked asked_mid (Ok value) → Reads Then rest mid held' between now asked_mid asked' (Ok found) → ((texts more : List Text) → Of value texts → Then found more → As made (texts ++ more)) → Reads As (first ++ rest) held held' before now asked asked' (Ok made)
 read_then {Then = Then} {first = first} {rest = rest} {held = held} {before = before} {between = between} {now = now} {asked = asked} {asked_mid = asked_mid} {asked' = asked'} {found = found} As made one other stand =
@@ -200,16 +201,16 @@ read_then {Then = Then} {first = first} {rest = rest} {held = held} {before = be
       };
     }
 
--- if two single texts were read in turn, the list of both was read
+-- if two single texts were read in turn, the list of the two texts was read
 pub read_two : {first second : Wanted} {held mid held' : Held} {before between now : Text → ℕ} {asked asked_mid asked' : List Text} {one other : Text} → Reads IsOne (first ∷ []) held mid before between asked asked_mid (Ok one) → Reads IsOne (second ∷ []) mid held' between now asked_mid asked' (Ok other)
     → Reads AreAll (first ∷ second ∷ []) held held' before now asked asked' (Ok (one ∷ other ∷ []))
 read_two {one = one} {other = other} first second = read_then AreAll (one ∷ other ∷ []) first second (λ texts more is are. ap (λ (l : List Text). l ++ more) is ∙ ap (λ (l : List Text). one ∷ l) are)
 
--- the text of a borrowed name
+-- the bytes of a borrowed name
 abbrev pub now_of : Bor Text → Text
 now_of name = name.now
 
--- BSDL texts with these names
+-- the wanted BSDL texts with these names
 abbrev pub called : List (Bor Text) → List Wanted
 called names = map text_called (map now_of names)
 
@@ -224,15 +225,15 @@ cut_at names k =
     sym (ap called (take-append-drop k names)) ∙ ap (map text_called) (map-append now_of (take k names) (drop k names)) ∙ map-append text_called (map now_of (take k names)) (map now_of (drop k names))
 
 module _ (names : List (Bor Text)) (k : ℕ) {held held' : Held} {before now : Text → ℕ} {asked asked' : List Text} where
-  -- if the texts of the first k names were not all read, the texts of all names were not all read
+  -- if the read of the texts with the first `k` names failed, the read of the texts with all names failed
   lost_of : {lost : Unread} → Reads AreAll (called (take k names)) held held' before now asked asked' (Err lost) → Reads AreAll (called names) held held' before now asked asked' (Err lost)
   lost_of {lost} reads = subst (λ (wanted : List Wanted). Reads AreAll wanted held held' before now asked asked' (Err lost)) (sym (cut_at names k)) (lost_first (called (drop k names)) AreAll reads)
 
-  -- if memory ran out after these k texts were read, memory ran out for all names
+  -- if memory ran out after the texts with the first `k` names were read, memory ran out for all names
   pub memory_of : {found : List Text} → Reads AreAll (called (take k names)) held held' before now asked asked' (Ok found) → Reads AreAll (called names) held held' before now asked asked' (Err unread.Memory)
   memory_of {found} reads = subst (λ (wanted : List Wanted). Reads AreAll wanted held held' before now asked asked' (Err unread.Memory)) (sym (cut_at names k)) (lost_between (called (drop k names)) AreAll reads)
 
--- the read of the text with name k, after the texts of the first k names were read
+-- Lemmas about the read of the text with name `k` after the texts with the first `k` names were read.
 module _ (names : List (Bor Text)) (k : ℕ) (d : Bor Text) (name : Text) (within : k < length names) (is : name ≡ now_of (slice_index_or names k d)) {held mid held' : Held} {before between now : Text → ℕ} {asked asked_mid asked' : List Text} {found : List Text}
     (so_far : Reads AreAll (called (take k names)) held mid before between asked asked_mid (Ok found)) where
   pub next_read : {text : Text} → Reads IsOne (text_called name ∷ []) mid held' between now asked_mid asked' (Ok text) → (all : List Text) → all ≡ found ++ text ∷ [] → Reads AreAll (called (take (k + 1) names)) held held' before now asked asked' (Ok all)
@@ -245,7 +246,7 @@ module _ (names : List (Bor Text)) (k : ℕ) (d : Bor Text) (name : Text) (withi
       lost_of names (k + 1)
       (subst (λ (wanted : List Wanted). Reads AreAll wanted held held' before now asked asked' (Err lost)) (sym (one_more names k d name within is)) (lost_then AreAll so_far one))
 
--- the bytes of `texts ++ last ∷ []` are the bytes of `texts`, followed by the bytes of `last`
+-- the bytes of `all`, which is `texts` followed by `last`, are the bytes of `texts` followed by the bytes of `last`
 pub items_more : (texts all : List (Vec ℕ Global)) (last : Vec ℕ Global) (text : Text) → all ≡ texts ++ last ∷ [] → last.items ≡ text → map (λ t. t.items) all ≡ map (λ t. t.items) texts ++ text ∷ []
 items_more texts all last text are is =
     ap (λ (l : List (Vec ℕ Global)). map (λ t. t.items) l) are ∙ map-append (λ (t : Vec ℕ Global). t.items) texts (last ∷ []) ∙ ap (λ (t : Text). map (λ t. t.items) texts ++ t ∷ []) is

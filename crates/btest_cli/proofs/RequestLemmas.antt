@@ -50,7 +50,7 @@ module _ (P : Command → List Text → Request → Type 0) (of_chain : (names :
   by_request (Batch workers name names) (log ∷ chain ∷ []) made e = absurd (none_made e)
   by_request (Batch workers name names) (log ∷ chain ∷ nets ∷ bsdl) made e = subst (P (Batch workers name names) (log ∷ chain ∷ nets ∷ bsdl)) (same_request e) (of_batch workers name names log chain nets bsdl)
 
--- the command and these texts make a request; this is the case if there are as many texts as the command has names
+-- The command and these texts make a request. They do if there are as many texts as the command has file names.
 abbrev pub MakesRequest : Command → List Text → Type 0
 MakesRequest command texts = (made : Request) × (request_of command texts ≡ Some made)
 

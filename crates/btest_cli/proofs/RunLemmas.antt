@@ -1,4 +1,4 @@
--- Lemmas about runs of a command: the effect of each kind of run, and the completeness of these kinds.
+-- Lemmas about runs of a command. For each way in which a run ends, they say what the run did. They also say that a run is complete.
 use Rattle.std.proofs.Common.{◌≡◌, ℕ, zero, suc, Bool, true, false, nat_lt, length, List, [], ◌∷◌, Option, Some, None, Result, Ok, Err, refl, sym, ap, ◌∙◌, subst, inl, inr}
 use Rattle.std.specs.Prelude.{IfSome, map, take, ◌++◌, if◌then◌else◌}
 use Rattle.std.proofs.lemmas.List.{append-nil}
@@ -46,12 +46,12 @@ use Rattle.btest_cli.specs.inner.Reads.{IsUnread, OfRequest, Reads}
 use Rattle.btest_cli.specs.inner.Failures.{IsPut, IsUnput, wanted_view, unread_status, unread_line, unput_status, unput_line}
 use Rattle.btest_cli.specs.inner.RunOf.{IsRunOf}
 
--- after a line was written to the notes, the notes took the line, wholly or in part
+-- if a line was put to the notes, the notes took the line, wholly or in part
 pub took_or_cut : {T E : Type 0} {old new : Shown} {line : Text} (r : Result T E) → Puts old new line r → TookOrCut old new line
 took_or_cut (Ok x) puts = inl puts.whole
 took_or_cut (Err e) puts = inr (puts.cause, puts.cut)
 
--- the names of the texts of a command are the given names
+-- the names of the wanted BSDL texts with these names are these names
 pub names_wanted : (names : List Text) → names_in (map text_called names) ≡ names
 names_wanted [] = refl
 names_wanted (name ∷ names) = ap (λ (l : List Text). name ∷ l) (names_wanted names)
@@ -74,7 +74,7 @@ all_asked command asked asked' asks = subst (Asks asked asked') (wanted_names co
 all_wanted : (command : Command) (asked asked' : List Text) → Asks asked asked' (names_of command) → Asks asked asked' (names_in (wanted_of command))
 all_wanted command asked asked' asks = subst (Asks asked asked') (sym (wanted_names command)) asks
 
--- if the texts of a command were read, they make the request, and each was asked for once and in order
+-- if the read of a command's texts succeeded, the texts make the request, and each text was asked for once and in order
 pub was_read : (command : Command) {held held' : Held} {before now : Text → ℕ} {asked asked' : List Text} {request : Request} → Reads (OfRequest command) (wanted_of command) held held' before now asked asked' (Ok request) → IsReadAs held command asked asked' request
 was_read command {held} {held'} {before} {now} {asked} {asked'} reads = record {
   texts = reads.told.texts;
@@ -83,7 +83,7 @@ was_read command {held} {held'} {before} {now} {asked} {asked'} reads = record {
   asks = all_asked command asked asked' reads.told.asks;
 }
 
--- if the command wrote its text, the run is a run at `Done`
+-- if a command's texts were read and the sink took the command's text, the run ends as a run with the status `Done` does
 pub run_put : (command : Command) (held : Held) (before now : Text → ℕ) (asked asked' : List Text) (request : Request) (out out' notes : Shown) → IsReadAs held command asked asked' request → IsPut (roles_of command) request out out' → IsRunOf command held before now asked asked' out out' notes notes status.Done
 run_put command held before now asked asked' request out out' notes read put = record {
   no_usage = λ e. cc;
@@ -99,7 +99,7 @@ run_put command held before now asked asked' request out out' notes read put = r
   memory_asks = λ e. absurd cc;
 }
 
--- if the texts have a fault and the notes took its line, the run is a run at `Refused`
+-- if a command's texts have a fault and the notes took the line of the fault, the run ends as a run with the status `Refused` does
 refused_run : (command : Command) (held : Held) (before now : Text → ℕ) (asked asked' : List Text) (reading : Reading) (line : Text) (out notes notes' : Shown) → IsRead held (wanted_of command) reading → AsksFor held (wanted_of command) reading asked asked' → IsOutcome command reading (Err line) → TookOrCut notes notes' line
     → IsRunOf command held before now asked asked' out out notes notes' status.Refused
 refused_run command held before now asked asked' reading line out notes notes' read asks gives noted = record {
@@ -116,7 +116,7 @@ refused_run command held before now asked asked' reading line out notes notes' r
   memory_asks = λ e. absurd cc;
 }
 
--- if memory ran out, the run is a run at `NoMemory`
+-- if memory ran out and the notes took the line for this, the run ends as a run with the status `NoMemory` does
 pub memory_run : (command : Command) (held : Held) (before now : Text → ℕ) (asked asked' : List Text) (out notes notes' : Shown) → AsksSome command asked asked' → TookOrCut notes notes' memory_line → IsRunOf command held before now asked asked' out out notes notes' status.NoMemory
 memory_run command held before now asked asked' out notes notes' asks noted = record {
   no_usage = λ e. cc;
@@ -132,7 +132,7 @@ memory_run command held before now asked asked' out notes notes' asks noted = re
   memory_asks = λ e. asks;
 }
 
--- if a run asked for no text, it asked for the first 0 names
+-- a run that asked for no text asked for the first 0 names of the command
 pub none_asked : (command : Command) (asked : List Text) → AsksSome command asked asked
 none_asked command asked = (zero, sym (append-nil asked))
 
@@ -140,7 +140,7 @@ pub none_asked_for : (command : Option Command) (asked : List Text) → IfSome c
 none_asked_for None asked = tt
 none_asked_for (Some command) asked = none_asked command asked
 
--- the first `length first` names of a joined list are the first list
+-- the first `length first` names of `first` followed by `others` are `first`
 first_of : (first others : List Text) → take (length first) (first ++ others) ≡ first
 first_of [] others = refl
 first_of (name ∷ first) others = ap (λ (l : List Text). name ∷ l) (first_of first others)
@@ -152,7 +152,7 @@ asked_first command first others asked asked' are asks =
 asked_all : (command : Command) (asked asked' : List Text) → Asks asked asked' (names_of command) → AsksSome command asked asked'
 asked_all command asked asked' asks = asked_first command (names_of command) [] asked asked' (sym (append-nil (names_of command))) asks
 
--- if the texts were not all read, the run is a run at the status of the reason
+-- if the read of the texts failed for the reason `lost`, the run ends as a run with the status of this reason does
 pub run_unread : (command : Command) (held : Held) (before now : Text → ℕ) (asked asked' : List Text) (lost : Unread) (out notes notes' : Shown) → IsUnread (wanted_of command) held before now asked asked' lost → TookOrCut notes notes' (unread_line lost)
     → IsRunOf command held before now asked asked' out out notes notes' (unread_status lost)
 run_unread command held before now asked asked' (unread.TooLong wanted) out notes notes' is noted =
@@ -179,7 +179,7 @@ run_unread command held before now asked asked' unread.Memory out notes notes' i
 same_out : (command : Command) (held : Held) (before now : Text → ℕ) (asked asked' : List Text) (out out' notes notes' : Shown) (ended : Status) → out' ≡ out → IsRunOf command held before now asked asked' out out notes notes' ended → IsRunOf command held before now asked asked' out out' notes notes' ended
 same_out command held before now asked asked' out out' notes notes' ended same run = subst (λ o. IsRunOf command held before now asked asked' out o notes notes' ended) (sym same) run
 
--- if the text was not written whole, the run is a run at the status of the reason
+-- if the text was not written whole, for the reason `failure`, the run ends as a run with the status of this reason does
 pub run_unput : (command : Command) (held : Held) (before now : Text → ℕ) (asked asked' : List Text) (request : Request) (failure : Unput) (out out' notes notes' : Shown) → IsReadAs held command asked asked' request → IsUnput (roles_of command) request out out' failure → TookOrCut notes notes' (unput_line (roles_of command) failure)
     → IsRunOf command held before now asked asked' out out' notes notes' (unput_status failure)
 run_unput command held before now asked asked' request (unput.Input fault) out out' notes notes' read is noted =
@@ -204,7 +204,7 @@ run_unput command held before now asked asked' request unput.Write out out' note
 run_unput command held before now asked asked' request unput.Memory out out' notes notes' read is noted =
     same_out command held before now asked asked' out out' notes notes' status.NoMemory is (memory_run command held before now asked asked' out notes notes' (asked_all command asked asked' read.asks) noted)
 
--- if the count of `last` rose, and `last` is among the texts, the count of one of their names rose
+-- if the count of faults of `last` rose, the count rose for some name in a list that contains `last`
 rose_in : (before now : Text → ℕ) (front : List Wanted) (last : Wanted) (after : List Wanted) → Rose (before last.name) (now last.name) → SomeRose before now (names_in (front ++ last ∷ after))
 rose_in before now [] last after rose = inl rose
 rose_in before now (wanted ∷ front) last after rose = inr (rose_in before now front last after rose)
@@ -221,7 +221,7 @@ OneOutcome = (command : Command) (reading : Reading) (a b : Result Text Text) �
 abbrev pub SomeOutcome : Type 0
 SomeOutcome = (command : Command) (held : Held) (reading : Reading) → known_reading held (wanted_of command) ≡ Some reading → (outcome : Result Text Text) × IsOutcome command reading outcome
 
--- the status `NoMemory` agrees with every outcome, since memory may run out in any run
+-- the status `NoMemory` agrees with every outcome
 settles_memory : (rose : Type 0) (outcome : Result Text Text) → Settles rose outcome status.NoMemory
 settles_memory rose (Ok text) = λ calm. inr refl
 settles_memory rose (Err line) = inr refl
@@ -235,7 +235,7 @@ pub memory_for : SomeOutcome → (command : Option Command) (held : Held) (befor
 memory_for some None held before now out_rose = tt
 memory_for some (Some command) held before now out_rose = memory_complete some command held (SomeRose before now (names_of command)) out_rose
 
--- if a reading is known, there is no other reading
+-- if the reading of these texts is known, every reading of them is the known one
 pub one_reading : (held : Held) (wanted : List Wanted) (reading other : Reading) → known_reading held wanted ≡ Some reading → IsRead held wanted other → other ≡ reading
 one_reading None [] reading other known read =
     let same : ◌≡◌ {A = Option Reading} (Some other) (Some reading) = sym read.1 ∙ known in
@@ -256,7 +256,7 @@ same_outcome held command reading other a b one known is gives_a gives_b =
 apart : {text line : Text} → ◌≡◌ {A = Result Text Text} (Ok text) (Err line) → ⊥
 apart e = cc e
 
--- a run of a command is complete: if no count rose, the outcome settles the status
+-- a run of a command is complete: if no count of faults rose, the outcome determines the status
 pub run_complete : OneOutcome → SomeOutcome → (command : Command) (held : Held) (before now : Text → ℕ) (asked asked' : List Text) (out out' notes notes' : Shown) (ended : Status) → IsRunOf command held before now asked asked' out out' notes notes' ended
     → IsComplete held command (SomeRose before now (names_of command)) (Rose out.faults out'.faults) ended
 run_complete one some command held before now asked asked' out out' notes notes' ended run = λ reading known no_rise.
@@ -283,7 +283,7 @@ run_complete one some command held before now asked asked' out out' notes notes'
         let told = run.cut refl in absurd (apart (same_outcome held command reading (Read told.read.texts) (Ok told.text) (Err line) one known told.read.read (told.request, told.read.made, told.gives) gives))
     settle (Err line) status.NoMemory reading known gives no_rise run = inr refl
 
--- the outcome for a result: the text of a value, or the line of a fault
+-- the outcome for a result: the text of the value, or the line of the fault
 abbrev said : {A F : Type 0} → (A → Text) → (F → Text) → Result A F → Result Text Text
 said text_of line_of (Ok value) = Ok (text_of value)
 said text_of line_of (Err fault) = Err (line_of fault)
@@ -301,8 +301,8 @@ one_said text_of line_of IsFound a b one says_a says_b =
     let y = found_of text_of line_of IsFound b says_b in
     x.2 ∙ ap (said text_of line_of) (one x.0 y.0 x.1 y.1) ∙ sym y.2
 
--- These proofs take the following laws as arguments: the texts of a device, of a chain, of its codes and of a board have at most one
--- answer.
+-- The lemmas below take laws as arguments. The first laws say that the text of a device and the texts of a chain, of its codes and of a
+-- board have at most one answer.
 abbrev OneDevice : Type 0
 OneDevice = (text : Text) → AtMostOne (IsDeviceText text)
 
@@ -315,11 +315,11 @@ OneIdents = (chain : Text) (texts : List Text) → AtMostOne (AreIdents chain te
 abbrev OneBoard : Type 0
 OneBoard = (chain nets : Text) (texts : List Text) → AtMostOne (IsBoardRead chain nets texts)
 
--- a text of logs has at most one meaning for the board that the other texts denote
+-- for the board that the other texts denote, a text of logs has at most one answer
 abbrev OneJudged : {L E A : Type 0} → Judging L E A → Type 0
 OneJudged judging = (text chain nets : Text) (texts : List Text) → AtMostOne (OnDenoted judging text chain nets texts)
 
--- at most one value is what the contents of a text show
+-- the contents of a text show at most one value
 abbrev FindsOne : {L E A : Type 0} → Judging L E A → Type 0
 FindsOne {L} {E} {A} judging = (board : RawBoard) (contents : L) (x y : A) → IsBoard board → judging.Finds board contents x → judging.Finds board contents y → x ≡ y
 
@@ -416,7 +416,7 @@ one_grouping one board rows None (Some groups) rules is_x is_y = absurd (is_x gr
 one_grouping one board rows (Some groups) None rules is_x is_y = absurd (is_y groups is_x)
 one_grouping one board rows (Some groups) (Some others) rules is_x is_y = ap Some (one board rows groups others rules is_x is_y)
 
--- a text of logs has at most one meaning
+-- each kind of text of logs has at most one answer
 pub record LogsSayOne : Type 0 where
   pub diagnoses : OneJudged diagnosing
   pub groups : OneJudged grouping
@@ -429,7 +429,7 @@ logs_say_one boards rules diagnosis set = record {
   each = one_judged boards rules judging_each (one_each diagnosis);
 }
 
--- if texts have at most one meaning, they give at most one outcome
+-- If each kind of texts has at most one answer, a reading gives at most one outcome.
 module _ (devices : OneDevice) (chains : OneChain) (idents : OneIdents) (boards : OneBoard) (logs : LogsSayOne) where
   one_given : (names : Names) (request : Request) (a b : Result Text Text) → IsGiven names request a → IsGiven names request b → a ≡ b
   one_given names (Chain texts) a b is_a is_b = one_said chain_text (input_fault_line names) (AreChainLengths texts.chain texts.bsdl) a b (chains texts.chain texts.bsdl) is_a is_b
@@ -448,7 +448,7 @@ module _ (devices : OneDevice) (chains : OneChain) (idents : OneIdents) (boards 
   one_outcome command (Read texts) a b (request, made_a, is_a) (other, made_b, is_b) =
       one_given (roles_of command) other a b (subst (λ (r : Request). IsGiven (roles_of command) r a) (same_request (sym made_a ∙ made_b)) is_a) is_b
 
--- if the texts of `wanted` were read, as many texts were read as `wanted` has
+-- if the read of `wanted` gives the texts `found`, `found` has as many texts as `wanted`
 count_read : (held : Text → Option Text) (wanted : List Wanted) (found : List Text) → reading_of held wanted ≡ Some (Read found) → length found ≡ length wanted
 count_read held [] [] reads = refl
 count_read held [] (text ∷ found) reads = absurd cc
@@ -483,7 +483,7 @@ names_count (text ∷ wanted) = ap suc (names_count wanted)
 wanted_count : (command : Command) → length (wanted_of command) ≡ length (names_of command)
 wanted_count command = sym (names_count (wanted_of command)) ∙ ap length (wanted_names command)
 
--- there is an answer for which `IsFound` holds
+-- `IsFound` holds for some answer
 abbrev HasAnswer : {A F : Type 0} → (Result A F → Type 0) → Type 0
 HasAnswer {A} {F} IsFound = (answer : Result A F) × IsFound answer
 
@@ -497,7 +497,8 @@ says text_of line_of IsFound (Err fault) found = (Err (line_of fault), inr (faul
 some_said : {A F : Type 0} (text_of : A → Text) (line_of : F → Text) (IsFound : Result A F → Type 0) → HasAnswer IsFound → HasOutcome (IsSaid text_of line_of IsFound)
 some_said text_of line_of IsFound some = says text_of line_of IsFound some.0 some.1
 
--- These proofs take the following laws as arguments: the texts of a device, of a chain, of its codes and of a board have an answer.
+-- The lemmas below take laws as arguments. The first laws say that the text of a device and the texts of a chain, of its codes and of a
+-- board have an answer.
 abbrev SomeDevice : Type 0
 SomeDevice = (text : Text) → HasAnswer (IsDeviceText text)
 
@@ -510,11 +511,11 @@ SomeIdents = (chain : Text) (texts : List Text) → HasAnswer (AreIdents chain t
 abbrev SomeBoard : Type 0
 SomeBoard = (chain nets : Text) (texts : List Text) → HasAnswer (IsBoardRead chain nets texts)
 
--- a text of logs has a meaning for the board that the other texts denote
+-- for the board that the other texts denote, a text of logs has an answer
 abbrev SomeJudged : {L E A : Type 0} → Judging L E A → Type 0
 SomeJudged judging = (text chain nets : Text) (texts : List Text) → HasAnswer (OnDenoted judging text chain nets texts)
 
--- the contents of a text always show something
+-- the contents of each text show some value
 abbrev FindsSome : {L E A : Type 0} → Judging L E A → Type 0
 FindsSome {L} {E} {A} judging = (board : RawBoard) (contents : L) → IsBoard board → (found : A) × judging.Finds board contents found
 
@@ -549,7 +550,7 @@ some_verdicts some board rules (block ∷ blocks) =
 some_each : SomeDiagnosis → FindsSome judging_each
 some_each some board blocks rules = let told = some_verdicts some board rules blocks in ((blocks, told.0), (refl, told.1))
 
--- each text of logs has a meaning
+-- each kind of text of logs has an answer
 pub record LogsSaySome : Type 0 where
   pub diagnoses : SomeJudged diagnosing
   pub groups : SomeJudged grouping
@@ -562,7 +563,7 @@ logs_say_some boards rules diagnosis groups = record {
   each = some_judged boards rules judging_each (some_each diagnosis);
 }
 
--- if texts have a meaning, they give some outcome
+-- If each kind of texts has an answer, each request has an outcome.
 module _ (devices : SomeDevice) (chains : SomeChain) (idents : SomeIdents) (boards : SomeBoard) (logs : LogsSaySome) where
   some_given : (names : Names) (request : Request) → HasOutcome (IsGiven names request)
   some_given names (Chain texts) = some_said chain_text (input_fault_line names) (AreChainLengths texts.chain texts.bsdl) (chains texts.chain texts.bsdl)

@@ -27,12 +27,12 @@ use Rattle.btest_cli.specs.Refusals.{roles_of, text_fault_line}
 use Rattle.commands.specs.Summary.{summary_text}
 use Rattle.commands.specs.Worth.{IsWorthFor}
 
--- the outcome is the text for what the texts give, or the line for their first fault
+-- the outcome is the text for a value that satisfies `IsFound`, or the line for a fault that satisfies it
 abbrev pub IsSaid : {A F : Type 0} → (A → Text) → (F → Text) → (Result A F → Type 0) → Result Text Text → Type 0
 IsSaid {A} {F} text_of line_of IsFound outcome =
     ((value : A) × IsFound (Ok value) × (outcome ≡ Ok (text_of value))) ⊎ ((fault : F) × IsFound (Err fault) × (outcome ≡ Err (line_of fault)))
 
--- The outcome of a request, whose texts have these names. It is the text to write, or the line for the first fault.
+-- `outcome` is the outcome of a request whose texts have these names: the text to write, or the line for the first fault
 abbrev pub IsGiven : Names → Request → Result Text Text → Type 0
 IsGiven names (Chain texts) outcome = IsSaid chain_text (input_fault_line names) (AreChainLengths texts.chain texts.bsdl) outcome
 IsGiven names (Ident texts) outcome = IsSaid ident_text (input_fault_line names) (AreIdents texts.chain texts.bsdl) outcome
@@ -45,19 +45,19 @@ IsGiven names (Diagnose workers log board) outcome = IsSaid diagnosis_text (text
 IsGiven names (Groups log board) outcome = IsSaid grouping_text (text_fault_line names) (IsJudgedOf grouping (record { log = log; board = board })) outcome
 IsGiven names (Batch workers log board) outcome = IsSaid verdicts_text (text_fault_line names) (IsJudgedOf judging_each (record { log = log; board = board })) outcome
 
--- The outcome of a command for the texts that were read. If a text is too long, this is the first fault.
+-- `outcome` is the outcome of a command for the texts that were read. A text that is too long is the first fault.
 abbrev pub IsOutcome : Command → Reading → Result Text Text → Type 0
 IsOutcome command (Read texts) outcome = (request : Request) × (request_of command texts ≡ Some request) × IsGiven (roles_of command) request outcome
 IsOutcome command (TooLong wanted) outcome = outcome ≡ Err (long_line wanted.name wanted.limit)
 
--- The texts of a command were read, and each text was asked for once and in order. `request` is the command with its texts.
+-- The run read the texts of a command, and asked for each text once and in order. `request` is the command with these texts.
 pub record IsReadAs (held : Held) (command : Command) (asked asked' : List Text) (request : Request) : Type 0 where
   pub texts : List Text
   pub read : IsRead held (wanted_of command) (Read texts)
   pub made : request_of command texts ≡ Some request
   pub asks : Asks asked asked' (names_of command)
 
--- the texts were read, the sink took the text that they give, and `IsWorthFor` holds for this text
+-- the run read the texts, the sink took the text that they give, and `IsWorthFor` holds for this text
 pub record IsDone (held : Held) (command : Command) (asked asked' : List Text) (old new : Shown) : Type 0 where
   pub request : Request
   pub read : IsReadAs held command asked asked' request
@@ -66,7 +66,7 @@ pub record IsDone (held : Held) (command : Command) (asked asked' : List Text) (
   pub takes : Takes old new text
   pub worth : IsWorthFor request text
 
--- the texts were read, and the sink took some first bytes of the text that they give
+-- the run read the texts, and the sink took some first bytes of the text that they give
 pub record IsCutShort (held : Held) (command : Command) (asked asked' : List Text) (old new : Shown) : Type 0 where
   pub request : Request
   pub read : IsReadAs held command asked asked' request
@@ -79,7 +79,8 @@ pub record IsCutShort (held : Held) (command : Command) (asked asked' : List Tex
 abbrev pub TookOrCut : Shown → Shown → Text → Type 0
 TookOrCut old new line = Takes old new line ⊎ (Rose old.faults new.faults × ((bytes : ℕ) × Takes old new (take bytes line)))
 
--- The reading has a first fault, and the notes took the line for this fault. No text was asked for after a text that is too long.
+-- The texts that the run read have a first fault, and the notes took the line for this fault. The run asked for no text after a text that
+-- is too long.
 pub record IsRefused (held : Held) (command : Command) (asked asked' : List Text) (old new : Shown) : Type 0 where
   pub reading : Reading
   pub read : IsRead held (wanted_of command) reading
@@ -88,19 +89,20 @@ pub record IsRefused (held : Held) (command : Command) (asked asked' : List Text
   pub gives : IsOutcome command reading (Err line)
   pub noted : TookOrCut old new line
 
--- the count of one of these names rose
+-- for some name in the list, the count of faults rose
 abbrev pub SomeRose : (Text → ℕ) → (Text → ℕ) → List Text → Type 0
 SomeRose before now [] = ⊥
 SomeRose before now (name ∷ names) = Rose (before name) (now name) ⊎ SomeRose before now names
 
--- The texts before `last` were read, and the count of `last` rose. No later text was asked for. The notes took the line for `last`.
+-- The run read the texts before `last`, the count of faults of `last` rose, and the run asked for no later text. The notes took the line
+-- for `last`.
 pub record IsNotRead (held : Held) (command : Command) (before now : Text → ℕ) (asked asked' : List Text) (old new : Shown) : Type 0 where
   pub last : Wanted
   pub asks : IsReadUpTo held (wanted_of command) last asked asked'
   pub rose : Rose (before last.name) (now last.name)
   pub noted : TookOrCut old new (read_line last.name)
 
--- for some `count`, the first `count` names of the command were asked for, each once and in order
+-- for some `count`, the run asked for the first `count` names of the command, each once and in order
 abbrev pub AsksSome : Command → List Text → List Text → Type 0
 AsksSome command asked asked' = (count : ℕ) × Asks asked asked' (take count (names_of command))
 
@@ -108,7 +110,8 @@ AsksSome command asked asked' = (count : ℕ) × Asks asked asked' (take count (
 abbrev pub ForCommand : List (String Global) → (Command → Type 0) → Type 0
 ForCommand words P = IfSome (command_of (map string_bytes words)) P
 
--- Unless memory ran out, the outcome settles the status. A text gives `Done` if no write failed, and a line gives `Refused` in any case.
+-- Unless memory ran out, the outcome determines the status. If the outcome is a line, the status is `Refused`. If it is a text and no write
+-- failed, the status is `Done`.
 abbrev pub Settles : Type 0 → Result Text Text → Status → Type 0
 Settles rose (Ok text) status = (rose → ⊥) → (status ≡ Done) ⊎ (status ≡ NoMemory)
 Settles rose (Err line) status = (status ≡ Refused) ⊎ (status ≡ NoMemory)

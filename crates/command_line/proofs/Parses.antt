@@ -1,4 +1,4 @@
--- Lemmas about the command that `clap` finds in plain words.
+-- Lemmas about the command that `clap` finds in words that are not flags.
 use Rattle.std.proofs.Common.{◌≡◌, refl, sym, ap, subst, ◌∙◌, true, false, Bool, List, [], ◌∷◌, ◌++◌, codes, ℕ, cond, Option, Some, None, inl, inr, ◌⊎◌, append_assoc, append-nil}
 use Rattle.std.specs.Prelude.{fold, is_some, not, ◌||◌, find, unwrap_or, option_map, option_and_then, length, nat_le, if◌then◌else◌, slice_get}
 use Rattle.std.specs.List.{list_all}
@@ -49,7 +49,7 @@ shape_in app = unwrap_or (slice_get (built (with_subcommand top_app app.top)).su
 abbrev many_app : Text → List Text → App
 many_app name words = with_rule (worded_app name words) names_rule
 
--- the faults that follow after all words, given the walk at its end
+-- the faults of the program's command after all words, if `w` is the walk after them
 abbrev whole_fault : Turns → Kinds
 whole_fault w = end_fault top w (is_some (entered built_app w.stopped)) (entered_fault built_app w.stopped)
 
@@ -60,7 +60,7 @@ fault_parts words = refl
 abbrev answer : List Text → Option Command
 answer words = if_none (fault_of btest_app words) (command_in (subcommand_of btest_app words))
 
--- the walk after it has met the subcommand `name`, to which the further words go
+-- the walk after it has met the subcommand `name`, to which `words` go
 abbrev stopped_at : Text → List Text → Turns
 stopped_at name words = record start { stopped = Some (name, words) }
 
@@ -82,11 +82,11 @@ record Enters (name : Text) (shape : Shape) : Type 0 where
   finds : (rest : List Text) → entered built_app (Some (name, rest)) ≡ Some (name, rows_after shape.rules [] rest)
   no_trail : list_all (λ a. not a.trailing_var_arg) shape.rules ≡ true
 
--- if each word goes to the positional argument of its place, `read` finds in the matches what `command` makes of the words
+-- if each word goes to the positional argument at its place, `read` finds in the matches the command that `command` makes of the words
 abbrev Reads : Shape → (List Row → Option Command) → (List Text → Option Command) → Type 0
 Reads shape read command = (words : List Text) → placed_from shape read start words ≡ command words
 
--- if no faults follow the faults of a level, only the faults of the level decide whether the command is given
+-- if there are no faults after the faults `k`, only `k` decides whether there is a command
 alone : (k : Kinds) (command : Option Command) → if_none (or_else k []) command ≡ if_none k command
 alone [] command = refl
 alone (k ∷ ks) command = refl
@@ -281,7 +281,7 @@ unfolding clap_on_literals
 other_word w rest p other =
     ap (λ k. if_none (or_else (or_else k (walk_fault top names (walked top.rules names start w) rest)) (whole_fault (walk top.rules names nothing_held (w ∷ rest)))) (command_in (subcommand_of btest_app (w ∷ rest)))) (other_turn w p other)
 
--- if the first word is this name, the answer for the words is the one command, and otherwise it is the other
+-- if the first word is `name`, the answer for the words is `command`, and otherwise it is `others`
 named_by : (name w : Text) (rest : List Text) (command others : Option Command) (b : Bool) → bytes_eq name w ≡ b → answer (name ∷ rest) ≡ command → (bytes_eq name w ≡ false → answer (w ∷ rest) ≡ others) → answer (w ∷ rest) ≡ (if b then command else others)
 named_by name w rest command others true test is else_is = subst (λ (v : Text). answer (v ∷ rest) ≡ command) ((bytes_eq-Decides name w).0 test) is
 named_by name w rest command others false test is else_is = else_is test
@@ -289,7 +289,7 @@ named_by name w rest command others false test is else_is = else_is test
 named : (name w : Text) (rest : List Text) (command others : Option Command) → answer (name ∷ rest) ≡ command → (bytes_eq name w ≡ false → answer (w ∷ rest) ≡ others) → answer (w ∷ rest) ≡ (if bytes_eq name w then command else others)
 named name w rest command others is else_is = named_by name w rest command others (bytes_eq name w) refl is else_is
 
--- if a word differs from a name, the subcommand with this name does not answer to the word
+-- if word `w` differs from `name`, the subcommand `name` does not answer to `w`
 no_name : (name w : Text) → bytes_eq name w ≡ false → answers_to w (name, []) ≡ false
 no_name name w e = ap (λ b. b || false) e
 
@@ -325,7 +325,7 @@ exact : (words : List Text) → AllPlain words → answer words ≡ parsed words
 exact [] all = none_word
 exact (w ∷ rest) all = first_word w rest all.0 all.1
 
--- if `clap` accepts the words, the command in the matches is the command that the words form
+-- if `clap` finds no fault in the words, the command in the matches is the command that the words form
 pub found_by : (a : App) (words : List Text) (found : Option (Text × List Row)) → a ≡ btest_app → list_all is_plain words ≡ true → (is_simple_and_free a ≡ true → fault_of a words ≡ []) → (is_simple a ≡ true → found ≡ subcommand_of a words) → command_in found ≡ parsed words
 found_by a words found is plain passes finds =
     let none : fault_of btest_app words ≡ [] = subst (λ (x : App). is_simple_and_free x ≡ true → fault_of x words ≡ []) is passes is_free in
@@ -336,7 +336,7 @@ among : (k : ErrorKind) (ks : Kinds) (command : Option Command) → IsAmong k ks
 among k [] command is = absurd is
 among k (x ∷ xs) command is = refl
 
--- if `clap` refuses the words, they form no command
+-- if `clap` finds a fault in the words, and the fault is not lack of memory, the words form no command
 pub refused_by : (a : App) (words : List Text) (k : ErrorKind) → a ≡ btest_app → list_all is_plain words ≡ true → (is_simple_and_free a ≡ true → (k ≡ kind.OutOfMemory) ⊎ IsAmong k (fault_of a words)) → (k ≡ kind.OutOfMemory → ⊥) → None ≡ parsed words
 refused_by a words k is plain err other =
     elim (subst (λ (x : App). is_simple_and_free x ≡ true → (k ≡ kind.OutOfMemory) ⊎ IsAmong k (fault_of x words)) is err is_free) [

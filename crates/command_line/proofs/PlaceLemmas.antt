@@ -15,7 +15,7 @@ use Rattle.clap.proofs.OnLiterals.{clap_on_literals}
 use Rattle.command_line.specs.Words.{Command}
 use Rattle.command_line.proofs.PlainLemmas.{AllPlain, before, placed, plain_turn, plain_walked}
 
--- the faults at the end of a level, given the walk at its end
+-- the faults at the end of a level, if `w` is the walk at its end
 abbrev pub end_fault : Shape → Walk → Bool → Kinds → Kinds
 end_fault s w has_subcommand below =
     or_else below (or_else (settle_fault s.rules s.args_override_self w.held)
@@ -41,7 +41,7 @@ module _ (s : Shape) (read : List Row → Option Command) where
   abbrev pub answer_from : Walk → List Text → Option Command
   answer_from w words = answer_at (walk_fault s [] w words) (fold (walked s.rules []) w words)
 
-  -- like `answer_from`, but each word goes to the positional argument of its place
+  -- like `answer_from`, but each word goes to the positional argument at its place
   abbrev pub placed_from : Walk → List Text → Option Command
   placed_from w words = answer_at (placed_fault s w words) (fold (placed s.rules) w words)
 
@@ -59,7 +59,7 @@ no_trail (a ∷ rest) p all =
     let parts = and_parts (not a.trailing_var_arg) (list_all (λ a. not a.trailing_var_arg) rest) all in
     by_test (p a) a (find p rest) (not-true a.trailing_var_arg parts.0) (no_trail rest p parts.1)
 
--- The walk gives each word to the positional argument of the word's place. Its faults are the faults of these steps.
+-- The walk gives each word to the positional argument at the word's place, and its faults are the faults of these steps.
 abbrev ArePlaced : Shape → Walk → List Text → Type 0
 ArePlaced s w words = (fold (walked s.rules []) w words ≡ fold (placed s.rules) w words) × (walk_fault s [] w words ≡ placed_fault s w words)
 

@@ -1,4 +1,4 @@
--- Lemmas about words that are not flags. `clap` gives each of them to the positional argument of its place.
+-- Lemmas about words that are not flags. `clap` gives each of them to the positional argument at its place.
 use Rattle.std.proofs.Common.{◌≡◌, ap, ◌∙◌, true, false, Bool, List, [], ◌∷◌, ℕ, nat_eq, Some, None}
 use Rattle.std.specs.Prelude.{option_and_then, if◌then◌else◌}
 use Rattle.std.specs.List.{list_all}

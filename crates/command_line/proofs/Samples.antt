@@ -1,4 +1,4 @@
--- Samples of the commands and the numbers of given words, worked by hand.
+-- Samples of words with the commands that they form and the numbers that they denote, worked out by hand.
 use Rattle.std.proofs.Common.{◌≡◌, ℕ, List, [], ◌∷◌, map, replicate, Option, Some, None, codes, refl}
 use Rattle.command_line.specs.declared.command.Command.TheVariants.{Walk, Ident, Make, Diagnose, Groups, Batch}
 use Rattle.command_line.specs.Words.{Text, BoardNames, Command, board_called, log_called, command_of, number_of}
@@ -21,7 +21,7 @@ too_many_workers = refl
 zero : number_of 255 (codes "000") ≡ None
 zero = refl
 
--- this number of twenty digits is above the limit, and a word of 21 digits is never a number, whatever its value
+-- a number of twenty digits that is above the limit is refused
 twenty_nines : number_of 255 (codes "99999999999999999999") ≡ None
 twenty_nines = refl
 
@@ -104,7 +104,7 @@ walked_without_nets : command_of (codes "walk" ∷ codes "c" ∷ []) ≡ None
 unfolding board_called
 walked_without_nets = refl
 
--- if a word is an option or is empty, the words form no command
+-- words among which one begins with `-` or is empty form no command
 no_plain_words : map command_of ((codes "walk" ∷ codes "-c" ∷ codes "n" ∷ []) ∷ (codes "walk" ∷ codes "c" ∷ [] ∷ []) ∷ []) ≡ None ∷ None ∷ []
 no_plain_words = refl
 

@@ -29,7 +29,7 @@ ChainNames = ChainFiles Text (List Text)
 abbrev pub BoardNames : Type 0
 BoardNames = BoardFiles Text (List Text)
 
--- true if the word is not empty and does not begin with `-`
+-- the word is not empty and does not begin with `-`
 abbrev pub is_plain : Text → Bool
 is_plain [] = false
 is_plain (b ∷ bs) = not (b == 45)
@@ -38,7 +38,7 @@ is_plain (b ∷ bs) = not (b == 45)
 abbrev pub with_names : {A : Type 0} → List Text → A → Option A
 with_names names value = if nat_le (length names) most_names then Some value else None
 
--- true if `n` is from `least` to `most`, both included
+-- `n` is from `least` to `most`, both included
 abbrev pub is_within : ℕ → ℕ → ℕ → Bool
 is_within least most n = nat_le least n && nat_le n most
 

@@ -13,8 +13,8 @@ use crate::number::{PartCount, WorkerCount};
 use clap::ArgMatches;
 use std::alloc::{AllocError, Global};
 
-/// Returns the command that `clap` found, or `None` if a number is out of range or there are more than 255 BSDL names.
-/// The only error is a lack of memory.
+/// Returns the command that `clap` found, or `None` if a number is out of range or there are more than 255 BSDL names. The only error is
+/// lack of memory.
 pub fn command_in<'a>(
     alloc: Global,
     matches: &ArgMatches<'a>,

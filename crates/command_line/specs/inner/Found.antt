@@ -25,7 +25,7 @@ abbrev pub board_in : List Row → Option BoardNames
 board_in rows =
     option_and_then (λ chain. option_and_then (λ nets. option_map (λ bsdl. record { chain = chain; nets = nets; bsdl = bsdl }) (few_in rows)) (first_of (codes "NETS") rows)) (first_of (codes "CHAIN") rows)
 
--- The command `device` that the matches of its subcommand give. The next definitions do the same for the other commands.
+-- the command `device` that the matches of its subcommand give
 abbrev pub device_in : List Row → Option Command
 device_in rows = option_map Device (first_of (codes "BSDL") rows)
 

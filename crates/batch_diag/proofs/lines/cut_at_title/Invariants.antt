@@ -4,7 +4,7 @@ use Rattle.text_lines.proofs.LineLemmas.{text_left}
 use Rattle.batch_diag.proofs.CutLemmas.{Passes}
 use Rattle.batch_diag.proofs.lines.cut_at_title.Given as goal
 
--- no line before the rest is a title
+-- no line before `rest` is a title
 abbrev pub invariant-loop-rest : goal.invariant-loop-rest
 invariant-loop-rest l = record {
   passes : Passes l.text l.number l.line_number (option_copied l.rest);

@@ -7,7 +7,7 @@ use Rattle.batch_diag.specs.inner.Reading.{lines_of_unread}
 use Rattle.batch_diag.proofs.ReadLemmas.{titles_left}
 use Rattle.batch_diag.proofs.lines.list_blocks.Given as goal
 
--- the blocks so far, followed by the blocks from the next title on, are the blocks of the text
+-- the blocks in `unread`, followed by the blocks from the title `next` on, are the blocks of the text
 abbrev pub invariant-loop-next : goal.invariant-loop-next
 invariant-loop-next l = record {
   cut : blocks_of (row_lines l.text) ≡ map lines_of_unread l.unread.items ++ blocks_at l.next;

@@ -3,7 +3,7 @@ use Rattle.btest_cli.specs.inner.Reads.{AreAll, Reads}
 use Rattle.btest_cli.proofs.ReadingLemmas.{called}
 use Rattle.btest_cli.proofs.texts.read_texts.Given as goal
 
--- the texts of the names before this one were read
+-- the texts with the names before `name` were read
 abbrev pub invariant-loop-name : goal.invariant-loop-name
 invariant-loop-name g l = record {
   reads : Reads AreAll (called (take l.name-index l.names)) (g.S.Store.held l.fn.store) (g.S.Store.held l.store) (g.S.Store.faults l.fn.store) (g.S.Store.faults l.store) (g.S.Store.asked l.fn.store) (g.S.Store.asked l.store) (Ok (map (λ text. text.items) l.texts.items));
