@@ -71,7 +71,7 @@ fn put_ident(
     Ok(write_ident(parts, &mut tdi, &mut tdo, &mut mask, &mut line, out))
 }
 
-// Returns a text with this statement between its head and its tail.
+// Returns the text that consists of the head, this statement and the tail.
 fn text_of(alloc: Global, statement: &[u8]) -> Result<Vec<u8>, AllocError> {
     let mut text = HEAD.to_vec(alloc)?;
     text.extend_from_slice(statement)?;
@@ -95,7 +95,7 @@ const LOWEST: &Digits = b"00000000000000000000000000000001";
 
 const BOTH_ENDS: &Digits = b"1XXXXXXXXXXXXXXXXXXXXXXXXXXXXXX1";
 
-// The patterns of a chain, and the statement for these patterns. A part without a pattern has one bit.
+// The patterns of a chain, and the expected statement. A part without a pattern has one bit.
 type Chain = (&'static [Option<&'static Digits>], &'static [u8]);
 
 static CHAINS: [Chain; 4] = [
@@ -125,8 +125,8 @@ fn compares_the_fixed_bits_of_patterns(rt: HostRuntime) -> Result<(), Missed> {
     Ok(())
 }
 
-// The fields of 2,040 digits. A field has a text before its digits, eight digits that are repeated, and a text after the
-// digits.
+// The fields of the longest statement, which has 2,040 digits: the text before the digits, the eight digits that are repeated, and the text
+// after the digits.
 static FIELDS: [(&[u8], &[u8], &[u8]); 3] = [
     (b"TDI (", b"00000000", b")\n"),
     (b"TDO (", b"00000001", b")\n"),
@@ -163,7 +163,7 @@ fn puts_long_chains(rt: HostRuntime) -> Result<(), Missed> {
     expect(0, puts(rt.alloc(), &[Some(LOWEST); 255], &statement)?)
 }
 
-// The number of the put that fails after it has taken four bytes, counted from 1, and all bytes that the sink took.
+// The number of the put that fails after the sink has taken four bytes of it, counted from 1, and all bytes that the sink takes.
 static CUTS: [(u32, &[u8]); 3] = [
     (1, b"TRST"),
     (

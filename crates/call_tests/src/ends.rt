@@ -1,4 +1,4 @@
-// Tests of the files of the system, of sinks over their writers, and of sinks in memory.
+// Tests of the files of the system, of sinks that write to the system's writers, and of sinks in memory.
 use crate::missed::{Missed, expect};
 use bt_base::{
     CountSink, FetchFault, Gate, HostSink, HostStore, MemSink, OpenGate, PutFault, Sink, Store,
@@ -20,7 +20,7 @@ static FETCHES: [Fetch; 5] = [
     (".", 3, Err(FetchFault::Failed), b""),
 ];
 
-// Returns whether the store gives this answer and these bytes for the name.
+// Returns whether the store gives this answer for the name, and fetches these bytes.
 fn gives(
     store: &mut impl Store,
     alloc: Global,
@@ -57,7 +57,7 @@ fn long_text(alloc: Global) -> Result<Vec<u8>, AllocError> {
     Ok(text)
 }
 
-// The most bytes that a text of 20,000 bytes may have, the store's answer, and the number of fetched bytes.
+// The limit on a text that has 20,000 bytes, the store's answer, and the number of fetched bytes.
 static LONG: [(u32, Result<(), FetchFault>, usize); 2] = [
     (20_000, Ok(()), 20_000),
     (19_998, Err(FetchFault::TooLong), 19_999),
@@ -99,7 +99,7 @@ static WRITTEN: [Put; 3] = [(b"ab", Ok(())), (b"", Ok(())), (b"c", Ok(()))];
 
 static REFUSED: [Put; 1] = [(b"abc", Err(PutFault::Failed))];
 
-// Returns whether a file has this text after these puts, while the sink over its writer still exists.
+// Returns whether the file has this text after these puts, while the sink that writes to the file still exists.
 fn shows<W: Write + Drop>(
     rt: &impl Files,
     alloc: Global,
@@ -139,7 +139,7 @@ static CUT: [Put; 3] = [
     (b"ghijklm", Err(PutFault::Failed)),
 ];
 
-// Returns whether a sink with room for eight bytes takes the right bytes if its second put fails after one byte.
+// Returns whether a sink with room for eight bytes takes the right bytes if its second put fails after one byte of it.
 fn is_cut(alloc: Global) -> Result<bool, AllocError> {
     let mut sink = MemSink::with_room(alloc, 8)?;
     sink.fail_at(2, 1)?;

@@ -25,7 +25,7 @@ static CHAIN_FILES: [Answer; 22] = [
     (b"DEVICE U1 DR\xc3\xa9 -", "line 1: word not allowed"),
     (b"DEVICE U1 DRV", "line 1: no statement"),
     (b"DEVICE U1 DRV - -", "line 1: no statement"),
-    // A wrong number of words is reported before a wrong word, and a wrong word before a wrong number.
+    // A wrong number of words is reported before a wrong word. A wrong word is reported before a wrong number.
     (b"DEVICE U.1 DRV", "line 1: no statement"),
     (b"BYPASS U.1 300", "line 1: word not allowed"),
     (b"PULL N\x01 2", "line 1: word not allowed"),
@@ -52,12 +52,12 @@ static NET_FILES: [Answer; 16] = [
     (b"NET N1 U1..1 U1.1.", ""),
     (b"NETS N1 U1.", "line 1: no statement"),
     (b"NET N1 U1.1\x0bU2.1", "line 1: word not allowed"),
-    // A line of 66 words.
+    // A line of 66 words is allowed.
     (
         b"NET N A.1 A.2 A.3 A.4 A.5 A.6 A.7 A.8 A.9 A.10 A.11 A.12 A.13 A.14 A.15 A.16 A.17 A.18 A.19 A.20 A.21 A.22 A.23 A.24 A.25 A.26 A.27 A.28 A.29 A.30 A.31 A.32 A.33 A.34 A.35 A.36 A.37 A.38 A.39 A.40 A.41 A.42 A.43 A.44 A.45 A.46 A.47 A.48 A.49 A.50 A.51 A.52 A.53 A.54 A.55 A.56 A.57 A.58 A.59 A.60 A.61 A.62 A.63 A.64",
         "",
     ),
-    // A line of 66 words whose last word has no pin.
+    // The last of 66 words does not name a pin.
     (
         b"NET N A.1 A.2 A.3 A.4 A.5 A.6 A.7 A.8 A.9 A.10 A.11 A.12 A.13 A.14 A.15 A.16 A.17 A.18 A.19 A.20 A.21 A.22 A.23 A.24 A.25 A.26 A.27 A.28 A.29 A.30 A.31 A.32 A.33 A.34 A.35 A.36 A.37 A.38 A.39 A.40 A.41 A.42 A.43 A.44 A.45 A.46 A.47 A.48 A.49 A.50 A.51 A.52 A.53 A.54 A.55 A.56 A.57 A.58 A.59 A.60 A.61 A.62 A.63 A",
         "line 1: word not allowed",
@@ -128,7 +128,7 @@ fn is_pin(pin: &PinWord) -> bool {
     pin.part.bytes() == b"u1".as_slice() && pin.pin.bytes() == b"A1.B".as_slice()
 }
 
-// Returns whether the file has only the line `NET n1 u1.a1.b`, the second line of its text, with the pin's own name in upper case.
+// Returns whether the file has exactly one line, `NET n1 u1.a1.b` on line 2 of the text, and has the pin's own name in upper case.
 fn is_in_upper_case(file: &NetFile) -> bool {
     match file.lines() {
         [line] => match line.pins.as_slice() {
@@ -173,8 +173,8 @@ fn show(shown: &mut Vec<u8>, joined: &Joined) -> Result<(), AllocError> {
     Ok(())
 }
 
-// The result of joining a chain file and a net file. It is the text that `show` gives for the joined files, or the line and the word of a
-// missing pin.
+// The result of joining a chain file and a net file: the text that `show` gives for the joined files, or the line and the word of a LINK
+// pin that is in no net.
 #[derive(Clone, Copy)]
 enum Shown {
     Files(&'static [u8]),
@@ -226,7 +226,7 @@ fn texts_join(
     }
 }
 
-// The net file of a driver and a receiver with a resistor between two of their pins.
+// The net file of a board with a driver, a receiver, and a resistor between two of their pins.
 const BOARD: &[u8] = b"NET N1A U1.1 R1.1\nNET N1B R1.2 U2.1\nNET N2 U1.2 U2.2";
 
 static JOINED: [(&[u8], &[u8], Shown); 9] = [
@@ -247,19 +247,19 @@ static JOINED: [(&[u8], &[u8], Shown); 9] = [
     ),
     (b"LINK R1 1 2\nLINK R1 8 9", BOARD, Shown::Missing(2, 3)),
     (b"LINK R2 1 2", BOARD, Shown::Missing(1, 3)),
-    // Two resistors join three nets in a row. A fourth net is not joined.
+    // Two resistors join three nets. A fourth net is not joined.
     (
         b"LINK R2 1 2\nLINK R1 1 2",
         b"NET A R1.1\nNET B R1.2 R2.1\nNET X\nNET C R2.2",
         Shown::Files(b" A A X A inert R2 inert R1"),
     ),
-    // Resistors join two rows of three nets, and one more resistor joins the rows.
+    // Two resistors join three nets, two more resistors join three other nets, and one more resistor joins the two groups.
     (
         b"LINK R1 1 2\nLINK R2 1 2\nLINK R3 1 2\nLINK R4 1 2\nLINK R5 2 1",
         b"NET E R3.1\nNET F R3.2 R4.1\nNET G R4.2 R5.1\nNET A R1.1\nNET B R1.2 R2.1\nNET C R2.2 R5.2",
         Shown::Files(b" E E E E E E inert R1 inert R2 inert R3 inert R4 inert R5"),
     ),
-    // The first net that has the pin R1.1 is A. The first line of B comes before the first line of A.
+    // Two nets have the pin R1.1, and the first of them is A. The first line of net B is before the first line of net A.
     (
         b"LINK R1 1 2",
         b"NET Z\nNET B R1.2\nNET A R1.1\nNET C R1.1\nNET B\nNET A",
@@ -280,7 +280,7 @@ fn series_parts_join_nets(rt: HostRuntime) -> Result<(), Missed> {
     Ok(())
 }
 
-// The texts of small boards, worked out by hand.
+// The text of the chain file of two parts, worked out by hand.
 const CHAIN_OF_TWO: &[u8] = b"DEVICE U1 GEN -\nDEVICE U2 GEN -\n";
 
 const NETS_BEGIN: &[u8] = b"NET R1_0 U1.1 U2.33\nNET R1_1 U1.2 U2.34\n";

@@ -24,7 +24,7 @@ fn bits_of(alloc: Global, log: &Log) -> Result<String, AllocError> {
     Ok(text)
 }
 
-// A text, the number of its rows, the number of bits in each row, and the bits of the log or its fault.
+// A text, the number of rows that the log must have, the number of bits in each row, and the bits of the log or the fault of the text.
 type LogText = (&'static [u8], u64, u32, &'static str);
 
 static LOGS: [LogText; 20] = [
@@ -88,7 +88,7 @@ fn shown(alloc: Global, blocks: &[Block]) -> Result<String, AllocError> {
     Ok(text)
 }
 
-// Reads a text in `pieces` pieces, or as a whole if `pieces` is 0, and returns the answer.
+// Reads a batch in `pieces` pieces, or as a whole if `pieces` is 0, and returns the answer as text.
 fn answer_in<R: Threads + Sync>(
     rt: &R,
     alloc: Global,
@@ -110,7 +110,7 @@ fn answer_in<R: Threads + Sync>(
     }
 }
 
-// Returns whether reading a text gives this answer, both as a whole and in several numbers of pieces.
+// Returns whether reading a batch gives this answer, both as a whole and in several numbers of pieces.
 fn answers<R: Threads + Sync>(
     rt: &R,
     alloc: Global,
@@ -129,7 +129,7 @@ fn answers<R: Threads + Sync>(
     Ok(true)
 }
 
-// A text, the number of rows of each log, and the text's blocks or its fault.
+// A text, the number of rows that each log must have, and the blocks of the text or its fault.
 type BatchText = (&'static [u8], u64, &'static str);
 
 static BATCHES: [BatchText; 29] = [
@@ -208,7 +208,7 @@ fn title(alloc: Global, len: usize) -> Result<Vec<u8>, AllocError> {
     Ok(text)
 }
 
-// Returns an id of `len` bytes, and the colon that `shown` puts after it.
+// Returns the text that `shown` gives for a block with an id of `len` bytes and no rows: the id and a colon.
 fn shown_title(alloc: Global, len: usize) -> Result<String, AllocError> {
     let mut text = "A".repeat(alloc, len)?;
     text.push(':')?;

@@ -6,7 +6,7 @@ use thiserror::Error;
 /// The reason why a table does not hold.
 #[derive(Debug, Drop, Error)]
 pub enum Missed {
-    /// The row with this number, counted from 0, has another result.
+    /// The row with this number, counted from 0, has an unexpected result.
     #[error("row {0} gives something else")]
     Row(usize),
     #[error("out of memory")]
@@ -27,7 +27,7 @@ impl From<io::Error> for Missed {
     }
 }
 
-/// Returns an error with the row's number, unless `holds` is true.
+/// Returns an error with the number of the row, unless `holds` is true.
 pub fn expect(row: usize, holds: bool) -> Result<(), Missed> {
     if holds { Ok(()) } else { Err(Missed::Row(row)) }
 }

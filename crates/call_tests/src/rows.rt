@@ -54,7 +54,7 @@ fn prints_digits(rt: HostRuntime) -> Result<(), Missed> {
     Ok(())
 }
 
-// A piece that is appended to a line.
+// A piece that a test appends to a line.
 #[derive(Clone, Copy)]
 enum Piece {
     Words(&'static [u8]),
@@ -103,7 +103,7 @@ fn a_line_takes_words_digits_and_numbers(rt: HostRuntime) -> Result<(), Missed> 
 
 static BITS: [bool; 5] = [true, false, true, true, true];
 
-// Returns whether a row takes the bits of a list in place of its own bits, and a second row then takes the bits of the first.
+// Returns whether a row takes the bits of a list in place of its old bits, and then a second row takes the bits of the first.
 fn is_copied(alloc: Global) -> Result<bool, AllocError> {
     let mut row = row_of(alloc, 300, &[0, 299])?;
     if row.len() == 300 {
@@ -149,7 +149,7 @@ fn has_row(alloc: Global, stack: &RowStack, number: u32, digits: &[u8]) -> Resul
     Ok(row.digits() == digits)
 }
 
-// Returns a stack in which every row is the same row of six bits.
+// Returns a stack of six-bit rows that are all the same.
 fn common_stack(alloc: Global) -> Result<RowStack, AllocError> {
     let row = row_of(alloc, 6, &[1, 4])?;
     let mut common = RowStack::with_room(alloc, row.len())?;
@@ -157,14 +157,14 @@ fn common_stack(alloc: Global) -> Result<RowStack, AllocError> {
     Ok(common)
 }
 
-// A column of a stack: the bits of a number, or the same bit in every row.
+// The bits of a column of a stack: the bits of a number, one for each row, or the same bit in every row.
 #[derive(Clone, Copy)]
 enum Bits {
     Of(u32),
     Same(bool),
 }
 
-// Columns at five places of a stack whose rows have six bits, and a column past the end of the rows.
+// Columns that replace the columns at these places of a stack. The rows of the stack have six bits, and the last place is past their end.
 static COLUMNS: [(u32, Bits); 6] = [
     (0, Bits::Of(0x8002)),
     (1, Bits::Same(false)),

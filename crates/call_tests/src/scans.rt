@@ -16,7 +16,7 @@ fn are_lengths(lengths: &[u32]) -> bool
     lengths.iter().all(|n| *n >= 2 && *n <= 255)
 }
 
-// Writes the scans of the chain test.
+// Writes the scans of the test of a chain's length.
 #[tactic(auto, using(svf_writer::proofs::ChainLemmas::sum_at_most))]
 fn put_chain(
     alloc: Global,
@@ -76,7 +76,7 @@ fn tdi_of(alloc: Global, len: u32) -> Result<Row, AllocError>
     Ok(tdi)
 }
 
-// Writes a scan whose first and last bits are 1. If `compare` is true, the scan compares bit 4 with 1.
+// Writes a scan of `len` bits whose first and last bits are 1. If `compare` is true, the scan compares bit 4 with 1.
 #[tactic(auto, using(lists::proofs::ListLemmas::none_of_zeros))]
 fn put_scan(
     alloc: Global,
@@ -184,7 +184,7 @@ static SCAN_LINES: [&[u8]; 7] = [
     b"00000000010);\n",
 ];
 
-// Writes scans that need several lines: the chain test of 40 parts, or a scan of 300 bits.
+// Writes scans that need several lines: the test of the length of a chain of 40 parts, or a scan of 300 bits.
 fn put_lines(
     alloc: Global,
     is_chain: bool,
@@ -197,7 +197,8 @@ fn put_lines(
     }
 }
 
-// Returns whether the sink takes these bytes and gives this answer if put number `call`, counted from 1, fails after four bytes.
+// Makes put number `call`, counted from 1, fail after four bytes. Returns whether `put_lines` then returns `answer` and the sink holds
+// exactly `text`.
 fn is_cut(
     alloc: Global,
     is_chain: bool,

@@ -5,7 +5,7 @@ use counting_codes::{bit, width};
 use std::alloc::{AllocError, Global};
 use text_lines::next_word;
 
-// A line, and the words in it before the comment.
+// A line, and the words in the line before its comment.
 static LINES: [(&[u8], &[&[u8]]); 2] = [(b"\t 0A 3#F\r # C", &[b"0A", b"3#F"]), (b" \r", &[])];
 
 fn has_words(line: &[u8], words: &[&[u8]]) -> bool {
@@ -27,7 +27,7 @@ fn words_of_a_line(_rt: HostRuntime) -> Result<(), Missed> {
     Ok(())
 }
 
-// A number of nets, and the width of their codes. A width leaves at least two code words unused.
+// A number of nets, and the width of their codes. At least two code words of this width are unused.
 static WIDTHS: [(u32, u32); 8] = [
     (1, 2),
     (2, 2),
@@ -80,7 +80,7 @@ static IN_ORDER: [Ctl; 3] = [
     Ctl { part: 1, cell: 5 },
 ];
 
-// Adds the controls one by one, and checks after each that the setting has the control.
+// Adds the controls of `ADDED` one by one, and checks after each that the setting has the control.
 fn add_all(setting: &mut Setting) -> Result<(), Missed> {
     for (row, control) in ADDED.iter().enumerate() {
         setting.add(*control)?;

@@ -13,7 +13,7 @@ const LOGS: [Line; 22] = [
     (TWO_BLOCKS, Ending::Puts(TWO_VERDICTS)),
     ("", Ending::Puts("")),
     ("# no board today\r\n\r\n", Ending::Puts("")),
-    // Several blocks may have the same id, and lines may have blanks and comments.
+    // Two blocks may have the same id. A line may have blanks and a comment.
     (
         " BOARD A # first\r\n\r\n1\r\n2\r\nBOARD A\n# again\n0\n0\n",
         Ending::Puts("BOARD A\nPASS\nBOARD A\nFAIL 1\nshort AND N1 N2\n"),
@@ -71,7 +71,7 @@ const LOGS: [Line; 22] = [
         "BOARD A\n1\nG\n2\n",
         Ending::Refused("g line 3: digit not allowed\n"),
     ),
-    // A row may not have BOARD as a second word.
+    // BOARD may not be the second word of a row.
     (
         "BOARD A\n1\n1 BOARD\n",
         Ending::Refused("g line 3: wrong length\n"),
@@ -91,7 +91,7 @@ const LOGS: [Line; 22] = [
     ),
 ];
 
-// A title whose id has 255 bytes, and a title whose id has 256.
+// A title with an id of 255 bytes, and a title with an id of 256 bytes.
 const LONG_IDS: [Run; 2] = [
     (
         Filled {
@@ -140,7 +140,7 @@ const ROWS: [Row; 11] = [
         line: "batch 64 g c n drv rcv",
         ending: Ending::Puts(TWO_VERDICTS),
     },
-    // A number of 20 digits, and a number of 21.
+    // A number of workers with 20 digits, and one with 21 digits.
     Row {
         texts: &[],
         line: "batch 00000000000000000064 g c n drv rcv",
@@ -215,7 +215,7 @@ fn each_block_is_diagnosed_by_itself(rt: HostRuntime) -> Result<(), RowFault> {
     tables_hold(&rt, rt.alloc(), &TABLES)
 }
 
-// Appends 10,000 blocks to `logs`, and the text of their diagnoses to `text`. In every second block a net stays at 0.
+// Appends 10,000 blocks to `logs`, and the text of their diagnoses to `text`. In the log of every second block, a net stays at 0.
 fn push_blocks(logs: &mut String, text: &mut String) -> Result<(), AllocError> {
     for number in 0..5_000 {
         write!(logs, "BOARD A{number}\n1\n2\nBOARD B{number}\n0\n2\n")?;

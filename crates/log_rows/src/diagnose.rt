@@ -66,7 +66,7 @@ const WORKERS: [Row; 12] = [
         line: "diagnose 064 g c n drv rcv",
         ending: Ending::Puts(STUCK),
     },
-    // A number of 20 digits, and a number of 21.
+    // A number of workers with 20 digits, and one with 21 digits.
     Row {
         texts: &[],
         line: "diagnose 00000000000000000002 g c n drv rcv",
@@ -97,7 +97,7 @@ const WORKERS: [Row; 12] = [
         line: "diagnose 1 g c",
         ending: Ending::Usage,
     },
-    // A fault of the other texts is reported before a fault of the log. A text that is not read is reported before any fault.
+    // A fault of the other texts is reported before a fault of the log. A failed read is reported before any fault.
     Row {
         texts: &[("g", Plain("zz\n")), ("c", Plain("DEVICE U1 DRV\n"))],
         line: "diagnose 1 g c n drv rcv",
@@ -150,7 +150,7 @@ const BOARDS: [Row; 4] = [
     },
 ];
 
-// A bus with two drivers, which two passes enable in turn.
+// The chain file of a bus with two drivers. Two passes enable the drivers in turn.
 const BUS: &str = "DEVICE U1 TS -\nDEVICE U2 TS -\nDEVICE U3 RCV1 -\n";
 
 const BUS_LOGS: [Line; 7] = [
@@ -171,7 +171,8 @@ const BUS_LOGS: [Line; 7] = [
     ("00\n00\n01\n01\n", Ending::Puts("FAIL 0\n")),
 ];
 
-// Two controls that exclude each other. The first pass observes A and X, and the second pass observes X and B.
+// The chain file of a board with two controls that exclude each other. The first pass observes A and X, and the second pass observes X and
+// B.
 const APART: &str = "DEVICE U1 TWO -\nDEVICE U2 RCV -\nDEVICE U3 RCV -\n";
 
 const APART_NETS: &str = "NET A U1.1 U2.1\nNET X U1.2 U1.3 U2.2\nNET B U1.4 U3.1\n";

@@ -1,4 +1,4 @@
-// Tests with gates that watch how the work on a log is divided.
+// Tests with gates that watch how the pieces of a command share the work on logs.
 use bt_base::Gate;
 use run_bench::{Bench, CHAIN, Ending, NETS, RowFault, expect};
 use std::alloc::{AllocError, Global};
@@ -6,7 +6,7 @@ use std::sync::atomic::Ordering::SeqCst;
 use std::sync::atomic::{AtomicBool, AtomicU64};
 use std::thread::Threads;
 
-// The number of times that an entry checks the other pieces before it stops waiting.
+// The number of times that an entry of a piece checks the other pieces before it stops waiting.
 const TURNS: u32 = 100_000_000;
 
 // The largest number of pieces that a gate watches. A command has at most this many workers.
@@ -45,7 +45,7 @@ impl InStep {
         self.entries.iter().all(|own| entries <= own.load(SeqCst))
     }
 
-    // Returns whether each piece made all entries that the gate holds back, and no entry waited in vain.
+    // Returns whether each piece has made all entries that the gate holds back, and no entry has waited in vain.
     fn has_met(&self) -> bool {
         !self.late.load(SeqCst) && self.have_made(self.held)
     }
@@ -73,7 +73,7 @@ impl Gate for InStep {
 // The largest number of recorded entries of a piece.
 const ENTRIES: u64 = 16;
 
-// A piece, and the item with which it entered.
+// A piece and an item with which the piece entered the gate.
 type Entry = (u64, u64);
 
 // A gate that records the items with which each piece enters, in order.
@@ -94,12 +94,12 @@ impl Entries {
         })
     }
 
-    // Returns the number of entries that a piece made.
+    // Returns the counter of the entries of a piece.
     fn count(&self, piece: u64) -> &AtomicU64 {
         self.counts.get(piece as usize).unwrap_or(&self.others)
     }
 
-    // Returns the item of entry `number` of a piece.
+    // Returns the cell for the item of entry `number` of a piece.
     fn item(&self, piece: u64, number: u64) -> &AtomicU64 {
         if piece < PIECES && number < ENTRIES {
             let i = piece * ENTRIES + number;
@@ -139,7 +139,7 @@ impl Gate for Entries {
     }
 }
 
-// Returns a bench with the texts of a board that has a driver and a receiver, and with this log of the board.
+// Returns a bench with the texts of the board with a driver and a receiver, and with this log.
 fn bench_of(alloc: Global, log: &str) -> Result<Bench, AllocError> {
     let mut bench = Bench::with_board(alloc, CHAIN, NETS)?;
     bench.store.add("g", log.as_bytes())?;
@@ -155,11 +155,11 @@ const TWO_BOARDS: &str = "BOARD A\n1\n2\nBOARD B\n0\n2\n";
 
 const TWO_VERDICTS: &str = "BOARD A\nPASS\nBOARD B\nFAIL 3\nstuck N1 0\nopen U1.1 0\nopen U2.1 0\n";
 
-// A command line, the number of its workers, a log, the text that is written, and the number of entries of each piece that the gate holds
-// back.
+// A command line, the number of its workers, a log, the text that the command writes, and the number of entries that the gate holds back in
+// each piece.
 type Step = (&'static str, u64, &'static str, &'static str, u64);
 
-// The pieces try their candidates or take their blocks in step: no piece goes on before all pieces are at work.
+// In these steps, the pieces work on their candidates or blocks at the same time: no piece goes on before all pieces are at work.
 const STEPS: [Step; 4] = [
     ("diagnose 2 g c n drv rcv", 2, STUCK, STUCK_TEXT, 5),
     ("batch 2 g c n drv rcv", 2, TWO_BOARDS, TWO_VERDICTS, 1),
@@ -199,10 +199,10 @@ const CANDIDATES: [u64; 10] = [0, 1, 4, 5, 6, 7, 12, 13, 14, 15];
 
 const NUMBERS: [u64; 10] = [0, 1, 2, 3, 4, 5, 6, 7, 8, 9];
 
-// The number of workers as a word, and for each of ten items the piece that has the item.
+// The number of workers as a word, and for each of ten items the piece that works on the item.
 type Share = (&'static str, [u64; 10]);
 
-// Piece `p` of `w` pieces has the items from `10 p / w` up to but not including `10 (p + 1) / w`. Both quotients are rounded down.
+// Piece `p` of `w` pieces works on the items `10 p / w..10 (p + 1) / w`. Both quotients are rounded down.
 const SHARES: [Share; 5] = [
     ("1", [0, 0, 0, 0, 0, 0, 0, 0, 0, 0]),
     ("2", [0, 0, 0, 0, 0, 1, 1, 1, 1, 1]),
@@ -222,7 +222,7 @@ struct Shared {
     items: &'static [u64],
 }
 
-// Runs the command, and compares the entries of its pieces with the expected entries.
+// Runs the command, and compares the entries that its pieces make with the expected entries.
 fn is_shared(
     rt: &(impl Threads + Sync),
     alloc: Global,
@@ -274,10 +274,10 @@ fn boards_are_shared(rt: HostRuntime) -> Result<(), RowFault> {
     Ok(())
 }
 
-// A log, the text that is written for it, the items with which the pieces of two workers enter, and the piece of each entry.
+// A log, the text that is written for it, the items with which the two pieces enter the gate, and the piece of each entry.
 type Try = (&'static str, &'static str, &'static [u64], &'static [u64]);
 
-// If a log passes, the pieces try nothing. If two nets differ, the pieces try the shorts of these nets.
+// If a log passes, the pieces try no candidate. If two nets differ, the pieces try the shorts of these two nets.
 const TRIES: [Try; 2] = [
     ("1\n2\n", "PASS\n", &[], &[]),
     (

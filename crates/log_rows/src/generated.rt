@@ -11,8 +11,8 @@ const DIGITS: [char; 16] = [
     '0', '1', '2', '3', '4', '5', '6', '7', '8', '9', 'A', 'B', 'C', 'D', 'E', 'F',
 ];
 
-// Returns the code of the net that a cell of a device reads, or 0 if the cell reads no net. Cells 37 to 68 read the outputs of the
-// previous device. The device before the first is the last. Cells 69 to 76 read the bus. The nets of the bus come after all other nets.
+// Returns the code of the net that a cell of a device reads, or 0 if the cell reads no net. Cells 37 to 68 read the outputs of the previous
+// device. For the first device, this is the last device. Cells 69 to 76 read the bus. The nets of the bus come after all other nets.
 fn code_at(device: u32, cell: u32) -> u32 {
     let before = if device == 1 {
         DEVICES
@@ -39,7 +39,8 @@ fn bit_at(device: u32, cell: u32, row: u32, silent: u32) -> u32 {
     }
 }
 
-// Returns a row of a pass. The first device is leftmost, and within a device the last cell is leftmost. The 4,620 cells fill 1,155 digits.
+// Returns a row of a pass. The cells of the first device are leftmost, and within a device the last cell is leftmost. The 4,620 cells fill
+// 1,155 digits.
 fn row(alloc: Global, row: u32, silent: u32) -> Result<String, AllocError> {
     let mut text = String::new(alloc);
     let mut value = 0u32;
@@ -61,8 +62,8 @@ fn row(alloc: Global, row: u32, silent: u32) -> Result<String, AllocError> {
     Ok(text)
 }
 
-// Returns the log. In every pass all nets carry their codes: a pass enables all outputs, and the bus pins of one device. The bus cells of
-// this device are not compared, so the log may have the bits of the bus for them. So the rows of all passes are the same.
+// Returns the log. Each pass enables all outputs and the bus pins of one device, so all nets carry their codes in every pass. The bus cells
+// of this device are not compared, so the log may have the bits of the bus for them. So the rows of all passes are the same.
 fn log(alloc: Global, silent: u32) -> Result<String, AllocError> {
     let mut rows = String::new(alloc);
     for number in 0..WIDTH {

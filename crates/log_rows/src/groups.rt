@@ -5,27 +5,26 @@ use run_bench::{Ending, Line, Named, Row, RowFault, Rows, Table, tables_hold};
 /// The chain file of a board with two drivers and two receivers.
 pub const WALK: &str = "DEVICE U1 DRV -\nDEVICE U2 DRV -\nDEVICE U3 RCV -\nDEVICE U4 RCV -\n";
 
-/// The net file of this board, with three nets.
+/// The net file of the board of `WALK`. It has three nets.
 pub const WALK_NETS: &str = "NET N1 U1.1 U3.1\nNET N2 U1.2 U3.2\nNET N3 U2.1 U4.1\n";
 
-/// The chain file of a board with a driver that its own cell turns off, on a net with a pull. Two more nets have
-/// drivers and receivers.
+/// The chain file of a board with an open-drain driver on a net that is pulled up. Two more nets each have a driver and a receiver.
 pub const MIXED: &str =
     "DEVICE U1 OD -\nDEVICE U2 RCV1 -\nDEVICE U3 DRV -\nDEVICE U4 RCV -\nPULL N 1\n";
 
-/// The net file of this board, with the net that has a pull and the other two nets.
+/// The net file of the board of `MIXED`. Net N is pulled up.
 pub const MIXED_NETS: &str = "NET N U1.1 U2.1\nNET N1 U3.1 U4.1\nNET N2 U3.2 U4.2\n";
 
-/// The chain file of a board with only the driver that its own cell turns off, and its receiver.
+/// The chain file of a board with only an open-drain driver and its receiver, on a net that is pulled up.
 pub const PULLED: &str = "DEVICE U1 OD -\nDEVICE U2 RCV1 -\nPULL N 1\n";
 
-/// The net file of this board, with the net that has a pull.
+/// The net file of the board of `PULLED`. Its only net is pulled up.
 pub const PULLED_NETS: &str = "NET N U1.1 U2.1\n";
 
 /// The chain file of a board with a driver, a receiver, and a resistor that joins two nets.
 pub const LINKED: &str = "DEVICE U1 DRV -\nDEVICE U2 RCV -\nLINK R1 1 2\n";
 
-/// The net file of this board, with the two joined nets and one more net.
+/// The net file of the board of `LINKED`: two joined nets and one more net.
 pub const LINKED_NETS: &str = "NET N1A U1.1 R1.1\nNET N1B R1.2 U2.1\nNET N2 U1.2 U2.2\n";
 
 const LINE: &str = "groups g c n drv rcv od rcv1";
@@ -45,7 +44,7 @@ const THREE_NETS: [Line; 18] = [
         "# bits that are not compared\n\nf5\nf8\nf5\n",
         Ending::Puts("GROUPS 1\nGROUP 2\nNET N1\nNET N3\n"),
     ),
-    // Nets that never read 1 are not a group. Neither are two nets that each read only the 1 of the other.
+    // Nets that never read 1 are not a group. Two nets that each read only the 1 of the other net are not a group either.
     ("00\n00\n00\n", Ending::Puts("GROUPS none\n")),
     ("01\n08\n04\n", Ending::Puts("GROUPS none\n")),
     ("05\n0D\n0D\n", Ending::Puts("GROUPS none\n")),
@@ -80,7 +79,7 @@ const THREE_NETS: [Line; 18] = [
     ),
 ];
 
-// The net with the pull is not a walk net, and the bit of the cell that reads it is not compared.
+// The net that is pulled up is not a walk net, and the bit of the cell that reads it is not compared.
 const MIXED_LOGS: [Line; 4] = [
     (
         "03\n03\n",
@@ -91,7 +90,7 @@ const MIXED_LOGS: [Line; 4] = [
     ("01\n03\n", Ending::Puts("GROUPS none\n")),
 ];
 
-// A board on which two cells read the first net.
+// The chain file of a board on which two cells read the first net.
 const READ_TWICE: &str = "DEVICE U1 DRV -\nDEVICE U2 RCV -\nDEVICE U3 RCV1 -\n";
 
 const TWICE_NETS: &str = "NET N1 U1.1 U2.1 U3.1\nNET N2 U1.2 U2.2\n";

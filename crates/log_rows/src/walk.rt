@@ -1,4 +1,4 @@
-// Rows for the command `walk`, the walking test of a board.
+// Rows for the command `walk`, which writes the walking test of a board.
 use crate::groups::{LINKED, LINKED_NETS, MIXED, MIXED_NETS, PULLED, PULLED_NETS, WALK, WALK_NETS};
 use run_bench::Text::Plain;
 use run_bench::{Ending, Row, RowFault, Rows, SCANS, Table, tables_hold};
@@ -24,8 +24,8 @@ const ROWS: [Row; 7] = [
              SDR 6 TDI (24);\nSDR 6 TDI (28) TDO (01) MASK (03);\nSDR 6 TDI (20) TDO (02) MASK (03);\n",
         ),
     },
-    // In the walking test, joined nets are one net. With two nets each code has a single 1, so these scans are
-    // also the scans of `svf`.
+    // In the walking test, joined nets are one net. Since the board then has two nets, each code has a single 1, so these scans are also
+    // the scans of `svf`.
     Row {
         texts: &[("c", Plain(LINKED)), ("n", Plain(LINKED_NETS))],
         line: LINE,

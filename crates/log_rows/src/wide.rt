@@ -11,8 +11,8 @@ const DRIVER_DIGITS: usize = 1024;
 
 const RECEIVER_DIGITS: usize = 1024;
 
-// The BSDL text of a part with a cell for each pin, up to the first pin number. `%` stands for the mode of the pins,
-// `@` for the function of the cells, and `^` for the name of the part.
+// The beginning of the BSDL text of a part, up to the first pin number. `%` stands for the mode of the pins, `@` for the function of the
+// cells, and `^` for the name of the part.
 const FRONT: &str = r#"entity ^ is
 generic (PHYSICAL_PIN_MAP : string := "P");
 port (TDI, TMS, TCK : in bit; TDO : out bit; B : % bit_vector(1 to 64));
@@ -50,7 +50,8 @@ fn device(alloc: Global, name: &str, mode: &str, function: &str) -> Result<Strin
     moded.as_str().replace(alloc, '@', function)
 }
 
-// Returns the number of the net that joins pin `pin` of driver `part` and of receiver `part`. Pins and parts are counted from 0.
+// Returns the number of the net that joins pin `pin` of driving part `part` to pin `pin` of receiving part `part`. Pins and parts are
+// counted from 0.
 fn net_number(part: u32, pin: u32) -> u32 {
     part.saturating_mul(PARTS).saturating_add(pin)
 }
@@ -68,7 +69,7 @@ fn net_lines(alloc: Global) -> Result<String, AllocError> {
     Ok(nets)
 }
 
-// Returns the lines of the parts: `piece` for each part, with the part's number in it.
+// Returns the text that has `piece` for each part, with the part's number in it.
 fn part_lines(piece: &'static str) -> Text {
     Text::Numbered {
         head: "",
@@ -84,7 +85,7 @@ fn chain_lines(alloc: Global) -> Result<Vec<u8>, AllocError> {
     Ok(chain)
 }
 
-// Returns a bench with the texts of this board and with this log.
+// Returns a bench with the texts of the board and with this log.
 fn bench_of(alloc: Global, log: &str) -> Result<Bench, AllocError> {
     let mut bench = Bench::empty(alloc)?;
     bench.store.add("c", &chain_lines(alloc)?)?;
@@ -140,7 +141,8 @@ fn pair_row(alloc: Global, part: u32, pin: u32) -> Result<String, AllocError> {
     Ok(row)
 }
 
-// Appends the rows in which an even net and the next net carry 1, and the lines of the group of these two nets.
+// Appends to the log the rows in which net `n` or net `n + 1` carries 1, for an even `n`, and to the text the lines of the group of these
+// two nets.
 fn push_pair(
     alloc: Global,
     part: u32,

@@ -47,7 +47,7 @@ pub fn place_count(universe: &Universe) -> u64
     universe.places()
 }
 
-/// Returns the single fault at place `i`, or None if the place belongs to two covered nets that are not paired.
+/// Returns the single fault at place `i`, or None if the place is the place of a short of two nets that are not paired.
 pub fn fault_at(universe: &Universe, plan: &Plan, i: u64) -> Option<Single>
     requires { i < place_count universe.now }
     ensures { (board : RawBoard) → IsBoard board → IsPlanOf board plan.now → plan.now.passes ≡ passes_of board → IsUniverse board universe.now → slice_get (places_of board) i ≡ Some result }
@@ -55,7 +55,7 @@ pub fn fault_at(universe: &Universe, plan: &Plan, i: u64) -> Option<Single>
     universe.at(plan, i)
 }
 
-/// Returns the places whose faults may explain the log.
+/// Returns the suspects of the log: the places whose faults may explain it.
 pub fn suspects(
     alloc: Global,
     board: &Board,

@@ -1,5 +1,5 @@
-//! Callers of the calls that the program doesn't make. Each function here makes one such call and has the same contract as the call. If a
-//! clause of the call gets weaker, the proof of the function fails. For all other calls, the proofs of the program need the clauses.
+//! Callers of the public calls that the program does not make. Each function here makes one such call and has the same contract as the
+//! call. If a clause of the call gets weaker, the proof of the function fails. All other clauses are needed by proofs of the program.
 #![tactic(auto)]
 
 pub mod boards;

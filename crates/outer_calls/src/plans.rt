@@ -1,4 +1,4 @@
-//! Calls that make the plan of a board's test and the board's walk from the passes alone.
+//! Calls that make the plan of a board's test, or the board's walk, from the passes alone.
 ghost use Rattle.std.specs.Prelude.{◌≡◌, ◌<◌, ◌^◌, length, slice_get, IfOk};
 ghost use Rattle.board_defs.specs.Passes.{passes_of};
 ghost use Rattle.scan_planner.specs.Plans.{ArePlannable, FillsScan, IsPlanOf, IsRoom, scan_count};
@@ -43,7 +43,7 @@ pub fn fill(
     plan.fill(board, k, tdi, tdo, mask)
 }
 
-/// Returns the walk of the board. It uses only the first of the passes.
+/// Returns the walk of the board. Of the passes, the walk uses only the first.
 pub fn walk(alloc: Global, board: &Board, passes: &[Setting]) -> Result<Walk, AllocError>
     requires { slice_get passes.now 0 ≡ slice_get (passes_of board.now) 0 }
     ensures { IfOk result (λ walk. IsWalkOf board.now walk) }

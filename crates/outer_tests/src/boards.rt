@@ -21,37 +21,38 @@ pub struct Files {
     pub nets: &'static str,
 }
 
-/// A driver and a receiver with two nets.
+/// The files of a driver and a receiver with two nets.
 pub const PAIR: Files = Files {
     chain: run_bench::CHAIN,
     nets: run_bench::NETS,
 };
 
-/// A device with two groups of drivers. Both groups drive net X, so no pass enables both groups, and nets A and B are not paired.
+/// The files of a device with two groups of drivers. Both groups drive net X, so no pass enables both groups, and nets A and B are not
+/// paired.
 pub const GROUPS: Files = Files {
     chain: "DEVICE U1 TWO -\nDEVICE U2 RCV -\nDEVICE U3 RCV -\n",
     nets: "NET A U1.1 U2.1\nNET X U1.2 U1.3 U2.2\nNET B U1.4 U3.1\n",
 };
 
-/// A bidirectional pin and a three-state driver. Only the bidirectional pin receives.
+/// The files of a bidirectional pin and a three-state driver. Only the bidirectional pin receives.
 pub const BIDIR: Files = Files {
     chain: "DEVICE U1 BI -\nDEVICE U2 TS -\n",
     nets: "NET N U1.1 U2.1\n",
 };
 
-/// An open-drain driver on a net that is pulled up.
+/// The files of an open-drain driver on a net that is pulled up.
 pub const PULLED: Files = Files {
     chain: "DEVICE U1 OD -\nDEVICE U2 RCV1 -\nPULL N 1\n",
     nets: "NET N U1.1 U2.1\n",
 };
 
-// The fault of a board whose texts are refused.
+// The fault of a row whose texts do not denote a board.
 pub const UNREAD: RowFault = RowFault::Other {
     table: "texts of a board",
     row: 0,
 };
 
-// Returns the texts of the worked devices.
+// Returns the BSDL texts of the worked devices.
 fn texts(alloc: Global) -> Result<Vec<Vec<u8>>, AllocError> {
     let mut texts = Vec::new(alloc);
     for (_, text) in &DEVICES {

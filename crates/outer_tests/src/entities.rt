@@ -1,5 +1,4 @@
-// Tests of reading the entity of a BSDL text. The first fault of a text has the number of the text among
-// several texts.
+// Tests of `read_entity`, which reads the entity of a BSDL text. If the text has a fault, the fault names the text by its number.
 ghost use Rattle.std.specs.Prelude.{◌<◌, ◌^◌, length};
 
 use bsdl_lexer::LexFault;

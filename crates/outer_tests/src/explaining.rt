@@ -58,15 +58,16 @@ const PAIR_PLACES: [&str; 16] = [
     "second 0 1",
 ];
 
-// The places of the shorts of the only pair of nets.
+// The places of the shorts of the only pair of nets of the board `PAIR`.
 const PAIR_SHORTS: &[u64] = &[12, 13, 14, 15];
 
-// The places of all faults of the first net; `OF_SECOND` has those of the second net.
+// The places of all faults of the first net of the board `PAIR`.
 const OF_FIRST: &[u64] = &[0, 1, 4, 5, 6, 7, 12, 13, 14, 15];
 
+// The places of all faults of the second net of the board `PAIR`.
 const OF_SECOND: &[u64] = &[2, 3, 8, 9, 10, 11, 12, 13, 14, 15];
 
-// The first net carries 1 and 0 in the two rows, and the second net carries 0 and 1.
+// Logs of the board `PAIR`. In the two rows, the first net carries 1 and 0, and the second net carries 0 and 1.
 const PAIR_LOGS: [Logged; 10] = [
     Logged {
         log: "1\n2\n",
@@ -166,15 +167,16 @@ const GROUPS_PLACES: [&str; 32] = [
     "second 1 2",
 ];
 
-// The places of the shorts of nets 0 and 1. The next constants have the places of all faults of each of these nets.
+// The places of the shorts of nets 0 and 1 of the board `GROUPS`.
 const GROUPS_SHORTS: &[u64] = &[20, 21, 22, 23];
 
+// The places of all faults of net 0 of the board `GROUPS`.
 const OF_NET_0: &[u64] = &[0, 1, 6, 7, 8, 9, 20, 21, 22, 23, 24, 25, 26, 27];
 
 const OF_NET_1: &[u64] = &[2, 3, 10, 11, 12, 13, 14, 15, 20, 21, 22, 23, 28, 29, 30, 31];
 
-// The codes are 1, 2 and 3. The pass of the first three rows observes nets 0 and 1, at bits 2 and 3. The pass of the other three rows
-// observes nets 1 and 2, at bits 3 and 0.
+// Logs of the board `GROUPS`, whose nets have the codes 1, 2 and 3. The pass of the first three rows observes nets 0 and 1, at bits 2 and
+// 3. The pass of the other three rows observes nets 1 and 2, at bits 3 and 0.
 const GROUPS_LOGS: [Logged; 7] = [
     Logged {
         log: "004\n008\n000\n001\n009\n000\n",
@@ -212,8 +214,8 @@ const GROUPS_LOGS: [Logged; 7] = [
         suspects: OF_NET_0,
         explaining: &[23],
     },
-    // Only net 2 is wrong: it reads the bits of net 1. An AND short gives the same bits, since net 2 carries a 1 in each row in which net
-    // 1 does.
+    // Only net 2 is wrong: it reads the bits of net 1. An AND short gives the same bits, since net 2 carries 1 in each row in which net 1
+    // carries 1.
     Logged {
         log: "004\n008\n000\n000\n009\n000\n",
         passes: false,
@@ -233,7 +235,7 @@ const ONE_NET_PLACES: [&str; 6] = [
 
 const ALL_OF_ONE: &[u64] = &[0, 1, 2, 3, 4, 5];
 
-// If the driver is off or its pin is open, the net has the value to which it is pulled, which is 1.
+// Logs of the board `PULLED`. If the driver is off or its pin is open, the net has the value 1, to which it is pulled.
 const PULLED_LOGS: [Logged; 3] = [
     Logged {
         log: "1\n0\n",
@@ -282,7 +284,7 @@ static BOARDS: [Rows; 4] = [
     },
 ];
 
-// A board with its test and its universe.
+// A board with the plan of its test and its universe of faults.
 #[derive(Clone, Copy)]
 struct Tested<'a> {
     board: &'a Board,
@@ -299,7 +301,7 @@ fn word(kind: Kind) -> &'static str {
     }
 }
 
-/// Returns a fault as the tables write it. The text is empty if there is no fault.
+/// Returns a fault as the tables write it, or an empty text if there is no fault.
 pub fn shown(alloc: Global, fault: Option<Single>) -> Result<String, AllocError> {
     match fault {
         None => Ok(String::new(alloc)),
@@ -329,7 +331,7 @@ fn fault_at(tested: Tested<'_>, place: u64) -> Option<Single>
     tested.universe.at(tested.plan, place)
 }
 
-// Returns whether the board's places have these faults.
+// Returns whether the faults at the board's places, in order, are these faults.
 fn has_places(alloc: Global, tested: Tested<'_>, places: &[&str]) -> Result<bool, AllocError>
     requires plan { IsPlanOf tested.board.now tested.plan.now }
     requires passes { tested.plan.now.passes ≡ passes_of tested.board.now }
@@ -492,7 +494,7 @@ fn own_diagnosis_is(
     are_faults(alloc, &faults, places, words)
 }
 
-// Compares a row with the answers of the calls that take its log.
+// Compares the answers of the calls that take a log with the row of the log.
 fn log_holds(
     rt: &(impl Threads + Sync),
     alloc: Global,
@@ -526,7 +528,7 @@ fn log_holds(
     Ok(())
 }
 
-// Compares a row with the answers of the calls that also take the nets that differ in its log.
+// Compares the answers of the calls that also take the nets that differ in a log with the row of the log.
 fn nets_hold(
     rt: &(impl Threads + Sync),
     alloc: Global,

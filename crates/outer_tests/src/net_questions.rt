@@ -49,7 +49,7 @@ enum Question {
     Guarded(u32, bool),
 }
 
-// In these answers, each net has a driver that is always on, and a receiver.
+// The answers for the board `PAIR`, on which each net has an always-on driver and a receiver.
 const PAIR_ANSWERS: [Question; 16] = [
     Question::Reason(0, None),
     Question::Reason(1, None),
@@ -65,12 +65,13 @@ const PAIR_ANSWERS: [Question; 16] = [
     Question::Paired(0, 1, true),
     Question::Paired(1, 0, true),
     Question::Paired(1, 1, false),
-    // The cells of drivers that are always on control nothing.
+    // The cells of always-on drivers control nothing.
     Question::Usable((0, 1), false),
     Question::Together((0, 0), (0, 1), true),
 ];
 
-// Cell 4 enables a driver of net 0 and a driver of net 1. Cell 5 enables a driver of net 1 and a driver of net 2.
+// The answers for the board `GROUPS`. Cell 4 enables a driver of net 0 and a driver of net 1. Cell 5 enables a driver of net 1 and a driver
+// of net 2.
 const GROUPS_ANSWERS: [Question; 22] = [
     Question::Reason(0, None),
     Question::Reason(1, None),
@@ -96,7 +97,7 @@ const GROUPS_ANSWERS: [Question; 22] = [
     Question::ReceiverTested((2, 0), false),
 ];
 
-// While the bidirectional pin drives, no other pin receives.
+// The answers for the board `BIDIR`. While the bidirectional pin drives, no other pin receives.
 const BIDIR_ANSWERS: [Question; 12] = [
     Question::Reason(0, None),
     Question::Drive((0, 0), Driven::By((0, 1))),
@@ -122,7 +123,7 @@ const PULLED_ANSWERS: [Question; 7] = [
     Question::ReceiverTested((0, 1), true),
 ];
 
-// A board on which the net is pulled to the value that the driver drives, so no test can tell whether the driver
+// A board on which the net of an open-drain driver is pulled to the value that the driver drives. No test can tell whether the driver
 // works.
 const PULLED_DOWN: Files = Files {
     chain: "DEVICE U1 OD -\nDEVICE U2 RCV1 -\nPULL N 0\n",
@@ -138,7 +139,7 @@ const PULLED_DOWN_ANSWERS: [Question; 6] = [
     Question::ReceiverTested((0, 1), false),
 ];
 
-// A board of two buffers, of which the first drives the second, with a supply net and a net of the test access port.
+// A board of two buffers. The first buffer drives the second. The board also has a supply net and a net of the test access port.
 const BUFFERS: Files = Files {
     chain: "DEVICE U1 BUF2 -\nDEVICE U2 BUF2 -\nSUPPLY VCC\n",
     nets: "NET N0 U1.5 U2.3\nNET N1 U1.4 U2.2\nNET OE U1.1 U2.1\nNET VCC U1.7 U2.7 C1.1\n\
@@ -155,7 +156,7 @@ const BUFFERS_ANSWERS: [Question; 17] = [
     Question::Guarded(2, false),
     Question::Guarded(3, true),
     Question::Guarded(4, true),
-    // A linkage pin, a pin of a part without a description, a pin of the test access port, and an input pin.
+    // These are a linkage pin, a pin of a part without a description, a pin of the test access port, and an input pin.
     Question::Dark((3, 0), true),
     Question::Dark((3, 2), true),
     Question::Dark((4, 0), false),
@@ -186,8 +187,7 @@ const UNSEEN_ANSWERS: [Question; 11] = [
     Question::Paired(0, 1, false),
 ];
 
-// A board with an INERT line, which says that the part without a description neither drives its pins nor connects
-// them.
+// A board with an INERT line for the part without a description. The line says that the part neither drives its pins nor connects them.
 const INERT: Files = Files {
     chain: "DEVICE U1 DRV -\nDEVICE U2 RCV -\nINERT RAM\n",
     nets: "NET N1 U1.1 U2.1 RAM.7\nNET N2 U1.2 U2.2\n",
@@ -367,7 +367,7 @@ fn boards_and_their_classes_answer(rt: HostRuntime) -> Result<(), RowFault> {
     Ok(())
 }
 
-// The port bit of an entry, a port bit to ask for, and whether the entry is on this port bit.
+// The port bit of an entry, the port bit in the question, and whether the entry is on the port bit in the question.
 static ENTRIES: [(Option<u32>, u32, bool); 3] = [
     (Some(3), 3, true),
     (Some(3), 2, false),

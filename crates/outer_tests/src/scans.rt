@@ -31,7 +31,7 @@ enum Scan {
     Compares(u64, u64, u64),
 }
 
-// Returns whether this shape and these bits of the rows belong to the scan.
+// Returns whether the shape and these bits of TDI, TDO and MASK are those of the scan.
 fn is_scan(shape: Shape, [tdi, tdo, mask]: [u64; 3], scan: Scan) -> bool {
     let (ir, compare, bits) = match scan {
         Scan::Codes(tdi, tdo, mask) => (true, true, (tdi, tdo, mask)),
@@ -52,7 +52,7 @@ enum Making {
     Nothing,
 }
 
-// A plan of a board, and the answers that the plan must give.
+// A plan of a board, and the answers that the plan should give.
 struct Planned {
     name: &'static str,
     files: Files,
@@ -273,7 +273,7 @@ fn plans_make_the_scans_of_a_board(rt: HostRuntime) -> Result<(), RowFault> {
     Ok(())
 }
 
-// The walk of a board, and the answers that the walk must give.
+// The walk of a board, and the answers that the walk should give.
 struct Walked {
     name: &'static str,
     files: Files,
@@ -296,7 +296,7 @@ const DRIVERS_SCANS: [Scan; 7] = [
     Scan::Compares(0x00, 0x01, 0x0D),
 ];
 
-// A board without a driver, which has no pass.
+// The files of a board without a driver. The board has no pass.
 const RECEIVER: Files = Files {
     chain: "DEVICE U2 RCV -\n",
     nets: "NET N1 U2.1\n",
