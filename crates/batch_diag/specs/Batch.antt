@@ -97,12 +97,12 @@ blocks_of_lines rows len lines = unless (start_fault lines) (unless (title_fault
 abbrev pub batch_of : List ℕ → ℕ → ℕ → Answer
 batch_of text rows len = blocks_of_lines rows len (row_lines text)
 
--- the fault, or `None` for a refusal of memory, which no definition describes
+-- the fault, or `None` for lack of memory, which no definition describes
 abbrev pub batch_told : BatchFault → Option BatchFault
 batch_told (Memory e) = None
 batch_told fault = Some fault
 
--- if the fault is the fault of a block, it is not a refusal of memory
+-- if the fault is the fault of a block, it is a fault of the block's lines, and not lack of memory
 abbrev pub IsOfLines : BatchFault → Type 0
 IsOfLines (Start n) = Unit {0}
 IsOfLines (Title n) = Unit {0}

@@ -11,7 +11,7 @@ use Rattle.batch_diag.specs.Batch.{begins_block, is_wrong_title, up_to_title, ba
 use Rattle.batch_diag.specs.Verdicts.{AreVerdicts}
 use Rattle.batch_diag.specs.BatchText.{batch_text, IsBatchText}
 
--- The title and these lines are the block. The title has the block's id, none of the lines is a title, and the lines are the block's log.
+-- The title and these lines give the block. The title has the block's id, none of the lines is a title, and the lines are the block's log.
 pub record IsBlockOf (rows len : ℕ) (title : NumberedLine) (lines : List NumberedLine) (block : Block) : Type 0 where
   pub words : title.words ≡ codes "BOARD" ∷ block.id ∷ []
   pub id : is_word block.id ≡ true
@@ -24,11 +24,11 @@ AreBlocksOf rows len lines [] = lines ≡ []
 AreBlocksOf rows len lines (block ∷ blocks) =
     (title : NumberedLine) × (own : List NumberedLine) × (later : List NumberedLine) × IsBlockOf rows len title own block × AreBlocksOf rows len later blocks × (lines ≡ title ∷ (own ++ later))
 
--- a text is a batch of these blocks exactly if its lines with words are the titles and the other lines of the blocks
+-- a text is a batch of these blocks if and only if its lines with words are the titles and the other lines of the blocks
 abbrev pub BlocksAreTheLines : Type 0
 BlocksAreTheLines = (text : List ℕ) (rows len : ℕ) (blocks : List Block) → (batch_of text rows len ≡ Ok blocks) ↔ AreBlocksOf rows len (row_lines text) blocks
 
--- each title among the lines has an id that keeps the word rule, and nothing else
+-- each title among the lines consists of the word BOARD and an id that keeps the word rule
 abbrev pub AreRight : List NumberedLine → Type 0
 AreRight lines = All (λ line. is_wrong_title line ≡ false) lines
 
@@ -43,11 +43,11 @@ IsFirstFault rows len lines (Inner board fault) =
     × (begins_block title ≡ true) × All (λ line. begins_block line ≡ false) own × (up_to_title later ≡ []) × (rows_of_lines rows len own ≡ Err fault) × (board ≡ length blocks + 1) × (lines ≡ before ++ title ∷ (own ++ later))
 IsFirstFault rows len lines (Memory e) = ⊥
 
--- the answer for a text is this fault exactly if it is the text's first fault
+-- the answer for a text is this fault if and only if it is the text's first fault
 abbrev pub FaultIsTheFirst : Type 0
 FaultIsTheFirst = (text : List ℕ) (rows len : ℕ) (fault : BatchFault) → (batch_of text rows len ≡ Err fault) ↔ IsFirstFault rows len (row_lines text) fault
 
--- the text that the verdicts give is the text of the batch
+-- `batch_text` of the verdicts on the blocks is the text of the batch
 abbrev pub VerdictsMakeText : Type 0
 VerdictsMakeText = (board : RawBoard) (blocks : List Block) (verdicts : List Verdict) → AreVerdicts board blocks verdicts → IsBatchText board blocks (batch_text board blocks verdicts)
 

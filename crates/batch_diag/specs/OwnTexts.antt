@@ -50,12 +50,13 @@ pub record HoldsBlocks (text : List ℕ) (rows len : ℕ) (blocks : List Block) 
   pub cut : IsCutTo text front texts
   pub each : EachPair (HoldsBlock rows len) texts blocks
 
--- a text is a batch of these blocks exactly if its titles have the ids of the blocks, and the own text below each title holds the
--- block's log
+-- A text is a batch of these blocks if and only if its titles have the ids of the blocks, in order, and the own text below each title holds
+-- the log of the title's block.
 abbrev pub BlocksByThemselves : Type 0
 BlocksByThemselves = (text : List ℕ) (rows len : ℕ) (blocks : List Block) → (batch_of text rows len ≡ Ok blocks) ↔ HoldsBlocks text rows len blocks
 
--- The fault of a text that is part of a longer text, with its line number in the longer text. `before` lines come before the part.
+-- The fault of a text that is a part of a longer text. It has its line number in the longer text, in which `before` lines come before the
+-- part.
 abbrev pub moved_fault : ℕ → LogFault → LogFault
 moved_fault before (Digit n) = Digit (before + n)
 moved_fault before (Length n) = Length (before + n)
@@ -77,7 +78,7 @@ pub record FailsInBlock (text : List ℕ) (rows len board : ℕ) (fault : LogFau
   pub fails : log_rows (own_text block) rows len ≡ Err own
   pub line : fault ≡ moved_fault (length (front ++ flat_map lines_of_block earlier) + 1) own
 
--- the fault that is reported for a block is the fault of the block's own text
+-- if the fault in the answer is the fault of a block, it is the fault of the block's own text
 abbrev pub FaultByItself : Type 0
 FaultByItself = (text : List ℕ) (rows len board : ℕ) (fault : LogFault) → batch_of text rows len ≡ Err (Inner board fault) → FailsInBlock text rows len board fault
 

@@ -7,7 +7,7 @@ use std::alloc::{AllocError, AllocFailed};
 use std::fmt;
 use thiserror::Error;
 
-/// The reason why a text is not a batch of logs, or a refusal of memory. Lines are counted in the whole text, from 1.
+/// The reason why a text is not a batch of logs, or lack of memory. Lines are counted in the whole text, from 1.
 ///
 /// The text of a fault is its line of refusal without the name of the file. If rows are missing, the text also lacks the number of rows
 /// that a log needs.
@@ -19,7 +19,7 @@ pub enum BatchFault {
     /// This line is a title, but does not have exactly two words, or its id breaks the word rule.
     #[error("line {0}: board not allowed")]
     Title(u32),
-    /// The lines of block `board`, counted from 1, are not a log. `fault` is never a refusal of memory.
+    /// The lines of block `board`, counted from 1, are not a log. `fault` is never lack of memory.
     #[error("{}", block_text(*.board, .fault))]
     Inner { board: u32, fault: LogFault },
     #[error("out of memory")]

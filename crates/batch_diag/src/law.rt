@@ -4,15 +4,15 @@ ghost use Rattle.batch_diag.specs.OwnTexts.{BlocksByThemselves, DiagnosesByThems
 
 use diagnoser::law::one_diagnosis;
 
-/// A text is a batch exactly if its lines with words are correct titles, each followed by the lines of a log. The batch has a block
-/// for each title.
+/// A text is a batch if and only if its lines with words are correct titles, each followed by the lines of a log. The batch has a block for
+/// each title.
 pub fn blocks_are_the_lines()
     ensures { BlocksAreTheLines }
 {}
 
-/// A fault is reported for a text exactly if it is the first fault of the text. If the first line with words is not a title, this
-/// is the fault of that line. Otherwise it is the fault of the first wrong title. If no title is wrong, it is the fault of the
-/// first block whose lines are not a log.
+/// A fault is reported for a text if and only if it is the first fault of the text. If the first line with words is not a title, this is
+/// the fault of that line. Otherwise it is the fault of the first wrong title. If no title is wrong, it is the fault of the first block
+/// whose lines are not a log.
 pub fn fault_is_the_first()
     ensures { FaultIsTheFirst }
 {}

@@ -1,4 +1,5 @@
-// Tests with cases that do not hold. Each function of the device bench must report such a case, whatever differs.
+// Tests with cases whose expected result is wrong. Each function of the device bench must report such a case, whatever part of the result
+// is wrong.
 use board_defs::Symbol;
 use bsdl_lexer::LexFault::{self, Byte};
 use bsdl_parser::ParseFault::Expected;
@@ -11,7 +12,7 @@ use device_bench::{
 };
 use std::alloc::Global;
 
-// Returns whether the answer reports this case, with this text for how the case ended.
+// Returns whether the answer reports this case and the result `shown`.
 fn names(answer: &Result<(), CaseFault>, number: usize, shown: &str) -> bool {
     match answer {
         Err(CaseFault::Ended { case, found }) => *case == number && found.as_str() == shown,
@@ -27,7 +28,7 @@ fn names_case(answer: &Result<(), CaseFault>, number: usize) -> bool {
     }
 }
 
-// Returns an error with the row as its case, unless `holds` is true.
+// Returns an error with the number of the row as its case, unless `holds` is true.
 fn expect(alloc: Global, row: usize, holds: bool) -> Result<(), CaseFault> {
     if holds {
         return Ok(());
@@ -64,7 +65,7 @@ const LISTING: &str =
     "ENTITY DRV\nPACKAGE P\nIR 2 SAMPLE 10 IDCODE -\nPORT TDI IN T1\nPORT TMS IN T3\n\
      PORT TCK IN T4\nPORT TDO OUT T2\nPORT Q OUT 1 2\nCELL 0 OUTPUT2 Q(1) X\nCELL 1 OUTPUT2 Q(2) X\n";
 
-// The listing without its last line.
+// The listing of the driver without its last line.
 const SHORT_LISTING: &str =
     "ENTITY DRV\nPACKAGE P\nIR 2 SAMPLE 10 IDCODE -\nPORT TDI IN T1\nPORT TMS IN T3\n\
      PORT TCK IN T4\nPORT TDO OUT T2\nPORT Q OUT 1 2\nCELL 0 OUTPUT2 Q(1) X\n";
@@ -75,15 +76,15 @@ const ENTITY: &str =
      3 port TDO\n4 port TMS\n5 port TCK\n6 number 2\n7 text BYPASS (11), EXTEST (00), SAMPLE (10)\n8 text 01\n\
      9 number 2\n10 text 0 (BC_1, Q(1), OUTPUT2, X),1 (BC_1, Q(2), OUTPUT2, X)\n";
 
-// The entity with another length of its boundary register.
+// The entity of the driver with another length of its boundary register.
 const OTHER_ENTITY: &str =
     "entity DRV P\nuse STD_1149_1_1994\nconstant P TDI:T1, TDO:T2, TMS:T3, TCK:T4, Q:(1,2)\n\
      port TDI Inward\nport TMS Inward\nport TCK Inward\nport TDO Outward\nport Q Outward 1 to 2\n1\n2 port TDI\n\
      3 port TDO\n4 port TMS\n5 port TCK\n6 number 2\n7 text BYPASS (11), EXTEST (00), SAMPLE (10)\n8 text 01\n\
      9 number 3\n10 text 0 (BC_1, Q(1), OUTPUT2, X),1 (BC_1, Q(2), OUTPUT2, X)\n";
 
-// The part of the meaning that is compared, and two texts with expected results, of which only the first is right. The last text is the
-// actual result of the second text.
+// The part of the meaning that is compared, two texts with expected results, of which only the first is right, and the actual result of the
+// second text.
 type Texts = (Shown, &'static [(Source, &'static str)], &'static str);
 
 static TEXTS: [Texts; 6] = [
@@ -139,7 +140,7 @@ fn wrong_texts_are_noticed(rt: HostRuntime) -> Result<(), CaseFault> {
 
 type Lexed = (Source, Result<(), LexFault>, usize);
 
-// In each pair, only the first case is right. The second expects another number of tokens, another line, or no fault.
+// In each pair, only the first case is right. The second case expects a wrong number of tokens, a wrong line, or no fault.
 static LEXINGS: [[Lexed; 2]; 3] = [
     [
         (Bytes(b"a;\xff"), Err(Byte(1)), 2),
@@ -164,7 +165,7 @@ fn wrong_lexings_are_noticed(rt: HostRuntime) -> Result<(), CaseFault> {
     Ok(())
 }
 
-// Two texts with expected readings, of which only the first is right. The last text is the actual reading of the second text.
+// Two texts with expected readings, of which only the first is right, and the actual reading of the second text.
 type Readings = (&'static [(Source, Reading)], &'static str);
 
 static READINGS: [Readings; 3] = [

@@ -11,7 +11,8 @@ use Rattle.board_gen.specs.BoardTexts.{each, part_line, chain_text, pin_word, ne
 decimal_short : (n : ℕ) → n < 100000 → length (decimal n) ≤ 5
 decimal_short n below = length-decimal-le 5 n (omega arith) (omega arith) (omega arith)
 
--- if the text of each number has at most `bound` bytes, the texts of `count` numbers have at most `count * bound` bytes
+-- if the text of each number below `first + count` has at most `bound` bytes, the texts of the `count` numbers from `first` on have at most
+-- `count * bound` bytes
 each_short : (text : ℕ → List ℕ) (bound first count : ℕ) → ((n : ℕ) → n < first + count → length (text n) ≤ bound) → length (each text first count) ≤ count * bound
 each_short text bound first zero short = omega arith
 each_short text bound first (suc count) short =

@@ -14,7 +14,7 @@ chain_of_two : chain_text 2 ≡ codes "DEVICE U1 GEN -\nDEVICE U2 GEN -\n"
 unfolding chain_text digits
 chain_of_two = refl
 
--- the line of a net from a part to the next part, and of a net from the last part to the first
+-- The line of a net from part 1 to part 2. The next sample has a net from the last part to the first.
 first_ring : ring_line 2 1 0 ≡ codes "NET R1_0 U1.1 U2.33\n"
 unfolding digits
 first_ring = refl
@@ -40,7 +40,7 @@ bus_of_three : bus_line 3 7 ≡ codes "NET B7 U1.72 U2.72 U3.72\n"
 unfolding digits
 bus_of_three = refl
 
--- the net file of k parts has one line for each of its 32k + 8 nets, here for k = 1 and k = 2
+-- the net file of `k` parts has `32 k + 8` lines, one for each net; here `k` is 1
 nets_of_one : count_by (λ byte. byte == 10) (net_text 1) ≡ 40
 unfolding net_text digits
 nets_of_one = refl
@@ -49,7 +49,7 @@ nets_of_two : count_by (λ byte. byte == 10) (net_text 2) ≡ 72
 unfolding net_text digits
 nets_of_two = refl
 
--- the lines of the last and the first cell of each kind
+-- the line of the last control cell; the next samples are the lines of the first and the last cell of each other kind
 last_control : cell_line 4 ≡ codes "\"4 (BC_1, *, control, 1),\" &\n"
 unfolding digits
 last_control = refl
@@ -78,8 +78,7 @@ last_cell : cell_line 76 ≡ codes "\"76 (BC_7, B(7), bidir, X, 4, 1, Z)\";\n"
 unfolding digits
 last_cell = refl
 
--- The next four samples are the lines of all cells, in order: five controls, the outputs with one control for each eight outputs, the
--- inputs, and the bus pins with one control. These are cells 0 to 4.
+-- The lines of cells 0 to 4, which are the controls.
 control_cells : map cell_line (range_with_len 0 5) ≡
     codes "\"0 (BC_1, *, control, 1),\" &\n"
     ∷ codes "\"1 (BC_1, *, control, 1),\" &\n"
@@ -89,7 +88,7 @@ control_cells : map cell_line (range_with_len 0 5) ≡
 unfolding digits
 control_cells = refl
 
--- the lines of cells 5 to 36
+-- the lines of cells 5 to 36, which are the outputs; each eight outputs have one control
 output_cells : map cell_line (range_with_len 5 32) ≡
     codes "\"5 (BC_1, Q(0), output3, X, 0, 1, Z),\" &\n"
     ∷ codes "\"6 (BC_1, Q(1), output3, X, 0, 1, Z),\" &\n"
@@ -126,7 +125,7 @@ output_cells : map cell_line (range_with_len 5 32) ≡
 unfolding digits
 output_cells = refl
 
--- the lines of cells 37 to 68
+-- the lines of cells 37 to 68, which are the inputs
 input_cells : map cell_line (range_with_len 37 32) ≡
     codes "\"37 (BC_1, D(0), input, X),\" &\n"
     ∷ codes "\"38 (BC_1, D(1), input, X),\" &\n"
@@ -163,7 +162,7 @@ input_cells : map cell_line (range_with_len 37 32) ≡
 unfolding digits
 input_cells = refl
 
--- the lines of cells 69 to 76
+-- the lines of cells 69 to 76, which are the bus pins; all have one control
 bus_cells : map cell_line (range_with_len 69 8) ≡
     codes "\"69 (BC_7, B(0), bidir, X, 4, 1, Z),\" &\n"
     ∷ codes "\"70 (BC_7, B(1), bidir, X, 4, 1, Z),\" &\n"
@@ -181,7 +180,7 @@ bus_pins : numbers 65 8 ≡ codes "65,66,67,68,69,70,71,72"
 unfolding digits
 bus_pins = refl
 
--- the first cell is on line 16, and one line follows the 77 cells
+-- the BSDL text has 15 lines before the first cell, one line for each of the 77 cells, and one line after them
 lines_of_device : count_by (λ byte. byte == 10) bsdl_text ≡ 15 + 77 + 1
 unfolding bsdl_text head_text map_line attributes_text digits
 lines_of_device = refl

@@ -3,7 +3,7 @@
 use Rattle.std.specs.Prelude.{ℕ, ◌+◌, ◌==◌, List, ◌++◌, codes, decimal, if◌then◌else◌}
 use Rattle.std.specs.List.{flat_map, range_with_len}
 
--- The texts of `count` consecutive numbers. The first number is `first`.
+-- The texts of `count` consecutive numbers, joined. The first number is `first`.
 abbrev pub each : (ℕ → List ℕ) → ℕ → ℕ → List ℕ
 each text first count = flat_map text (range_with_len first count)
 
@@ -11,11 +11,11 @@ each text first count = flat_map text (range_with_len first count)
 abbrev pub part_line : ℕ → List ℕ
 part_line part = codes "DEVICE U" ++ decimal part ++ codes " GEN -\n"
 
--- the chain file
+-- the chain file of a board with `k` parts
 unfoldable pub chain_text : ℕ → List ℕ
 chain_text k = each part_line 1 k
 
--- a blank, followed by the word of a pin in the net file
+-- a blank, followed by the word for a pin of a part in the net file
 abbrev pub pin_word : ℕ → ℕ → List ℕ
 pin_word part pin = codes " U" ++ decimal part ++ codes "." ++ decimal pin
 
@@ -32,6 +32,6 @@ ring_line k part bit =
 abbrev pub bus_line : ℕ → ℕ → List ℕ
 bus_line k bit = codes "NET B" ++ decimal bit ++ each (λ part. pin_word part (bit + 65)) 1 k ++ codes "\n"
 
--- the net file
+-- the net file of a board with `k` parts
 unfoldable pub net_text : ℕ → List ℕ
 net_text k = each (λ part. each (ring_line k part) 0 32) 1 k ++ each (bus_line k) 0 8

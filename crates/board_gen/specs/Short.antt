@@ -2,7 +2,7 @@
 use Rattle.std.specs.Prelude.{◌≤◌, length}
 use Rattle.board_gen.specs.declared.Made.{Made}
 
--- no text is longer than a chain file, a net file or a BSDL text may be
+-- Each text is within the limit for a chain file, a net file or a BSDL text.
 pub record AreShort (made : Made) : Type 0 where
   pub chain : length made.chain.items ≤ 4194304
   pub nets : length made.nets.items ≤ 4194304

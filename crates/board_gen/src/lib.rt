@@ -23,8 +23,8 @@ pub struct Made {
     pub bsdl: Vec<u8>,
 }
 
-/// Returns the texts of the board with `number` parts, from 1 to 255. The board has 32 nets for each part, and the 8 nets of the bus.
-/// Each text has at most 4,194,304 bytes. Fails only if memory is refused.
+/// Returns the texts of the board with `number` parts, from 1 to 255. The board has 32 nets for each part, and the 8 nets of the bus. Each
+/// text has at most 4,194,304 bytes. The only error is lack of memory.
 pub fn make(alloc: Global, number: u32) -> Result<Made, AllocError>
     requires some { 1 ≤ number }
     requires few { number ≤ 255 }

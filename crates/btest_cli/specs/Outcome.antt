@@ -116,8 +116,8 @@ abbrev pub Settles : Type 0 → Result Text Text → Status → Type 0
 Settles rose (Ok text) status = (rose → ⊥) → (status ≡ Done) ⊎ (status ≡ NoMemory)
 Settles rose (Err line) status = (status ≡ Refused) ⊎ (status ≡ NoMemory)
 
--- If the reading of the command's texts is known, and no count of these texts rose, there is an outcome, and this outcome settles the
--- status.
+-- If the reading of the command's texts is known, and no count of faults of these texts rose, there is an outcome, and this outcome
+-- determines the status.
 abbrev pub IsComplete : Held → Command → Type 0 → Type 0 → Status → Type 0
 IsComplete held command store_rose out_rose status =
     (reading : Reading) → known_reading held (wanted_of command) ≡ Some reading → (store_rose → ⊥) → (outcome : Result Text Text) × IsOutcome command reading outcome × Settles out_rose outcome status

@@ -30,7 +30,7 @@ names_in texts = map (λ text. text.name) texts
 abbrev pub Held : Type 0
 Held = Option (Text → Option Text)
 
--- the result of reading texts, which is all texts or the first text that is too long
+-- the result of reading texts: all texts, or the first text that is too long
 pub data Reading : Type 0 where
   Read : List Text → Reading
   TooLong : Wanted → Reading
@@ -44,18 +44,19 @@ abbrev pub read_first : Wanted → Option Text → Option Reading → Option Rea
 read_first wanted None rest = None
 read_first wanted (Some text) rest = if nat_lt wanted.limit (length text) then Some (TooLong wanted) else and_text text rest
 
--- the result of reading these texts in order, if the store holds each text that is read
+-- The result of reading these texts in order. It is `None` if the store does not hold a text that is read.
 abbrev pub reading_of : (Text → Option Text) → List Wanted → Option Reading
 reading_of held [] = Some (Read [])
 reading_of held (wanted ∷ others) = read_first wanted (held wanted.name) (reading_of held others)
 
--- the result of reading these texts, if the store gives the texts `found`
+-- the result of reading these texts in order, if `found` has the texts that the store gives for them
 abbrev pub reading_in : List Wanted → List Text → Option Reading
 reading_in [] found = Some (Read [])
 reading_in (wanted ∷ others) [] = None
 reading_in (wanted ∷ others) (text ∷ found) = read_first wanted (Some text) (reading_in others found)
 
--- The reading is the result of reading the texts. If the store's texts are known, it reads these, and otherwise some texts.
+-- `reading` is the result of reading the texts. If the store's texts are known, these are the texts that are read. Otherwise it is the
+-- result for some texts.
 abbrev pub IsRead : Held → List Wanted → Reading → Type 0
 IsRead None texts reading = (found : List Text) × (reading_in texts found ≡ Some reading)
 IsRead (Some held) texts reading = reading_of held texts ≡ Some reading
@@ -76,11 +77,11 @@ abbrev pub IsLong : Held → Wanted → Type 0
 IsLong None wanted = (text : Text) × (wanted.limit < length text)
 IsLong (Some held) wanted = (text : Text) × (held wanted.name ≡ Some text) × (wanted.limit < length text)
 
--- the store was asked for these names in turn, and for no others
+-- between the two states, the store was asked for these names in turn, and for no others
 abbrev pub Asks : List Text → List Text → List Text → Type 0
 Asks old new names = new ≡ old ++ names
 
--- the texts before `last` were read, and then the store was asked for `last`, but for no later text
+-- the run read the texts before `last`, then asked the store for `last`, and asked for no later text
 pub record IsReadUpTo (held : Held) (texts : List Wanted) (last : Wanted) (old new : List Text) : Type 0 where
   pub before : List Wanted
   pub after : List Wanted

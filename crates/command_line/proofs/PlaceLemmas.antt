@@ -91,7 +91,7 @@ answer_placed s read never words all h position =
 abbrev pub row_of : Text → Text → Row
 row_of id word = record { id = id; values = word ∷ []; count = None; source = Some CommandLine; reading = reading_of (parser_of_value None) }
 
--- the row of the BSDL names, or no row if there are none
+-- the row of the BSDL names, or no row if there are no names
 abbrev pub names_row : List Text → List Row
 names_row [] = []
 names_row (name ∷ names) = record (row_of (codes "BSDL") name) { values = name ∷ names } ∷ []

@@ -49,7 +49,7 @@ const CHAINS: [Row; 7] = [
         line: "chain c",
         ending: Ending::Scans(TWO_PARTS_SCANS),
     },
-    // An instruction register of 255 bits. The part's name consists of the first and the last visible character.
+    // An instruction register of 255 bits. The name of the part consists of the first and the last visible character.
     Row {
         texts: &[("c", Plain("BYPASS !~ 255"))],
         line: "chain c",
@@ -120,7 +120,7 @@ const NO_STATEMENTS: [Run; 17] = [
 
 const NO_STATEMENT: Ending<'static> = Ending::Refused("c line 1: no statement\n");
 
-// Words with a byte that is not allowed in them. The last rows have numbers that are not allowed, and names that are allowed.
+// Words with a byte that is not allowed. The last rows have numbers that are not allowed, and names that are allowed.
 const WORDS: [Run; 11] = [
     (Plain("BYPASS U\x7f 2"), NO_WORD),
     (Plain("BYPASS U\u{e9} 2"), NO_WORD),
@@ -316,7 +316,7 @@ const MANY_WORDS: [(usize, Ending<'static>); 2] = [
     (256, Ending::Usage),
 ];
 
-// The result of a run whose words name an empty text this many times. The limit is 255.
+// The result of a run whose words name an empty text this many times. A run may read at most 255 BSDL texts.
 const MANY_TEXTS: [(usize, Ending<'static>); 2] = [
     (255, Ending::Refused("x line 1: not in the grammar\n")),
     (256, Ending::Usage),

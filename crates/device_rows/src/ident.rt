@@ -15,7 +15,7 @@ const CODED: Text = Edited(
     ],
 );
 
-// A driver with a code in which all bits are free. The driver below has a code that is too short.
+// A driver with a code in which all bits are free.
 const FREE: Text = Edited(
     DRV,
     &[

@@ -1,4 +1,4 @@
-// Rows for the command `device`, with kinds of texts that makers write and btest refuses.
+// Rows for the command `device` with texts of kinds that makers write and btest refuses.
 use run_bench::Text::Edited;
 use run_bench::{Change, DRV, DRV1, Ending, RowFault, Rows, Run, Table, tables_hold};
 
@@ -7,7 +7,7 @@ const FIRST: &str = "entity DRV is\n";
 const LAST: &str = "end DRV;\n";
 
 const AROUND_THE_ENTITY: [Change; 8] = [
-    // A byte order mark, and the byte with which old systems end a file.
+    // A byte order mark, and the byte that old systems put at the end of a file.
     (
         FIRST,
         "\u{feff}entity DRV is\n",

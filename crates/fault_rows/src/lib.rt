@@ -1,4 +1,4 @@
-//! Tests of whole runs in which a read or a write fails, or a text is too long. There are such runs for every command.
+//! Tests of whole runs in which a read or a write fails, or a text is too long. Each command has such runs.
 #![tactic(auto)]
 
 #[cfg(test)]

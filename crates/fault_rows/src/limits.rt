@@ -20,7 +20,7 @@ fn limit(name: &str) -> usize {
     }
 }
 
-// Checks that a command refuses a text of this name that has one byte too many.
+// Checks that a command refuses its text of this name if the text has one byte too many.
 fn is_too_long(
     rt: &(impl Threads + Sync),
     alloc: Global,
@@ -35,7 +35,7 @@ fn is_too_long(
     bench.ends(rt, name, 0, line, Ending::Refused(&note))
 }
 
-// Checks that a command writes its text if a text of this name is filled with blanks up to the limit.
+// Checks that a command writes its output if its text of this name is filled with blanks up to the limit.
 fn may_be_as_long(
     rt: &(impl Threads + Sync),
     alloc: Global,

@@ -45,7 +45,7 @@ fn is_cut_at_each(
     Ok(())
 }
 
-// A write that fails leaves the earlier lines, and perhaps a part of its own line.
+// If a write fails, the sink has the earlier lines, and perhaps a part of the line of this write.
 #[test]
 fn a_write_that_fails_leaves_the_lines_before_it(rt: HostRuntime) -> Result<(), RowFault> {
     for command in &COMMANDS {

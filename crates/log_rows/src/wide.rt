@@ -141,8 +141,8 @@ fn pair_row(alloc: Global, part: u32, pin: u32) -> Result<String, AllocError> {
     Ok(row)
 }
 
-// Appends to the log the rows in which net `n` or net `n + 1` carries 1, for an even `n`, and to the text the lines of the group of these
-// two nets.
+// Appends to the log the two rows of two consecutive nets of driving part `part`. In both rows, both nets read 1. Appends to the text the
+// lines of the group of these two nets.
 fn push_pair(
     alloc: Global,
     part: u32,

@@ -218,7 +218,7 @@ fn all_closed(alloc: Global, set: &ControlSet, known: &Known<'_>) -> Result<NetN
     Ok(nets)
 }
 
-/// Returns the nets that `nets` close, and makes `set` the set of the controls with a driver on one of `nets`.
+/// Returns the nets that `nets` closes, and makes `set` the set of the controls with a driver on one of `nets`.
 fn closed_nets(
     alloc: Global,
     set: &mut ControlSet,
@@ -234,7 +234,7 @@ fn closed_nets(
     Ok(closed)
 }
 
-/// The nets that the nets in `by` close. They are kept for the next call, since many controls share the same nets or share a bus.
+/// The nets that the list `by` closes. They are kept for the next call, since many controls share the same nets or share a bus.
 #[derive(Drop)]
 pub struct ClosedNets {
     pub(crate) by: NetNumbers,

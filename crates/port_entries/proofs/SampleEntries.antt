@@ -1,4 +1,4 @@
--- Samples of the entries of a small part and of the facts about its port bits. The values are computed by hand.
+-- Samples of the entries of a small part and of the facts about its port bits, worked out by hand.
 use Rattle.std.proofs.Common.{◌≡◌, ℕ, Bool, true, false, List, [], ◌∷◌, map, replicate, Option, Some, None, refl}
 use Rattle.std.specs.Prelude.{find, option_map}
 use Rattle.board_defs.specs.declared.device.Cell.{Cell}
@@ -18,7 +18,7 @@ cell num role bit = record { num = num; role = role; bit = bit; safe = Any; ctl 
 abbrev port_bit : Mode → Bool → PortBit
 port_bit mode tap = record { port = 0; index = None; mode = mode; pin = None; tap = tap; compliance = false }
 
--- a part with two port bits, whose last entry belongs to neither
+-- the rows of a part with two port bits; its cell 4 belongs to neither of them
 abbrev row : List (List Cell)
 row = all_noted (replicate 2 [])
     (cell 0 Input (Some 1) ∷ cell 1 Control None ∷ cell 2 Input (Some 0) ∷ cell 3 Output3 (Some 1) ∷ cell 4 Output2 (Some 7) ∷ [])
@@ -26,7 +26,7 @@ row = all_noted (replicate 2 [])
 abbrev numbers : ℕ → ℕ → List ℕ
 numbers part bit = map (λ entry. entry.num) (entries_at (row ∷ []) (record { part = part; bit = bit }))
 
--- each port bit has its entries in order, and any other place has no entries
+-- port bit 0 has the entry of cell 2; the next samples have port bit 1 and other places
 low : numbers 0 0 ≡ 2 ∷ []
 low = refl
 

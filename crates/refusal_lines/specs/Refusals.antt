@@ -38,7 +38,7 @@ write_line = codes "cannot write\n"
 abbrev pub memory_line : Text
 memory_line = codes "out of memory\n"
 
--- the name of a text, and what is wrong with the text
+-- the text with the name of a text and what is wrong with it
 abbrev pub about : Text → Text → Text
 about name wrong = whole (name ∷ wrong ∷ [])
 

@@ -1,5 +1,4 @@
-// Writes the lines for words that are no command, for a text that was not read or is too long, for a failed write, and for a
-// refusal of memory.
+// Writes the lines for words that are no command, for a text that was not read or is too long, for a failed write, and for lack of memory.
 ghost use Rattle.bt_base.specs.Puts.{Puts};
 ghost use Rattle.refusal_lines.specs.Refusals.{long_line, memory_line, read_line, usage_line, write_line};
 
@@ -43,7 +42,7 @@ pub fn put_not_written<N: Sink>(notes: &mut N) -> Result<(), PutFault>
     notes.put(b"cannot write\n")
 }
 
-/// Writes the line for a refusal of memory.
+/// Writes the line for lack of memory.
 pub fn put_memory<N: Sink>(notes: &mut N) -> Result<(), PutFault>
     ensures { Puts (N.shown notes.old) (N.shown notes.new) memory_line result }
 {

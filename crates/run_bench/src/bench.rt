@@ -65,7 +65,7 @@ impl Bench {
         Ok(())
     }
 
-    /// Runs a command line, whose words are separated by spaces. An empty line has no words.
+    /// Runs a command line, whose words are separated by single spaces. An empty line has no words.
     pub fn run(&mut self, rt: &(impl Threads + Sync), line: &str) -> Result<Status, AllocError> {
         self.run_watched(rt, line, &OpenGate)
     }
@@ -109,7 +109,7 @@ impl Bench {
         self.out.bytes() == out && self.notes.bytes() == notes.as_bytes()
     }
 
-    /// Runs a command line, and compares its status and the bytes that it leaves with the row's ending.
+    /// Runs a command line, and compares its status and the bytes that it writes with the row's ending.
     pub fn ends(
         &mut self,
         rt: &(impl Threads + Sync),
@@ -122,7 +122,7 @@ impl Bench {
         self.expect(table, row, status, ending)
     }
 
-    /// Compares the status of a row's run, and the bytes that the run left, with the row's ending.
+    /// Compares the status of a row's run, and the bytes that the run wrote, with the row's ending.
     pub fn expect(
         &self,
         table: &'static str,

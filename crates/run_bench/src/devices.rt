@@ -188,7 +188,7 @@ attribute BOUNDARY_REGISTER of FOUR : entity is
 end FOUR;
 "#;
 
-/// A driver with one open-drain output, which the driver's own cell turns off.
+/// A driver with one open-drain output.
 pub const OD: &str = r#"entity OD is
 generic (PHYSICAL_PIN_MAP : string := "P");
 port (TDI, TMS, TCK : in bit; TDO : out bit; Q : out bit);

@@ -8,8 +8,8 @@ use std::alloc::{AllocError, Global};
 use std::thread::Threads;
 use thiserror::Error;
 
-/// The result of a run: its status, the text that it writes, and its line of refusal. If a variant does not name a text or a line, it is
-/// empty.
+/// The result of a run: its status, the text that it writes, and its line of refusal. If a variant has no text or no line, the run writes
+/// none.
 #[derive(Clone, Copy)]
 pub enum Ending<'a> {
     /// This text was written.
@@ -51,11 +51,11 @@ pub struct Row {
 pub enum Trouble {
     /// The read with this number, counted from 1, fails.
     Read(u32),
-    /// The put with this number, counted from 1, fails after it took this many bytes.
+    /// The put with this number, counted from 1, fails after the sink has taken this many bytes of it.
     Put(u32, u32),
-    /// Writes to standard output fail after this many bytes were taken.
+    /// Writes to standard output fail after it has taken this many bytes.
     Out(u32),
-    /// Writes to standard error fail after this many bytes were taken.
+    /// Writes to standard error fail after it has taken this many bytes.
     Notes(u32),
 }
 

@@ -1,6 +1,6 @@
 // Compares the text of each fault with its line of refusal. A row has a fault, the start of its line, and the fault's text. The line is the
-// start followed by the text, and in some tables by an end. The start names the file, since a fault does not hold this name. The lines for
-// refused memory and for a limit name no file.
+// start, then the text, and in some tables then an end. The start names the file, since a fault does not have this name. The lines for lack
+// of memory and for a limit name no file.
 use batch_diag::BatchFault;
 use board_build::BoardFault;
 use board_defs::Spot;
@@ -475,8 +475,8 @@ static BATCHES: [(BatchFault, &str, &str, &str); 8] = [
     (BatchFault::Memory(AllocError), "", "out of memory", ""),
 ];
 
-// These faults have no line of refusal. Each of them becomes the other fault of its row. The text of that fault is the start of the row,
-// followed by the text of the row.
+// These faults have no line of refusal. Each of them becomes the second fault of its row. The text of the second fault is the third item of
+// the row, followed by the fourth.
 static STRINGS: [(StringFault, DeviceFault, &str, &str); 2] = [
     (
         StringFault::At(3),
@@ -510,7 +510,7 @@ static DIGITS: [(HexFault, LogFault, &str, &str); 2] = [
     ),
 ];
 
-// Returns an error with the row's number, unless `holds` is true.
+// Returns an error with the number of the row, unless `holds` is true.
 fn expect(row: usize, holds: bool) -> Result<(), Missed> {
     if holds { Ok(()) } else { Err(Missed::Row(row)) }
 }

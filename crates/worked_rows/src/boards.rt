@@ -135,8 +135,7 @@ const LINKS_AND_PULLS: [Case; 7] = [
         "drv rcv",
         "c line 3 word 4: link pin not in a net\n",
     ),
-    // Joined nets are one net. This net may not be pulled twice. If one of its parts is a supply, so is the
-    // whole net.
+    // Joined nets are one net. A net may not be pulled twice. If one of the joined nets is a supply, the whole net is a supply.
     (
         "DEVICE U1 DRV -\nDEVICE U2 RCV -\nLINK R1 1 2\nPULL N1A 1\nPULL N1B 1",
         LINK_NETS,
@@ -156,7 +155,7 @@ const LINKS_AND_PULLS: [Case; 7] = [
         "drv rcv",
         "c line 4: supply net not there\n",
     ),
-    // If there is no LINK line, no pin may be in both nets.
+    // Without a LINK line, a pin may not be in two nets.
     (
         CHAIN,
         "NET N1A U1.1 R1.1\nNET N1B R1.2 U2.1 U1.1\nNET N2 U1.2 U2.2",
@@ -204,7 +203,7 @@ const COMPLYING: [Named; 1] = [(
     ),
 )];
 
-// Net files that are too large.
+// A net file with more nets than a board may have.
 const MANY_NETS: [Run; 1] = [(
     Numbered {
         head: "",

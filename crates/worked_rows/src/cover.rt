@@ -2,7 +2,7 @@
 use run_bench::Text::{Edited, Numbered, Plain};
 use run_bench::{CHAIN, Ending, NETS, Named, RCV1, Row, RowFault, Rows, Run, Table, tables_hold};
 
-// Of several reasons why a net is not covered, the first is reported.
+// If several reasons apply to a net, the first is reported.
 const REASONS: [Row; 6] = [
     Row {
         texts: &[
@@ -187,7 +187,7 @@ const UNTESTED: [Row; 5] = [
         line: "cover c n bi rcv1",
         ending: Ending::Puts("NETS 1 COVERED 1\nRECEIVER U1.1\n"),
     },
-    // A driver that its own cell turns off can be enabled safely only if its net has a pull.
+    // An open-drain driver can be enabled safely only if its net is pulled to its disable value.
     Row {
         texts: &[
             (
@@ -251,7 +251,7 @@ const LINKS: [Row; 3] = [
     },
 ];
 
-// Rows in which the nets of a driver and a receiver are covered.
+// Rows in which the nets of a driver and a receiver are covered, and rows about names.
 const COVERED: [Row; 5] = [
     Row {
         texts: &[("c", Plain(CHAIN)), ("n", Plain(NETS))],
@@ -300,7 +300,7 @@ const COVERED: [Row; 5] = [
     },
 ];
 
-// A three-state driver and a receiver. The rows change the text of the receiver.
+// The files of a three-state driver and a receiver. The rows change the text of the receiver.
 const BESIDE: [Named; 2] = [
     ("c", Plain("DEVICE U1 TS -\nDEVICE U2 RCV1 -\n")),
     ("n", Plain("NET N U1.1 U2.1")),

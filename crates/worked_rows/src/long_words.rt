@@ -28,7 +28,8 @@ const NET_FILE: File = File {
     refusal: "n line 1: word not allowed\n",
 };
 
-// The text before the letters of a word, the largest number of letters, the text after them, and how the run with these letters ends.
+// The text before the letters of a word, the largest number of letters, the text after the letters, and the result of a run with the
+// largest number of letters.
 type Long = (&'static str, usize, &'static str, Ending<'static>);
 
 const ONE_PART: Ending<'static> = Ending::Scans(
@@ -57,7 +58,7 @@ static CHAINS: [Long; 12] = [
     ("LINK R1 1 ", 255, "", NO_PART),
 ];
 
-// The name of a net, and the word of a pin, which has the part, a dot and the name of the pin.
+// The name of a net, and the word for a pin, which has the part's name, a dot and the pin's name.
 static NET_FILES: [Long; 2] = [
     (
         "NET ",

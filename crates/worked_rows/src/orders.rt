@@ -1,5 +1,4 @@
-// Rows for texts with two faults. In the order of refusals, the second fault comes right after the first. The first fault is
-// reported.
+// Rows for texts with two faults, of which the second comes right after the first in the order of refusals. The first fault is reported.
 use run_bench::Text::{Cells, Numbered, Plain};
 use run_bench::{
     CHAIN, Case, Ending, Line, NETS, Row, RowFault, Rows, Run, SCANS, Table, Text, tables_hold,
@@ -92,7 +91,7 @@ const BOARDS: [Case; 10] = [
     ),
 ];
 
-// The order of the BSDL texts does not matter. A text that no part names does not matter either.
+// The order of the BSDL texts does not matter. Nor does a BSDL text that no part names.
 const ANY_ORDER: [Line; 3] = [
     ("svf c n drv rcv", Ending::Scans(SCANS)),
     ("svf c n rcv drv", Ending::Scans(SCANS)),
@@ -131,7 +130,7 @@ const FAULTY_PART: [Run; 1] = [(
     Ending::Refused("limit: chain parts\n"),
 )];
 
-// More nets than a board may have, and at the same time more pins than a board may have.
+// A net file with too many nets, which also has too many pins.
 const MANY_NETS: Text = Numbered {
     head: "",
     piece: "NET N# X.# Y.# Z.# W.#\n",
@@ -139,7 +138,7 @@ const MANY_NETS: Text = Numbered {
     end: 16_384,
 };
 
-// More pins than a board may have. One of them is not a pin of its device.
+// A net file with too many pins, one of which is not a pin of its device.
 const MANY_PINS: Text = Numbered {
     head: "NET N U1.9",
     piece: " X.#",

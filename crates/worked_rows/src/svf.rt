@@ -35,7 +35,7 @@ const CODES: [Row; 5] = [
              SDR 5 TDI (01);\nSDR 5 TDI (02) TDO (08) MASK (18);\nSDR 5 TDI (00) TDO (10) MASK (18);\n",
         ),
     },
-    // The pass of the driver that is always on begins without a control, and then takes the control of the other driver.
+    // The pass of the always-on driver begins without a control, and then takes the control of the other driver.
     Row {
         texts: &[
             (
@@ -159,8 +159,8 @@ const LINKED: [Row; 2] = [
     },
 ];
 
-// Boards whose passes test two nets. The first board has a pass for A with D, and then a pass for B with C. On the second board, A and C
-// have one pass. The driver of A fits both drivers of C, and the pass takes the first of these.
+// Boards with a pass that tests two nets at once. The first board has a pass for A and D, and then a pass for B and C. On the second board,
+// A and C have one pass. The driver of A fits both drivers of C, and the pass takes the first of these two.
 const TOGETHER: [Row; 2] = [
     Row {
         texts: &[
@@ -290,7 +290,7 @@ const NOT_HELD: [Row; 1] = [Row {
     ending: Ending::NotRead("cannot read none\n"),
 }];
 
-// A third cell for a device with two cells.
+// The change that adds a third cell to a device with two cells.
 const THREE_CELLS: (&str, &str) = (
     "entity is 2;\nattribute BOUNDARY_REGISTER",
     "entity is 3;\nattribute BOUNDARY_REGISTER",
@@ -314,7 +314,7 @@ const SAFE: [Row; 4] = [
          SDR 4 TDI (A);\nSDR 4 TDI (8) TDO (1) MASK (1);\nSDR 4 TDI (C) TDO (0) MASK (1);\n",
         ),
     },
-    // A pin can be a driver even if no net has it. So its control holds the disable value and not the safe value.
+    // A pin can be a driver even if it is in no net. Its control then holds the disable value and not the safe value.
     Row {
         texts: &[
             ("c", Plain("DEVICE U1 TS -")),
@@ -326,7 +326,7 @@ const SAFE: [Row; 4] = [
             "SIR 2 TDI (2) TDO (1) MASK (3);\nSDR 2 TDI (2);\nSIR 2 TDI (0) TDO (1) MASK (3);\n",
         ),
     },
-    // A port bit without a pin is not a driver. So its control holds the safe value.
+    // A port bit without a pin is not a driver. Its control holds the safe value.
     Row {
         texts: &[
             ("c", Plain("DEVICE U1 TS -")),
@@ -338,7 +338,7 @@ const SAFE: [Row; 4] = [
             "SIR 2 TDI (2) TDO (1) MASK (3);\nSDR 2 TDI (0);\nSIR 2 TDI (0) TDO (1) MASK (3);\n",
         ),
     },
-    // A driver that its own cell turns off holds the disable value.
+    // An open-drain driver holds its disable value.
     Row {
         texts: &[
             ("c", Plain("DEVICE U1 OWN -")),
@@ -352,17 +352,17 @@ const SAFE: [Row; 4] = [
     },
 ];
 
-// A control whose safe value enables its driver.
+// The change that makes the safe value of a control enable its driver.
 const UNSAFE_CONTROL: (&str, &str) = ("*, control, 1)", "*, control, 0)");
 
-// An output whose own cell turns it off by a 1 and has the safe value 0.
+// The changes that make a receiver an open-drain output. Its cell disables it by 1 and has the safe value 0.
 const OWN_CONTROL: [(&str, &str); 3] = [
     ("RCV1", "OWN"),
     ("D : in bit", "D : out bit"),
     ("D, input, X", "D, output2, 0, 0, 1, WEAK1"),
 ];
 
-// The cell of a bidirectional pin reads the net while another part drives, but not while its own part drives.
+// The cell of a bidirectional pin reads the net while another part drives it, but not while its own part drives it.
 const BOTH_WAYS: [Row; 2] = [
     Row {
         texts: &[

@@ -8,7 +8,7 @@ use Rattle.batch_diag.specs.declared.judging.Batch.{Batch}
 use Rattle.batch_diag.specs.declared.verdict.Verdict.{Verdict}
 use Rattle.batch_diag.specs.Verdicts.{EachPair, IsVerdict, AreLogs}
 
--- the universe is the universe of the board, and the logs are logs of the board's test
+-- `universe` is the universe of the board, and the blocks have logs of the board's test
 pub record IsBatch (b : Batch) : Type 0 where
   pub universe : IsUniverse b.test.now.board b.universe.now
   pub logs : AreLogs b.test.now.board b.test.now.plan b.blocks.now

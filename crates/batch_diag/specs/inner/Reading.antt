@@ -26,8 +26,8 @@ said_between r from to = logs_from r.rows r.len (from + 1) (map lines_of_unread 
 abbrev pub said_of : Reading → Answer
 said_of r = logs_from r.rows r.len 1 (map lines_of_unread r.unread.items)
 
--- The result is the answer `said`, or a refusal of memory. All logs in the result have this size, and the fault of a block is a fault of
--- the block's lines.
+-- The result is the answer `said`, or lack of memory. All logs in the result have this size. If the result is the fault of a block, it is a
+-- fault of the block's lines.
 abbrev pub IsRead : {V : Type 0} → (V → List Block) → ℕ → ℕ → Answer → Result V BatchFault → Type 0
 IsRead view rows len said result =
     Gives batch_told view (λ answer. said ≡ answer) result × IfOk result (λ v. All (λ block. HasSize rows len block.log) (view v)) × MatchResult result (λ _. Unit {0}) IsOfLines

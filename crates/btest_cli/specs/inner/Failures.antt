@@ -1,4 +1,4 @@
--- The status and the line of a command that did not write its whole text.
+-- The status and the line for a command that did not write its whole text.
 use Rattle.std.specs.Prelude.{◌≡◌, ℕ, take, Result, Ok, Err}
 use Rattle.bt_base.specs.Counts.{Rose}
 use Rattle.bt_base.specs.Puts.{Shown, Takes}
@@ -59,7 +59,7 @@ pub record IsPut (names : Names) (request : Request) (old new : Shown) : Type 0 
   pub takes : Takes old new text
   pub worth : IsWorthFor request text
 
--- the reason why the text of a request was not written whole, and what the sink took
+-- `failure` is the reason why the text of a request was not written whole, and the sink took what this reason allows
 abbrev pub IsUnput : Names → Request → Shown → Shown → Unput → Type 0
 IsUnput names request old new (unput.Input fault) = IsGiven names request (Err (input_fault_line names fault)) × (new ≡ old)
 IsUnput names request old new (unput.Log rows fault) = IsGiven names request (Err (log_fault_line names.log rows fault)) × (new ≡ old)
@@ -67,7 +67,7 @@ IsUnput names request old new (unput.Batch rows fault) = IsGiven names request (
 IsUnput names request old new unput.Write = IsCut names request old new
 IsUnput names request old new unput.Memory = new ≡ old
 
--- The outcome of a request. The sink took the whole answer, or `IsUnput` holds for the failure.
+-- The answer to a request is right. If it succeeded, the sink took the whole text. Otherwise `IsUnput` holds for the failure.
 abbrev pub IsAnswered : Names → Request → Shown → Shown → Result (Unit {0}) Unput → Type 0
 IsAnswered names request old new (Ok done) = IsPut names request old new
 IsAnswered names request old new (Err failure) = IsUnput names request old new failure

@@ -9,12 +9,13 @@ use Rattle.btest_cli.specs.declared.failure.Unread.TheVariants as unread
 use Rattle.btest_cli.specs.Texts.{Held, Wanted, Reading, Read, TooLong, Asks, IsRead, IsReadUpTo, names_in}
 use Rattle.btest_cli.specs.inner.Failures.{wanted_view}
 
--- the reading with the texts of `front` in front of its texts
+-- the reading with the texts `front` in front of its texts, or the same text that is too long
 abbrev pub behind : List Text → Reading → Reading
 behind front (Read texts) = Read (front ++ texts)
 behind front (TooLong wanted) = TooLong wanted
 
--- The texts of `wanted` were read, and they are `front`. If more texts are read, their reading with `front` in front is the reading of all.
+-- The texts of `wanted` were read, and they are `front`. If `reading` is a reading of the texts after them, `reading` with `front` in front
+-- is a reading of all.
 abbrev pub Continues : Held → List Wanted → List Text → Type 0
 Continues held wanted front = (rest : List Wanted) (reading : Reading) → IsRead held rest reading → IsRead held (wanted ++ rest) (behind front reading)
 
@@ -25,15 +26,15 @@ pub record AsksFirst (wanted : List Wanted) (asked asked' : List Text) : Type 0 
   pub are : names_in wanted ≡ first ++ others
   pub asks : Asks asked asked' first
 
--- `value` was read. It has these texts, and the store was asked for each of them once and in order.
+-- The read gave `value`, which has the texts of `wanted`. The store was asked for each of these texts once and in order.
 pub record IsReadOf {A : Type 0} (Of : A → List Text → Type 0) (wanted : List Wanted) (held : Held) (asked asked' : List Text) (value : A) : Type 0 where
   pub texts : List Text
   pub stands : Of value texts
   pub continues : Continues held wanted texts
   pub asks : Asks asked asked' (names_in wanted)
 
--- The reason why the texts were not all read, and the names for which the store was asked. If a text is too long, this is the reason
--- whatever texts follow.
+-- The reason says why the texts were not all read, and the store was asked for the names up to there. If a text is too long, this is the
+-- reason whatever texts come after `wanted`.
 abbrev pub IsUnread : List Wanted → Held → (Text → ℕ) → (Text → ℕ) → List Text → List Text → Unread → Type 0
 IsUnread wanted held before now asked asked' (unread.TooLong last) = ((rest : List Wanted) → IsRead held (wanted ++ rest) (TooLong (wanted_view last))) × IsReadUpTo held wanted (wanted_view last) asked asked'
 IsUnread wanted held before now asked asked' (unread.Failed last) = IsReadUpTo held wanted (wanted_view last) asked asked' × Rose (before last.name.now) (now last.name.now)
@@ -43,14 +44,14 @@ abbrev pub TellsRead : {A : Type 0} → (A → List Text → Type 0) → List Wa
 TellsRead Of wanted held before now asked asked' (Ok value) = IsReadOf Of wanted held asked asked' value
 TellsRead Of wanted held before now asked asked' (Err lost) = IsUnread wanted held before now asked asked' lost
 
--- The effect of reading texts in turn. The store holds the same texts as before, no count fell, and the result agrees with the names for
--- which the store was asked.
+-- The effect of reading texts in turn. The store holds the same texts as before, no count of faults fell, and the result agrees with the
+-- names for which the store was asked.
 pub record Reads {A : Type 0} (Of : A → List Text → Type 0) (wanted : List Wanted) (held held' : Held) (before now : Text → ℕ) (asked asked' : List Text) (result : Result A Unread) : Type 0 where
   pub same : held' ≡ held
   pub later : (name : Text) → before name ≤ now name
   pub told : TellsRead Of wanted held before now asked asked' result
 
--- The value that was read has these texts, in order. The next definitions say this for the other kinds of values.
+-- `texts` is the list of only `text`
 abbrev pub IsOne : Text → List Text → Type 0
 IsOne text texts = texts ≡ text ∷ []
 

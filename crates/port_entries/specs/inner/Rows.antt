@@ -13,7 +13,7 @@ use Rattle.board_defs.specs.Pins.{described, bit_at, is_test_pin}
 use Rattle.lists.specs.Rows.{noted}
 use Rattle.port_entries.specs.Entries.{entries_at}
 
--- the rows of a part, with these entries added
+-- the rows of a part after these entries are added
 abbrev pub all_noted : List (List Cell) → List Cell → List (List Cell)
 all_noted rows cells = fold (λ done cell. noted done cell.bit cell) rows cells
 
@@ -34,11 +34,11 @@ abbrev pub dark_where : List (List (List Cell)) → RawBoard → Option PinAt �
 dark_where rows board None inert = not inert
 dark_where rows board (Some at) inert = dark_by (bit_at board at) (entries_at rows at)
 
--- the pin is dark according to the table
+-- the pin is dark by the table
 abbrev pub dark_in : List (List (List Cell)) → RawBoard → NetPin → Bool
 dark_in rows board pin = dark_where rows board pin.at pin.inert
 
--- the pin guards its net according to the table
+-- the pin guards its net, by the table
 abbrev pub guards_in : List (List (List Cell)) → RawBoard → NetPin → Bool
 guards_in rows board pin = is_test_pin board pin || dark_in rows board pin
 
