@@ -195,8 +195,7 @@ fn wrong_readings_are_noticed(rt: HostRuntime) -> Result<(), CaseFault> {
     Ok(())
 }
 
-// A grammar, and two strings with expected results, of which only the first is right. The last text is the actual result of the second
-// string.
+// A grammar, two strings with expected results, of which only the first is right, and the actual result of the second string.
 type Strings = (
     Grammar,
     &'static [(&'static str, Result<&'static str, u32>)],
@@ -275,7 +274,7 @@ fn wrong_symbols_are_noticed(rt: HostRuntime) -> Result<(), CaseFault> {
 
 const IN_DW: &str = "BUF2 DW Old 2 10 00 1 2 3 4 5 6 7 8 9 10 11";
 
-// Two packages with their expected lines. Only the first line is right.
+// Two packages with the expected lines of their devices. Only the first line is right.
 static PACKAGES: [(Option<&[u8]>, &str); 2] = [(None, IN_DW), (Some(b"FK"), IN_DW)];
 
 #[test]
@@ -292,8 +291,8 @@ fn wrong_packages_are_noticed(rt: HostRuntime) -> Result<(), CaseFault> {
     )
 }
 
-// Two changes with the rule and the item that each is expected to break, and the rule that the second change really
-// breaks. Only the first expectation is right.
+// Two changes with the rule and the item that each should break, of which only the first is right, and the rule and the item that the
+// second change breaks.
 type Rules = (&'static [(Change, (u32, u32))], &'static str);
 
 static RULES: [Rules; 3] = [

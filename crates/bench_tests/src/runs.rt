@@ -1,4 +1,4 @@
-// Tests with rows that do not hold. The bench of whole runs must report each such row, whatever differs.
+// Tests with rows whose expected result is wrong. The bench of whole runs must report each such row, whatever part of the result is wrong.
 use btest_cli::Status;
 use run_bench::Text::Plain;
 use run_bench::{
@@ -29,7 +29,7 @@ const FEW_SCANS: &str =
     "SIR 4 TDI (A) TDO (5) MASK (F);\nSDR 4 TDI (0);\nSIR 4 TDI (0) TDO (5) MASK (F);\n\
      SDR 4 TDI (4);\nSDR 4 TDI (8) TDO (1) MASK (3);\n";
 
-// A command line, how its run ends, the status of the run, and another ending.
+// A command line, the right ending of its run, the status of the run, and a wrong ending.
 type Wrong = (&'static str, Ending<'static>, Status, Ending<'static>);
 
 static WRONG: [Wrong; 21] = [
@@ -56,7 +56,7 @@ static WRONG: [Wrong; 21] = [
     ),
     (SVF, Ending::Scans(SCANS), Status::Done, Ending::Puts(SCANS)),
     (COVER, Ending::Long(17), Status::Done, Ending::Long(18)),
-    // The right text, but another status.
+    // The right text with a wrong status.
     (COVER, Ending::Done, Status::Done, Ending::Refused("")),
     (
         COVER,
@@ -65,7 +65,7 @@ static WRONG: [Wrong; 21] = [
         Ending::NotPut("NETS 2 COVERED 2\n", ""),
     ),
     (COVER, Ending::Done, Status::Done, Ending::Usage),
-    // Another line of refusal, and no line of refusal.
+    // A wrong line of refusal, and no line of refusal.
     (
         WITHOUT_DRV,
         NO_DRV,
@@ -73,7 +73,7 @@ static WRONG: [Wrong; 21] = [
         Ending::Refused("c line 2: entity not given\n"),
     ),
     (WITHOUT_DRV, NO_DRV, Status::Refused, Ending::Refused("")),
-    // The right line of refusal, but another status.
+    // The right line of refusal with a wrong status.
     (
         WITHOUT_DRV,
         NO_DRV,
@@ -100,7 +100,7 @@ static WRONG: [Wrong; 21] = [
     ("cover c", Ending::Usage, Status::Usage, Ending::Done),
 ];
 
-// Runs a line as the row with this number, and compares the result with an ending.
+// Runs a command line as the row with this number, and compares the result with an ending.
 fn ends(
     rt: &(impl Threads + Sync),
     alloc: Global,
@@ -150,7 +150,7 @@ fn each_wrong_ending_is_noticed(rt: HostRuntime) -> Result<(), RowFault> {
     Ok(())
 }
 
-// A table, the number of the row that does not hold, and the status of that row's run.
+// A table, the number of the row whose expected result is wrong, and the status of that row's run.
 type Failing = (Table, usize, Status);
 
 fn is_named(rt: &(impl Threads + Sync), alloc: Global, failing: &Failing) -> bool {
@@ -458,7 +458,7 @@ fn what_a_trouble_leaves_is_compared(rt: HostRuntime) -> Result<(), RowFault> {
     are_named(&rt, rt.alloc(), "troubles", &TROUBLES)
 }
 
-// The words are no command, but standard error takes only a part of the line.
+// The words are no command, and standard error takes only a part of the line.
 const CUT: [(Trouble, Row); 1] = [(
     Trouble::Notes(3),
     Row {

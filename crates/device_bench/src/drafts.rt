@@ -1,4 +1,4 @@
-// Checks of texts that break a rule of devices, and of the devices of texts that break no rule.
+// Checks of the first rule that the contents of a BSDL text break, and of the device of contents that break no rule.
 ghost use Rattle.std.specs.Prelude.{◌≡◌, true, OnOk};
 ghost use Rattle.device_rules.specs.Rules.{HasShortLists};
 
@@ -29,10 +29,10 @@ struct Texts {
     entries: &'static str,
 }
 
-/// A part of a text that differs from a text without faults.
+/// A change of the contents of a text without faults. It replaces one of them.
 #[derive(Clone, Copy)]
 pub enum Change {
-    /// No difference.
+    /// Changes nothing.
     None,
     /// The range of the port Q: the two bounds, and true if `to` joins the bounds.
     Range(u32, u32, bool),
@@ -58,7 +58,7 @@ pub enum Change {
     Entries(u32, &'static str),
 }
 
-/// Checks that each change breaks this rule at this item. Zeros mean that no rule is broken.
+/// Checks that each change breaks this rule at this item. Rule 0 and item 0 mean that the change breaks no rule.
 pub fn rules_hold(alloc: Global, cases: &[(Change, (u32, u32))]) -> Result<(), CaseFault> {
     for (case, (change, (rule, item))) in cases.iter().enumerate() {
         expect_rule(alloc, case, &changed(&[*change]), *rule, *item)?;
@@ -66,7 +66,7 @@ pub fn rules_hold(alloc: Global, cases: &[(Change, (u32, u32))]) -> Result<(), C
     Ok(())
 }
 
-/// Makes the changes of each case together. Checks that this rule is the first rule that they break, and at this item.
+/// For each case, makes its changes together, and checks the first rule that they break and the item at which they break it.
 pub fn orders_hold(
     alloc: Global,
     cases: &[(&'static [Change], (u32, u32))],
@@ -93,15 +93,15 @@ fn expect_rule(
     Ok(())
 }
 
-/// Makes these changes together, and checks the device, which is written as a text. The text has each port bit with its index, its pin,
-/// whether the port bit belongs to the TAP, and whether the compliance patterns name it. After these it has each cell with its port bit,
-/// and the number of ones in the preload code.
+/// Makes these changes together, and compares the device, written as a text, with `wanted`. The text has each port bit with its index and
+/// its pin. It says whether the port bit belongs to the TAP, and whether compliance patterns name it. Then it has each cell with its port
+/// bit, and the number of ones in the preload code.
 pub fn draft_holds(alloc: Global, changes: &[Change], wanted: &str) -> Result<(), CaseFault> {
     let shown = shown_device(alloc, &changed(changes))?;
     compare(0, shown, wanted)
 }
 
-/// Returns the contents of the text of a device with two outputs, with these changes.
+/// Returns the contents of the text of a device with two outputs, after these changes.
 fn changed(changes: &[Change]) -> Texts {
     let mut texts = sound();
     for change in changes {

@@ -5,7 +5,7 @@ use crate::source::Source;
 use bsdl_lexer::{LexFault, Token, lex};
 use std::alloc::{AllocError, Global};
 
-/// Checks that the lexer has this result for each text, and finds this many tokens.
+/// Checks that the lexer has this result for each text and finds this many tokens in it.
 pub fn lexings_hold(
     alloc: Global,
     cases: &[(Source, Result<(), LexFault>, usize)],

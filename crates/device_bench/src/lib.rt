@@ -1,5 +1,5 @@
-//! Checks of what BSDL texts denote, for the crate that tests BSDL texts. Each check is proved here once, and its contract says nothing
-//! about its result. So a test is a table and one call, and has little to prove.
+//! Checks of what BSDL texts denote, for the crates that test BSDL texts. Each check is proved here once, and its contract does not say
+//! which result it has. So a test is a table and one call, and has little to prove.
 #![tactic(auto)]
 
 mod case;

@@ -47,8 +47,8 @@ pub fn listing_ends(alloc: Global, source: Source, end: &str) -> Result<(), Case
     try_source(alloc, 0, &source, Wanted::End(end), &mut line)
 }
 
-/// For each of these puts, writes the listing while this put fails. Checks that the sink takes this many bytes, and that they end with this
-/// text.
+/// For each of these puts, writes the listing to a sink that fails at this put. Checks that the sink takes this many bytes, and that the
+/// last of them are this text.
 pub fn cuts_hold(
     alloc: Global,
     source: Source,
@@ -86,7 +86,7 @@ fn try_source(
     }
 }
 
-/// Checks that the listing of a device is as expected. `line` may still hold a part of an earlier listing.
+/// Checks the listing of a device. `line` may still have a part of an earlier listing.
 fn try_device(
     alloc: Global,
     case: usize,
@@ -114,7 +114,7 @@ fn described(alloc: Global, case: usize, source: &Source) -> Result<Device, Case
     }
 }
 
-/// Returns the fault of a case that ended in this way.
+/// Returns the fault of a case with the result `found`.
 fn ended(case: usize, found: Result<String, AllocError>) -> CaseFault {
     match found {
         Ok(found) => CaseFault::Ended { case, found },

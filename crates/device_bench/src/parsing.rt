@@ -35,7 +35,7 @@ pub fn readings_hold(alloc: Global, cases: &[(Source, Reading)]) -> Result<(), C
     Ok(())
 }
 
-/// Checks that each text has this entity, which is written with one item on each line.
+/// Checks that each text has this entity. The expected entity is written as text with one item on each line.
 pub fn entities_hold(alloc: Global, cases: &[(Source, &'static str)]) -> Result<(), CaseFault> {
     for (case, (source, wanted)) in cases.iter().enumerate() {
         let text = source.bytes(alloc)?;

@@ -25,8 +25,8 @@ attribute BOUNDARY_REGISTER of DRV : entity is
 end DRV;
 ";
 
-/// A two-bit three-state buffer, in two packages. Most of the text is in lower case, its attributes are in an unusual order, and
-/// some of them are not read.
+/// A two-bit three-state buffer, in two packages. Most of the text is in lower case, its attributes are in an unusual order, and btest does
+/// not read some of them.
 pub const BUF2: &str = "-- two-bit three-state buffer
 entity buf2 is
   generic (physical_pin_map : string := \"dw\");

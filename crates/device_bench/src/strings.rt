@@ -23,7 +23,7 @@ pub enum Grammar {
     Boundary,
 }
 
-/// Checks that each string has this value, or that it leaves its grammar at this entry.
+/// Checks that each string has this value, or that this entry of the string is the first that is not in the grammar.
 pub fn strings_hold(
     alloc: Global,
     grammar: Grammar,

@@ -48,7 +48,7 @@ static CHANGED: [(Source, Reading); 24] = [
         )]),
         Parse(Expected(10)),
     ),
-    // An attribute that is not read, and then a text in which such an attribute also lacks its semicolon.
+    // An attribute that btest does not read, and then a text in which such an attribute also lacks its semicolon.
     (
         Driver(&[(
             14,
@@ -137,7 +137,7 @@ fn parts_of_texts(rt: HostRuntime) -> Result<(), CaseFault> {
 }
 
 static LARGE: [(Source, Reading); 2] = [
-    // Deeply nested parentheses in an attribute that is not read.
+    // Deeply nested parentheses in an attribute that btest does not read.
     (
         Filled {
             lines: 17,

@@ -1,4 +1,4 @@
-//! Tests of texts that break a rule of devices, and of the devices of texts that break no rule.
+//! Tests of texts that break a rule of devices, and of the devices of texts that do not.
 use device_bench::{CaseFault, Change, draft_holds, orders_hold, rules_hold};
 
 static PORTS_AND_PINS: [(Change, (u32, u32)); 20] = [
@@ -134,7 +134,7 @@ fn boundary_entries(rt: HostRuntime) -> Result<(), CaseFault> {
     rules_hold(rt.alloc(), &ENTRIES)
 }
 
-// In each row, two consecutive rules are broken, or two items of one rule. The first is reported.
+// In each row, the changes break two consecutive rules, or two items of one rule. The first is reported.
 static PORT_ORDER: [(&[Change], (u32, u32)); 7] = [
     (&[Change::Range(2, 1, true), Change::ScanOut("Q")], (2, 5)),
     (&[Change::ScanOut("Q"), Change::Clock("TDI")], (3, 3)),

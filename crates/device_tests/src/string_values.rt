@@ -1,4 +1,4 @@
-//! Tests of the strings of worked devices, and of strings that leave their grammars.
+//! Tests of the values of strings, and of strings that are not in their grammars.
 use board_defs::Symbol;
 use device_bench::{CaseFault, Grammar, strings_hold, symbols_hold};
 

@@ -1,4 +1,4 @@
-// Lines that make a text one of the 2001 edition.
+// Lines that make a text a text of the 2001 edition.
 
 pub const OF_2001: &str = "use STD_1149_1_2001.all;\n";
 

@@ -1,5 +1,5 @@
-//! Tests of values. Some values may go to another thread and be shared between threads. The text of each fault agrees with the line
-//! of refusal that is written for it.
+//! Tests which show that values of certain types may be moved to another thread and shared between threads, and that the text of each fault
+//! agrees with the fault's line of refusal.
 #![tactic(auto)]
 
 #[cfg(test)]

@@ -1,4 +1,4 @@
-//! Tests that values may go to another thread and be shared between threads.
+//! Tests which show that values of certain types may be moved to another thread and shared between threads.
 use batch_diag::{BatchFault, Block, Verdict};
 use board_build::BoardFault;
 use board_defs::{
