@@ -37,8 +37,8 @@ pub fn blocks(alloc: Global, bytes: &[u8], rows: u64, len: u32) -> Result<Vec<Bl
 
 /// Like `blocks`, but reads the logs in as many pieces as there are workers. There must be at least one worker. The sizes of the pieces
 /// differ by at most one block. The first half of the pieces runs side by side with the second half, and each half is halved again in the
-/// same way, down to single pieces. If memory is refused for a block and no earlier block has a fault, the error is `Memory`. If memory is
-/// refused for joining the results of pieces, the error is also `Memory`, even if a block has a fault.
+/// same way, down to single pieces. If memory runs out for a block and no earlier block has a fault, the error is `Memory`. If memory runs
+/// out while the results of pieces are joined, the error is also `Memory`, even if a block has a fault.
 pub fn blocks_by<R: Threads + Sync>(
     rt: &R,
     alloc: Global,

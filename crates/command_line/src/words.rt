@@ -12,7 +12,7 @@ use clap::ArgMatches;
 use clap::error::ErrorKind;
 use std::alloc::{AllocError, Global};
 
-/// Returns the command that the words form, or `None` if they form no command. The only error is a lack of memory.
+/// Returns the command that the words form, or `None` if they form no command. The only error is lack of memory.
 pub fn command_of<'a>(
     alloc: Global,
     words: &'a [String],
@@ -29,7 +29,7 @@ pub fn command_of<'a>(
     }
 }
 
-// Returns true if no word is empty or begins with `-`.
+// Returns whether no word is empty and no word begins with `-`.
 fn are_plain(words: &[String]) -> bool
     ensures { result ≡ list_all is_plain (map string_bytes words.now) }
 {

@@ -18,7 +18,7 @@ pub fn net_at<'a>(board: &BoardClasses<'a>, n: u32) -> &'a Net
     &board.raw().nets.as_slice()[n as usize]
 }
 
-/// Returns the number of pins of net number `n`, which is `net`.
+/// Returns the number of pins of `net`, which must be net number `n`.
 pub fn pin_count(board: &BoardClasses<'_>, net: &Net, n: u32) -> u32
     requires { slice_get board.now.nets n ≡ Some net.now }
     ensures { result ≡ length net.now.pins }

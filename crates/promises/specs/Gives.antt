@@ -27,10 +27,11 @@ use Rattle.commands.specs.LogRead.{test_blocks, test_log, test_rows, walk_log, w
 use Rattle.command_line.specs.declared.command.Command.TheVariants.{Chain, Ident, Device, Cover, Svf, Walk, Make, Diagnose, Groups, Batch}
 use Rattle.command_line.specs.Words.{Text, ChainNames, BoardNames, Command}
 
--- The names of the files of a chain, each name in the place for its kind of file. `of_board` does the same for a board.
+-- the names of the files of a chain, each name in the place for its kind of file
 abbrev pub of_chain : ChainNames → Names
 of_chain names = record { log = []; chain = names.chain; nets = []; bsdl = names.bsdl }
 
+-- the names of the files of a board and of its logs, each name in the place for its kind of file
 abbrev pub of_board : Text → BoardNames → Names
 of_board log names = record { log = log; chain = names.chain; nets = names.nets; bsdl = names.bsdl }
 
@@ -42,13 +43,13 @@ summary board =
     ∷ codes " PASSES " ∷ decimal (length (passes_of board)) ∷ codes " SCANS " ∷ decimal (length (svf_scans board))
     ∷ codes " BYTES " ∷ decimal (min (length (board_text board)) 18446744073709551615) ∷ [])
 
--- the outcome for what files give: the text of a value, or the line for their first fault
+-- `outcome` is the text of a value for which `IsFound` holds, or the line for a fault for which it holds
 abbrev pub Finds : {A : Type 0} → (Result A InputFault → Type 0) → (A → Text) → Names → Result Text Text → Type 0
 Finds {A} IsFound text_of names (Ok text) = (value : A) × IsFound (Ok value) × (text ≡ text_of value)
 Finds {A} IsFound text_of names (Err line) = (fault : InputFault) × IsFound (Err fault) × (line ≡ input_fault_line names fault)
 
--- The outcome for a file of logs. If the other files denote a board, the logs are read for this board, and the text says what the logs
--- show.
+-- `outcome` is the text that says what the logs show for the board that the other files denote. If the other files or the logs have a
+-- fault, it is the line for their first fault.
 abbrev pub FindsLogs : {L E A : Type 0} → (Text → RawBoard → Result L E) → (RawBoard → L → A → Type 0) → (RawBoard → L → A → Text) → (RawBoard → E → Text) → Names → Text → Text → Text → List Text → Result Text Text → Type 0
 FindsLogs {L} {E} {A} read IsFound text_of line_of names logs chain nets bsdl (Ok text) =
     (board : RawBoard) × Denotes chain nets bsdl board × (log : L) × (read logs board ≡ Ok log) × (found : A) × IsFound board log found × (text ≡ text_of board log found)

@@ -1,4 +1,4 @@
--- The promise of each command, in the words of the board and of its model, and the meaning of each other status.
+-- The promise of each command, in terms of the board and of its model, and the meaning of each other status.
 use Rattle.std.specs.Prelude.{◌≡◌, ◌≢◌, ◌⊎◌, ◌↔◌, ℕ, ◌≤◌, Bool, true, false, List, [], ◌∷◌, ◌++◌, length, map, sum, take, Option, Some, Result, Ok, Err, AllPairs, Contains, Decides}
 use Rattle.bt_base.specs.Counts.{Rose}
 use Rattle.board_defs.specs.declared.board.RawBoard.{RawBoard}
@@ -105,8 +105,8 @@ pub record HasResponses (board : RawBoard) : Type 0 where
   pub some : (single : Single) → IsSingle board single → (log : List (List Bool)) × Explains board single log
   pub one : (single : Single) (log other : List (List Bool)) → Explains board single log → Explains board single other → AgreeOn board (svf_row_scans board) log other
 
--- The log passes if and only if each compared bit is the expected bit, and a log that passes has no faults. The faults are exactly the
--- single faults that explain the log, each once and in order.
+-- `pass` is true if and only if each compared bit of the log is the expected bit. If `pass` is true, `faults` is empty. `faults` has each
+-- single fault that explains the log, once and in order, and no other fault.
 pub record IsDiagnosed (board : RawBoard) (log : List (List Bool)) (pass : Bool) (faults : List Single) : Type 0 where
   pub passes : Decides pass (IsExpected board (svf_row_scans board) log)
   pub none : pass ≡ true → faults ≡ []
@@ -163,7 +163,7 @@ RestsOnWalkLog run =
     RunsOn run (Groups name names) (log ∷ chain ∷ nets ∷ bsdl) → (run.status ≡ Done) ⊎ (run.status ≡ WriteFault) →
     (board : RawBoard) × Denotes chain nets bsdl board × (rows : List (List Bool)) × HoldsLog board (walk_row_list board) log rows
 
--- Unless memory ran out, the status is Usage if and only if the words ask for no command. The store stays unchanged.
+-- Unless memory ran out, the status is Usage if and only if the words ask for no command. For such words, the store stays unchanged.
 abbrev pub TellsUsage : Run → Type 0
 TellsUsage run =
     (run.status ≡ Usage → AsksNothing run × PutsNothing run × Notes run usage_line)
@@ -178,8 +178,8 @@ TellsFault run =
     (run.status ≡ Refused → AsksFor run (names_of command) × ((line : Text) × Gives command texts (Err line) × Notes run line))
     × ((line : Text) → Gives command texts (Err line) → (run.status ≢ Done) × (run.status ≢ WriteFault) × EndsWith run command Refused))
 
--- If a file is longer than allowed, the status is Refused, unless a read of a file failed or memory ran out. A refused run asks for no file
--- after this file. If memory ran out, later files may have been asked for (`TellsMemory`).
+-- If a file is longer than its limit, the status is Refused, unless a read of a file failed or memory ran out. A refused run asks for no
+-- file after this file. A run in which memory ran out may ask for later files (`TellsMemory`).
 abbrev pub TellsLong : Run → Type 0
 TellsLong run =
     (command : Command) (file : Wanted) → Asks run command → (long : IsTooLong run.old.held (files_of command) file) →
@@ -208,8 +208,8 @@ FindsOutcome run =
     ((command : Command) → Asks run command → NoReadFailed run command → run.status ≢ NoMemory → (outcome : Result Text Text) × FilesGive run command outcome)
     × ((command : Command) (texts : List Text) → RunsOn run command texts → (outcome : Result Text Text) × Gives command texts outcome)
 
--- The status is ReadFault only if the words ask for a command and a read of one of its files failed. The notes name this file. The earlier
--- files were asked for, and no later file was. If the texts of the store are known, the store holds the earlier files.
+-- The status is ReadFault only if the words ask for a command and a read of one of its files failed. The notes name this file. The run
+-- asked for the files before this file, and for no file after it. If the texts of the store are known, the store holds the files before it.
 abbrev pub TellsUnread : Run → Type 0
 TellsUnread run =
     run.status ≡ ReadFault → PutsNothing run
@@ -223,8 +223,8 @@ TellsUnwritten run =
     run.status ≡ WriteFault → Rose run.old.unwritten run.new.unwritten × Notes run write_line
     × ((command : Command) (texts : List Text) → RunsOn run command texts → AsksFor run (names_of command) × ((text : Text) × Gives command texts (Ok text) × (count : ℕ) × Puts run (take count text)))
 
--- If memory ran out, nothing was written to the output. Some first files were asked for, each once and in order. They may include files
--- after a file that is too long.
+-- If memory ran out, the output took nothing. The run asked for some first files of the command, each once and in order. They may include
+-- files after a file that is too long.
 abbrev pub TellsMemory : Run → Type 0
 TellsMemory run =
     run.status ≡ NoMemory → PutsNothing run × Notes run memory_line × ((command : Command) → Asks run command → (count : ℕ) × AsksFor run (take count (names_of command)))

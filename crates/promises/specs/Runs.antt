@@ -129,10 +129,11 @@ EndsWith run command status = NoReadFailed run command → (run.status ≡ statu
 abbrev pub AsksFor : Run → List Text → Type 0
 AsksFor run names = run.new.asked ≡ run.old.asked ++ names
 
--- the output took these bytes; `PutsNothing` says that the output took nothing
+-- the output took these bytes
 abbrev pub Puts : Run → Text → Type 0
 Puts run bytes = run.new.out ≡ run.old.out ++ bytes
 
+-- the output took nothing
 abbrev pub PutsNothing : Run → Type 0
 PutsNothing run = run.new.out ≡ run.old.out
 

@@ -15,14 +15,15 @@ use Rattle.btest_cli.specs.Outcome.{AsksSome, IsComplete, IsCutShort, IsDone, Is
 use Rattle.btest_cli.specs.declared.status.Status.TheVariants.{Done, Refused, Usage, ReadFault, WriteFault, NoMemory}
 use Rattle.promises.specs.Runs.{Ends, Run}
 
--- The output at these ends, as contracts see a sink. `notes_of` does the same for the notes.
+-- the output at these ends, as contracts see a sink
 abbrev pub out_of : Ends → Shown
 out_of ends = record { taken = Some ends.out; amount = None; faults = ends.unwritten }
 
+-- the notes at these ends, as contracts see a sink
 abbrev pub notes_of : Ends → Shown
 notes_of ends = record { taken = Some ends.notes; amount = None; faults = ends.unnoted }
 
--- if the words have a command, P holds for it
+-- if the words form a command, P holds for this command
 abbrev pub Commanded : Run → (Command → Type 0) → Type 0
 Commanded run P = IfSome (command_of run.words) P
 
@@ -45,8 +46,8 @@ pub record IsRun (run : Run) : Type 0 where
   pub memory_asks : run.status ≡ NoMemory → Commanded run (λ c. AsksSome c run.old.asked run.new.asked)
   pub complete : Commanded run (λ c. IsComplete run.old.held c (SomeRose run.old.unread run.new.unread (names_of c)) (Rose run.old.unwritten run.new.unwritten) run.status)
 
--- The texts of a device, of a chain, of its identification codes and of a board have at most one answer. A reading has at most one outcome,
--- and a known reading has one.
+-- The text of a device, and the texts of a chain, of its identification codes and of a board, have at most one answer. A reading has at
+-- most one outcome, and a known reading has one.
 pub record SayOne : Type 0 where
   pub device : (text : Text) (a b : Result RawDevice InputFault) → IsDeviceText text a → IsDeviceText text b → a ≡ b
   pub chain : (chain : Text) (texts : List Text) (a b : Result (List ℕ) InputFault) → AreChainLengths chain texts a → AreChainLengths chain texts b → a ≡ b
