@@ -230,7 +230,7 @@ passed_line text n k left line (Some more) passed split here = record {
   none = no_titles_more passed.lines line passed.none here;
 }
 
--- if a text is `done` followed by `left`, the text without as many last bytes as `left` has is `done`
+-- if a text is `done` followed by `left`, the first `length text - length left` bytes of the text are `done`
 own_is : (text done left : List ℕ) → text ≡ done ++ left → take (length text - length left) text ≡ done
 own_is text done left is =
     let len : length text - length left ≡ length done + 0 = omega (arith, ap length is, length-append done left) in

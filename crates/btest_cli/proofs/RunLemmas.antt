@@ -83,7 +83,7 @@ was_read command {held} {held'} {before} {now} {asked} {asked'} reads = record {
   asks = all_asked command asked asked' reads.told.asks;
 }
 
--- if a command's texts were read and the sink took the command's text, the run ends as a run with the status `Done` does
+-- if a command's texts were read and the sink took the command's text, the run agrees with the status `Done`
 pub run_put : (command : Command) (held : Held) (before now : Text → ℕ) (asked asked' : List Text) (request : Request) (out out' notes : Shown) → IsReadAs held command asked asked' request → IsPut (roles_of command) request out out' → IsRunOf command held before now asked asked' out out' notes notes status.Done
 run_put command held before now asked asked' request out out' notes read put = record {
   no_usage = λ e. cc;
@@ -99,7 +99,7 @@ run_put command held before now asked asked' request out out' notes read put = r
   memory_asks = λ e. absurd cc;
 }
 
--- if a command's texts have a fault and the notes took the line of the fault, the run ends as a run with the status `Refused` does
+-- if a command's texts have a fault and the notes took the line of the fault, the run agrees with the status `Refused`
 refused_run : (command : Command) (held : Held) (before now : Text → ℕ) (asked asked' : List Text) (reading : Reading) (line : Text) (out notes notes' : Shown) → IsRead held (wanted_of command) reading → AsksFor held (wanted_of command) reading asked asked' → IsOutcome command reading (Err line) → TookOrCut notes notes' line
     → IsRunOf command held before now asked asked' out out notes notes' status.Refused
 refused_run command held before now asked asked' reading line out notes notes' read asks gives noted = record {
@@ -116,7 +116,7 @@ refused_run command held before now asked asked' reading line out notes notes' r
   memory_asks = λ e. absurd cc;
 }
 
--- if memory ran out and the notes took the line for this, the run ends as a run with the status `NoMemory` does
+-- if memory ran out and the notes took the line for this, the run agrees with the status `NoMemory`
 pub memory_run : (command : Command) (held : Held) (before now : Text → ℕ) (asked asked' : List Text) (out notes notes' : Shown) → AsksSome command asked asked' → TookOrCut notes notes' memory_line → IsRunOf command held before now asked asked' out out notes notes' status.NoMemory
 memory_run command held before now asked asked' out notes notes' asks noted = record {
   no_usage = λ e. cc;
@@ -152,7 +152,7 @@ asked_first command first others asked asked' are asks =
 asked_all : (command : Command) (asked asked' : List Text) → Asks asked asked' (names_of command) → AsksSome command asked asked'
 asked_all command asked asked' asks = asked_first command (names_of command) [] asked asked' (sym (append-nil (names_of command))) asks
 
--- if the read of the texts failed for the reason `lost`, the run ends as a run with the status of this reason does
+-- if the read of the texts failed for the reason `lost`, the run agrees with the status for this reason
 pub run_unread : (command : Command) (held : Held) (before now : Text → ℕ) (asked asked' : List Text) (lost : Unread) (out notes notes' : Shown) → IsUnread (wanted_of command) held before now asked asked' lost → TookOrCut notes notes' (unread_line lost)
     → IsRunOf command held before now asked asked' out out notes notes' (unread_status lost)
 run_unread command held before now asked asked' (unread.TooLong wanted) out notes notes' is noted =
@@ -179,7 +179,7 @@ run_unread command held before now asked asked' unread.Memory out notes notes' i
 same_out : (command : Command) (held : Held) (before now : Text → ℕ) (asked asked' : List Text) (out out' notes notes' : Shown) (ended : Status) → out' ≡ out → IsRunOf command held before now asked asked' out out notes notes' ended → IsRunOf command held before now asked asked' out out' notes notes' ended
 same_out command held before now asked asked' out out' notes notes' ended same run = subst (λ o. IsRunOf command held before now asked asked' out o notes notes' ended) (sym same) run
 
--- if the text was not written whole, for the reason `failure`, the run ends as a run with the status of this reason does
+-- if the text was not written whole, for the reason `failure`, the run agrees with the status for this reason
 pub run_unput : (command : Command) (held : Held) (before now : Text → ℕ) (asked asked' : List Text) (request : Request) (failure : Unput) (out out' notes notes' : Shown) → IsReadAs held command asked asked' request → IsUnput (roles_of command) request out out' failure → TookOrCut notes notes' (unput_line (roles_of command) failure)
     → IsRunOf command held before now asked asked' out out' notes notes' (unput_status failure)
 run_unput command held before now asked asked' request (unput.Input fault) out out' notes notes' read is noted =

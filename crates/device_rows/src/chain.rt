@@ -1,4 +1,4 @@
-// Rows for the command `chain`: its text, the refusals of chain files and command lines, and failed reads and writes.
+// Rows for the command `chain`, for chain files and command lines that are refused, and for failed reads and writes.
 use run_bench::Text::{Bytes, Numbered, Plain, Repeated};
 use run_bench::{DRV, Ending, Line, Named, Row, RowFault, Rows, Run, Table, Trouble, tables_hold};
 
@@ -148,7 +148,7 @@ const WORDS: [Run; 11] = [
 
 const NO_WORD: Ending<'static> = Ending::Refused("c line 1: word not allowed\n");
 
-// Chain files, and how the run of `chain c` ends.
+// Chain files, each with the result of the run of `chain c`.
 const FILES: [Run; 22] = [
     (Plain(""), Ending::Refused("c: no part in the chain\n")),
     (

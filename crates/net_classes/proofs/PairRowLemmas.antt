@@ -60,7 +60,7 @@ covered_bit board n = by_net (slice_get board.nets n)
     by_net None = refl
     by_net (Some net) = by_drivers net (tested_drivers board net) refl
 
--- `n` is not below 0, so it is false that `n` is below 0 and satisfies `passes`
+-- no number is below 0, so `n` is not a number below 0 that satisfies `passes`
 pub none_below : (passes : ℕ → Bool) (n : ℕ) → false ≡ (nat_lt n 0 && passes n)
 none_below passes n = let least : nat_lt n 0 ≡ false = grind arith in sym (ap (λ t. t && passes n) least)
 

@@ -1,4 +1,4 @@
--- The laws of boards, for one board, and laws about the lists of driven nets and the drivers of paired nets.
+-- The laws of boards, stated for one board, and laws about the lists of driven nets and about the drivers of paired nets.
 use Rattle.std.specs.Prelude.{◌≡◌, ℕ, false, List, Contains, is_some}
 use Rattle.std.specs.Bool.{Decides}
 use Rattle.board_defs.specs.declared.board.Ctl.{Ctl}

@@ -1,4 +1,4 @@
--- Rows of bits over the nets.
+-- Rows of bits with one bit for each net, 64 to a word.
 use Rattle.std.specs.Prelude.{ℕ, ◌==◌, Bool, List, slice_index}
 use Rattle.std.specs.List.{list_any}
 use Rattle.net_classes.specs.Pairs.{AreBitsOf}

@@ -1,4 +1,4 @@
-// Rows of bits over the nets.
+// Rows of bits with one bit for each net.
 ghost use Rattle.std.specs.Prelude.{◌≡◌, ◌≢◌, ◌<◌, ◌+◌, ◌/◌, ℕ, Bool, length, replicate, slice_index, IfOk};
 ghost use Rattle.net_classes.specs.NetRows.{AreRowBits};
 

@@ -132,7 +132,7 @@ map_item f rows c = ap (option_and_then (λ row. slice_get row c.cell)) (slice_g
     by_row None = refl
     by_row (Some r) = slice_get-map f r c.cell
 
--- if the table of controls has the class of each control, the table `shared` has for each control the nets that it shares
+-- if the table of controls has the class of each control, the table `shared` has for each control the nets that it shares with another control
 pub shared_rows : (board : RawBoard) (facts : List NetFacts) (flags : List Bool) (rows : List (List ControlClass)) (shared : List (List (List ℕ))) → facts ≡ map (net_facts_of board) board.nets → flags ≡ flags_of facts → ((c : Ctl) → IsCell board c → item_of rows c ≡ Some (control_class_of board c)) →
     shared ≡ map (λ row. map (shared_in flags) row) rows → (c : Ctl) → IsCell board c → item_of shared c ≡ Some (shared_nets board c)
 shared_rows board facts flags rows shared e f says g c is =

@@ -280,8 +280,8 @@ fn devices_hold(
     Ok(())
 }
 
-// The commands on a board, with the names of the board's files. The log `g` is wrong, but a fault of the log would come after the faults
-// of the board.
+// The commands on a board, with the names of the board's files. The log `g` is wrong, but a fault of the board is reported before a fault
+// of the log.
 const COMMANDS: [&str; 6] = [
     "cover c n",
     "svf c n",

@@ -414,7 +414,7 @@ static SECOND_TEXTS: [(InputFault, &str, &str); 7] = [
     ),
 ];
 
-// The line for missing rows ends with the number of rows that the log must have, which the fault does not hold.
+// The line for missing rows ends with the number of rows that the log must have, which is not in the fault.
 static LOGS: [(LogFault, &str, &str, &str); 5] = [
     (LogFault::Digit(5), "g ", "line 5: digit not allowed", ""),
     (LogFault::Length(5), "g ", "line 5: wrong length", ""),
@@ -620,7 +620,7 @@ fn put_fetch_fault(fault: &FetchFault, notes: &mut MemSink) -> Result<(), PutFau
     }
 }
 
-// The line for a text that is too long states the limit in bytes, which the fault does not hold.
+// The line for a text that is too long states the limit in bytes, which is not in the fault.
 static FETCHES: [(FetchFault, &str, &str); 3] = [
     (FetchFault::Failed, "cannot read", "cannot read g\n"),
     (

@@ -1,4 +1,4 @@
-// Rows for the command `cover`: the nets, drivers and pairs that no safe setting tests.
+// Rows for the command `cover`, which lists the nets, pins and pairs of nets that no safe setting tests.
 use run_bench::Text::{Edited, Numbered, Plain};
 use run_bench::{CHAIN, Ending, NETS, Named, RCV1, Row, RowFault, Rows, Run, Table, tables_hold};
 

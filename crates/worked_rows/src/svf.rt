@@ -1,4 +1,4 @@
-// Rows for the command `svf`, the test of a board.
+// Rows for the command `svf`, which writes the test of a board.
 use run_bench::Text::{Cells, Edited, Plain, Repeated};
 use run_bench::{
     BI, CHAIN, Ending, NETS, RCV1, Row, RowFault, Rows, SCANS, TS, Table, Trouble, tables_hold,

@@ -9,7 +9,7 @@ use Rattle.coverage_list.specs.declared.lines.Section.{Section}
 use Rattle.coverage_list.specs.declared.lines.Section.TheVariants.{Reasons, Untested, Pairs}
 use Rattle.coverage_list.specs.CoverText.{is_untested, reason_line, reason_lines, pin_line, pin_lines, pair_line, pair_lines}
 
--- the texts of the numbers from `n` up to but not including `count`
+-- the texts of the numbers `n..count`, joined in order
 abbrev pub texts_from : (ℕ → List ℕ) → ℕ → ℕ → List ℕ
 texts_from text n count = flat_map text (range_with_len n (count - n))
 
