@@ -7,12 +7,12 @@ use Rattle.std.proofs.lemmas.List.Splits.{slice_split_none, slice_split_at}
 use Rattle.text_lines.specs.Words.{Word, is_newline, words_of}
 use Rattle.text_lines.proofs.LineLemmas.{words_of_empty}
 use Rattle.response_log.specs.declared.fault.LogFault.{LogFault}
-use Rattle.response_log.specs.LogRows.{Answer as LogAnswer, NumberedLine, row_lines, log_rows, rows_of_lines}
+use Rattle.response_log.specs.LogRows.{LogAnswer, NumberedLine, row_lines, log_rows, rows_of_lines}
 use Rattle.board_defs.specs.declared.board.RawBoard.{RawBoard}
 use Rattle.batch_diag.specs.declared.block.Block.{Block}
 use Rattle.batch_diag.specs.declared.fault.BatchFault.{BatchFault}
 use Rattle.batch_diag.specs.declared.fault.BatchFault.TheVariants.{Start, Title, Inner}
-use Rattle.batch_diag.specs.Batch.{Answer, BlockLines, begins_block, is_title, id_of, names_board, is_wrong_title, start_fault, title_fault, up_to_title, blocks_of, onto, block_then, logs_from, unless, batch_of}
+use Rattle.batch_diag.specs.Batch.{BatchAnswer, BlockLines, begins_block, is_title, id_of, names_board, is_wrong_title, start_fault, title_fault, up_to_title, blocks_of, onto, block_then, logs_from, unless_wrong, blocks_of_text}
 use Rattle.batch_diag.specs.BatchText.{title_line, IsBatchText}
 use Rattle.batch_diag.specs.Verdicts.{EachPair}
 use Rattle.batch_diag.specs.OwnTexts.{BlockText, lines_of_block, own_text, IsTitle, IsNoTitle, IsCutTo, HoldsBlock, HoldsBlocks, BlocksByThemselves, moved_fault, FaultByItself, AreDiagnosesOf, DiagnosesByThemselves}
@@ -76,15 +76,22 @@ abbrev IsClean : List ℕ → Type 0
 IsClean line = All (λ b. is_newline b ≡ false) line
 
 clean_onto : (b : ℕ) (parts : List (List ℕ)) → is_newline b ≡ false → All IsClean parts → All IsClean (onto_first b parts)
-clean_onto b [] other clean = All-cons IsClean (b ∷ []) [] (All-cons (λ (c : ℕ). is_newline c ≡ false) b [] other (All-nil (λ (c : ℕ). is_newline c ≡ false))) (All-nil IsClean)
+clean_onto b [] other clean =
+    All-cons IsClean (b ∷ []) []
+    (All-cons (λ (c : ℕ). is_newline c ≡ false) b [] other
+    (All-nil (λ (c : ℕ). is_newline c ≡ false))) (All-nil IsClean)
 clean_onto b (part ∷ parts) other clean =
-    All-cons IsClean (b ∷ part) parts (All-cons (λ (c : ℕ). is_newline c ≡ false) b part other (All-head IsClean part parts clean)) (All-tail IsClean part parts clean)
+    All-cons IsClean (b ∷ part) parts
+    (All-cons (λ (c : ℕ). is_newline c ≡ false) b part other (All-head IsClean part parts clean))
+    (All-tail IsClean part parts clean)
 
 clean_parts : (text : List ℕ) → All IsClean (slice_split is_newline text)
 clean_parts [] = All-cons IsClean [] [] (All-nil (λ (c : ℕ). is_newline c ≡ false)) (All-nil IsClean)
 clean_parts (b ∷ bs) = by_test (is_newline b) refl (clean_parts bs)
   where
-    by_test : (t : Bool) → is_newline b ≡ t → All IsClean (slice_split is_newline bs) → All IsClean (cond t ([] ∷ slice_split is_newline bs) (onto_first b (slice_split is_newline bs)))
+    by_test : (t : Bool) → is_newline b ≡ t → All IsClean (slice_split is_newline bs)
+        → All IsClean
+        (cond t ([] ∷ slice_split is_newline bs) (onto_first b (slice_split is_newline bs)))
     by_test true is below = All-cons IsClean [] (slice_split is_newline bs) (All-nil (λ (c : ℕ). is_newline c ≡ false)) below
     by_test false is below = clean_onto b (slice_split is_newline bs) is below
 
@@ -103,9 +110,11 @@ clean_below : (texts : List BlockText) → All IsClean (lines_in texts) → All 
 clean_below [] clean = All-nil IsCleanBelow
 clean_below (text ∷ texts) clean =
     let behind = All-tail IsClean text.title (text.below ++ lines_in texts) clean in
-    All-cons IsCleanBelow text texts (all_before IsClean text.below (lines_in texts) behind) (clean_below texts (all_behind IsClean text.below (lines_in texts) behind))
+    All-cons IsCleanBelow text texts (all_before IsClean text.below (lines_in texts) behind)
+    (clean_below texts (all_behind IsClean text.below (lines_in texts) behind))
 
-split_join : (line : List ℕ) (lines : List (List ℕ)) → All IsClean (line ∷ lines) → slice_split is_newline (join_with_byte 10 (line ∷ lines)) ≡ line ∷ lines
+split_join : (line : List ℕ) (lines : List (List ℕ)) → All IsClean (line ∷ lines)
+    → slice_split is_newline (join_with_byte 10 (line ∷ lines)) ≡ line ∷ lines
 split_join line [] clean = slice_split_none is_newline line (All-head IsClean line [] clean)
 split_join line (next ∷ lines) clean =
     slice_split_at is_newline line 10 (join_with_byte 10 (next ∷ lines)) (All-head IsClean line (next ∷ lines) clean) refl
@@ -118,52 +127,85 @@ own_rows_at n (line ∷ lines) clean = ap (rows_at n) (sym (split_join line line
 -- The lines of each block, with their numbers in the whole text. The title of the first block is line `m`.
 abbrev placed : ℕ → List BlockText → List BlockLines
 placed m [] = []
-placed m (text ∷ texts) = record { id = id_of (words_of text.title); lines = rows_at (m + 1) text.below } ∷ placed (m + 1 + length text.below) texts
+placed m (text ∷ texts) =
+    record { id = id_of (words_of text.title); lines = rows_at (m + 1) text.below }
+    ∷ placed (m + 1 + length text.below) texts
 
 up_to_texts : (m : ℕ) (texts : List BlockText) → All HasTitle texts → up_to_title (rows_at m (lines_in texts)) ≡ []
 up_to_texts m [] titles = refl
-up_to_texts m (text ∷ texts) titles = up_to_here m (words_of text.title) (rows_at (m + 1) (text.below ++ lines_in texts)) (All-head HasTitle text texts titles)
+up_to_texts m (text ∷ texts) titles =
+    up_to_here m (words_of text.title) (rows_at (m + 1) (text.below ++ lines_in texts))
+    (All-head HasTitle text texts titles)
 
-below_title : (m : ℕ) (text : BlockText) (texts : List BlockText) → All HasTitle texts → All IsNoTitle text.below → up_to_title (rows_at (m + 1) (text.below ++ lines_in texts)) ≡ rows_at (m + 1) text.below
+below_title : (m : ℕ) (text : BlockText) (texts : List BlockText) → All HasTitle texts
+    → All IsNoTitle text.below
+    → up_to_title (rows_at (m + 1) (text.below ++ lines_in texts)) ≡ rows_at (m + 1) text.below
 below_title m text texts titles below =
-    ap up_to_title (rows_append (m + 1) text.below (lines_in texts)) ∙ up_to_lines (m + 1) text.below (rows_at (m + 1 + length text.below) (lines_in texts)) (no_titles text.below below)
-    ∙ ap (λ (ls : List NumberedLine). rows_at (m + 1) text.below ++ ls) (up_to_texts (m + 1 + length text.below) texts titles) ∙ append-nil (rows_at (m + 1) text.below)
+    ap up_to_title (rows_append (m + 1) text.below (lines_in texts))
+    ∙ up_to_lines (m + 1) text.below (rows_at (m + 1 + length text.below) (lines_in texts))
+    (no_titles text.below below)
+    ∙ ap (λ (ls : List NumberedLine). rows_at (m + 1) text.below ++ ls)
+    (up_to_texts (m + 1 + length text.below) texts titles)
+    ∙ append-nil (rows_at (m + 1) text.below)
 
-blocks_placed : (n : ℕ) (front : List (List ℕ)) (texts : List BlockText) → All IsNoTitle front → All HasTitle texts → All HasRows texts → blocks_of (rows_at n (front ++ lines_in texts)) ≡ placed (n + length front) texts
+blocks_placed : (n : ℕ) (front : List (List ℕ)) (texts : List BlockText) → All IsNoTitle front
+    → All HasTitle texts → All HasRows texts
+    → blocks_of (rows_at n (front ++ lines_in texts)) ≡ placed (n + length front) texts
 blocks_placed n front [] none titles below = ap blocks_of (rows_append n front []) ∙ blocks_behind n front [] (no_titles front none)
 blocks_placed n front (text ∷ texts) none titles below =
     let m = n + length front in
     let later = All-tail HasTitle text texts titles in
     let own = All-head HasRows text texts below in
-    ap blocks_of (rows_append n front (lines_in (text ∷ texts))) ∙ blocks_behind n front (rows_at m (lines_in (text ∷ texts))) (no_titles front none)
+    ap blocks_of (rows_append n front (lines_in (text ∷ texts)))
+    ∙ blocks_behind n front (rows_at m (lines_in (text ∷ texts))) (no_titles front none)
     ∙ block_here m (words_of text.title) (rows_at (m + 1) (text.below ++ lines_in texts)) (All-head HasTitle text texts titles)
-    ∙ ap (λ (ls : List NumberedLine). record { id = id_of (words_of text.title); lines = ls } ∷ blocks_of (rows_at (m + 1) (text.below ++ lines_in texts))) (below_title m text texts later own)
-    ∙ ap (λ (bs : List BlockLines). record { id = id_of (words_of text.title); lines = rows_at (m + 1) text.below } ∷ bs) (blocks_placed (m + 1) text.below texts own later (All-tail HasRows text texts below))
+    ∙ ap
+    (λ (ls : List NumberedLine). record { id = id_of (words_of text.title); lines = ls }
+    ∷ blocks_of (rows_at (m + 1) (text.below ++ lines_in texts)))
+    (below_title m text texts later own)
+    ∙ ap
+    (λ (bs : List BlockLines). record
+    { id = id_of (words_of text.title); lines = rows_at (m + 1) text.below } ∷ bs)
+    (blocks_placed (m + 1) text.below texts own later (All-tail HasRows text texts below))
 
 -- if a line that is not a title is put in front of `rows` and `later`, `title_fault` stays the same
-title_front : (n : ℕ) (words : List Word) (rows later : List NumberedLine) → is_title words ≡ false → title_fault (rows ++ later) ≡ title_fault later → title_fault (with_line n words rows ++ later) ≡ title_fault later
+title_front : (n : ℕ) (words : List Word) (rows later : List NumberedLine) → is_title words ≡ false
+    → title_fault (rows ++ later) ≡ title_fault later
+    → title_fault (with_line n words rows ++ later) ≡ title_fault later
 title_front n [] rows later title below = below
 title_front n (word ∷ words) rows later title below =
     ap (λ (b : Bool). cond (b && not (names_board (word ∷ words))) (Some (Title n)) (title_fault (rows ++ later))) title ∙ below
 
-titles_behind : (n : ℕ) (lines : List (List ℕ)) (later : List NumberedLine) → All IsNoTitle lines → title_fault (rows_at n lines ++ later) ≡ title_fault later
+titles_behind : (n : ℕ) (lines : List (List ℕ)) (later : List NumberedLine) → All IsNoTitle lines
+    → title_fault (rows_at n lines ++ later) ≡ title_fault later
 titles_behind n [] later none = refl
-titles_behind n (line ∷ lines) later none = title_front n (words_of line) (rows_at (n + 1) lines) later (All-head IsNoTitle line lines none) (titles_behind (n + 1) lines later (All-tail IsNoTitle line lines none))
+titles_behind n (line ∷ lines) later none =
+    title_front n (words_of line) (rows_at (n + 1) lines) later (All-head IsNoTitle line lines none)
+    (titles_behind (n + 1) lines later (All-tail IsNoTitle line lines none))
 
-titles_after : (n : ℕ) (lines : List (List ℕ)) (texts : List BlockText) → All IsNoTitle lines → title_fault (rows_at n (lines ++ lines_in texts)) ≡ title_fault (rows_at (n + length lines) (lines_in texts))
-titles_after n lines texts none = ap title_fault (rows_append n lines (lines_in texts)) ∙ titles_behind n lines (rows_at (n + length lines) (lines_in texts)) none
+titles_after : (n : ℕ) (lines : List (List ℕ)) (texts : List BlockText) → All IsNoTitle lines
+    → title_fault (rows_at n (lines ++ lines_in texts))
+    ≡ title_fault (rows_at (n + length lines) (lines_in texts))
+titles_after n lines texts none =
+    ap title_fault (rows_append n lines (lines_in texts))
+    ∙ titles_behind n lines (rows_at (n + length lines) (lines_in texts)) none
 
-named : (words : List Word) (names : Bool) → names_board words ≡ names → is_title words ≡ true → (is_title words && not (names_board words)) ≡ false → names_board words ≡ true
+named : (words : List Word) (names : Bool) → names_board words ≡ names → is_title words ≡ true
+    → (is_title words && not (names_board words)) ≡ false → names_board words ≡ true
 named words true is title right = is
 named words false is title right =
     let wrong : (is_title words && not (names_board words)) ≡ true = ap (λ (b : Bool). b && not (names_board words)) title ∙ ap not is in
     let clash : true ≡ false = sym wrong ∙ right in
     absurd cc
 
-titles_named : (m : ℕ) (texts : List BlockText) → All HasTitle texts → All HasRows texts → title_fault (rows_at m (lines_in texts)) ≡ None → All Names texts
+titles_named : (m : ℕ) (texts : List BlockText) → All HasTitle texts → All HasRows texts
+    → title_fault (rows_at m (lines_in texts)) ≡ None → All Names texts
 titles_named m [] titles below none = All-nil Names
 titles_named m (text ∷ texts) titles below none =
-    by_wrong (is_title words && not (names_board words)) refl (λ later. titles_named (m + 1 + length text.below) texts (All-tail HasTitle text texts titles) (All-tail HasRows text texts below) (sym (titles_after (m + 1) text.below texts (All-head HasRows text texts below)) ∙ later))
+    by_wrong (is_title words && not (names_board words)) refl
+    (λ later. titles_named (m + 1 + length text.below) texts
+    (All-tail HasTitle text texts titles) (All-tail HasRows text texts below)
+    (sym (titles_after (m + 1) text.below texts (All-head HasRows text texts below)) ∙ later))
   where
     words : List Word
     words = words_of text.title
@@ -171,10 +213,13 @@ titles_named m (text ∷ texts) titles below none =
     later : List NumberedLine
     later = rows_at (m + 1) (text.below ++ lines_in texts)
 
-    by_wrong : (wrong : Bool) → (is_title words && not (names_board words)) ≡ wrong → (title_fault later ≡ None → All Names texts) → All Names (text ∷ texts)
+    by_wrong : (wrong : Bool) → (is_title words && not (names_board words)) ≡ wrong
+        → (title_fault later ≡ None → All Names texts) → All Names (text ∷ texts)
     by_wrong true wrong rest = let clash : Some (Title m) ≡ None = sym (title_wrong m words later wrong) ∙ none in absurd cc
     by_wrong false right rest =
-        All-cons Names text texts (named words (names_board words) refl (All-head HasTitle text texts titles) right) (rest (sym (title_right m words later right) ∙ none))
+        All-cons Names text texts
+        (named words (names_board words) refl (All-head HasTitle text texts titles) right)
+        (rest (sym (title_right m words later right) ∙ none))
 
 right_words : (words : List Word) → names_board words ≡ true → (is_title words && not (names_board words)) ≡ false
 right_words words names = by_title (is_title words)
@@ -186,17 +231,22 @@ right_words words names = by_title (is_title words)
 titles_none : (m : ℕ) (texts : List BlockText) → All HasRows texts → All Names texts → title_fault (rows_at m (lines_in texts)) ≡ None
 titles_none m [] below names = refl
 titles_none m (text ∷ texts) below names =
-    title_right m (words_of text.title) (rows_at (m + 1) (text.below ++ lines_in texts)) (right_words (words_of text.title) (All-head Names text texts names))
+    title_right m (words_of text.title) (rows_at (m + 1) (text.below ++ lines_in texts))
+    (right_words (words_of text.title) (All-head Names text texts names))
     ∙ titles_after (m + 1) text.below texts (All-head HasRows text texts below)
     ∙ titles_none (m + 1 + length text.below) texts (All-tail HasRows text texts below) (All-tail Names text texts names)
 
 -- if the first line with words is a title, the lines before the first title have no words
-blank_front : (n : ℕ) (front later : List (List ℕ)) → All IsNoTitle front → start_fault (rows_at n (front ++ later)) ≡ None → All IsBlank front
+blank_front : (n : ℕ) (front later : List (List ℕ)) → All IsNoTitle front
+    → start_fault (rows_at n (front ++ later)) ≡ None → All IsBlank front
 blank_front n [] later none start = All-nil IsBlank
 blank_front n (line ∷ front) later none start =
     by_words (words_of line) refl start (blank_front (n + 1) front later (All-tail IsNoTitle line front none))
   where
-    by_words : (words : List Word) → words_of line ≡ words → start_fault (with_line n words (rows_at (n + 1) (front ++ later))) ≡ None → (start_fault (rows_at (n + 1) (front ++ later)) ≡ None → All IsBlank front) → All IsBlank (line ∷ front)
+    by_words : (words : List Word) → words_of line ≡ words
+        → start_fault (with_line n words (rows_at (n + 1) (front ++ later))) ≡ None
+        → (start_fault (rows_at (n + 1) (front ++ later)) ≡ None → All IsBlank front)
+        → All IsBlank (line ∷ front)
     by_words [] are start rest = All-cons IsBlank line front are (rest start)
     by_words (word ∷ words) are start rest =
         let row : is_title (word ∷ words) ≡ false = ap is_title (sym are) ∙ All-head IsNoTitle line front none in
@@ -205,64 +255,93 @@ blank_front n (line ∷ front) later none start =
 
 blank_rows : (n : ℕ) (front : List (List ℕ)) → All IsBlank front → rows_at n front ≡ []
 blank_rows n [] blank = refl
-blank_rows n (line ∷ front) blank = ap (λ (words : List Word). with_line n words (rows_at (n + 1) front)) (All-head IsBlank line front blank) ∙ blank_rows (n + 1) front (All-tail IsBlank line front blank)
+blank_rows n (line ∷ front) blank =
+    ap (λ (words : List Word). with_line n words (rows_at (n + 1) front))
+    (All-head IsBlank line front blank)
+    ∙ blank_rows (n + 1) front (All-tail IsBlank line front blank)
 
 blank_no_titles : (front : List (List ℕ)) → All IsBlank front → All IsNoTitle front
 blank_no_titles [] blank = All-nil IsNoTitle
-blank_no_titles (line ∷ front) blank = All-cons IsNoTitle line front (ap is_title (All-head IsBlank line front blank)) (blank_no_titles front (All-tail IsBlank line front blank))
+blank_no_titles (line ∷ front) blank =
+    All-cons IsNoTitle line front (ap is_title (All-head IsBlank line front blank))
+    (blank_no_titles front (All-tail IsBlank line front blank))
 
 texts_start : (m : ℕ) (texts : List BlockText) → All HasTitle texts → start_fault (rows_at m (lines_in texts)) ≡ None
 texts_start m [] titles = refl
 texts_start m (text ∷ texts) titles =
     let title = All-head HasTitle text texts titles in
-    start_here m (words_of text.title) (rows_at (m + 1) (text.below ++ lines_in texts)) (title_words (words_of text.title) title) ∙ ap (λ (b : Bool). cond b None (Some (Start m))) title
+    start_here m (words_of text.title) (rows_at (m + 1) (text.below ++ lines_in texts))
+    (title_words (words_of text.title) title)
+    ∙ ap (λ (b : Bool). cond b None (Some (Start m))) title
 
-start_none : (n : ℕ) (front : List (List ℕ)) (texts : List BlockText) → All IsBlank front → All HasTitle texts → start_fault (rows_at n (front ++ lines_in texts)) ≡ None
+start_none : (n : ℕ) (front : List (List ℕ)) (texts : List BlockText) → All IsBlank front
+    → All HasTitle texts → start_fault (rows_at n (front ++ lines_in texts)) ≡ None
 start_none n front texts blank titles =
-    ap start_fault (rows_append n front (lines_in texts)) ∙ ap (λ (ls : List NumberedLine). start_fault (ls ++ rows_at (n + length front) (lines_in texts))) (blank_rows n front blank) ∙ texts_start (n + length front) texts titles
+    ap start_fault (rows_append n front (lines_in texts))
+    ∙ ap
+    (λ (ls : List NumberedLine). start_fault
+    (ls ++ rows_at (n + length front) (lines_in texts))) (blank_rows n front blank)
+    ∙ texts_start (n + length front) texts titles
 
-onto_said : (block : Block) (rest : Answer) (blocks : List Block) → onto block rest ≡ Ok blocks → (more : List Block) × (rest ≡ Ok more) × (block ∷ more ≡ blocks)
+onto_said : (block : Block) (rest : BatchAnswer) (blocks : List Block) → onto block rest ≡ Ok blocks
+    → (more : List Block) × (rest ≡ Ok more) × (block ∷ more ≡ blocks)
 onto_said block (Ok more) blocks is = (more, refl, cc)
 onto_said block (Err fault) blocks is = absurd cc
 
-onto_fails : (block : Block) (rest : Answer) (fault : BatchFault) → onto block rest ≡ Err fault → rest ≡ Err fault
+onto_fails : (block : Block) (rest : BatchAnswer) (fault : BatchFault) → onto block rest ≡ Err fault → rest ≡ Err fault
 onto_fails block (Ok more) fault is = absurd cc
 onto_fails block (Err other) fault is = cc
 
 -- Lemmas about the answer for blocks. It follows from the answers for each block's own text.
 module _ (rows len : ℕ) where
-  abbrev Rest : ℕ → ℕ → BlockText → List BlockText → Answer
+  abbrev Rest : ℕ → ℕ → BlockText → List BlockText → BatchAnswer
   Rest k m text texts = logs_from rows len (k + 1) (placed (m + 1 + length text.below) texts)
 
-  first_said : (k m : ℕ) (text : BlockText) (texts : List BlockText) (said : LogAnswer) → All IsClean text.below → log_rows (own_text text) rows len ≡ said →
+  first_said : (k m : ℕ) (text : BlockText) (texts : List BlockText) (said : LogAnswer)
+      → All IsClean text.below → log_rows (own_text text) rows len ≡ said →
       logs_from rows len k (placed m (text ∷ texts)) ≡ block_then (id_of (words_of text.title)) k (moved m said) (Rest k m text texts)
   first_said k m text texts said clean is =
-      ap (λ (answer : LogAnswer). block_then (id_of (words_of text.title)) k answer (Rest k m text texts)) (ap (rows_of_lines rows len) (own_rows_at (m + 1) text.below clean) ∙ said_at_place (own_text text) m rows len ∙ ap (moved m) is)
+      ap
+      (λ (answer : LogAnswer). block_then (id_of (words_of text.title)) k answer
+      (Rest k m text texts))
+      (ap (rows_of_lines rows len) (own_rows_at (m + 1) text.below clean)
+      ∙ said_at_place (own_text text) m rows len ∙ ap (moved m) is)
 
   abbrev Each : List BlockText → List Block → Type 0
   Each texts blocks = EachPair (HoldsBlock rows len) texts blocks
 
-  no_more : (blocks : List Block) → ◌≡◌ {A = Answer} (Ok []) (Ok blocks) → Each [] blocks
+  no_more : (blocks : List Block) → ◌≡◌ {A = BatchAnswer} (Ok []) (Ok blocks) → Each [] blocks
   no_more [] is = tt
   no_more (block ∷ blocks) is = absurd cc
 
-  to_each : (k m : ℕ) (texts : List BlockText) (blocks : List Block) → All IsCleanBelow texts → All HasTitle texts → All Names texts → logs_from rows len k (placed m texts) ≡ Ok blocks → Each texts blocks
+  to_each : (k m : ℕ) (texts : List BlockText) (blocks : List Block) → All IsCleanBelow texts
+      → All HasTitle texts → All Names texts → logs_from rows len k (placed m texts) ≡ Ok blocks
+      → Each texts blocks
   to_each k m [] blocks clean titles names is = no_more blocks is
   to_each k m (text ∷ texts) blocks clean titles names is =
       by_said (log_rows (own_text text) rows len) refl
-      (λ more said. to_each (k + 1) (m + 1 + length text.below) texts more (All-tail IsCleanBelow text texts clean) (All-tail HasTitle text texts titles) (All-tail Names text texts names) said)
+      (λ more said. to_each (k + 1) (m + 1 + length text.below) texts more
+      (All-tail IsCleanBelow text texts clean) (All-tail HasTitle text texts titles)
+      (All-tail Names text texts names) said)
     where
-      by_said : (said : LogAnswer) → log_rows (own_text text) rows len ≡ said → ((more : List Block) → Rest k m text texts ≡ Ok more → Each texts more) → Each (text ∷ texts) blocks
+      by_said : (said : LogAnswer) → log_rows (own_text text) rows len ≡ said
+          → ((more : List Block) → Rest k m text texts ≡ Ok more → Each texts more)
+          → Each (text ∷ texts) blocks
       by_said (Ok log) own below =
           let block : Block = record { id = id_of (words_of text.title); log = log } in
           let words = named_words (words_of text.title) (All-head HasTitle text texts titles) (All-head Names text texts names) in
-          let more = onto_said block (Rest k m text texts) blocks (sym (first_said k m text texts (Ok log) (All-head IsCleanBelow text texts clean) own) ∙ is) in
+          let more = onto_said block (Rest k m text texts) blocks
+          (sym (first_said k m text texts (Ok log) (All-head IsCleanBelow text texts clean) own)
+          ∙ is) in
           subst (Each (text ∷ texts)) more.2 (record { words = words.0; id = words.1; log = own }, below more.0 more.1)
       by_said (Err fault) own below =
-          let clash : ◌≡◌ {A = Answer} (Err (Inner k (moved_fault m fault))) (Ok blocks) = sym (first_said k m text texts (Err fault) (All-head IsCleanBelow text texts clean) own) ∙ is in
+          let clash : ◌≡◌ {A = BatchAnswer} (Err (Inner k (moved_fault m fault))) (Ok blocks) = sym
+          (first_said k m text texts (Err fault) (All-head IsCleanBelow text texts clean) own)
+          ∙ is in
           absurd cc
 
-  from_each : (k m : ℕ) (texts : List BlockText) (blocks : List Block) → All IsCleanBelow texts → Each texts blocks → logs_from rows len k (placed m texts) ≡ Ok blocks
+  from_each : (k m : ℕ) (texts : List BlockText) (blocks : List Block) → All IsCleanBelow texts
+      → Each texts blocks → logs_from rows len k (placed m texts) ≡ Ok blocks
   from_each k m [] [] clean each = refl
   from_each k m [] (block ∷ blocks) clean each = absurd each
   from_each k m (text ∷ texts) [] clean each = absurd each
@@ -275,7 +354,9 @@ module _ (rows len : ℕ) where
   each_named [] [] each = All-nil Names
   each_named [] (block ∷ blocks) each = absurd each
   each_named (text ∷ texts) [] each = absurd each
-  each_named (text ∷ texts) (block ∷ blocks) each = All-cons Names text texts (ap names_board each.0.words ∙ each.0.id) (each_named texts blocks each.1)
+  each_named (text ∷ texts) (block ∷ blocks) each =
+      All-cons Names text texts (ap names_board each.0.words ∙ each.0.id)
+      (each_named texts blocks each.1)
 
   -- the block's own text holds a log
   abbrev HasLog : BlockText → Type 0
@@ -291,10 +372,14 @@ module _ (rows len : ℕ) where
     fails : log_rows (own_text block) rows len ≡ Err own
     is : fault ≡ Inner (length earlier + k) (moved_fault (length (lines_in earlier) + m) own)
 
-  fails_later : (k m : ℕ) (text : BlockText) (texts : List BlockText) (fault : BatchFault) → HasLog text → Fails (k + 1) (m + 1 + length text.below) texts fault → Fails k m (text ∷ texts) fault
+  fails_later : (k m : ℕ) (text : BlockText) (texts : List BlockText) (fault : BatchFault)
+      → HasLog text → Fails (k + 1) (m + 1 + length text.below) texts fault
+      → Fails k m (text ∷ texts) fault
   fails_later k m text texts fault log found =
       let count : length found.earlier + (k + 1) ≡ suc (length found.earlier) + k = omega arith in
-      let line : length (lines_in found.earlier) + (m + 1 + length text.below) ≡ suc (length (text.below ++ lines_in found.earlier)) + m = omega (arith, length-append text.below (lines_in found.earlier)) in
+      let line : length (lines_in found.earlier) + (m + 1 + length text.below)
+      ≡ suc (length (text.below ++ lines_in found.earlier)) + m = omega
+      (arith, length-append text.below (lines_in found.earlier)) in
       record {
         earlier = text ∷ found.earlier;
         block = found.block;
@@ -303,10 +388,18 @@ module _ (rows len : ℕ) where
         logs = All-cons HasLog text found.earlier log found.logs;
         own = found.own;
         fails = found.fails;
-        is = found.is ∙ ap (λ n. Inner n (moved_fault (length (lines_in found.earlier) + (m + 1 + length text.below)) found.own)) count ∙ ap (λ n. Inner (suc (length found.earlier) + k) (moved_fault n found.own)) line;
+        is =
+            found.is
+            ∙ ap
+            (λ n. Inner n
+            (moved_fault (length (lines_in found.earlier) + (m + 1 + length text.below))
+            found.own)) count
+            ∙ ap (λ n. Inner (suc (length found.earlier) + k) (moved_fault n found.own)) line;
       }
 
-  fails_here : (k m : ℕ) (text : BlockText) (texts : List BlockText) (own : LogFault) → log_rows (own_text text) rows len ≡ Err own → Fails k m (text ∷ texts) (Inner k (moved_fault m own))
+  fails_here : (k m : ℕ) (text : BlockText) (texts : List BlockText) (own : LogFault)
+      → log_rows (own_text text) rows len ≡ Err own
+      → Fails k m (text ∷ texts) (Inner k (moved_fault m own))
   fails_here k m text texts own is = record {
     earlier = [];
     block = text;
@@ -318,17 +411,29 @@ module _ (rows len : ℕ) where
     is = ap (λ n. Inner n (moved_fault m own)) (omega arith) ∙ ap (λ n. Inner (0 + k) (moved_fault n own)) (omega arith);
   }
 
-  find_fault : (k m : ℕ) (texts : List BlockText) (fault : BatchFault) → All IsCleanBelow texts → logs_from rows len k (placed m texts) ≡ Err fault → Fails k m texts fault
+  find_fault : (k m : ℕ) (texts : List BlockText) (fault : BatchFault) → All IsCleanBelow texts
+      → logs_from rows len k (placed m texts) ≡ Err fault → Fails k m texts fault
   find_fault k m [] fault clean is = absurd cc
   find_fault k m (text ∷ texts) fault clean is =
-      by_said (log_rows (own_text text) rows len) refl (λ said. find_fault (k + 1) (m + 1 + length text.below) texts fault (All-tail IsCleanBelow text texts clean) said)
+      by_said (log_rows (own_text text) rows len) refl
+      (λ said. find_fault (k + 1) (m + 1 + length text.below) texts fault
+      (All-tail IsCleanBelow text texts clean) said)
     where
-      by_said : (said : LogAnswer) → log_rows (own_text text) rows len ≡ said → (Rest k m text texts ≡ Err fault → Fails (k + 1) (m + 1 + length text.below) texts fault) → Fails k m (text ∷ texts) fault
+      by_said : (said : LogAnswer) → log_rows (own_text text) rows len ≡ said
+          → (Rest k m text texts ≡ Err fault → Fails (k + 1) (m + 1 + length text.below) texts fault)
+          → Fails k m (text ∷ texts) fault
       by_said (Ok log) own below =
           let block : Block = record { id = id_of (words_of text.title); log = log } in
-          fails_later k m text texts fault (log, own) (below (onto_fails block (Rest k m text texts) fault (sym (first_said k m text texts (Ok log) (All-head IsCleanBelow text texts clean) own) ∙ is)))
+          fails_later k m text texts fault (log, own)
+          (below
+          (onto_fails block (Rest k m text texts) fault
+          (sym
+          (first_said k m text texts (Ok log)
+          (All-head IsCleanBelow text texts clean) own) ∙ is)))
       by_said (Err why) own below =
-          let both : ◌≡◌ {A = Answer} (Err (Inner k (moved_fault m why))) (Err fault) = sym (first_said k m text texts (Err why) (All-head IsCleanBelow text texts clean) own) ∙ is in
+          let both : ◌≡◌ {A = BatchAnswer} (Err (Inner k (moved_fault m why))) (Err fault) = sym
+          (first_said k m text texts (Err why) (All-head IsCleanBelow text texts clean) own)
+          ∙ is in
           let same : Inner k (moved_fault m why) ≡ fault = cc in
           subst (Fails k m (text ∷ texts)) same (fails_here k m text texts why own)
 
@@ -341,7 +446,10 @@ module _ (rows len : ℕ) where
     text_rows = ap (rows_at 1) text_cut.all
 
     text_clean : All IsCleanBelow text_cut.texts
-    text_clean = clean_below text_cut.texts (all_behind IsClean text_cut.front (lines_in text_cut.texts) (subst (All IsClean) text_cut.all (clean_parts text)))
+    text_clean =
+        clean_below text_cut.texts
+        (all_behind IsClean text_cut.front (lines_in text_cut.texts)
+        (subst (All IsClean) text_cut.all (clean_parts text)))
 
     is_cut : start_fault (row_lines text) ≡ None → IsCutTo text text_cut.front text_cut.texts
     is_cut start = record {
@@ -354,28 +462,44 @@ module _ (rows len : ℕ) where
     blocks_in : blocks_of (row_lines text) ≡ placed (1 + length text_cut.front) text_cut.texts
     blocks_in = ap blocks_of text_rows ∙ blocks_placed 1 text_cut.front text_cut.texts text_cut.none text_cut.titles text_cut.below
 
-    to : (blocks : List Block) → batch_of text rows len ≡ Ok blocks → HoldsBlocks text rows len blocks
+    to : (blocks : List Block) → blocks_of_text text rows len ≡ Ok blocks → HoldsBlocks text rows len blocks
     to blocks is =
         let none = no_fault rows len (row_lines text) blocks (start_fault (row_lines text)) (title_fault (row_lines text)) refl refl is in
-        let names = titles_named (1 + length text_cut.front) text_cut.texts text_cut.titles text_cut.below (sym (ap title_fault text_rows ∙ titles_after 1 text_cut.front text_cut.texts text_cut.none) ∙ none.titles) in
+        let names = titles_named (1 + length text_cut.front) text_cut.texts text_cut.titles
+        text_cut.below
+        (sym
+        (ap title_fault text_rows
+        ∙ titles_after 1 text_cut.front text_cut.texts text_cut.none) ∙ none.titles) in
         record {
           front = text_cut.front;
           texts = text_cut.texts;
           cut = is_cut none.start;
-          each = to_each 1 (1 + length text_cut.front) text_cut.texts blocks text_clean text_cut.titles names (sym (ap (logs_from rows len 1) blocks_in) ∙ none.logs);
+          each =
+              to_each 1 (1 + length text_cut.front) text_cut.texts blocks text_clean text_cut.titles
+              names (sym (ap (logs_from rows len 1) blocks_in) ∙ none.logs);
         }
 
-    from : (blocks : List Block) → HoldsBlocks text rows len blocks → batch_of text rows len ≡ Ok blocks
+    from : (blocks : List Block) → HoldsBlocks text rows len blocks → blocks_of_text text rows len ≡ Ok blocks
     from blocks holds =
         let c = holds.cut in
         let none = blank_no_titles holds.front c.blank in
         let is : row_lines text ≡ rows_at 1 (holds.front ++ lines_in holds.texts) = ap (rows_at 1) c.lines in
-        let clean = clean_below holds.texts (all_behind IsClean holds.front (lines_in holds.texts) (subst (All IsClean) c.lines (clean_parts text))) in
+        let clean = clean_below holds.texts
+        (all_behind IsClean holds.front (lines_in holds.texts)
+        (subst (All IsClean) c.lines (clean_parts text))) in
         let start = ap start_fault is ∙ start_none 1 holds.front holds.texts c.blank c.titles in
-        let titles = ap title_fault is ∙ titles_after 1 holds.front holds.texts none ∙ titles_none (1 + length holds.front) holds.texts c.below (each_named holds.texts blocks holds.each) in
-        let logs = ap (λ (ls : List NumberedLine). logs_from rows len 1 (blocks_of ls)) is ∙ ap (logs_from rows len 1) (blocks_placed 1 holds.front holds.texts none c.titles c.below) ∙ from_each 1 (1 + length holds.front) holds.texts blocks clean holds.each in
-        ap (λ (o : Option BatchFault). unless o (unless (title_fault (row_lines text)) (logs_from rows len 1 (blocks_of (row_lines text))))) start
-        ∙ ap (λ (o : Option BatchFault). unless o (logs_from rows len 1 (blocks_of (row_lines text)))) titles ∙ logs
+        let titles = ap title_fault is ∙ titles_after 1 holds.front holds.texts none
+        ∙ titles_none (1 + length holds.front) holds.texts c.below
+        (each_named holds.texts blocks holds.each) in
+        let logs = ap (λ (ls : List NumberedLine). logs_from rows len 1 (blocks_of ls)) is
+        ∙ ap (logs_from rows len 1)
+        (blocks_placed 1 holds.front holds.texts none c.titles c.below)
+        ∙ from_each 1 (1 + length holds.front) holds.texts blocks clean holds.each in
+        ap
+        (λ (o : Option BatchFault). unless_wrong o
+        (unless_wrong (title_fault (row_lines text))
+        (logs_from rows len 1 (blocks_of (row_lines text))))) start
+        ∙ ap (λ (o : Option BatchFault). unless_wrong o (logs_from rows len 1 (blocks_of (row_lines text)))) titles ∙ logs
 
 -- the fault that `start_fault` finds is not the fault of a block
 no_inner_start : (lines : List NumberedLine) (board : ℕ) (fault : LogFault) → start_fault lines ≡ Some (Inner board fault) → ⊥
@@ -390,17 +514,22 @@ no_inner_title : (lines : List NumberedLine) (board : ℕ) (fault : LogFault) �
 no_inner_title [] board fault is = absurd cc
 no_inner_title (line ∷ lines) board fault is = by_test (is_wrong_title line) is (no_inner_title lines board fault)
   where
-    by_test : (t : Bool) → cond t (Some (Title line.number)) (title_fault lines) ≡ Some (Inner board fault) → (title_fault lines ≡ Some (Inner board fault) → ⊥) → ⊥
+    by_test : (t : Bool)
+        → cond t (Some (Title line.number)) (title_fault lines) ≡ Some (Inner board fault)
+        → (title_fault lines ≡ Some (Inner board fault) → ⊥) → ⊥
     by_test true is below = absurd cc
     by_test false is below = below is
 
 -- no line before the first title has words, no title is wrong, and `fault` is the fault in the answer for the blocks
-record ToldOfBlock (start title : Option BatchFault) (answer : Answer) (fault : BatchFault) : Type 0 where
+record ToldOfBlock (start title : Option BatchFault) (answer : BatchAnswer) (fault : BatchFault) : Type 0 where
   start_is : start ≡ None
   title_is : title ≡ None
   says : answer ≡ Err fault
 
-told_of_block : (start title : Option BatchFault) (answer : Answer) (fault : BatchFault) → (start ≡ Some fault → ⊥) → (title ≡ Some fault → ⊥) → unless start (unless title answer) ≡ Err fault → ToldOfBlock start title answer fault
+told_of_block : (start title : Option BatchFault) (answer : BatchAnswer) (fault : BatchFault)
+    → (start ≡ Some fault → ⊥) → (title ≡ Some fault → ⊥)
+    → unless_wrong start (unless_wrong title answer) ≡ Err fault
+    → ToldOfBlock start title answer fault
 told_of_block None None answer fault no_start no_title is = record { start_is = refl; title_is = refl; says = is }
 told_of_block None (Some other) answer fault no_start no_title is = let same : other ≡ fault = cc in absurd (no_title (ap Some same))
 told_of_block (Some other) title answer fault no_start no_title is = let same : other ≡ fault = cc in absurd (no_start (ap Some same))
@@ -413,11 +542,19 @@ blocks_by_themselves text rows len blocks = (to rows len text blocks, from rows 
 
 pub fault_by_itself : FaultByItself
 fault_by_itself text rows len board fault is =
-    let told = told_of_block (start_fault (row_lines text)) (title_fault (row_lines text)) (logs_from rows len 1 (blocks_of (row_lines text))) (Inner board fault) (no_inner_start (row_lines text) board fault) (no_inner_title (row_lines text) board fault) is in
+    let told = told_of_block (start_fault (row_lines text)) (title_fault (row_lines text))
+    (logs_from rows len 1 (blocks_of (row_lines text))) (Inner board fault)
+    (no_inner_start (row_lines text) board fault) (no_inner_title (row_lines text) board fault)
+    is in
     let c = text_cut rows len text in
-    let found = find_fault rows len 1 (1 + length c.front) c.texts (Inner board fault) (text_clean rows len text) (sym (ap (logs_from rows len 1) (blocks_in rows len text)) ∙ told.says) in
-    let same = inner_same board (length found.earlier + 1) fault (moved_fault (length (lines_in found.earlier) + (1 + length c.front)) found.own) found.is in
-    let line : length (lines_in found.earlier) + (1 + length c.front) ≡ length (c.front ++ lines_in found.earlier) + 1 = omega (arith, length-append c.front (lines_in found.earlier)) in
+    let found = find_fault rows len 1 (1 + length c.front) c.texts (Inner board fault)
+    (text_clean rows len text)
+    (sym (ap (logs_from rows len 1) (blocks_in rows len text)) ∙ told.says) in
+    let same = inner_same board (length found.earlier + 1) fault
+    (moved_fault (length (lines_in found.earlier) + (1 + length c.front)) found.own) found.is in
+    let line : length (lines_in found.earlier) + (1 + length c.front)
+    ≡ length (c.front ++ lines_in found.earlier) + 1 = omega
+    (arith, length-append c.front (lines_in found.earlier)) in
     record {
       front = c.front;
       earlier = found.earlier;
@@ -431,7 +568,9 @@ fault_by_itself text rows len board fault is =
       line = same.1 ∙ ap (λ n. moved_fault n found.own) line;
     }
 
-diagnosed : (board : RawBoard) (rows len : ℕ) (texts : List BlockText) (blocks : List Block) (out : List ℕ) → EachPair (HoldsBlock rows len) texts blocks → IsBatchText board blocks out → AreDiagnosesOf board rows len texts out
+diagnosed : (board : RawBoard) (rows len : ℕ) (texts : List BlockText) (blocks : List Block)
+    (out : List ℕ) → EachPair (HoldsBlock rows len) texts blocks → IsBatchText board blocks out
+    → AreDiagnosesOf board rows len texts out
 diagnosed board rows len [] [] out each is = is
 diagnosed board rows len [] (block ∷ blocks) out each is = absurd each
 diagnosed board rows len (text ∷ texts) [] out each is = absurd each

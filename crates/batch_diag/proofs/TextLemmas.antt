@@ -38,41 +38,71 @@ texts_after board blocks verdicts i = batch_text board (drop i blocks) (drop i v
 
 -- if printing continues with `rest` at `now`, `whole` is printed from `start` on
 abbrev pub Completes : Shown → Shown → List ℕ → List ℕ → Type 0
-Completes start now rest whole = (new : Shown) (r : Result (Unit {0}) PutFault) → Prints now new [] [] rest r → Prints start new [] [] whole r
+Completes start now rest whole =
+    (new : Shown) (r : Result (Unit {0}) PutFault) → Prints now new [] [] rest r
+    → Prints start new [] [] whole r
 
 module _ (board : RawBoard) (blocks : List Block) (verdicts : List Verdict) (same : length verdicts ≡ length blocks) where
-  after_next : (i : ℕ) (block : Block) (verdict : Verdict) → block ≡ get_or blocks i block → verdict ≡ get_or verdicts i verdict → i < length blocks →
+  after_next : (i : ℕ) (block : Block) (verdict : Verdict) → block ≡ get_or blocks i block
+      → verdict ≡ get_or verdicts i verdict → i < length blocks →
       texts_after board blocks verdicts i ≡ block_text board block verdict ++ texts_after board blocks verdicts (i + 1)
   after_next i block verdict is is' less =
       ap (λ (bs : List Block). batch_text board bs (drop i verdicts)) (drop_more blocks i block less)
-      ∙ ap (λ (vs : List Verdict). batch_text board (get_or blocks i block ∷ drop (i + 1) blocks) vs) (drop_more verdicts i verdict (omega (arith, less, same)))
+      ∙ ap
+      (λ (vs : List Verdict). batch_text board (get_or blocks i block ∷ drop (i + 1) blocks) vs)
+      (drop_more verdicts i verdict (omega (arith, less, same)))
       ∙ ap (λ (b : Block). block_text board b (get_or verdicts i verdict) ++ texts_after board blocks verdicts (i + 1)) (sym is)
       ∙ ap (λ (v : Verdict). block_text board block v ++ texts_after board blocks verdicts (i + 1)) (sym is')
 
-  pub next_ok : (i : ℕ) (block : Block) (verdict : Verdict) {start now new : Shown} {r : Result (Unit {0}) PutFault} {u : Unit {0}} → block ≡ get_or blocks i block → verdict ≡ get_or verdicts i verdict → i < length blocks →
-      Completes start now (texts_after board blocks verdicts i) (batch_text board blocks verdicts) → Prints now new [] [] (block_text board block verdict) r → r ≡ Ok u → Completes start new (texts_after board blocks verdicts (i + 1)) (batch_text board blocks verdicts)
+  pub next_ok : (i : ℕ) (block : Block) (verdict : Verdict) {start now new : Shown}
+      {r : Result (Unit {0}) PutFault} {u : Unit {0}} → block ≡ get_or blocks i block
+      → verdict ≡ get_or verdicts i verdict → i < length blocks →
+      Completes start now (texts_after board blocks verdicts i) (batch_text board blocks verdicts)
+      → Prints now new [] [] (block_text board block verdict) r → r ≡ Ok u
+      → Completes start new (texts_after board blocks verdicts (i + 1))
+      (batch_text board blocks verdicts)
   next_ok i block verdict {start} {now} {new} {r} {u} is is' less completes first ok last q rest =
       completes last q (prints_same (sym (after_next i block verdict is is' less)) (prints_ok first ok rest))
 
-  pub next_err : (i : ℕ) (block : Block) (verdict : Verdict) {start now new : Shown} {r q : Result (Unit {0}) PutFault} {e : PutFault} → block ≡ get_or blocks i block → verdict ≡ get_or verdicts i verdict → i < length blocks →
-      Completes start now (texts_after board blocks verdicts i) (batch_text board blocks verdicts) → Prints now new [] [] (block_text board block verdict) r → r ≡ Err e → IsErr q → Prints start new [] [] (batch_text board blocks verdicts) q
+  pub next_err : (i : ℕ) (block : Block) (verdict : Verdict) {start now new : Shown}
+      {r q : Result (Unit {0}) PutFault} {e : PutFault} → block ≡ get_or blocks i block
+      → verdict ≡ get_or verdicts i verdict → i < length blocks →
+      Completes start now (texts_after board blocks verdicts i) (batch_text board blocks verdicts)
+      → Prints now new [] [] (block_text board block verdict) r → r ≡ Err e → IsErr q
+      → Prints start new [] [] (batch_text board blocks verdicts) q
   next_err i block verdict {start} {now} {new} {r} {q} {e} is is' less completes first err is_err =
-      completes new q (prints_same (sym (after_next i block verdict is is' less)) (prints_err (texts_after board blocks verdicts (i + 1)) first err is_err))
+      completes new q
+      (prints_same (sym (after_next i block verdict is is' less))
+      (prints_err (texts_after board blocks verdicts (i + 1)) first err is_err))
 
-  pub all_put : (i : ℕ) {start now : Shown} → length blocks ≤ i → Completes start now (texts_after board blocks verdicts i) (batch_text board blocks verdicts) → Prints {T = Unit {0}} {E = PutFault} start now [] [] (batch_text board blocks verdicts) (Ok tt)
+  pub all_put : (i : ℕ) {start now : Shown} → length blocks ≤ i
+      → Completes start now (texts_after board blocks verdicts i) (batch_text board blocks verdicts)
+      → Prints {T = Unit {0}} {E = PutFault} start now [] [] (batch_text board blocks verdicts)
+      (Ok tt)
   all_put i {start} {now} past completes =
-      completes now (Ok tt) (prints_same (sym (ap (λ (bs : List Block). batch_text board bs (drop i verdicts)) (drop_all i blocks past))) (prints_none tt refl))
+      completes now (Ok tt)
+      (prints_same
+      (sym
+      (ap (λ (bs : List Block). batch_text board bs (drop i verdicts))
+      (drop_all i blocks past))) (prints_none tt refl))
 
 -- if there is a block, the text of the blocks is not empty, so printing it puts it
-pub puts_some : {T E : Type 0} {old new : Shown} {r : Result T E} (board : RawBoard) (blocks : List Block) (verdicts : List Verdict) → length verdicts ≡ length blocks → 0 < length blocks → Prints old new [] [] (batch_text board blocks verdicts) r → Puts old new (batch_text board blocks verdicts) r
+pub puts_some : {T E : Type 0} {old new : Shown} {r : Result T E} (board : RawBoard)
+    (blocks : List Block) (verdicts : List Verdict) → length verdicts ≡ length blocks
+    → 0 < length blocks → Prints old new [] [] (batch_text board blocks verdicts) r
+    → Puts old new (batch_text board blocks verdicts) r
 puts_some board [] verdicts same some prints = absurd (omega (arith, some))
 puts_some board (block ∷ blocks) [] same some prints = absurd (omega (arith, same))
 puts_some board (block ∷ blocks) (verdict ∷ verdicts) same some prints = puts_of prints
 
 -- if there are no blocks, putting no bytes puts the text of the blocks
-pub puts_none : {T E : Type 0} {old new : Shown} {r : Result T E} (board : RawBoard) (blocks : List Block) (verdicts : List Verdict) → true ≡ (length blocks == 0) → Puts old new [] r → Puts old new (batch_text board blocks verdicts) r
+pub puts_none : {T E : Type 0} {old new : Shown} {r : Result T E} (board : RawBoard)
+    (blocks : List Block) (verdicts : List Verdict) → true ≡ (length blocks == 0)
+    → Puts old new [] r → Puts old new (batch_text board blocks verdicts) r
 puts_none board [] verdicts is puts = puts
-puts_none board (block ∷ blocks) verdicts is puts = let none : length (block ∷ blocks) ≡ 0 = eqb-true (length (block ∷ blocks)) 0 (sym is) in absurd (omega (arith, none))
+puts_none board (block ∷ blocks) verdicts is puts =
+    let none : length (block ∷ blocks) ≡ 0 = eqb-true (length (block ∷ blocks)) 0 (sym is) in
+    absurd (omega (arith, none))
 
 pub some_block : (blocks : List Block) → false ≡ (length blocks == 0) → 0 < length blocks
 some_block [] is = absurd cc

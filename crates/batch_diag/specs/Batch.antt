@@ -62,40 +62,47 @@ pub record BlockLines : Type 0 where
 -- each title begins a block, which has the lines between this title and the next title
 abbrev pub blocks_of : List NumberedLine → List BlockLines
 blocks_of [] = []
-blocks_of (line ∷ lines) = if begins_block line then record { id = id_of line.words; lines = up_to_title lines } ∷ blocks_of lines else blocks_of lines
+blocks_of (line ∷ lines) =
+    if begins_block line
+    then record { id = id_of line.words; lines = up_to_title lines } ∷ blocks_of lines
+    else blocks_of lines
 
-abbrev pub Answer : Type 0
-Answer = Result (List Block) BatchFault
+abbrev pub BatchAnswer : Type 0
+BatchAnswer = Result (List Block) BatchFault
 
-abbrev pub onto : Block → Answer → Answer
+abbrev pub onto : Block → BatchAnswer → BatchAnswer
 onto block (Ok blocks) = Ok (block ∷ blocks)
 onto block (Err fault) = Err fault
 
 -- The answer for a block and the later blocks. If the block's lines are a log, it is the later answer with the block in front. Otherwise it
 -- is the block's fault.
-abbrev pub block_then : Word → ℕ → Result (List (List Bool)) LogFault → Answer → Answer
+abbrev pub block_then : Word → ℕ → Result (List (List Bool)) LogFault → BatchAnswer → BatchAnswer
 block_then id board (Ok log) later = onto (record { id = id; log = log }) later
 block_then id board (Err fault) later = Err (Inner board fault)
 
 -- The blocks with their logs, or the fault of the first block whose lines are not a log. The first block of the list has the number
 -- `board`.
-abbrev pub logs_from : ℕ → ℕ → ℕ → List BlockLines → Answer
+abbrev pub logs_from : ℕ → ℕ → ℕ → List BlockLines → BatchAnswer
 logs_from rows len board [] = Ok []
-logs_from rows len board (block ∷ blocks) = block_then block.id board (rows_of_lines rows len block.lines) (logs_from rows len (board + 1) blocks)
+logs_from rows len board (block ∷ blocks) =
+    block_then block.id board (rows_of_lines rows len block.lines)
+    (logs_from rows len (board + 1) blocks)
 
-abbrev pub unless : Option BatchFault → Answer → Answer
-unless None answer = answer
-unless (Some fault) answer = Err fault
+abbrev pub unless_wrong : Option BatchFault → BatchAnswer → BatchAnswer
+unless_wrong None answer = answer
+unless_wrong (Some fault) answer = Err fault
 
 -- The answer for the lines of a text that have words. If the first line is not a title, the answer is the fault of this line. Otherwise, if
 -- there is a wrong title, it is the fault of the first wrong title. Otherwise, if the lines of some block are not a log, it is the fault of
 -- the first such block. Otherwise it is all blocks. Blocks are counted from 1. A line has its number in the whole text.
-abbrev pub blocks_of_lines : ℕ → ℕ → List NumberedLine → Answer
-blocks_of_lines rows len lines = unless (start_fault lines) (unless (title_fault lines) (logs_from rows len 1 (blocks_of lines)))
+abbrev pub blocks_of_lines : ℕ → ℕ → List NumberedLine → BatchAnswer
+blocks_of_lines rows len lines =
+    unless_wrong (start_fault lines)
+    (unless_wrong (title_fault lines) (logs_from rows len 1 (blocks_of lines)))
 
 -- the blocks of a text, each with a log of `rows` rows of `len` bits, or the first fault of the text
-abbrev pub batch_of : List ℕ → ℕ → ℕ → Answer
-batch_of text rows len = blocks_of_lines rows len (row_lines text)
+abbrev pub blocks_of_text : List ℕ → ℕ → ℕ → BatchAnswer
+blocks_of_text text rows len = blocks_of_lines rows len (row_lines text)
 
 -- the fault, or `None` for lack of memory, which no definition describes
 abbrev pub batch_told : BatchFault → Option BatchFault

@@ -24,4 +24,5 @@ batch_text board (block ∷ blocks) (verdict ∷ verdicts) = block_text board bl
 abbrev pub IsBatchText : RawBoard → List Block → List ℕ → Type 0
 IsBatchText board [] text = text ≡ []
 IsBatchText board (block ∷ blocks) text =
-    (diagnosis : List ℕ) × (later : List ℕ) × IsDiagText board block.log diagnosis × IsBatchText board blocks later × (text ≡ title_line block.id ++ (diagnosis ++ later))
+    (diagnosis : List ℕ) × (later : List ℕ) × IsDiagText board block.log diagnosis
+    × IsBatchText board blocks later × (text ≡ title_line block.id ++ (diagnosis ++ later))

@@ -9,7 +9,7 @@ use Rattle.board_defs.specs.declared.board.RawBoard.{RawBoard}
 use Rattle.diagnoser.specs.DiagText.{IsDiagText}
 use Rattle.batch_diag.specs.declared.block.Block.{Block}
 use Rattle.batch_diag.specs.declared.fault.BatchFault.TheVariants.{Inner}
-use Rattle.batch_diag.specs.Batch.{is_title, id_of, batch_of}
+use Rattle.batch_diag.specs.Batch.{is_title, id_of, blocks_of_text}
 use Rattle.batch_diag.specs.BatchText.{title_line, IsBatchText}
 use Rattle.batch_diag.specs.Verdicts.{EachPair}
 
@@ -53,7 +53,9 @@ pub record HoldsBlocks (text : List ℕ) (rows len : ℕ) (blocks : List Block) 
 -- A text is a batch of these blocks if and only if its titles have the ids of the blocks, in order, and the own text below each title holds
 -- the log of the title's block.
 abbrev pub BlocksByThemselves : Type 0
-BlocksByThemselves = (text : List ℕ) (rows len : ℕ) (blocks : List Block) → (batch_of text rows len ≡ Ok blocks) ↔ HoldsBlocks text rows len blocks
+BlocksByThemselves =
+    (text : List ℕ) (rows len : ℕ) (blocks : List Block)
+    → (blocks_of_text text rows len ≡ Ok blocks) ↔ HoldsBlocks text rows len blocks
 
 -- The fault of a text that is a part of a longer text. It has its line number in the longer text, in which `before` lines come before the
 -- part.
@@ -80,7 +82,10 @@ pub record FailsInBlock (text : List ℕ) (rows len board : ℕ) (fault : LogFau
 
 -- if the fault in the answer is the fault of a block, it is the fault of the block's own text
 abbrev pub FaultByItself : Type 0
-FaultByItself = (text : List ℕ) (rows len board : ℕ) (fault : LogFault) → batch_of text rows len ≡ Err (Inner board fault) → FailsInBlock text rows len board fault
+FaultByItself =
+    (text : List ℕ) (rows len board : ℕ) (fault : LogFault)
+    → blocks_of_text text rows len ≡ Err (Inner board fault)
+    → FailsInBlock text rows len board fault
 
 -- the text holds a log, and `diagnosis` is the diagnosis of this log as a text
 pub record IsDiagnosisOf (board : RawBoard) (rows len : ℕ) (text diagnosis : List ℕ) : Type 0 where
@@ -92,10 +97,14 @@ pub record IsDiagnosisOf (board : RawBoard) (rows len : ℕ) (text diagnosis : L
 abbrev pub AreDiagnosesOf : RawBoard → ℕ → ℕ → List BlockText → List ℕ → Type 0
 AreDiagnosesOf board rows len [] out = out ≡ []
 AreDiagnosesOf board rows len (block ∷ blocks) out =
-    (diagnosis : List ℕ) × (later : List ℕ) × IsDiagnosisOf board rows len (own_text block) diagnosis × AreDiagnosesOf board rows len blocks later × (out ≡ title_line (id_of (words_of block.title)) ++ (diagnosis ++ later))
+    (diagnosis : List ℕ) × (later : List ℕ)
+    × IsDiagnosisOf board rows len (own_text block) diagnosis
+    × AreDiagnosesOf board rows len blocks later
+    × (out ≡ title_line (id_of (words_of block.title)) ++ (diagnosis ++ later))
 
 -- below each title, the text of a batch has the diagnosis of the log that the block's own text holds
 abbrev pub DiagnosesByThemselves : Type 0
 DiagnosesByThemselves =
-    (board : RawBoard) (text : List ℕ) (rows len : ℕ) (blocks : List Block) (out : List ℕ) → batch_of text rows len ≡ Ok blocks → IsBatchText board blocks out →
+    (board : RawBoard) (text : List ℕ) (rows len : ℕ) (blocks : List Block) (out : List ℕ)
+    → blocks_of_text text rows len ≡ Ok blocks → IsBatchText board blocks out →
     (front : List (List ℕ)) × (texts : List BlockText) × IsCutTo text front texts × AreDiagnosesOf board rows len texts out

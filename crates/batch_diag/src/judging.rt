@@ -3,7 +3,7 @@ ghost use Rattle.std.specs.Prelude.{◌≡◌, ◌+◌, ◌<◌, ◌≤◌, [], 
 ghost use Rattle.std.specs.Thread.{IsSync};
 ghost use Rattle.board_defs.specs.Passes.{passes_of};
 ghost use Rattle.scan_planner.specs.Plans.{IsPlanOf};
-ghost use Rattle.diagnoser.specs.Diagnosis.{IsNamed};
+ghost use Rattle.diagnoser.specs.Diagnosis.{IsFaultOnBoard};
 ghost use Rattle.fault_sim.specs.Diagnosis.{IsDiagnosis};
 ghost use Rattle.fault_sim.specs.Kept.{KeepDrivers, KeepRows};
 ghost use Rattle.fault_sim.specs.Places.{IsUniverse};
@@ -53,7 +53,8 @@ pub fn diagnose_all<R: Threads + Sync, G: Gate>(
     requires logs { AreLogs board.now plan.now blocks.now }
     ensures verdicts { IfOk result (λ verdicts. AreVerdicts board.now blocks.now verdicts.items) }
     ensures count { IfOk result (λ verdicts. length verdicts.items ≡ length blocks.now) }
-    ensures named { IfOk result (λ verdicts. All (λ verdict. All (IsNamed board.now) verdict.faults) verdicts.items) }
+    ensures named { IfOk result
+        (λ verdicts. All (λ verdict. All (IsFaultOnBoard board.now) verdict.faults) verdicts.items) }
 {
     let test = BoardTest::of(board, plan);
     diagnose_blocks(rt, alloc, &test, blocks, Workers::of(workers), gate)
@@ -69,9 +70,12 @@ pub fn diagnose_blocks<R: Threads + Sync, G: Gate>(
     gate: &G,
 ) -> Result<Vec<Verdict>, AllocError>
     requires logs { AreLogs test.now.board test.now.plan blocks.now }
-    ensures verdicts { IfOk result (λ verdicts. AreVerdicts test.now.board blocks.now verdicts.items) }
+    ensures verdicts { IfOk result
+        (λ verdicts. AreVerdicts test.now.board blocks.now verdicts.items) }
     ensures count { IfOk result (λ verdicts. length verdicts.items ≡ length blocks.now) }
-    ensures named { IfOk result (λ verdicts. All (λ verdict. All (IsNamed test.now.board) verdict.faults) verdicts.items) }
+    ensures named { IfOk result
+        (λ verdicts. All (λ verdict. All (IsFaultOnBoard test.now.board) verdict.faults)
+        verdicts.items) }
 {
     let kept = test.kept_passes(alloc, blocks.len())?;
     judge_kept(rt, alloc, test, &kept, blocks, workers, gate)
@@ -90,9 +94,12 @@ fn judge_kept<R: Threads + Sync, G: Gate>(
     requires rows { KeepRows test.now.board test.now.plan kept.now }
     requires drivers { KeepDrivers test.now.plan kept.now }
     requires logs { AreLogs test.now.board test.now.plan blocks.now }
-    ensures verdicts { IfOk result (λ verdicts. AreVerdicts test.now.board blocks.now verdicts.items) }
+    ensures verdicts { IfOk result
+        (λ verdicts. AreVerdicts test.now.board blocks.now verdicts.items) }
     ensures count { IfOk result (λ verdicts. length verdicts.items ≡ length blocks.now) }
-    ensures named { IfOk result (λ verdicts. All (λ verdict. All (IsNamed test.now.board) verdict.faults) verdicts.items) }
+    ensures named { IfOk result
+        (λ verdicts. All (λ verdict. All (IsFaultOnBoard test.now.board) verdict.faults)
+        verdicts.items) }
 {
     let kept_test = test.with_kept(kept);
     judge_all(rt, alloc, &kept_test, blocks, workers, gate)
@@ -108,9 +115,12 @@ fn judge_all<R: Threads + Sync, G: Gate>(
     gate: &G,
 ) -> Result<Vec<Verdict>, AllocError>
     requires logs { AreLogs test.now.board test.now.plan blocks.now }
-    ensures verdicts { IfOk result (λ verdicts. AreVerdicts test.now.board blocks.now verdicts.items) }
+    ensures verdicts { IfOk result
+        (λ verdicts. AreVerdicts test.now.board blocks.now verdicts.items) }
     ensures count { IfOk result (λ verdicts. length verdicts.items ≡ length blocks.now) }
-    ensures named { IfOk result (λ verdicts. All (λ verdict. All (IsNamed test.now.board) verdict.faults) verdicts.items) }
+    ensures named { IfOk result
+        (λ verdicts. All (λ verdict. All (IsFaultOnBoard test.now.board) verdict.faults)
+        verdicts.items) }
 {
     let universe = Universe::new(alloc, test.board(), test.plan())?;
     let batch = Batch {
@@ -131,8 +141,10 @@ fn verdict_on<R: Threads + Sync>(
     _entered: &Entered,
 ) -> Result<Verdict, AllocError>
     requires universe { IsUniverse logged.now.test.board universe.now }
-    ensures diagnosis { IfOk result (λ verdict. IsDiagnosis logged.now.test.board logged.now.log verdict.pass verdict.faults) }
-    ensures named { IfOk result (λ verdict. All (IsNamed logged.now.test.board) verdict.faults) }
+    ensures diagnosis { IfOk result
+        (λ verdict. IsDiagnosis logged.now.test.board logged.now.log verdict.pass verdict.faults) }
+    ensures named { IfOk result
+        (λ verdict. All (IsFaultOnBoard logged.now.test.board) verdict.faults) }
 {
     let nets = logged.differing(alloc)?;
     let faults = diagnose_in(
@@ -198,12 +210,15 @@ fn judge_pieces<R: Threads + Sync, G: Gate>(
     gate: &G,
 ) -> Result<Vec<Verdict>, AllocError>
     requires batch { IsBatch batch }
-    ensures { IfOk result (λ verdicts. Judged batch.entry 0 (length batch.entry.blocks.now) verdicts.items) }
+    ensures { IfOk result
+        (λ verdicts. Judged batch.entry 0 (length batch.entry.blocks.now) verdicts.items) }
 {
     let count = batch.blocks.len() as u64;
     let find = move |piece: Piece| -> Result<Vec<Verdict>, AllocError>
-        requires { IsSync R.row × IsBatch batch × (piece.first ≤ piece.end) × (piece.end ≤ length batch.blocks.now) }
-        ensures { IfOk result (λ verdicts. Judged batch.entry piece.first piece.end verdicts.items) }
+        requires { IsSync R.row × IsBatch batch × (piece.first ≤ piece.end)
+            × (piece.end ≤ length batch.blocks.now) }
+        ensures { IfOk result
+            (λ verdicts. Judged batch.entry piece.first piece.end verdicts.items) }
     { judge_piece(rt, alloc, batch, piece, gate) };
     in_pieces(rt, alloc, count, workers.number(), &find)
 }

@@ -3,7 +3,7 @@ ghost use Rattle.std.specs.Prelude.{◌≡◌, ◌+◌, ◌<◌, ◌≤◌, ◌^
 ghost use Rattle.text_lines.specs.Words.{words_of};
 ghost use Rattle.response_log.specs.LogRows.{holds_word, row_lines};
 ghost use Rattle.batch_diag.specs.Batch.{is_title, first_or_none, id_of, is_id, names_board, start_fault, title_fault, up_to_title, blocks_of};
-ghost use Rattle.batch_diag.specs.inner.Reading.{AreShort, lines_of_unread};
+ghost use Rattle.batch_diag.specs.inner.Reading.{AreShortBlocks, lines_of_unread};
 ghost use Rattle.batch_diag.specs.inner.Cutting.{rows_from, begins_row, blocks_at, or_nothing};
 
 use crate::fault::BatchFault;
@@ -166,7 +166,8 @@ pub fn cut_at_title(text: &[u8], number: usize) -> (&[u8], Option<Title<'_>>)
     ensures rest { blocks_of (rows_from number text.now) ≡ blocks_at result.1 }
     ensures within { length result.0.now ≤ length text.now }
     ensures later { IfSome result.1 (λ title. number ≤ title.line) }
-    ensures place { IfSome result.1 (λ title. title.line + length title.behind.now + 1 ≤ number + length text.now) }
+    ensures place { IfSome result.1
+        (λ title. title.line + length title.behind.now + 1 ≤ number + length text.now) }
 {
     let mut rest = Some(text);
     let mut line_number = number;
@@ -189,8 +190,9 @@ pub fn cut_at_title(text: &[u8], number: usize) -> (&[u8], Option<Title<'_>>)
 /// Returns the blocks of a text. Wrong titles begin blocks as well.
 pub fn list_blocks(alloc: Global, text: &[u8]) -> Result<Vec<UnreadBlock<'_>>, AllocError>
     requires { length text.now < 2 ^ 32 }
-    ensures blocks { IfOk result (λ unread. blocks_of (row_lines text.now) ≡ map lines_of_unread unread.items) }
-    ensures short { IfOk result (λ unread. AreShort unread.items) }
+    ensures blocks { IfOk result
+        (λ unread. blocks_of (row_lines text.now) ≡ map lines_of_unread unread.items) }
+    ensures short { IfOk result (λ unread. AreShortBlocks unread.items) }
 {
     let mut unread = Vec::new(alloc);
     let mut next = cut_at_title(text, 1).1;

@@ -2,7 +2,7 @@
 ghost use Rattle.std.specs.Prelude.{◌≡◌, [], length, All};
 ghost use Rattle.bt_base.specs.Puts.{Puts};
 ghost use Rattle.line_printer.specs.Prints.{Prints};
-ghost use Rattle.diagnoser.specs.Diagnosis.{IsNamed};
+ghost use Rattle.diagnoser.specs.Diagnosis.{IsFaultOnBoard};
 ghost use Rattle.batch_diag.specs.BatchText.{title_line, block_text, batch_text};
 
 use crate::block::Block;
@@ -26,8 +26,9 @@ fn put_block<K: Sink>(
     line: &mut Line,
     out: &mut K,
 ) -> Result<(), PutFault>
-    requires { All (IsNamed board.now) verdict.now.faults }
-    ensures { Prints (K.shown out.old) (K.shown out.new) [] [] (block_text board.now block.now verdict.now) result }
+    requires { All (IsFaultOnBoard board.now) verdict.now.faults }
+    ensures { Prints (K.shown out.old) (K.shown out.new) [] []
+        (block_text board.now block.now verdict.now) result }
 {
     put_title(block.id.bytes(), line, out)?;
     write_diagnosis(board, verdict.pass, verdict.faults.as_slice(), line, out)
@@ -41,8 +42,9 @@ fn put_blocks<K: Sink>(
     out: &mut K,
 ) -> Result<(), PutFault>
     requires count { length verdicts.now ≡ length blocks.now }
-    requires named { All (λ verdict. All (IsNamed board.now) verdict.faults) verdicts.now }
-    ensures { Prints (K.shown out.old) (K.shown out.new) [] [] (batch_text board.now blocks.now verdicts.now) result }
+    requires named { All (λ verdict. All (IsFaultOnBoard board.now) verdict.faults) verdicts.now }
+    ensures { Prints (K.shown out.old) (K.shown out.new) [] []
+        (batch_text board.now blocks.now verdicts.now) result }
 {
     for (i, block) in blocks.iter().enumerate() {
         put_block(board, block, &verdicts[i], line, out)?;
@@ -63,8 +65,9 @@ pub fn write_batch<K: Sink>(
     out: &mut K,
 ) -> Result<(), PutFault>
     requires count { length verdicts.now ≡ length blocks.now }
-    requires named { All (λ verdict. All (IsNamed board.now) verdict.faults) verdicts.now }
-    ensures { Puts (K.shown out.old) (K.shown out.new) (batch_text board.now blocks.now verdicts.now) result }
+    requires named { All (λ verdict. All (IsFaultOnBoard board.now) verdict.faults) verdicts.now }
+    ensures { Puts (K.shown out.old) (K.shown out.new)
+        (batch_text board.now blocks.now verdicts.now) result }
 {
     if blocks.is_empty() {
         return out.put(b"");

@@ -2,9 +2,9 @@
 ghost use Rattle.std.specs.Prelude.{◌≡◌, ◌+◌, ◌<◌, ◌≤◌, ◌^◌, length, slice_get, All, IfOk, IfErr, IfSome, MatchResult, Err, Some};
 ghost use Rattle.answers.specs.Gives.{Gives};
 ghost use Rattle.response_log.specs.LogRows.{HasSize, rows_of_lines};
-ghost use Rattle.batch_diag.specs.Batch.{IsOfLines, batch_of, batch_told};
+ghost use Rattle.batch_diag.specs.Batch.{IsOfLines, blocks_of_text, batch_told};
 ghost use Rattle.batch_diag.specs.inner.Cutting.{IsUpTo, in_block, moved_inner, rows_from};
-ghost use Rattle.batch_diag.specs.inner.Reading.{AreShort, IsRead, said_between, said_of};
+ghost use Rattle.batch_diag.specs.inner.Reading.{AreShortBlocks, AreBlocksRead, said_between, said_of};
 
 use crate::block::Block;
 use crate::fault::BatchFault;
@@ -24,7 +24,8 @@ use std::thread::Threads;
 /// the ids and one byte for each byte of the text.
 pub fn blocks(alloc: Global, bytes: &[u8], rows: u64, len: u32) -> Result<Vec<Block>, BatchFault>
     requires { length bytes.now < 2 ^ 32 }
-    ensures read { Gives batch_told (λ blocks. blocks.items) (λ said. batch_of bytes.now rows len ≡ said) result }
+    ensures read { Gives batch_told (λ blocks. blocks.items)
+        (λ said. blocks_of_text bytes.now rows len ≡ said) result }
     ensures size { IfOk result (λ blocks. All (λ block. HasSize rows len block.log) blocks.items) }
     ensures inner { MatchResult result (λ _. Unit {0}) IsOfLines }
 {
@@ -49,7 +50,8 @@ pub fn blocks_by<R: Threads + Sync>(
 ) -> Result<Vec<Block>, BatchFault>
     requires text { length bytes.now < 2 ^ 32 }
     requires some { 1 ≤ workers }
-    ensures read { Gives batch_told (λ blocks. blocks.items) (λ said. batch_of bytes.now rows len ≡ said) result }
+    ensures read { Gives batch_told (λ blocks. blocks.items)
+        (λ said. blocks_of_text bytes.now rows len ≡ said) result }
     ensures size { IfOk result (λ blocks. All (λ block. HasSize rows len block.log) blocks.items) }
     ensures inner { MatchResult result (λ _. Unit {0}) IsOfLines }
 {
@@ -78,10 +80,11 @@ fn count(reading: &Reading<'_>) -> usize
 // Returns the blocks of a text before their logs are read, or the fault of a line before the first title or of a wrong title.
 fn reading_of(alloc: Global, bytes: &[u8], rows: u64, len: u32) -> Result<Reading<'_>, BatchFault>
     requires { length bytes.now < 2 ^ 32 }
-    ensures said { IfOk result (λ reading. batch_of bytes.now rows len ≡ said_of reading) }
-    ensures fault { IfErr result (λ fault. IfSome (batch_told fault) (λ f. batch_of bytes.now rows len ≡ Err f)) }
+    ensures said { IfOk result (λ reading. blocks_of_text bytes.now rows len ≡ said_of reading) }
+    ensures fault { IfErr result
+        (λ fault. IfSome (batch_told fault) (λ f. blocks_of_text bytes.now rows len ≡ Err f)) }
     ensures size { IfOk result (λ reading. (reading.rows ≡ rows) × (reading.len ≡ len)) }
-    ensures short { IfOk result (λ reading. AreShort reading.unread.items) }
+    ensures short { IfOk result (λ reading. AreShortBlocks reading.unread.items) }
     ensures inner { MatchResult result (λ _. Unit {0}) IsOfLines }
 {
     if let Some(fault) = start_fault(bytes) {
@@ -96,7 +99,7 @@ fn reading_of(alloc: Global, bytes: &[u8], rows: u64, len: u32) -> Result<Readin
 
 // Returns block `i`, before its log is read.
 fn unread_at<'a>(reading: &Reading<'a>, i: usize) -> UnreadBlock<'a>
-    requires short { AreShort reading.now.unread.items }
+    requires short { AreShortBlocks reading.now.unread.items }
     requires block { i < length reading.now.unread.items }
     ensures at { slice_get reading.now.unread.items i ≡ Some result }
     ensures short { result.line + length result.own.now < 2 ^ 32 }
@@ -111,10 +114,11 @@ fn read_between(
     first: usize,
     end: usize,
 ) -> Result<Vec<Block>, BatchFault>
-    requires short { AreShort reading.now.unread.items }
+    requires short { AreShortBlocks reading.now.unread.items }
     requires order { first ≤ end }
     requires within { end ≤ length reading.now.unread.items }
-    ensures { IsRead (λ v. v.items) reading.now.rows reading.now.len (said_between reading.now first end) result }
+    ensures { AreBlocksRead (λ v. v.items) reading.now.rows reading.now.len
+        (said_between reading.now first end) result }
 {
     let mut found = Vec::new(alloc);
     for i in first..end {
@@ -135,14 +139,17 @@ fn read_pieces<R: Threads + Sync>(
     reading: &Reading<'_>,
     pieces: u32,
 ) -> Result<Vec<Block>, BatchFault>
-    requires short { AreShort reading.now.unread.items }
+    requires short { AreShortBlocks reading.now.unread.items }
     requires some { 0 < pieces }
-    ensures { IsRead (λ v. v.items) reading.now.rows reading.now.len (said_of reading.now) result }
+    ensures { AreBlocksRead (λ v. v.items) reading.now.rows reading.now.len (said_of reading.now)
+        result }
 {
     let count = count(reading) as u64;
     let read = move |piece: Piece| -> Result<Vec<Block>, BatchFault>
-        requires { AreShort reading.now.unread.items × (piece.first ≤ piece.end) × (piece.end ≤ length reading.now.unread.items) }
-        ensures { IsRead (λ v. v.items) reading.entry.now.rows reading.entry.now.len (said_between reading.entry.now piece.first piece.end) result }
+        requires { AreShortBlocks reading.now.unread.items × (piece.first ≤ piece.end)
+            × (piece.end ≤ length reading.now.unread.items) }
+        ensures { AreBlocksRead (λ v. v.items) reading.entry.now.rows reading.entry.now.len
+            (said_between reading.entry.now piece.first piece.end) result }
     { read_between(alloc, reading, piece.first as usize, piece.end as usize) };
     in_pieces(rt, alloc, count, pieces, &read)
 }
@@ -157,7 +164,10 @@ fn read_block(
 ) -> Result<Block, BatchFault>
     requires { unread.line + length unread.own.now < 2 ^ 32 }
     ensures id { IfOk result (λ block. block.id ≡ unread.entry.id.now) }
-    ensures log { Gives batch_told (λ block. block.log) (λ said. in_block board (rows_of_lines rows len (rows_from (unread.entry.line + 1) unread.entry.own.now)) ≡ said) result }
+    ensures log { Gives batch_told (λ block. block.log)
+        (λ said. in_block board
+        (rows_of_lines rows len (rows_from (unread.entry.line + 1) unread.entry.own.now))
+        ≡ said) result }
     ensures size { IfOk result (λ block. HasSize rows len block.log) }
     ensures inner { MatchResult result (λ _. Unit {0}) IsOfLines }
 {
@@ -178,7 +188,9 @@ fn read_log(
     board: u32,
 ) -> Result<Log, BatchFault>
     requires { before + length own.now < 2 ^ 32 }
-    ensures log { Gives batch_told (λ log. log) (λ said. in_block board (rows_of_lines rows len (rows_from (before + 1) own.now)) ≡ said) result }
+    ensures log { Gives batch_told (λ log. log)
+        (λ said. in_block board (rows_of_lines rows len (rows_from (before + 1) own.now)) ≡ said)
+        result }
     ensures size { IfOk result (HasSize rows len) }
     ensures inner { MatchResult result (λ _. Unit {0}) IsOfLines }
 {

@@ -15,7 +15,7 @@ use Rattle.board_defs.specs.declared.board.Net.{Net}
 use Rattle.board_build.specs.declared.marked.MarkedWord.{MarkedWord}
 use Rattle.board_lines.specs.NetWords.{NetWord, is_among}
 use Rattle.board_lines.specs.LineRules.{Pulled, pull_of_net}
-use Rattle.board_build.specs.inner.Marked.{Marked, seen, pin_with, group_of, groups_after, number_of, net_with, nets_with, nets_after, marks_after, net_by, is_free_at}
+use Rattle.board_build.specs.inner.Marked.{Marked, seen_word, pin_with, marked_group, groups_after, marked_net, net_with, nets_with, nets_after, marks_after, net_by, is_free_at}
 
 one_pin : (m : Marked) (b : Bool) → map pin_with (cond b (m ∷ []) []) ≡ cond b (pin_with m ∷ []) []
 one_pin m true = refl
@@ -24,45 +24,76 @@ one_pin m false = refl
 -- net `n`'s group from the first `i + 1` words is the group from the first `i` words, followed by
 -- the pin of word `i` if this word is in net `n`
 pub group_more : (words : List MarkedWord) (i : ℕ) (w : MarkedWord) (n : ℕ) → i < length words → get_or words i w ≡ w →
-    group_of (map seen (take (i + 1) words)) n ≡ group_of (map seen (take i words)) n ++ cond (w.net == n) (pin_with (seen w) ∷ []) []
+    marked_group (map seen_word (take (i + 1) words)) n
+    ≡ marked_group (map seen_word (take i words)) n
+    ++ cond (w.net == n) (pin_with (seen_word w) ∷ []) []
 group_more words i w n within read =
     let more : take (i + 1) words ≡ take i words ++ w ∷ [] = take_more words i w within ∙ ap (λ v. take i words ++ v ∷ []) read in
-    ap (λ v. group_of (map seen v) n) more
-    ∙ ap (λ v. group_of v n) (map-append seen (take i words) (w ∷ []))
-    ∙ ap (map pin_with) (filter-append (λ m. number_of m == n) (map seen (take i words)) (seen w ∷ []))
-    ∙ map-append pin_with (filter (λ m. number_of m == n) (map seen (take i words))) (filter (λ m. number_of m == n) (seen w ∷ []))
-    ∙ ap (λ v. group_of (map seen (take i words)) n ++ v) (one_pin (seen w) (w.net == n))
+    ap (λ v. marked_group (map seen_word v) n) more
+    ∙ ap (λ v. marked_group v n) (map-append seen_word (take i words) (w ∷ []))
+    ∙ ap (map pin_with) (filter-append (λ m. marked_net m == n) (map seen_word (take i words)) (seen_word w ∷ []))
+    ∙ map-append pin_with (filter (λ m. marked_net m == n) (map seen_word (take i words)))
+    (filter (λ m. marked_net m == n) (seen_word w ∷ []))
+    ∙ ap (λ v. marked_group (map seen_word (take i words)) n ++ v) (one_pin (seen_word w) (w.net == n))
 
 -- if the groups are right for the first `i` words, and the pin of word `i` is appended to the group
 -- of the word's net, the new groups are right for the first `i + 1` words
-pub groups_step : (words : List MarkedWord) (i : ℕ) (w : MarkedWord) (count : ℕ) (old new : List (List NetPin)) → i < length words → get_or words i w ≡ w → w.net < length old →
-    new ≡ set old w.net (get_or old w.net [] ++ pin_with (seen w) ∷ []) → ((n : ℕ) → n < count → get_or old n [] ≡ group_of (map seen (take i words)) n) →
-    (n : ℕ) → n < count → get_or new n [] ≡ group_of (map seen (take (i + 1) words)) n
+pub groups_step : (words : List MarkedWord) (i : ℕ) (w : MarkedWord) (count : ℕ)
+    (old new : List (List NetPin)) → i < length words → get_or words i w ≡ w → w.net < length old →
+    new ≡ set old w.net (get_or old w.net [] ++ pin_with (seen_word w) ∷ [])
+    → ((n : ℕ) → n < count → get_or old n [] ≡ marked_group (map seen_word (take i words)) n) →
+    (n : ℕ) → n < count → get_or new n [] ≡ marked_group (map seen_word (take (i + 1) words)) n
 groups_step words i w count old new within read inside changed was n less = by_test (w.net == n) refl
   where
-    by_test : (b : Bool) → (w.net == n) ≡ b → get_or new n [] ≡ group_of (map seen (take (i + 1) words)) n
+    by_test : (b : Bool) → (w.net == n) ≡ b → get_or new n [] ≡ marked_group (map seen_word (take (i + 1) words)) n
     by_test true e =
         let same : w.net ≡ n = eqb-true w.net n e in
-        let put : get_or new w.net [] ≡ get_or old w.net [] ++ pin_with (seen w) ∷ [] = ap (λ v. get_or v w.net []) changed ∙ get_or-set_same old w.net (get_or old w.net [] ++ pin_with (seen w) ∷ []) [] inside in
-        sym (ap (λ k. get_or new k []) same) ∙ put ∙ ap (λ k. get_or old k [] ++ pin_with (seen w) ∷ []) same ∙ ap (λ v. v ++ pin_with (seen w) ∷ []) (was n less)
-        ∙ sym (ap (λ t. group_of (map seen (take i words)) n ++ cond t (pin_with (seen w) ∷ []) []) e) ∙ sym (group_more words i w n within read)
+        let put : get_or new w.net []
+        ≡ get_or old w.net []
+        ++ pin_with (seen_word w) ∷ [] = ap (λ v. get_or v w.net []) changed
+        ∙ get_or-set_same old w.net (get_or old w.net [] ++ pin_with (seen_word w) ∷ []) []
+        inside in
+        sym (ap (λ k. get_or new k []) same) ∙ put
+        ∙ ap (λ k. get_or old k [] ++ pin_with (seen_word w) ∷ []) same
+        ∙ ap (λ v. v ++ pin_with (seen_word w) ∷ []) (was n less)
+        ∙ sym
+        (ap
+        (λ t. marked_group (map seen_word (take i words)) n
+        ++ cond t (pin_with (seen_word w) ∷ []) []) e)
+        ∙ sym (group_more words i w n within read)
     by_test false e =
         let other : n ≢ w.net = (λ same. wrong (sym (eqb_refl n) ∙ ap (λ k. k == n) same ∙ e)) in
-        let kept : get_or new n [] ≡ get_or old n [] = ap (λ v. get_or v n []) changed ∙ get_or-set_other old w.net n (get_or old w.net [] ++ pin_with (seen w) ∷ []) [] other in
-        kept ∙ was n less ∙ sym (append-nil (group_of (map seen (take i words)) n)) ∙ sym (ap (λ t. group_of (map seen (take i words)) n ++ cond t (pin_with (seen w) ∷ []) []) e) ∙ sym (group_more words i w n within read)
+        let kept : get_or new n []
+        ≡ get_or old n [] = ap (λ v. get_or v n []) changed
+        ∙ get_or-set_other old w.net n (get_or old w.net [] ++ pin_with (seen_word w) ∷ []) []
+        other in
+        kept ∙ was n less ∙ sym (append-nil (marked_group (map seen_word (take i words)) n))
+        ∙ sym
+        (ap
+        (λ t. marked_group (map seen_word (take i words)) n
+        ++ cond t (pin_with (seen_word w) ∷ []) []) e)
+        ∙ sym (group_more words i w n within read)
       where
         wrong : true ≡ false → ⊥
         wrong h = cc h
 
 -- if the groups are right for the first `i` words, and word `i` is in none of the nets, the groups
 -- are right for the first `i + 1` words
-pub groups_kept : (words : List MarkedWord) (i : ℕ) (w : MarkedWord) (count : ℕ) (old : List (List NetPin)) → i < length words → get_or words i w ≡ w → (w.net < count → ⊥) →
-    ((n : ℕ) → n < count → get_or old n [] ≡ group_of (map seen (take i words)) n) → (n : ℕ) → n < count → get_or old n [] ≡ group_of (map seen (take (i + 1) words)) n
+pub groups_kept : (words : List MarkedWord) (i : ℕ) (w : MarkedWord) (count : ℕ)
+    (old : List (List NetPin)) → i < length words → get_or words i w ≡ w → (w.net < count → ⊥) →
+    ((n : ℕ) → n < count → get_or old n [] ≡ marked_group (map seen_word (take i words)) n)
+    → (n : ℕ) → n < count
+    → get_or old n [] ≡ marked_group (map seen_word (take (i + 1) words)) n
 groups_kept words i w count old within read outside was n less = by_test (w.net == n) refl
   where
-    by_test : (b : Bool) → (w.net == n) ≡ b → get_or old n [] ≡ group_of (map seen (take (i + 1) words)) n
+    by_test : (b : Bool) → (w.net == n) ≡ b → get_or old n [] ≡ marked_group (map seen_word (take (i + 1) words)) n
     by_test true e = let same : w.net ≡ n = eqb-true w.net n e in absurd (outside (omega (arith, same, less)))
-    by_test false e = was n less ∙ sym (append-nil (group_of (map seen (take i words)) n)) ∙ sym (ap (λ t. group_of (map seen (take i words)) n ++ cond t (pin_with (seen w) ∷ []) []) e) ∙ sym (group_more words i w n within read)
+    by_test false e =
+        was n less ∙ sym (append-nil (marked_group (map seen_word (take i words)) n))
+        ∙ sym
+        (ap
+        (λ t. marked_group (map seen_word (take i words)) n
+        ++ cond t (pin_with (seen_word w) ∷ []) []) e) ∙ sym (group_more words i w n within read)
 
 net_cong : (name : List ℕ) (s t : Bool) (p q : Option Bool) (as_ bs : List NetPin) → s ≡ t → p ≡ q → as_ ≡ bs →
     ◌≡◌ {A = Net} (record { name = name; supply = s; pull = p; pins = as_ }) (record { name = name; supply = t; pull = q; pins = bs })
@@ -73,33 +104,45 @@ net_cong name s t p q as_ bs es ep eb =
 
 -- if group `k` has the pins of net `n + k`, for each `k`, the nets made from the names and groups
 -- are the nets of the definition
-pub nets_zip : (supply : Bor (List ℕ) → Bool) (pull : Bor (List ℕ) → Option Bool) (supplies : List (List ℕ)) (pulls : List Pulled) (words : List Marked) →
+pub nets_zip : (supply : Bor (List ℕ) → Bool) (pull : Bor (List ℕ) → Option Bool)
+    (supplies : List (List ℕ)) (pulls : List Pulled) (words : List Marked) →
     ((q : Bor (List ℕ)) → supply q ≡ is_among supplies q.now) → ((q : Bor (List ℕ)) → pull q ≡ pull_of_net pulls q.now) →
-    (names : List (Bor (List ℕ))) (gs : List (List NetPin)) (n : ℕ) → length gs ≡ length names → ((k : ℕ) → k < length names → get_or gs k [] ≡ group_of words (n + k)) →
+    (names : List (Bor (List ℕ))) (gs : List (List NetPin)) (n : ℕ) → length gs ≡ length names
+    → ((k : ℕ) → k < length names → get_or gs k [] ≡ marked_group words (n + k)) →
     map (net_by supply pull) (zip names gs) ≡ nets_with supplies pulls words n (map (λ q. q.now) names)
 nets_zip supply pull supplies pulls words hs hp [] gs n count h = refl
 nets_zip supply pull supplies pulls words hs hp (q ∷ names) [] n count h = cc count
 nets_zip supply pull supplies pulls words hs hp (q ∷ names) (g ∷ gs) n count h =
-    let first : g ≡ group_of words (n + 0) = h 0 (omega arith) in
+    let first : g ≡ marked_group words (n + 0) = h 0 (omega arith) in
     let here : n + 0 ≡ n = omega arith in
     let rest : length gs ≡ length names = omega (arith, count) in
-    ap (λ (v : Net). v ∷ map (net_by supply pull) (zip names gs)) (net_cong q.now (supply q) (is_among supplies q.now) (pull q) (pull_of_net pulls q.now) g (group_of words n) (hs q) (hp q) (first ∙ ap (group_of words) here))
-    ∙ ap (λ (v : List Net). net_with supplies pulls words n q.now ∷ v) (nets_zip supply pull supplies pulls words hs hp names gs (n + 1) rest (λ k less. later k less))
+    ap (λ (v : Net). v ∷ map (net_by supply pull) (zip names gs))
+    (net_cong q.now (supply q) (is_among supplies q.now) (pull q) (pull_of_net pulls q.now) g
+    (marked_group words n) (hs q) (hp q) (first ∙ ap (marked_group words) here))
+    ∙ ap (λ (v : List Net). net_with supplies pulls words n q.now ∷ v)
+    (nets_zip supply pull supplies pulls words hs hp names gs (n + 1) rest
+    (λ k less. later k less))
   where
-    later : (k : ℕ) → k < length names → get_or gs k [] ≡ group_of words (n + 1 + k)
-    later k less = let there : n + suc k ≡ n + 1 + k = omega arith in h (suc k) (omega (arith, less)) ∙ ap (group_of words) there
+    later : (k : ℕ) → k < length names → get_or gs k [] ≡ marked_group words (n + 1 + k)
+    later k less = let there : n + suc k ≡ n + 1 + k = omega arith in h (suc k) (omega (arith, less)) ∙ ap (marked_group words) there
 
 -- marks with equal fields are equal
 pub mark_cong : (parts : List Part) (word : NetWord) (d e : Bool) (a b : Option PinAt) (i j : Bool) → d ≡ e → a ≡ b → i ≡ j →
-    ◌≡◌ {A = Marked} (record { word = word; described = d; at = a; inert = i; always_on = is_free_at parts a }) (record { word = word; described = e; at = b; inert = j; always_on = is_free_at parts b })
+    ◌≡◌ {A = Marked}
+    (record { word = word; described = d; at = a; inert = i; always_on = is_free_at parts a })
+    (record { word = word; described = e; at = b; inert = j; always_on = is_free_at parts b })
 mark_cong parts word d e a b i j ed ea ei =
     ap (λ (v : Bool). let m : Marked = record { word = word; described = v; at = a; inert = i; always_on = is_free_at parts a } in m) ed
-    ∙ ap (λ (v : Option PinAt). let m : Marked = record { word = word; described = e; at = v; inert = i; always_on = is_free_at parts v } in m) ea
+    ∙ ap
+    (λ (v : Option PinAt). let m : Marked = record
+    { word = word; described = e; at = v; inert = i; always_on = is_free_at parts v } in
+    m) ea
     ∙ ap (λ (v : Bool). let m : Marked = record { word = word; described = e; at = b; inert = v; always_on = is_free_at parts b } in m) ei
 
 -- if P holds of item `i` of a list, and `i` is within the list, P holds of the result of the
 -- look-up at `i`
-pub at_place : {A : Type 0} (P : Option A → Type 0) (xs : List A) (i : ℕ) → i < length xs → ((x : A) → get_or xs i x ≡ x → P (Some x)) → P (slice_get xs i)
+pub at_place : {A : Type 0} (P : Option A → Type 0) (xs : List A) (i : ℕ) → i < length xs
+    → ((x : A) → get_or xs i x ≡ x → P (Some x)) → P (slice_get xs i)
 at_place {A} P xs i within given = by_get (slice_get xs i) refl
   where
     by_get : (o : Option A) → slice_get xs i ≡ o → P o
@@ -113,13 +156,21 @@ at_place {A} P xs i within given = by_get (slice_get xs i) refl
 
 -- if the groups are right for the first `i` words, the groups after the loop handles word `i` are
 -- right for the first `i + 1` words
-pub groups_more : (words : List MarkedWord) (i count len : ℕ) (old new : List (List NetPin)) → i < length words → len ≡ count → length old ≡ len →
-    new ≡ groups_after (slice_get words i) len old → ((n : ℕ) → n < count → get_or old n [] ≡ group_of (map seen (take i words)) n) →
-    (n : ℕ) → n < count → get_or new n [] ≡ group_of (map seen (take (i + 1) words)) n
+pub groups_more : (words : List MarkedWord) (i count len : ℕ) (old new : List (List NetPin))
+    → i < length words → len ≡ count → length old ≡ len →
+    new ≡ groups_after (slice_get words i) len old
+    → ((n : ℕ) → n < count → get_or old n [] ≡ marked_group (map seen_word (take i words)) n) →
+    (n : ℕ) → n < count → get_or new n [] ≡ marked_group (map seen_word (take (i + 1) words)) n
 groups_more words i count len old new within same size changed was =
-    at_place (λ o. new ≡ groups_after o len old → (n : ℕ) → n < count → get_or new n [] ≡ group_of (map seen (take (i + 1) words)) n) words i within (λ w read now. by_test w read (nat_lt w.net len) refl now) changed
+    at_place
+    (λ o. new ≡ groups_after o len old → (n : ℕ) → n < count
+    → get_or new n [] ≡ marked_group (map seen_word (take (i + 1) words)) n) words i within
+    (λ w read now. by_test w read (nat_lt w.net len) refl now) changed
   where
-    by_test : (w : MarkedWord) → get_or words i w ≡ w → (b : Bool) → nat_lt w.net len ≡ b → new ≡ cond b (set old w.net (get_or old w.net [] ++ pin_with (seen w) ∷ [])) old → (n : ℕ) → n < count → get_or new n [] ≡ group_of (map seen (take (i + 1) words)) n
+    by_test : (w : MarkedWord) → get_or words i w ≡ w → (b : Bool) → nat_lt w.net len ≡ b
+        → new ≡ cond b (set old w.net (get_or old w.net [] ++ pin_with (seen_word w) ∷ [])) old
+        → (n : ℕ) → n < count
+        → get_or new n [] ≡ marked_group (map seen_word (take (i + 1) words)) n
     by_test w read true e now = groups_step words i w count old new within read inside now was
       where
         inside : w.net < length old
@@ -135,23 +186,42 @@ zip_nil (x ∷ xs) = refl
 
 -- if the nets so far, followed by the nets of the names and groups from name `i` on, are all nets,
 -- the same is true from name `i + 1` on after the net of name `i` is appended
-pub zip_step : {A G N : Type 0} (f : A × G → N) (names : List A) (i : ℕ) (gs rest : List G) (nets new all : List N) → i < length names → rest ≡ drop 1 gs →
-    new ≡ nets_after f (slice_get names i) (slice_get gs 0) nets → all ≡ nets ++ map f (zip (drop i names) gs) → all ≡ new ++ map f (zip (drop (i + 1) names) rest)
+pub zip_step : {A G N : Type 0} (f : A × G → N) (names : List A) (i : ℕ) (gs rest : List G)
+    (nets new all : List N) → i < length names → rest ≡ drop 1 gs →
+    new ≡ nets_after f (slice_get names i) (slice_get gs 0) nets
+    → all ≡ nets ++ map f (zip (drop i names) gs)
+    → all ≡ new ++ map f (zip (drop (i + 1) names) rest)
 zip_step {A} {G} {N} f names i gs rest nets new all within er en same =
-    at_place (λ o. new ≡ nets_after f o (slice_get gs 0) nets → all ≡ new ++ map f (zip (drop (i + 1) names) rest)) names i within (λ q read now. by_group q read gs er now same) en
+    at_place
+    (λ o. new ≡ nets_after f o (slice_get gs 0) nets
+    → all ≡ new ++ map f (zip (drop (i + 1) names) rest)) names i within
+    (λ q read now. by_group q read gs er now same) en
   where
-    by_group : (q : A) → get_or names i q ≡ q → (hs : List G) → rest ≡ drop 1 hs → new ≡ nets ++ option_to_list (option_map (λ g. f (q, g)) (slice_get hs 0)) → all ≡ nets ++ map f (zip (drop i names) hs) → all ≡ new ++ map f (zip (drop (i + 1) names) rest)
+    by_group : (q : A) → get_or names i q ≡ q → (hs : List G) → rest ≡ drop 1 hs
+        → new ≡ nets ++ option_to_list (option_map (λ g. f (q, g)) (slice_get hs 0))
+        → all ≡ nets ++ map f (zip (drop i names) hs)
+        → all ≡ new ++ map f (zip (drop (i + 1) names) rest)
     by_group q read [] er now same =
-        same ∙ ap (λ (v : List (A × G)). nets ++ map f v) (zip_nil (drop i names) ∙ sym (zip_nil (drop (i + 1) names))) ∙ ap (λ (v : List G). nets ++ map f (zip (drop (i + 1) names) v)) (sym er)
+        same
+        ∙ ap (λ (v : List (A × G)). nets ++ map f v)
+        (zip_nil (drop i names) ∙ sym (zip_nil (drop (i + 1) names)))
+        ∙ ap (λ (v : List G). nets ++ map f (zip (drop (i + 1) names) v)) (sym er)
         ∙ ap (λ (v : List N). v ++ map f (zip (drop (i + 1) names) rest)) (sym (append-nil nets) ∙ sym now)
     by_group q read (g ∷ hs) er now same =
         let cut : drop i names ≡ q ∷ drop (i + 1) names = drop_more names i q within ∙ ap (λ (v : A). v ∷ drop (i + 1) names) read in
-        same ∙ ap (λ (v : List A). nets ++ map f (zip v (g ∷ hs))) cut ∙ sym (append_assoc nets (f (q, g) ∷ []) (map f (zip (drop (i + 1) names) hs)))
-        ∙ ap (λ (v : List N). v ++ map f (zip (drop (i + 1) names) hs)) (sym now) ∙ ap (λ (v : List G). new ++ map f (zip (drop (i + 1) names) v)) (sym er)
+        same ∙ ap (λ (v : List A). nets ++ map f (zip v (g ∷ hs))) cut
+        ∙ sym (append_assoc nets (f (q, g) ∷ []) (map f (zip (drop (i + 1) names) hs)))
+        ∙ ap (λ (v : List N). v ++ map f (zip (drop (i + 1) names) hs)) (sym now)
+        ∙ ap (λ (v : List G). new ++ map f (zip (drop (i + 1) names) v)) (sym er)
 
 -- if the marks are right for the first `i` words, the marks followed by the mark of word `i` are
 -- right for the first `i + 1` words
-pub mark_step : {A N : Type 0} (f : A → N) (words : List A) (i : ℕ) (done new : List N) → i < length words → new ≡ marks_after f (slice_get words i) done → done ≡ map f (take i words) → new ≡ map f (take (i + 1) words)
+pub mark_step : {A N : Type 0} (f : A → N) (words : List A) (i : ℕ) (done new : List N)
+    → i < length words → new ≡ marks_after f (slice_get words i) done → done ≡ map f (take i words)
+    → new ≡ map f (take (i + 1) words)
 mark_step {A} {N} f words i done new within e was =
     at_place (λ o. new ≡ marks_after f o done → new ≡ map f (take (i + 1) words)) words i within
-    (λ w read now. now ∙ ap (λ (v : List N). v ++ f w ∷ []) was ∙ sym (map-append f (take i words) (w ∷ [])) ∙ ap (map f) (sym (take_more words i w within ∙ ap (λ (v : A). take i words ++ v ∷ []) read))) e
+    (λ w read now. now ∙ ap (λ (v : List N). v ++ f w ∷ []) was
+    ∙ sym (map-append f (take i words) (w ∷ []))
+    ∙ ap (map f)
+    (sym (take_more words i w within ∙ ap (λ (v : A). take i words ++ v ∷ []) read))) e

@@ -13,7 +13,7 @@ use Rattle.board_files.specs.declared.chain_file.ChainLine.{ChainLine}
 use Rattle.board_files.specs.declared.chain_file.ChainStatement.{ChainStatement}
 use Rattle.board_files.specs.declared.chain_file.ChainStatement.TheVariants.{Device, Bypass, Inert, Supply, Pull, Link}
 use Rattle.board_files.specs.declared.net_file.NetLine.{NetLine}
-use Rattle.board_files.specs.ChainLines.{HasLength}
+use Rattle.board_files.specs.ChainLines.{HasBypassLength}
 use Rattle.board_lines.specs.declared.fault.BoardFault.{BoardFault}
 use Rattle.board_lines.specs.declared.names.Naming.TheVariants.{Entity as EntityName}
 use Rattle.board_lines.specs.Faults.{unless}
@@ -29,7 +29,10 @@ AreParts parts = AllByRecursion (λ part. IsPart part.kind) parts
 
 -- if the parts of the later lines keep the rules of a part, so do the part of this line and the
 -- parts of the later lines
-line_kinds : (statement : ChainStatement) (devices : List RawDevice) (rest : List Part) → HasLength statement → AllByRecursion IsDevice devices → (AllByRecursion IsDevice (devices_after statement devices) → AreParts rest) → AreParts (cons_option (part_of_line statement devices) rest)
+line_kinds : (statement : ChainStatement) (devices : List RawDevice) (rest : List Part)
+    → HasBypassLength statement → AllByRecursion IsDevice devices
+    → (AllByRecursion IsDevice (devices_after statement devices) → AreParts rest)
+    → AreParts (cons_option (part_of_line statement devices) rest)
 line_kinds (Device part entity pack) [] rest has are next = next tt
 line_kinds (Device part entity pack) (device ∷ devices) rest has are next = (are.0, next are.1)
 line_kinds (Bypass part bits) devices rest has are next = (has, next are)
@@ -39,9 +42,13 @@ line_kinds (Pull net value) devices rest has are next = next are
 line_kinds (Link part first second) devices rest has are next = next are
 
 -- if the devices keep the rules of a device, the parts of the lines keep the rules of a part
-part_kinds : (lines : List ChainLine) (devices : List RawDevice) → AllByRecursion (λ line. HasLength line.statement) lines → AllByRecursion IsDevice devices → AreParts (chain_parts lines devices)
+part_kinds : (lines : List ChainLine) (devices : List RawDevice)
+    → AllByRecursion (λ line. HasBypassLength line.statement) lines
+    → AllByRecursion IsDevice devices → AreParts (chain_parts lines devices)
 part_kinds [] devices has are = tt
-part_kinds (line ∷ lines) devices has are = line_kinds line.statement devices (chain_parts lines (devices_after line.statement devices)) has.0 are (λ after. part_kinds lines (devices_after line.statement devices) has.1 after)
+part_kinds (line ∷ lines) devices has are =
+    line_kinds line.statement devices (chain_parts lines (devices_after line.statement devices))
+    has.0 are (λ after. part_kinds lines (devices_after line.statement devices) has.1 after)
 
 unless_none : (fault : Option BoardFault) (whole board : RawBoard) → unless fault whole ≡ Ok board → (fault ≡ None) × (whole ≡ board)
 unless_none None whole board is = (refl, cc)
@@ -49,11 +56,15 @@ unless_none (Some fault) whole board is = absurd cc
 
 -- if the chain is selected, the devices keep the rules of a device, and the files denote a board,
 -- the board keeps the rules of a board
-pub board_is : (chain : List ChainLine) (nets : List NetLine) (devices : List RawDevice) (board : RawBoard) → IsChain chain → AllByRecursion (λ line. HasLength line.statement) chain → AllByRecursion IsDevice devices → length devices ≡ length (named EntityName chain)
+pub board_is : (chain : List ChainLine) (nets : List NetLine) (devices : List RawDevice)
+    (board : RawBoard) → IsChain chain
+    → AllByRecursion (λ line. HasBypassLength line.statement) chain
+    → AllByRecursion IsDevice devices → length devices ≡ length (named EntityName chain)
     → board_of chain nets devices ≡ Ok board → IsBoard board
 unfolding board_answer
 board_is chain nets devices board selected has are count is =
     let parts = chain_parts chain devices in
     let made = unless_none (board_fault chain nets parts) (board_with chain nets parts) board is in
-    let kinds : All (λ part. IsPart part.kind) parts = All-from_recursion (λ part. IsPart part.kind) parts (part_kinds chain devices has are) in
+    let kinds : All (λ part. IsPart part.kind) parts = All-from_recursion (λ part. IsPart part.kind)
+    parts (part_kinds chain devices has are) in
     subst IsBoard made.1 (is_board chain nets parts selected (parts_named chain devices count) kinds made.0)

@@ -21,10 +21,10 @@ use Rattle.board_lines.specs.declared.fault.BoardFault.TheVariants.{InertInChain
 use Rattle.board_lines.specs.declared.names.Naming.TheVariants.{Part as PartName, Inert}
 use Rattle.board_files.specs.Names.{same_word}
 use Rattle.board_lines.specs.Names.{Named, named, names_of}
-use Rattle.board_lines.specs.NetWords.{NetWord, net_of, pin_of, is_among, have_same_pin}
+use Rattle.board_lines.specs.NetWords.{NetWord, word_net, word_pin, is_among, have_same_pin}
 use Rattle.board_lines.specs.Selection.{spot_at}
 use Rattle.board_lines.specs.ChainParts.{pin_places, described_names}
-use Rattle.board_lines.specs.LineRules.{places_of, inert_in_chain, line_fault}
+use Rattle.board_lines.specs.LineRules.{first_places_among, inert_in_chain, line_fault}
 use Rattle.board_build.specs.BoardRules.{data_limit, net_limit, pin_limit, is_unknown, no_pin, pin_twice, is_kept, guarded_driver, two_always_on, limit_fault, pin_fault, driver_fault}
 use Rattle.board_lines.proofs.ApartLemmas.{Apart, unrepeated_apart}
 use Rattle.board_build.proofs.PartLemmas.{not_among}
@@ -40,7 +40,8 @@ pub record LimitsKept (parts : List Part) (names : List (List ℕ)) (words : Lis
   pub nets : length names ≤ most_nets
   pub pins : length (once have_same_pin words) ≤ most_pins
 
-pub limits_kept : (parts : List Part) (names : List (List ℕ)) (words : List NetWord) → limit_fault parts names words ≡ None → LimitsKept parts names words
+pub limits_kept : (parts : List Part) (names : List (List ℕ)) (words : List NetWord)
+    → limit_fault parts names words ≡ None → LimitsKept parts names words
 unfolding limit_fault data_limit net_limit pin_limit
 limits_kept parts names words e =
     let first = then_none _ _ e in
@@ -52,7 +53,7 @@ limits_kept parts names words e =
     }
 
 pub record PinsKept (parts : List Part) (words : List NetWord) : Type 0 where
-  pub known : find (λ word. is_unknown (described_names parts) (pin_places parts) (pin_of word)) words ≡ None
+  pub known : find (λ word. is_unknown (described_names parts) (pin_places parts) (word_pin word)) words ≡ None
   pub whole : once have_same_pin words ≡ words
   pub differ : Apart (λ a b. have_same_pin a b ≡ false) words
 
@@ -69,14 +70,20 @@ pins_kept parts words e =
 
 -- if a rule that reports the line of the first item that passes its test finds no fault, no item
 -- passes the test
-no_place : {A : Type 0} (fault : Spot → BoardFault) (list : List Named) (test : A → Bool) (xs : List A) → length xs ≡ length list → option_map fault (option_and_then (spot_at list) (position test xs)) ≡ None → position test xs ≡ None
+no_place : {A : Type 0} (fault : Spot → BoardFault) (list : List Named) (test : A → Bool)
+    (xs : List A) → length xs ≡ length list
+    → option_map fault (option_and_then (spot_at list) (position test xs)) ≡ None
+    → position test xs ≡ None
 no_place {A} fault list test xs count e = by_place (position test xs) refl e
   where
     by_place : (o : Option ℕ) → position test xs ≡ o → option_map fault (option_and_then (spot_at list) o) ≡ None → o ≡ None
     by_place None f k = refl
     by_place (Some n) f k = absurd (there (slice_get list n) (stands n f) k)
       where
-        there : (s : Option Named) → s ≢ None → option_map fault (option_map (λ (m : Named). let spot : Spot = record { line = m.0; word = 1 } in spot) s) ≡ None → ⊥
+        there : (s : Option Named) → s ≢ None
+            → option_map fault
+            (option_map
+            (λ (m : Named). let spot : Spot = record { line = m.0; word = 1 } in spot) s) ≡ None → ⊥
         there None wrong h = wrong refl
         there (Some m) wrong h = cc h
 
@@ -96,7 +103,9 @@ none_at : {A : Type 0} (test : A → Bool) (n : ℕ) (xs : List A) (x : A) → p
 none_at test n [] x e h = absurd h
 none_at {A} test n (y ∷ ys) x e h = by_test (none_at test (n + 1) ys x) (test y) refl e h
   where
-    by_test : (position_from test (n + 1) ys ≡ None → Has ys x → test x ≡ false) → (b : Bool) → test y ≡ b → cond b (Some n) (position_from test (n + 1) ys) ≡ None → (y ≡ x) ⊎ Has ys x → test x ≡ false
+    by_test : (position_from test (n + 1) ys ≡ None → Has ys x → test x ≡ false) → (b : Bool)
+        → test y ≡ b → cond b (Some n) (position_from test (n + 1) ys) ≡ None → (y ≡ x) ⊎ Has ys x
+        → test x ≡ false
     by_test rest true t k p = cc k
     by_test rest false t k (inl same) = sym (ap test same) ∙ t
     by_test rest false t k (inr p) = rest k p
@@ -105,26 +114,38 @@ among_has : (names : List (List ℕ)) (x : List ℕ) (n : ℕ) → is_some (posi
 among_has [] x n h = cc h
 among_has (name ∷ names) x n h = by_test (among_has names x (n + 1)) (same_word name x) refl h
   where
-    by_test : (is_some (position_from (λ k. same_word k x) (n + 1) names) ≡ true → Has names x) → (b : Bool) → same_word name x ≡ b → is_some (cond b (Some n) (position_from (λ k. same_word k x) (n + 1) names)) ≡ true → (name ≡ x) ⊎ Has names x
+    by_test : (is_some (position_from (λ k. same_word k x) (n + 1) names) ≡ true → Has names x)
+        → (b : Bool) → same_word name x ≡ b
+        → is_some (cond b (Some n) (position_from (λ k. same_word k x) (n + 1) names)) ≡ true
+        → (name ≡ x) ⊎ Has names x
     by_test rest true e k = inl (same_text name x (sym e))
     by_test rest false e k = inr (rest k)
 
 -- if the rule on INERT lines finds no fault, no part of the chain has a name that an INERT line has
-pub not_inert : (inerts : List Named) (parts : List (List ℕ)) → inert_in_chain inerts parts ≡ None → (x : List ℕ) → is_among (names_of inerts) x ≡ true → AllByRecursion (λ name. name ≢ x) parts
+pub not_inert : (inerts : List Named) (parts : List (List ℕ)) → inert_in_chain inerts parts ≡ None
+    → (x : List ℕ) → is_among (names_of inerts) x ≡ true → AllByRecursion (λ name. name ≢ x) parts
 unfolding inert_in_chain
 not_inert inerts parts e x among =
-    let count : length (places_of inerts parts) ≡ length inerts = length-map (names_of inerts) (first_place same_word parts) ∙ length-map inerts (λ n. n.1) in
-    let none : position is_some (places_of inerts parts) ≡ None = no_place InertInChain inerts is_some (places_of inerts parts) count e in
-    let from : position_from is_some 0 (places_of inerts parts) ≡ None = sym (position_from-zero is_some (places_of inerts parts)) ∙ none in
-    not_among parts x (none_at is_some 0 (places_of inerts parts) (first_place same_word parts x) from (has_map (first_place same_word parts) (names_of inerts) x (among_has (names_of inerts) x 0 among)))
+    let count : length (first_places_among inerts parts)
+    ≡ length inerts = length-map (names_of inerts) (first_place same_word parts)
+    ∙ length-map inerts (λ n. n.1) in
+    let none : position is_some (first_places_among inerts parts)
+    ≡ None = no_place InertInChain inerts is_some (first_places_among inerts parts) count e in
+    let from : position_from is_some 0 (first_places_among inerts parts)
+    ≡ None = sym (position_from-zero is_some (first_places_among inerts parts)) ∙ none in
+    not_among parts x
+    (none_at is_some 0 (first_places_among inerts parts) (first_place same_word parts x) from
+    (has_map (first_place same_word parts) (names_of inerts) x
+    (among_has (names_of inerts) x 0 among)))
 
-pub inert_kept : (chain : List ChainLine) (names : List (List ℕ)) → line_fault chain names ≡ None → inert_in_chain (named Inert chain) (names_of (named PartName chain)) ≡ None
+pub inert_kept : (chain : List ChainLine) (names : List (List ℕ)) → line_fault chain names ≡ None
+    → inert_in_chain (named Inert chain) (names_of (named PartName chain)) ≡ None
 unfolding line_fault
 inert_kept chain names e = (then_none _ _ e).0
 
 pub record DriversKept (board : RawBoard) (drivers : List NetWord) : Type 0 where
-  pub free : find (λ word. is_kept board (slice_get board.nets (net_of word))) drivers ≡ None
-  pub single : Apart (λ a b. (net_of a == net_of b) ≡ false) drivers
+  pub free : find (λ word. is_kept board (slice_get board.nets (word_net word))) drivers ≡ None
+  pub single : Apart (λ a b. (word_net a == word_net b) ≡ false) drivers
 
 pub drivers_kept : (board : RawBoard) (drivers : List NetWord) → driver_fault board drivers ≡ None → DriversKept board drivers
 unfolding driver_fault guarded_driver two_always_on
@@ -132,5 +153,5 @@ drivers_kept board drivers e =
     let both = then_none _ _ e in
     record {
       free = map_none _ _ both.0;
-      single = unrepeated_apart (λ a b. net_of a == net_of b) drivers (map_none _ _ both.1);
+      single = unrepeated_apart (λ a b. word_net a == word_net b) drivers (map_none _ _ both.1);
     }

@@ -9,19 +9,19 @@ use Rattle.board_defs.specs.declared.board.Net.{Net}
 use Rattle.board_defs.specs.declared.board.RawBoard.{RawBoard}
 use Rattle.board_lines.specs.declared.names.Naming.TheVariants.{Inert, Supply}
 use Rattle.board_lines.specs.Names.{named, names_of}
-use Rattle.board_lines.specs.NetWords.{Pin, NetWord, is_among, net_names, standing_words, pins_of_net}
+use Rattle.board_lines.specs.NetWords.{Pin, NetWord, is_among, net_names, standing_words, pins_on_net}
 use Rattle.board_lines.specs.ChainParts.{PinPlace, chain_parts, pin_places, place_of_pin}
 use Rattle.board_lines.specs.LineRules.{Pulled, pulls_of, pull_of_net}
 
 -- what determines the nets of a board, besides the words: the places of the described parts' pins,
 -- the names on the INERT and SUPPLY lines, and the nets and values of the PULL lines
-pub record Marks : Type 0 where
+pub record NetMarks : Type 0 where
   pub places : List PinPlace
   pub inerts : List (List ℕ)
   pub supplies : List (List ℕ)
   pub pulls : List Pulled
 
-abbrev pub marks_of : List ChainLine → List Part → Marks
+abbrev pub marks_of : List ChainLine → List Part → NetMarks
 marks_of lines parts = record {
   places = pin_places parts;
   inerts = names_of (named Inert lines);
@@ -31,7 +31,7 @@ marks_of lines parts = record {
 
 -- a pin of a net, with its place if it has one, and with a flag that says whether an INERT line
 -- names its part
-abbrev pub net_pin : Marks → Pin → NetPin
+abbrev pub net_pin : NetMarks → Pin → NetPin
 net_pin marks pin = record {
   part = pin.0;
   pin = pin.1;
@@ -40,20 +40,20 @@ net_pin marks pin = record {
 }
 
 -- net `n`, which has this name
-abbrev pub board_net : Marks → List NetWord → ℕ → List ℕ → Net
+abbrev pub board_net : NetMarks → List NetWord → ℕ → List ℕ → Net
 board_net marks words n name = record {
   name = name;
   supply = is_among marks.supplies name;
   pull = pull_of_net marks.pulls name;
-  pins = map (net_pin marks) (pins_of_net words n);
+  pins = map (net_pin marks) (pins_on_net words n);
 }
 
 -- the nets with these names, numbered from `n` on
-abbrev pub nets_from : Marks → List NetWord → ℕ → List (List ℕ) → List Net
+abbrev pub nets_from : NetMarks → List NetWord → ℕ → List (List ℕ) → List Net
 nets_from marks words n [] = []
 nets_from marks words n (name ∷ names) = board_net marks words n name ∷ nets_from marks words (n + 1) names
 
-abbrev pub board_nets : Marks → List NetWord → List (List ℕ) → List Net
+abbrev pub board_nets : NetMarks → List NetWord → List (List ℕ) → List Net
 board_nets marks words names = nets_from marks words 0 names
 
 -- the board of these parts, chain lines and net lines

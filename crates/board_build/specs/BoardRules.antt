@@ -16,15 +16,17 @@ use Rattle.board_lines.specs.declared.fault.BoardFault.TheVariants.{Limit, NoPin
 use Rattle.board_lines.specs.declared.limit.Limit.TheVariants.{BoundaryBits, Nets, Pins}
 use Rattle.board_lines.specs.BoardLimits.{limit_number}
 use Rattle.board_lines.specs.Faults.{◌then◌, unless}
-use Rattle.board_lines.specs.NetWords.{Pin, NetWord, net_of, pin_of, spot_of, have_same_pin, is_among, net_names, standing_words}
+use Rattle.board_lines.specs.NetWords.{Pin, NetWord, word_net, word_pin, spot_of, have_same_pin, is_among, net_names, standing_words}
 use Rattle.board_lines.specs.ChainParts.{PinPlace, chain_parts, pin_places, place_of_pin, described_names}
 use Rattle.board_lines.specs.LineRules.{line_fault}
-use Rattle.board_build.specs.BoardNets.{Marks, marks_of, net_pin, board_with}
+use Rattle.board_build.specs.BoardNets.{NetMarks, marks_of, net_pin, board_with}
 
 -- the fault if a data scan has more than 65,535 bits: a bit for each boundary cell of a described
 -- part, and a bit for each part in BYPASS
 unfoldable pub data_limit : List Part → Option BoardFault
-data_limit parts = if nat_lt most_bits (sum_by (λ part. data_length part.kind) parts) then Some (Limit (limit_number BoundaryBits)) else None
+data_limit parts =
+    if nat_lt most_bits (sum_by (λ part. data_length part.kind) parts)
+    then Some (Limit (limit_number BoundaryBits)) else None
 
 -- the fault if there are more than 16,382 nets
 unfoldable pub net_limit : List (List ℕ) → Option BoardFault
@@ -41,7 +43,7 @@ is_unknown described places pin = is_among described pin.0 && is_none (place_of_
 -- the fault of the first word that names a pin of a described part that is not in the part's pin
 -- map
 unfoldable pub no_pin : List (List ℕ) → List PinPlace → List NetWord → Option BoardFault
-no_pin described places words = option_map (λ word. NoPin (spot_of word)) (find (λ word. is_unknown described places (pin_of word)) words)
+no_pin described places words = option_map (λ word. NoPin (spot_of word)) (find (λ word. is_unknown described places (word_pin word)) words)
 
 -- the fault of the first word whose pin an earlier word names; the words that count name different
 -- pins of a net, so the earlier word is in another net
@@ -49,13 +51,13 @@ unfoldable pub pin_twice : List NetWord → Option BoardFault
 pin_twice words = option_map (λ word. PinTwice (spot_of word)) (first_repeated have_same_pin words)
 
 -- there is a net, and the pin is an always-on driver of it
-abbrev pub drives_always : RawBoard → Marks → Pin → Option Net → Bool
+abbrev pub drives_always : RawBoard → NetMarks → Pin → Option Net → Bool
 drives_always board marks pin None = false
 drives_always board marks pin (Some net) = is_always_on (drive board net (net_pin marks pin))
 
 -- the words that name always-on drivers
-abbrev pub always_on : RawBoard → Marks → List NetWord → List NetWord
-always_on board marks words = filter (λ word. drives_always board marks (pin_of word) (slice_get board.nets (net_of word))) words
+abbrev pub always_on_words : RawBoard → NetMarks → List NetWord → List NetWord
+always_on_words board marks words = filter (λ word. drives_always board marks (word_pin word) (slice_get board.nets (word_net word))) words
 
 -- there is a net, and it must not have an always-on driver, since it is a supply net or has a TAP
 -- or compliance pin
@@ -65,11 +67,13 @@ is_kept board (Some net) = net.supply || list_any (is_test_pin board) net.pins
 
 -- the fault of the first always-on driver on a supply net or on a net with a TAP or compliance pin
 unfoldable pub guarded_driver : RawBoard → List NetWord → Option BoardFault
-guarded_driver board drivers = option_map (λ word. GuardedDriver (spot_of word)) (find (λ word. is_kept board (slice_get board.nets (net_of word))) drivers)
+guarded_driver board drivers =
+    option_map (λ word. GuardedDriver (spot_of word))
+    (find (λ word. is_kept board (slice_get board.nets (word_net word))) drivers)
 
 -- the fault of the first always-on driver whose net has an earlier always-on driver
 unfoldable pub two_always_on : List NetWord → Option BoardFault
-two_always_on drivers = option_map (λ word. TwoAlwaysOn (spot_of word)) (first_repeated (λ a b. net_of a == net_of b) drivers)
+two_always_on drivers = option_map (λ word. TwoAlwaysOn (spot_of word)) (first_repeated (λ a b. word_net a == word_net b) drivers)
 
 -- the fault of the first limit that is exceeded
 unfoldable pub limit_fault : List Part → List (List ℕ) → List NetWord → Option BoardFault
@@ -86,8 +90,10 @@ driver_fault board drivers = guarded_driver board drivers then two_always_on dri
 -- the first fault of the files, by the rules in their order
 unfoldable pub board_fault : List ChainLine → List NetLine → List Part → Option BoardFault
 board_fault chain nets parts =
-    limit_fault parts (net_names nets) (standing_words nets) then pin_fault parts (standing_words nets) then line_fault chain (net_names nets)
-    then driver_fault (board_with chain nets parts) (always_on (board_with chain nets parts) (marks_of chain parts) (standing_words nets))
+    limit_fault parts (net_names nets) (standing_words nets)
+    then pin_fault parts (standing_words nets) then line_fault chain (net_names nets)
+    then driver_fault (board_with chain nets parts)
+    (always_on_words (board_with chain nets parts) (marks_of chain parts) (standing_words nets))
 
 -- the board of these parts and lines, or the first fault
 unfoldable pub board_answer : List ChainLine → List NetLine → List Part → Result RawBoard BoardFault

@@ -34,7 +34,8 @@ pub fn board(
 ) -> Result<Board, BoardFault>
     requires selected { IsChain chain.now }
     requires devices { vec_len devices ≡ length (named Entity chain.now) }
-    ensures { Gives board_told (λ board. board) (λ said. board_of chain.now nets.now devices.items ≡ said) result }
+    ensures { Gives board_told (λ board. board)
+        (λ said. board_of chain.now nets.now devices.items ≡ said) result }
 {
     let lines = chain.lines();
     let parts = chain_parts(alloc, lines, devices)?;
@@ -49,7 +50,8 @@ pub fn parts_of_chain(
 ) -> Result<Vec<Part>, AllocError>
     requires { vec_len devices ≡ length (named Entity chain.now) }
     ensures parts { IfOk result (λ parts. parts.items ≡ chain_parts chain.now devices.items) }
-    ensures names { IfOk result (λ parts. map (λ part. part.name) parts.items ≡ names_of (named PartName chain.now)) }
+    ensures names { IfOk result
+        (λ parts. map (λ part. part.name) parts.items ≡ names_of (named PartName chain.now)) }
     ensures kinds { IfOk result (λ parts. All (λ part. IsPart part.kind) parts.items) }
 {
     let lines = chain.lines();
@@ -61,7 +63,8 @@ pub fn parts_of_chain(
 /// returns the fault of the first rule that is broken.
 fn board_of(alloc: Global, chain: SelectedChain<'_>, nets: &[NetLine]) -> Result<Board, BoardFault>
     requires { IsNetFile nets.now }
-    ensures { Gives board_told (λ board. board) (λ said. board_answer chain.entry.lines nets.now chain.entry.parts ≡ said) result }
+    ensures { Gives board_told (λ board. board)
+        (λ said. board_answer chain.entry.lines nets.now chain.entry.parts ≡ said) result }
 {
     let _rules = chain.parts();
     let net = net_names(alloc, nets)?;
@@ -77,8 +80,11 @@ fn answer(
     words: &StandingWords<'_>,
 ) -> Result<Board, BoardFault>
     requires names { length names.now < 2 ^ 32 }
-    requires sound { marked_fault chain.lines chain.parts (map (λ n. n.now) names.now) words.now ≡ None → IsBoard (board_by chain.lines chain.parts (map (λ n. n.now) names.now) words.now) }
-    ensures { Gives board_told (λ board. board) (λ said. marked_answer chain.entry.lines chain.entry.parts (map (λ n. n.now) names.now) words.now ≡ said) result }
+    requires sound { marked_fault chain.lines chain.parts (map (λ n. n.now) names.now) words.now
+        ≡ None → IsBoard (board_by chain.lines chain.parts (map (λ n. n.now) names.now) words.now) }
+    ensures { Gives board_told (λ board. board)
+        (λ said. marked_answer chain.entry.lines chain.entry.parts (map (λ n. n.now) names.now)
+        words.now ≡ said) result }
 {
     if let Some(fault) = file_fault(alloc, &chain, names, words)? {
         return Err(fault);

@@ -4,7 +4,7 @@ ghost use Rattle.std.specs.Prelude.{◌≡◌, ◌∷◌, ℕ, List, length, sli
 ghost use Rattle.board_defs.specs.declared.device.Cell.{Cell};
 ghost use Rattle.board_defs.specs.DeviceRules.{driving_entry};
 ghost use Rattle.board_defs.specs.Pins.{described};
-ghost use Rattle.board_build.specs.inner.Marked.{AreFlags, is_free, is_free_bit, is_free_at};
+ghost use Rattle.board_build.specs.inner.Marked.{AreFlags, has_no_control, is_free_bit, is_free_at};
 
 use board_defs::{Cell, Device, Part, PartKind, PinAt};
 use std::alloc::{AllocError, Global};
@@ -13,7 +13,8 @@ use std::marker::Model;
 /// Handles one entry. If the entry drives a port bit, sets or clears the bit's flag, which says
 /// whether the driver is always on.
 fn flag_entry(flags: &mut [bool], cell: Cell)
-    ensures { (cells : List Cell) (bits : ℕ) → AreFlags cells bits flags.old → AreFlags (cell ∷ cells) bits flags.new }
+    ensures { (cells : List Cell) (bits : ℕ) → AreFlags cells bits flags.old
+        → AreFlags (cell ∷ cells) bits flags.new }
 {
     if let Some(bit) = cell.bit {
         if cell.role.is_driving() {
@@ -38,14 +39,18 @@ fn flags_of(alloc: Global, bits: usize, cells: &[Cell]) -> Result<Vec<bool>, All
 }
 
 fn device_flags(alloc: Global, device: &Device) -> Result<Vec<bool>, AllocError>
-    ensures { IfOk result (λ flags. (bit : ℕ) → slice_index_or flags.items bit false ≡ is_free (driving_entry device.now bit)) }
+    ensures { IfOk result
+        (λ flags. (bit : ℕ)
+        → slice_index_or flags.items bit false ≡ has_no_control (driving_entry device.now bit)) }
 {
     let raw = device.raw();
     flags_of(alloc, raw.bits.len(), raw.cells.as_slice())
 }
 
 fn part_flags(alloc: Global, kind: &PartKind) -> Result<Vec<bool>, AllocError>
-    ensures { IfOk result (λ flags. (bit : ℕ) → slice_index_or flags.items bit false ≡ is_free_bit (described kind.now) bit) }
+    ensures { IfOk result
+        (λ flags. (bit : ℕ)
+        → slice_index_or flags.items bit false ≡ is_free_bit (described kind.now) bit) }
 {
     match kind {
         PartKind::Described(device) => device_flags(alloc, device),
@@ -72,7 +77,8 @@ impl<'a> Model for PartDrivers<'a> {
 
     ghost view = { λ a. a.part.now };
 
-    ghost invariant = { λ a. (bit : ℕ) → slice_index_or a.always_on.items bit false ≡ is_free_bit (described a.part.now.kind) bit };
+    ghost invariant = { λ a. (bit : ℕ)
+        → slice_index_or a.always_on.items bit false ≡ is_free_bit (described a.part.now.kind) bit };
 }
 
 impl<'a> PartDrivers<'a> {

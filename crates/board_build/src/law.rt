@@ -5,7 +5,7 @@ ghost use Rattle.board_defs.specs.declared.board.RawBoard.{RawBoard};
 ghost use Rattle.board_defs.specs.declared.device.RawDevice.{RawDevice};
 ghost use Rattle.board_defs.specs.BoardRules.{IsBoard};
 ghost use Rattle.board_defs.specs.DeviceRules.{IsDevice};
-ghost use Rattle.board_files.specs.ChainLines.{HasLength};
+ghost use Rattle.board_files.specs.ChainLines.{HasBypassLength};
 ghost use Rattle.board_files.specs.declared.net_file.NetLine.{NetLine};
 ghost use Rattle.board_files.specs.declared.chain_file.ChainLine.{ChainLine};
 ghost use Rattle.bsdl_parser.specs.declared.entity.Entity.{Entity};
@@ -17,14 +17,17 @@ ghost use Rattle.board_lines.specs.Selection.{selection};
 
 /// Each number that the selection returns for a DEVICE line is the number of an entity.
 pub fn selected_are_entities()
-    ensures { (lines : List ChainLine) (entities : List Entity) (numbers : List ℕ) → selection lines entities ≡ Ok numbers → All (λ number. number < length entities) numbers }
+    ensures { (lines : List ChainLine) (entities : List Entity) (numbers : List ℕ)
+        → selection lines entities ≡ Ok numbers → All (λ number. number < length entities) numbers }
 {}
 
 /// If the selection succeeds, the chain has 1 to 255 parts with different names, and an entity is
 /// selected for each DEVICE line.
 pub fn selected_are_chains()
-    ensures chain { (lines : List ChainLine) (entities : List Entity) (numbers : List ℕ) → selection lines entities ≡ Ok numbers → IsChain lines }
-    ensures count { (lines : List ChainLine) (entities : List Entity) (numbers : List ℕ) → selection lines entities ≡ Ok numbers → length numbers ≡ length (named EntityName lines) }
+    ensures chain { (lines : List ChainLine) (entities : List Entity) (numbers : List ℕ)
+        → selection lines entities ≡ Ok numbers → IsChain lines }
+    ensures count { (lines : List ChainLine) (entities : List Entity) (numbers : List ℕ)
+        → selection lines entities ≡ Ok numbers → length numbers ≡ length (named EntityName lines) }
 {}
 
 /// If the files and the devices denote a board, the board keeps the rules of a board. The chain
@@ -32,6 +35,6 @@ pub fn selected_are_chains()
 /// which keeps the rules of a device, for each DEVICE line.
 pub fn boards_keep_rules()
     ensures { (chain : List ChainLine) (nets : List NetLine) (devices : List RawDevice) (board : RawBoard)
-        → IsChain chain → AllByRecursion (λ line. HasLength line.statement) chain → AllByRecursion IsDevice devices → length devices ≡ length (named EntityName chain)
+        → IsChain chain → AllByRecursion (λ line. HasBypassLength line.statement) chain → AllByRecursion IsDevice devices → length devices ≡ length (named EntityName chain)
         → board_of chain nets devices ≡ Ok board → IsBoard board }
 {}

@@ -21,7 +21,10 @@ pub fn names_by_place<'a>(
     naming: Naming,
 ) -> Result<IndexMap<&'a [u8], u32>, AllocError>
     requires { length lines.now < 2 ^ 32 }
-    ensures { IfOk result (λ places. (q : Bor (List ℕ)) → get_by (λ n. same_word q.now n.now) places ≡ first_place same_word (names_of (named naming lines.now)) q.now) }
+    ensures { IfOk result
+        (λ places. (q : Bor (List ℕ))
+        → get_by (λ n. same_word q.now n.now) places
+        ≡ first_place same_word (names_of (named naming lines.now)) q.now) }
 {
     let names = names_in(alloc, lines, naming)?;
     first_places_of(alloc, &names)
@@ -33,7 +36,10 @@ pub fn described_by_place<'a>(
     parts: &'a [Part],
 ) -> Result<IndexMap<&'a [u8], u32>, AllocError>
     requires { length parts.now < 2 ^ 32 }
-    ensures { IfOk result (λ places. (q : Bor (List ℕ)) → get_by (λ n. same_word q.now n.now) places ≡ first_place same_word (described_names parts.now) q.now) }
+    ensures { IfOk result
+        (λ places. (q : Bor (List ℕ))
+        → get_by (λ n. same_word q.now n.now) places
+        ≡ first_place same_word (described_names parts.now) q.now) }
 {
     let names = described_names(alloc, parts)?;
     first_places_of(alloc, &names)
@@ -44,7 +50,9 @@ pub fn pulls_in<'a>(
     alloc: Global,
     lines: &'a [ChainLine],
 ) -> Result<IndexMap<&'a [u8], bool>, AllocError>
-    ensures { IfOk result (λ known. (q : Bor (List ℕ)) → get_by (λ n. same_word q.now n.now) known ≡ pull_of_net (pulls_of lines.now) q.now) }
+    ensures { IfOk result
+        (λ known. (q : Bor (List ℕ))
+        → get_by (λ n. same_word q.now n.now) known ≡ pull_of_net (pulls_of lines.now) q.now) }
 {
     let pulls = pulls_of(alloc, lines)?;
     pulls_by_net(alloc, &pulls)

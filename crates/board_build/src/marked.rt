@@ -6,7 +6,7 @@ ghost use Rattle.board_lines.specs.Names.{named, names_of};
 ghost use Rattle.board_lines.specs.declared.names.Naming.TheVariants.{Inert};
 ghost use Rattle.board_lines.specs.NetWords.{lent_pin, lent_word};
 ghost use Rattle.board_lines.specs.ChainParts.{pin_places, place_of_pin};
-ghost use Rattle.board_build.specs.inner.Marked.{is_free_at, mark, mark_by, marks_after, seen};
+ghost use Rattle.board_build.specs.inner.Marked.{is_free_at, mark_word, mark_by, marks_after, seen_word};
 
 use crate::drivers::{PartDrivers, drivers_of, is_free_at};
 use crate::lookups::{described_by_place, names_by_place};
@@ -48,7 +48,10 @@ fn mark<'a>(
     described: &IndexMap<&[u8], u32>,
     inerts: &IndexMap<&[u8], u32>,
 ) -> MarkedWord<'a>
-    ensures { result ≡ mark_by parts.now (λ q. is_some (get_by (λ n. same_word q.now n.now) described.now)) (λ q. place_of_pin (pin_places places.now) (lent_pin q)) (λ q. is_some (get_by (λ n. same_word q.now n.now) inerts.now)) word.now }
+    ensures { result
+        ≡ mark_by parts.now (λ q. is_some (get_by (λ n. same_word q.now n.now) described.now))
+        (λ q. place_of_pin (pin_places places.now) (lent_pin q))
+        (λ q. is_some (get_by (λ n. same_word q.now n.now) inerts.now)) word.now }
 {
     let at = places.place_of_pin(&word.0.1);
     MarkedWord {
@@ -73,7 +76,14 @@ fn mark_at<'a>(
     described: &IndexMap<&[u8], u32>,
     inerts: &IndexMap<&[u8], u32>,
 ) -> Result<(), AllocError>
-    ensures { OnOk result (marked.new.items ≡ marks_after (mark_by parts.now (λ q. is_some (get_by (λ n. same_word q.now n.now) described.now)) (λ q. place_of_pin (pin_places places.now) (lent_pin q)) (λ q. is_some (get_by (λ n. same_word q.now n.now) inerts.now))) (slice_get words.now place) marked.old.items) }
+    ensures { OnOk result
+        (marked.new.items
+        ≡ marks_after
+        (mark_by parts.now
+        (λ q. is_some (get_by (λ n. same_word q.now n.now) described.now))
+        (λ q. place_of_pin (pin_places places.now) (lent_pin q))
+        (λ q. is_some (get_by (λ n. same_word q.now n.now) inerts.now)))
+        (slice_get words.now place) marked.old.items) }
 {
     match words.get(place) {
         Some(word) => {
@@ -92,7 +102,13 @@ fn mark_each<'a>(
     described: &IndexMap<&[u8], u32>,
     inerts: &IndexMap<&[u8], u32>,
 ) -> Result<Vec<MarkedWord<'a>>, AllocError>
-    ensures { IfOk result (λ marked. marked.items ≡ map (mark_by parts.now (λ q. is_some (get_by (λ n. same_word q.now n.now) described.now)) (λ q. place_of_pin (pin_places places.now) (lent_pin q)) (λ q. is_some (get_by (λ n. same_word q.now n.now) inerts.now))) words.now) }
+    ensures { IfOk result
+        (λ marked. marked.items
+        ≡ map
+        (mark_by parts.now
+        (λ q. is_some (get_by (λ n. same_word q.now n.now) described.now))
+        (λ q. place_of_pin (pin_places places.now) (lent_pin q))
+        (λ q. is_some (get_by (λ n. same_word q.now n.now) inerts.now))) words.now) }
 {
     let mut marked = Vec::with_capacity(alloc, words.len())?;
     for i in 0..words.len() {
@@ -109,7 +125,13 @@ fn mark_all<'a>(
     described: &IndexMap<&[u8], u32>,
     inerts: &IndexMap<&[u8], u32>,
 ) -> Result<Vec<MarkedWord<'a>>, AllocError>
-    ensures { IfOk result (λ marked. marked.items ≡ map (mark_by parts.now (λ q. is_some (get_by (λ n. same_word q.now n.now) described.now)) (λ q. place_of_pin (pin_places places.now) (lent_pin q)) (λ q. is_some (get_by (λ n. same_word q.now n.now) inerts.now))) words.now) }
+    ensures { IfOk result
+        (λ marked. marked.items
+        ≡ map
+        (mark_by parts.now
+        (λ q. is_some (get_by (λ n. same_word q.now n.now) described.now))
+        (λ q. place_of_pin (pin_places places.now) (lent_pin q))
+        (λ q. is_some (get_by (λ n. same_word q.now n.now) inerts.now))) words.now) }
 {
     let drivers = drivers_of(alloc, parts)?;
     mark_each(alloc, words, &drivers, places, described, inerts)
@@ -124,7 +146,11 @@ fn mark_known<'a>(
     places: &PinPlaces<'_>,
 ) -> Result<Vec<MarkedWord<'a>>, AllocError>
     requires { places.now ≡ chain.now.parts }
-    ensures { IfOk result (λ marked. map seen marked.items ≡ map (mark chain.now.parts (pin_places chain.now.parts) (names_of (named Inert chain.now.lines))) (map lent_word words.now)) }
+    ensures { IfOk result
+        (λ marked. map seen_word marked.items
+        ≡ map
+        (mark_word chain.now.parts (pin_places chain.now.parts)
+        (names_of (named Inert chain.now.lines))) (map lent_word words.now)) }
 {
     let parts = chain.parts();
     let lines = chain.lines();
@@ -139,7 +165,11 @@ pub fn marked_words<'a>(
     chain: &SelectedChain<'_>,
     words: &[NetWord<'a>],
 ) -> Result<Vec<MarkedWord<'a>>, AllocError>
-    ensures { IfOk result (λ marked. map seen marked.items ≡ map (mark chain.now.parts (pin_places chain.now.parts) (names_of (named Inert chain.now.lines))) (map lent_word words.now)) }
+    ensures { IfOk result
+        (λ marked. map seen_word marked.items
+        ≡ map
+        (mark_word chain.now.parts (pin_places chain.now.parts)
+        (names_of (named Inert chain.now.lines))) (map lent_word words.now)) }
 {
     let places = PinPlaces::of(alloc, chain.parts())?;
     mark_known(alloc, chain, words, &places)

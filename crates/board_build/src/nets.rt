@@ -9,7 +9,7 @@ ghost use Rattle.board_lines.specs.declared.names.Naming.TheVariants.{Supply};
 ghost use Rattle.board_lines.specs.LineRules.{Pulled, pull_of_net as pulled_to, pulls_of};
 ghost use Rattle.board_lines.specs.NetWords.{is_among};
 ghost use Rattle.std.specs.Borrow.{Bor};
-ghost use Rattle.board_build.specs.inner.Marked.{board_by, group_of, groups_after, net_by, nets_after, nets_with, pin_with, seen};
+ghost use Rattle.board_build.specs.inner.Marked.{board_by, marked_group, groups_after, net_by, nets_after, nets_with, pin_with, seen_word};
 
 use crate::lookups::{names_by_place, pulls_in};
 use crate::marked::{MarkedWord, is_known};
@@ -22,7 +22,7 @@ use std::alloc::{AllocError, Global};
 use std::vec::IntoIter;
 
 fn pin_with(alloc: Global, word: &MarkedWord<'_>) -> Result<NetPin, AllocError>
-    ensures { IfOk result (λ pin. pin ≡ pin_with (seen word.now)) }
+    ensures { IfOk result (λ pin. pin ≡ pin_with (seen_word word.now)) }
 {
     Ok(NetPin {
         part: Name::of(alloc, word.part)?,
@@ -35,7 +35,10 @@ fn pin_with(alloc: Global, word: &MarkedWord<'_>) -> Result<NetPin, AllocError>
 fn push_pin(groups: &mut Vec<Vec<NetPin>>, number: usize, pin: NetPin) -> Result<(), AllocError>
     requires { number < vec_len groups.old }
     ensures count { OnOk result (vec_len groups.new ≡ vec_len groups.old) }
-    ensures groups { OnOk result (map (λ g. g.items) groups.new.items ≡ slice_set (map (λ g. g.items) groups.old.items) number (slice_index_or (map (λ g. g.items) groups.old.items) number [] ++ pin ∷ [])) }
+    ensures groups { OnOk result
+        (map (λ g. g.items) groups.new.items
+        ≡ slice_set (map (λ g. g.items) groups.old.items) number
+        (slice_index_or (map (λ g. g.items) groups.old.items) number [] ++ pin ∷ [])) }
 {
     groups[number].push(pin)?;
     Ok(())
@@ -48,7 +51,12 @@ fn add_word(
     word: &MarkedWord<'_>,
 ) -> Result<(), AllocError>
     ensures count { OnOk result (vec_len groups.new ≡ vec_len groups.old) }
-    ensures groups { OnOk result (map (λ g. g.items) groups.new.items ≡ (if nat_lt word.now.net (vec_len groups.old) then slice_set (map (λ g. g.items) groups.old.items) word.now.net (slice_index_or (map (λ g. g.items) groups.old.items) word.now.net [] ++ pin_with (seen word.now) ∷ []) else map (λ g. g.items) groups.old.items)) }
+    ensures groups { OnOk result
+        (map (λ g. g.items) groups.new.items
+        ≡ (if nat_lt word.now.net (vec_len groups.old)
+        then slice_set (map (λ g. g.items) groups.old.items) word.now.net
+        (slice_index_or (map (λ g. g.items) groups.old.items) word.now.net []
+        ++ pin_with (seen_word word.now) ∷ []) else map (λ g. g.items) groups.old.items)) }
 {
     let number = word.net as usize;
     if number < groups.len() {
@@ -65,7 +73,10 @@ fn add_at(
     place: usize,
 ) -> Result<(), AllocError>
     ensures count { OnOk result (vec_len groups.new ≡ vec_len groups.old) }
-    ensures groups { OnOk result (map (λ g. g.items) groups.new.items ≡ groups_after (slice_get words.now place) (vec_len groups.old) (map (λ g. g.items) groups.old.items)) }
+    ensures groups { OnOk result
+        (map (λ g. g.items) groups.new.items
+        ≡ groups_after (slice_get words.now place) (vec_len groups.old)
+        (map (λ g. g.items) groups.old.items)) }
 {
     match words.get(place) {
         Some(word) => add_word(alloc, groups, word),
@@ -99,7 +110,8 @@ fn pin_counts(
 /// Returns an empty group for each net, with room for as many pins as the net's count says.
 fn empty_groups(alloc: Global, counts: &[usize]) -> Result<Vec<Vec<NetPin>>, AllocError>
     ensures count { IfOk result (λ groups. vec_len groups ≡ length counts.now) }
-    ensures empty { IfOk result (λ groups. (n : ℕ) → slice_index_or (map (λ g. g.items) groups.items) n [] ≡ []) }
+    ensures empty { IfOk result
+        (λ groups. (n : ℕ) → slice_index_or (map (λ g. g.items) groups.items) n [] ≡ []) }
 {
     let mut groups = Vec::with_capacity(alloc, counts.len())?;
     for count in counts {
@@ -115,7 +127,10 @@ fn groups(
     words: &[MarkedWord<'_>],
 ) -> Result<Vec<Vec<NetPin>>, AllocError>
     ensures count { IfOk result (λ groups. vec_len groups ≡ count) }
-    ensures groups { IfOk result (λ groups. (n : ℕ) → n < count → slice_index_or (map (λ g. g.items) groups.items) n [] ≡ group_of (map seen words.now) n) }
+    ensures groups { IfOk result
+        (λ groups. (n : ℕ) → n < count
+        → slice_index_or (map (λ g. g.items) groups.items) n []
+        ≡ marked_group (map seen_word words.now) n) }
 {
     let counts = pin_counts(alloc, count, words)?;
     let mut groups = empty_groups(alloc, &counts)?;
@@ -132,7 +147,16 @@ fn net(
     pulls: &IndexMap<&[u8], bool>,
     pins: Vec<NetPin>,
 ) -> Result<Net, AllocError>
-    ensures { IfOk result (λ net. net ≡ record { name = name.now; supply = is_some (get_by (λ n. same_word name.now n.now) supplies.now); pull = get_by (λ n. same_word name.now n.now) pulls.now; pins = pins.items }) }
+    ensures { IfOk result
+        (λ net. net
+        ≡ record {
+          name = name.now;
+          supply = is_some
+              (get_by (λ n. same_word name.now n.now) supplies.now);
+          pull = get_by
+              (λ n. same_word name.now n.now) pulls.now;
+          pins = pins.items;
+        }) }
 {
     Ok(Net {
         name: Name::of(alloc, name)?,
@@ -143,8 +167,10 @@ fn net(
 }
 
 fn next_group(groups: &mut IntoIter<Vec<NetPin>>) -> Option<Vec<NetPin>>
-    ensures head { option_map (λ g. g.items) result ≡ slice_get (map (λ g. g.items) (into_iter_items groups.old)) 0 }
-    ensures rest { map (λ g. g.items) (into_iter_items groups.new) ≡ drop 1 (map (λ g. g.items) (into_iter_items groups.old)) }
+    ensures head { option_map (λ g. g.items) result
+        ≡ slice_get (map (λ g. g.items) (into_iter_items groups.old)) 0 }
+    ensures rest { map (λ g. g.items) (into_iter_items groups.new)
+        ≡ drop 1 (map (λ g. g.items) (into_iter_items groups.old)) }
 {
     groups.next()
 }
@@ -158,7 +184,20 @@ fn push_net(
     pulls: &IndexMap<&[u8], bool>,
     group: Option<Vec<NetPin>>,
 ) -> Result<(), AllocError>
-    ensures { OnOk result (nets.new.items ≡ nets.old.items ++ option_to_list (option_map (λ g. record { name = name.now; supply = is_some (get_by (λ n. same_word name.now n.now) supplies.now); pull = get_by (λ n. same_word name.now n.now) pulls.now; pins = g }) (option_map (λ g. g.items) group))) }
+    ensures { OnOk result
+        (nets.new.items
+        ≡ nets.old.items
+        ++ option_to_list
+        (option_map
+        (λ g. record {
+          name = name.now;
+          supply = is_some
+              (get_by (λ n. same_word name.now n.now) supplies.now);
+          pull = get_by
+              (λ n. same_word name.now n.now) pulls.now;
+          pins = g;
+        })
+        (option_map (λ g. g.items) group))) }
 {
     if let Some(pins) = group {
         nets.push(net(alloc, name, supplies, pulls, pins)?)?;
@@ -175,7 +214,12 @@ fn push_at(
     pulls: &IndexMap<&[u8], bool>,
     group: Option<Vec<NetPin>>,
 ) -> Result<(), AllocError>
-    ensures { OnOk result (nets.new.items ≡ nets_after (net_by (λ q. is_some (get_by (λ n. same_word q.now n.now) supplies.now)) (λ q. get_by (λ n. same_word q.now n.now) pulls.now)) (slice_get names.now place) (option_map (λ g. g.items) group) nets.old.items) }
+    ensures { OnOk result
+        (nets.new.items
+        ≡ nets_after
+        (net_by (λ q. is_some (get_by (λ n. same_word q.now n.now) supplies.now))
+        (λ q. get_by (λ n. same_word q.now n.now) pulls.now)) (slice_get names.now place)
+        (option_map (λ g. g.items) group) nets.old.items) }
 {
     match names.get(place) {
         Some(name) => push_net(alloc, nets, name, supplies, pulls, group),
@@ -190,7 +234,12 @@ fn nets_by(
     pulls: &IndexMap<&[u8], bool>,
     groups: Vec<Vec<NetPin>>,
 ) -> Result<Vec<Net>, AllocError>
-    ensures { IfOk result (λ nets. nets.items ≡ map (net_by (λ q. is_some (get_by (λ n. same_word q.now n.now) supplies.now)) (λ q. get_by (λ n. same_word q.now n.now) pulls.now)) (zip names.now (map (λ g. g.items) groups.items))) }
+    ensures { IfOk result
+        (λ nets. nets.items
+        ≡ map
+        (net_by (λ q. is_some (get_by (λ n. same_word q.now n.now) supplies.now))
+        (λ q. get_by (λ n. same_word q.now n.now) pulls.now))
+        (zip names.now (map (λ g. g.items) groups.items))) }
 {
     let mut nets = Vec::with_capacity(alloc, names.len())?;
     let mut groups = groups.into_iter();
@@ -210,7 +259,14 @@ fn nets_of(
     supplies: &IndexMap<&[u8], u32>,
     pulls: &IndexMap<&[u8], bool>,
 ) -> Result<Vec<Net>, AllocError>
-    ensures { IfOk result (λ nets. (known : List (List ℕ)) (pulled : List Pulled) → ((q : Bor (List ℕ)) → is_some (get_by (λ n. same_word q.now n.now) supplies.now) ≡ is_among known q.now) → ((q : Bor (List ℕ)) → get_by (λ n. same_word q.now n.now) pulls.now ≡ pulled_to pulled q.now) → nets.items ≡ nets_with known pulled words.now 0 (map (λ n. n.now) names.now)) }
+    ensures { IfOk result
+        (λ nets. (known : List (List ℕ)) (pulled : List Pulled)
+        → ((q : Bor (List ℕ))
+        → is_some (get_by (λ n. same_word q.now n.now) supplies.now)
+        ≡ is_among known q.now)
+        → ((q : Bor (List ℕ))
+        → get_by (λ n. same_word q.now n.now) pulls.now ≡ pulled_to pulled q.now)
+        → nets.items ≡ nets_with known pulled words.now 0 (map (λ n. n.now) names.now)) }
 {
     let groups = groups(alloc, names.len(), words.words())?;
     nets_by(alloc, names, supplies, pulls, groups)
@@ -222,7 +278,10 @@ fn board_nets(
     names: &[&[u8]],
     words: &StandingWords<'_>,
 ) -> Result<Vec<Net>, AllocError>
-    ensures { IfOk result (λ nets. nets.items ≡ nets_with (names_of (named Supply chain.now.lines)) (pulls_of chain.now.lines) words.now 0 (map (λ n. n.now) names.now)) }
+    ensures { IfOk result
+        (λ nets. nets.items
+        ≡ nets_with (names_of (named Supply chain.now.lines)) (pulls_of chain.now.lines)
+        words.now 0 (map (λ n. n.now) names.now)) }
 {
     let lines = chain.lines();
     let supplies = names_by_place(alloc, lines, Naming::Supply)?;
@@ -237,7 +296,9 @@ pub fn board_by(
     names: &[&[u8]],
     words: &StandingWords<'_>,
 ) -> Result<RawBoard, AllocError>
-    ensures { IfOk result (λ board. board ≡ board_by chain.entry.lines chain.entry.parts (map (λ n. n.now) names.now) words.now) }
+    ensures { IfOk result
+        (λ board. board
+        ≡ board_by chain.entry.lines chain.entry.parts (map (λ n. n.now) names.now) words.now) }
 {
     let nets = board_nets(alloc, &chain, names, words)?;
     Ok(RawBoard {

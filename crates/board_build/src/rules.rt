@@ -9,7 +9,7 @@ ghost use Rattle.board_lines.specs.declared.limit.Limit.TheVariants.{Pins};
 ghost use Rattle.board_lines.specs.BoardLimits.{limit_number};
 ghost use Rattle.board_lines.specs.NetWords.{lent_pin, same_pin};
 ghost use Rattle.board_build.specs.BoardRules.{data_limit, net_limit, is_kept};
-ghost use Rattle.board_build.specs.inner.Marked.{always_on, file_fault, marked_drivers, marked_guarded, marked_limit, marked_pins, marked_twice, marked_two, marked_unknown, seen};
+ghost use Rattle.board_build.specs.inner.Marked.{always_on, file_fault, marked_drivers, marked_guarded, marked_limit, marked_pins, marked_twice, marked_two, marked_unknown, seen_word};
 
 use crate::marked::MarkedWord;
 use crate::selected_chain::SelectedChain;
@@ -69,14 +69,19 @@ fn by_pin<'a>(
 }
 
 fn count_pins(alloc: Global, pins: &[(PinName<'_>, Spot)]) -> Result<usize, AllocError>
-    ensures { IfOk result (λ count. count ≡ length (once (λ a b. same_pin (lent_pin a.0) (lent_pin b.0)) pins.now)) }
+    ensures { IfOk result
+        (λ count. count ≡ length (once (λ a b. same_pin (lent_pin a.0) (lent_pin b.0)) pins.now)) }
 {
     let different = once_by(alloc, pins)?;
     Ok(different.len())
 }
 
 fn pin_limit(alloc: Global, pins: &[(PinName<'_>, Spot)]) -> Result<Option<BoardFault>, AllocError>
-    ensures { IfOk result (λ fault. fault ≡ (if nat_lt most_pins (length (once (λ a b. same_pin (lent_pin a.0) (lent_pin b.0)) pins.now)) then Some (LimitFault (limit_number Pins)) else None)) }
+    ensures { IfOk result
+        (λ fault. fault
+        ≡ (if nat_lt most_pins
+        (length (once (λ a b. same_pin (lent_pin a.0) (lent_pin b.0)) pins.now))
+        then Some (LimitFault (limit_number Pins)) else None)) }
 {
     let count = count_pins(alloc, pins)?;
     if MOST_PINS < count {
@@ -87,7 +92,10 @@ fn pin_limit(alloc: Global, pins: &[(PinName<'_>, Spot)]) -> Result<Option<Board
 }
 
 fn pin_twice(alloc: Global, pins: &[(PinName<'_>, Spot)]) -> Result<Option<BoardFault>, AllocError>
-    ensures { IfOk result (λ fault. fault ≡ option_map (λ p. PinTwice p.1) (first_repeated (λ a b. same_pin (lent_pin a.0) (lent_pin b.0)) pins.now)) }
+    ensures { IfOk result
+        (λ fault. fault
+        ≡ option_map (λ p. PinTwice p.1)
+        (first_repeated (λ a b. same_pin (lent_pin a.0) (lent_pin b.0)) pins.now)) }
 {
     match first_repeated(alloc, pins)? {
         Some(spot) => Ok(Some(BoardFault::PinTwice(spot))),
@@ -96,7 +104,8 @@ fn pin_twice(alloc: Global, pins: &[(PinName<'_>, Spot)]) -> Result<Option<Board
 }
 
 fn unknown_pin(words: &[MarkedWord<'_>]) -> Option<BoardFault>
-    ensures { result ≡ option_map (λ w. NoPin w.spot) (find (λ w. w.described && is_none w.at) words.now) }
+    ensures { result
+        ≡ option_map (λ w. NoPin w.spot) (find (λ w. w.described && is_none w.at) words.now) }
 {
     for word in words {
         if word.described && word.at.is_none() {
@@ -107,7 +116,7 @@ fn unknown_pin(words: &[MarkedWord<'_>]) -> Option<BoardFault>
 }
 
 fn marked_limit(alloc: Global, words: &[MarkedWord<'_>]) -> Result<Option<BoardFault>, AllocError>
-    ensures { IfOk result (λ fault. fault ≡ marked_limit (map seen words.now)) }
+    ensures { IfOk result (λ fault. fault ≡ marked_limit (map seen_word words.now)) }
 {
     // No more than `MOST_PINS` words cannot name too many pins.
     if words.len() <= MOST_PINS {
@@ -118,7 +127,7 @@ fn marked_limit(alloc: Global, words: &[MarkedWord<'_>]) -> Result<Option<BoardF
 }
 
 fn marked_unknown(words: &[MarkedWord<'_>]) -> Option<BoardFault>
-    ensures { result ≡ marked_unknown (map seen words.now) }
+    ensures { result ≡ marked_unknown (map seen_word words.now) }
 {
     unknown_pin(words)
 }
@@ -156,7 +165,9 @@ pub fn file_fault(
     words: &StandingWords<'_>,
 ) -> Result<Option<BoardFault>, AllocError>
     requires { length names.now < 2 ^ 32 }
-    ensures { IfOk result (λ fault. fault ≡ file_fault chain.now.lines chain.now.parts (map (λ n. n.now) names.now) words.now) }
+    ensures { IfOk result
+        (λ fault. fault
+        ≡ file_fault chain.now.lines chain.now.parts (map (λ n. n.now) names.now) words.now) }
 {
     if let Some(fault) = data_limit(chain.parts()) {
         return Ok(Some(fault));
@@ -188,7 +199,8 @@ fn is_kept(board: &RawBoard, net: &Net) -> bool
 }
 
 fn kept_nets(alloc: Global, board: &RawBoard) -> Result<Vec<bool>, AllocError>
-    ensures { IfOk result (λ kept. kept.items ≡ map (λ net. is_kept board.now (Some net)) board.now.nets) }
+    ensures { IfOk result
+        (λ kept. kept.items ≡ map (λ net. is_kept board.now (Some net)) board.now.nets) }
 {
     let nets = board.nets.as_slice();
     nets.iter().map(|net| is_kept(board, net)).collect(alloc)
@@ -199,7 +211,8 @@ fn always_on<'a>(
     nets: usize,
     words: &[MarkedWord<'a>],
 ) -> Result<Vec<MarkedWord<'a>>, AllocError>
-    ensures { IfOk result (λ drivers. drivers.items ≡ filter (λ w. nat_lt w.net nets && w.always_on) words.now) }
+    ensures { IfOk result
+        (λ drivers. drivers.items ≡ filter (λ w. nat_lt w.net nets && w.always_on) words.now) }
 {
     let mut drivers = Vec::new(alloc);
     for word in words {
@@ -211,7 +224,9 @@ fn always_on<'a>(
 }
 
 fn guarded_driver(kept: &[bool], drivers: &[MarkedWord<'_>]) -> Option<BoardFault>
-    ensures { result ≡ option_map (λ w. GuardedDriver w.spot) (find (λ w. slice_index_or kept.now w.net false) drivers.now) }
+    ensures { result
+        ≡ option_map (λ w. GuardedDriver w.spot)
+        (find (λ w. slice_index_or kept.now w.net false) drivers.now) }
 {
     for word in drivers {
         if is_set(kept, word.net as usize) {
@@ -231,7 +246,9 @@ fn by_net(alloc: Global, words: &[MarkedWord<'_>]) -> Result<Vec<(u32, Spot)>, A
 }
 
 fn two_always_on(alloc: Global, drivers: &[(u32, Spot)]) -> Result<Option<BoardFault>, AllocError>
-    ensures { IfOk result (λ fault. fault ≡ option_map (λ p. TwoAlwaysOn p.1) (first_repeated (λ a b. a.0 == b.0) drivers.now)) }
+    ensures { IfOk result
+        (λ fault. fault
+        ≡ option_map (λ p. TwoAlwaysOn p.1) (first_repeated (λ a b. a.0 == b.0) drivers.now)) }
 {
     match first_repeated(alloc, drivers)? {
         Some(spot) => Ok(Some(BoardFault::TwoAlwaysOn(spot))),
@@ -244,7 +261,8 @@ fn marked_drivers<'a>(
     nets: usize,
     words: &[MarkedWord<'a>],
 ) -> Result<Vec<MarkedWord<'a>>, AllocError>
-    ensures { IfOk result (λ drivers. map seen drivers.items ≡ always_on nets (map seen words.now)) }
+    ensures { IfOk result
+        (λ drivers. map seen_word drivers.items ≡ always_on nets (map seen_word words.now)) }
 {
     always_on(alloc, nets, words)
 }
@@ -254,14 +272,14 @@ fn marked_guarded(
     board: &RawBoard,
     drivers: &[MarkedWord<'_>],
 ) -> Result<Option<BoardFault>, AllocError>
-    ensures { IfOk result (λ fault. fault ≡ marked_guarded board.now (map seen drivers.now)) }
+    ensures { IfOk result (λ fault. fault ≡ marked_guarded board.now (map seen_word drivers.now)) }
 {
     let kept = kept_nets(alloc, board)?;
     Ok(guarded_driver(&kept, drivers))
 }
 
 fn marked_two(alloc: Global, drivers: &[MarkedWord<'_>]) -> Result<Option<BoardFault>, AllocError>
-    ensures { IfOk result (λ fault. fault ≡ marked_two (map seen drivers.now)) }
+    ensures { IfOk result (λ fault. fault ≡ marked_two (map seen_word drivers.now)) }
 {
     let nets = by_net(alloc, drivers)?;
     two_always_on(alloc, &nets)
@@ -274,7 +292,8 @@ pub fn driver_fault(
     board: &RawBoard,
     words: &StandingWords<'_>,
 ) -> Result<Option<BoardFault>, AllocError>
-    ensures { IfOk result (λ fault. fault ≡ marked_drivers board.now (always_on (length board.now.nets) words.now)) }
+    ensures { IfOk result
+        (λ fault. fault ≡ marked_drivers board.now (always_on (length board.now.nets) words.now)) }
 {
     let drivers = marked_drivers(alloc, board.nets.len(), words.words())?;
     if let Some(fault) = marked_guarded(alloc, board, &drivers)? {

@@ -2,9 +2,9 @@
 // chain by a flag for each port bit, without comparing names.
 ghost use Rattle.std.specs.Prelude.{◌≡◌, ℕ, true, false, [], replicate, length, map, slice_index_or, None, IfOk, OnOk};
 ghost use Rattle.first_places.specs.Places.{first_repeated};
-ghost use Rattle.board_lines.specs.PinRows.{pins_of};
+ghost use Rattle.board_lines.specs.PinRows.{pins_of_part};
 ghost use Rattle.board_build.specs.declared.marked.MarkedWord.{MarkedWord};
-ghost use Rattle.board_build.specs.inner.Marked.{seen};
+ghost use Rattle.board_build.specs.inner.Marked.{seen_word};
 ghost use Rattle.board_build.specs.inner.SeenPins.{are_one, is_flagged, is_known_pin};
 
 use crate::marked::MarkedWord;
@@ -41,7 +41,8 @@ impl BitFlags {
     fn set_first(&mut self, bit: usize) -> bool
         ensures free { result ≡ true → slice_index_or self.old bit false ≡ false }
         ensures set { result ≡ true → slice_index_or self.new bit false ≡ true }
-        ensures kept { (k : ℕ) → slice_index_or self.old k false ≡ true → slice_index_or self.new k false ≡ true }
+        ensures kept { (k : ℕ) → slice_index_or self.old k false ≡ true
+            → slice_index_or self.new k false ≡ true }
     {
         if bit < self.flags.len() {
             if self.flags[bit] {
@@ -57,7 +58,9 @@ impl BitFlags {
 /// Returns a row of flags for each part, with a flag for each of the part's port bits. No flag is
 /// set.
 fn unset_rows(alloc: Global, parts: &[Part]) -> Result<Vec<BitFlags>, AllocError>
-    ensures { IfOk result (λ rows. rows.items ≡ map (λ part. replicate (length (pins_of part.kind)) false) parts.now) }
+    ensures { IfOk result
+        (λ rows. rows.items
+        ≡ map (λ part. replicate (length (pins_of_part part.kind)) false) parts.now) }
 {
     let mut rows = Vec::with_capacity(alloc, parts.len())?;
     for part in parts {
@@ -91,9 +94,16 @@ struct SeenPins<'a> {
 impl<'a> SeenPins<'a> {
     /// Adds the pin of a word. Returns true only if the pin had not been added before.
     fn is_new(&mut self, word: &MarkedWord<'a>) -> Result<bool, AllocError>
-        ensures fresh { IfOk result (λ new. new ≡ true → is_known_pin self.old.rows.items self.old.unplaced word.now ≡ false) }
-        ensures added { IfOk result (λ new. new ≡ true → (m : MarkedWord) → are_one (seen word.now) (seen m) ≡ true → is_known_pin self.new.rows.items self.new.unplaced m ≡ true) }
-        ensures kept { OnOk result ((m : MarkedWord) → is_known_pin self.old.rows.items self.old.unplaced m ≡ true → is_known_pin self.new.rows.items self.new.unplaced m ≡ true) }
+        ensures fresh { IfOk result
+            (λ new. new ≡ true
+            → is_known_pin self.old.rows.items self.old.unplaced word.now ≡ false) }
+        ensures added { IfOk result
+            (λ new. new ≡ true → (m : MarkedWord)
+            → are_one (seen_word word.now) (seen_word m) ≡ true
+            → is_known_pin self.new.rows.items self.new.unplaced m ≡ true) }
+        ensures kept { OnOk result
+            ((m : MarkedWord) → is_known_pin self.old.rows.items self.old.unplaced m ≡ true
+            → is_known_pin self.new.rows.items self.new.unplaced m ≡ true) }
     {
         match word.at {
             Some(at) => Ok(set_first_at(&mut self.rows, at)),
@@ -108,7 +118,8 @@ pub fn pins_differ(
     parts: &[Part],
     words: &[MarkedWord<'_>],
 ) -> Result<bool, AllocError>
-    ensures { IfOk result (λ differ. differ ≡ true → first_repeated are_one (map seen words.now) ≡ None) }
+    ensures { IfOk result
+        (λ differ. differ ≡ true → first_repeated are_one (map seen_word words.now) ≡ None) }
 {
     let mut known = SeenPins {
         rows: unset_rows(alloc, parts)?,

@@ -5,7 +5,7 @@ ghost use Rattle.board_lines.specs.declared.names.Naming.TheVariants.{Inert};
 ghost use Rattle.board_files.specs.Files.{HasFewPins};
 ghost use Rattle.board_lines.specs.NetWords.{net_names, net_number, standing_words};
 ghost use Rattle.board_lines.specs.ChainParts.{pin_places};
-ghost use Rattle.board_build.specs.inner.Marked.{mark, marked_twice, seen};
+ghost use Rattle.board_build.specs.inner.Marked.{mark_word, marked_twice, seen_word};
 
 use crate::marked::{MarkedWord, marked_words};
 use crate::seen_pins::pins_differ;
@@ -25,18 +25,18 @@ pub struct StandingWords<'a> {
 
 impl<'a> Model for StandingWords<'a> {
     ghost use Rattle.std.specs.Prelude.{◌≡◌, List, map, true, None};
-    ghost use Rattle.board_build.specs.inner.Marked.{Marked, marked_twice, seen};
+    ghost use Rattle.board_build.specs.inner.Marked.{Marked, marked_twice, seen_word};
 
     ghost Value = { List Marked };
 
-    ghost view = { λ a. map seen a.words.items };
+    ghost view = { λ a. map seen_word a.words.items };
 
-    ghost invariant = { λ a. a.differ ≡ true → marked_twice (map seen a.words.items) ≡ None };
+    ghost invariant = { λ a. a.differ ≡ true → marked_twice (map seen_word a.words.items) ≡ None };
 }
 
 impl<'a> StandingWords<'a> {
     pub fn words(&self) -> &[MarkedWord<'a>]
-        ensures { map seen result.now ≡ self.now }
+        ensures { map seen_word result.now ≡ self.now }
     {
         &self.words
     }
@@ -60,9 +60,14 @@ pub fn standing_words<'a>(
     numbers: &[u32],
     nets: &'a [NetLine],
 ) -> Result<StandingWords<'a>, AllocError>
-    requires numbers { numbers.now ≡ map (λ line. net_number (net_names nets.now) line.name) nets.now }
+    requires numbers { numbers.now
+        ≡ map (λ line. net_number (net_names nets.now) line.name) nets.now }
     requires short { All HasFewPins nets.now }
-    ensures { IfOk result (λ standing. standing ≡ map (mark chain.now.parts (pin_places chain.now.parts) (names_of (named Inert chain.now.lines))) (standing_words nets.now)) }
+    ensures { IfOk result
+        (λ standing. standing
+        ≡ map
+        (mark_word chain.now.parts (pin_places chain.now.parts)
+        (names_of (named Inert chain.now.lines))) (standing_words nets.now)) }
 {
     let words = net_words(alloc, numbers, nets)?;
     let marked = marked_words(alloc, chain, &words)?;

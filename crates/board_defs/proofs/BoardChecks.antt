@@ -38,12 +38,16 @@ abbrev pins_pass : RawBoard → Bool
 pins_pass b = list_all (λ net. later_pass (λ p q. not (same_name p q)) net.pins) b.nets && later_pass nets_apart b.nets
 
 same_name_of : (p q : NetPin) → p.part ≡ q.part → p.pin ≡ q.pin → same_name p q ≡ true
-same_name_of p q a b = and_from (same_text p.part q.part) (same_text p.pin q.pin) (same_text_of p.part q.part a) (same_text_of p.pin q.pin b)
+same_name_of p q a b =
+    and_from (same_text p.part q.part) (same_text p.pin q.pin) (same_text_of p.part q.part a)
+    (same_text_of p.pin q.pin b)
 
 pins_of : (b : RawBoard) → pins_pass b ≡ true → PinsDiffer b
 pins_of b h m n i j first second p q s t same_part same_pin = by_order (cases_order m n)
   where
-    parts : (list_all (λ (net : Net). later_pass (λ p q. not (same_name p q)) net.pins) b.nets ≡ true) × (later_pass nets_apart b.nets ≡ true)
+    parts :
+        (list_all (λ (net : Net). later_pass (λ p q. not (same_name p q)) net.pins) b.nets ≡ true)
+        × (later_pass nets_apart b.nets ≡ true)
     parts = and_parts (list_all (λ (net : Net). later_pass (λ p q. not (same_name p q)) net.pins) b.nets) (later_pass nets_apart b.nets) h
 
     by_order : (m ≡ n) ⊎ ((m < n) ⊎ (n < m)) → (m ≡ n) × (i ≡ j)
@@ -51,12 +55,25 @@ pins_of b h m n i j first second p q s t same_part same_pin = by_order (cases_or
         let got : slice_get b.nets m ≡ Some second = ap (slice_get b.nets) e ∙ t.on_board in
         let two : Some first ≡ Some second = sym s.on_board ∙ got in
         let net : first ≡ second = cc two in
-        let at : slice_get first.pins j ≡ Some q = ap (λ (v : Net). slice_get v.pins j) net ∙ t.in_net in
-        (e, one_by same_name first.pins (item_by (λ (net : Net). later_pass (λ p q. not (same_name p q)) net.pins) b.nets m first parts.0 s.on_board) i j p q s.in_net at (same_name_of p q same_part same_pin) (same_name_of q p (sym same_part) (sym same_pin)))
+        let at : slice_get first.pins j ≡ Some q = ap (λ (v : Net). slice_get v.pins j) net ∙ t.in_net in (
+          e,
+          one_by same_name first.pins
+              (item_by (λ (net : Net). later_pass (λ p q. not (same_name p q)) net.pins) b.nets m
+              first parts.0 s.on_board) i j p q s.in_net at (same_name_of p q same_part same_pin)
+              (same_name_of q p (sym same_part) (sym same_pin)),
+        )
     by_order (inr (inl less)) =
-        absurd (not_shared (same_name p q) (two_by (λ (x y : NetPin). not (same_name x y)) first.pins second.pins i j p q (later_by nets_apart b.nets parts.1 m n first second less s.on_board t.on_board) s.in_net t.in_net) (same_name_of p q same_part same_pin))
+        absurd
+        (not_shared (same_name p q)
+        (two_by (λ (x y : NetPin). not (same_name x y)) first.pins second.pins i j p q
+        (later_by nets_apart b.nets parts.1 m n first second less s.on_board t.on_board)
+        s.in_net t.in_net) (same_name_of p q same_part same_pin))
     by_order (inr (inr less)) =
-        absurd (not_shared (same_name q p) (two_by (λ (x y : NetPin). not (same_name x y)) second.pins first.pins j i q p (later_by nets_apart b.nets parts.1 n m second first less t.on_board s.on_board) t.in_net s.in_net) (same_name_of q p (sym same_part) (sym same_pin)))
+        absurd
+        (not_shared (same_name q p)
+        (two_by (λ (x y : NetPin). not (same_name x y)) second.pins first.pins j i q p
+        (later_by nets_apart b.nets parts.1 n m second first less t.on_board s.on_board)
+        t.in_net s.in_net) (same_name_of q p (sym same_part) (sym same_pin)))
 
 -- the test that each pin has its place in the chain
 abbrev placed_bit : NetPin → Option PortBit → Bool
@@ -85,15 +102,32 @@ pin_of (Some p) pin h = ap Some (text_of p pin h)
 
 placed_of : (b : RawBoard) (pin : NetPin) (at : Option PinAt) → placed_passes b pin at ≡ true → IsPlaced b pin at
 placed_of b pin None h =
-    all_by (λ (part : Part). part.name ≡ pin.part → described part.kind ≡ None) (λ part. not (same_text part.name pin.part) || is_none (described part.kind))
-    (λ part e same. none_of (described part.kind) (implied (same_text part.name pin.part) (is_none (described part.kind)) e (same_text_of part.name pin.part same))) b.chain h
+    all_by (λ (part : Part). part.name ≡ pin.part → described part.kind ≡ None)
+    (λ part. not (same_text part.name pin.part) || is_none (described part.kind))
+    (λ part e same. none_of (described part.kind)
+    (implied (same_text part.name pin.part) (is_none (described part.kind)) e
+    (same_text_of part.name pin.part same))) b.chain h
 placed_of b pin (Some at) h = by_part (slice_get b.chain at.part) refl h
   where
-    by_bit : (part : Part) → slice_get b.chain at.part ≡ Some part → part.name ≡ pin.part → (device : RawDevice) → described part.kind ≡ Some device → (w : Option PortBit) → slice_get device.bits at.bit ≡ w → placed_bit pin w ≡ true → IsPlacedAt b pin at
+    by_bit : (part : Part) → slice_get b.chain at.part ≡ Some part → part.name ≡ pin.part
+        → (device : RawDevice) → described part.kind ≡ Some device → (w : Option PortBit)
+        → slice_get device.bits at.bit ≡ w → placed_bit pin w ≡ true → IsPlacedAt b pin at
     by_bit part ep name device ed None e k = cc k
-    by_bit part ep name device ed (Some bit) e k = record { part = part; in_chain = ep; named = name; device = device; is_described = ed; bit = bit; in_device = e; has_pin = pin_of bit.pin pin.pin k }
+    by_bit part ep name device ed (Some bit) e k =
+        record {
+          part = part;
+          in_chain = ep;
+          named = name;
+          device = device;
+          is_described = ed;
+          bit = bit;
+          in_device = e;
+          has_pin = pin_of bit.pin pin.pin k;
+        }
 
-    by_device : (part : Part) → slice_get b.chain at.part ≡ Some part → part.name ≡ pin.part → (w : Option RawDevice) → described part.kind ≡ w → placed_device pin at w ≡ true → IsPlacedAt b pin at
+    by_device : (part : Part) → slice_get b.chain at.part ≡ Some part → part.name ≡ pin.part
+        → (w : Option RawDevice) → described part.kind ≡ w → placed_device pin at w ≡ true
+        → IsPlacedAt b pin at
     by_device part ep name None e k = cc k
     by_device part ep name (Some device) e k = by_bit part ep name device e (slice_get device.bits at.bit) refl k
 
@@ -113,17 +147,27 @@ pins_agree p q = not (same_text p.part q.part) || is_same p.inert q.inert
 abbrev nets_agree : Net → Net → Bool
 nets_agree x y = two_pass pins_agree x.pins y.pins
 
-inert_of : (b : RawBoard) → list_all (λ net. list_all (inert_passes b) net.pins) b.nets ≡ true → two_pass nets_agree b.nets b.nets ≡ true → AreInertAlike b
+inert_of : (b : RawBoard) → list_all (λ net. list_all (inert_passes b) net.pins) b.nets ≡ true
+    → two_pass nets_agree b.nets b.nets ≡ true → AreInertAlike b
 inert_of b h k = record {
   in_chain =
-      all_by (λ (net : Net). All (λ pin. pin.inert ≡ true → All (λ part. part.name ≢ pin.part) b.chain) net.pins) (λ net. list_all (inert_passes b) net.pins)
+      all_by
+      (λ (net : Net). All (λ pin. pin.inert ≡ true → All (λ part. part.name ≢ pin.part) b.chain)
+      net.pins) (λ net. list_all (inert_passes b) net.pins)
       (λ net e. all_by (λ (pin : NetPin). pin.inert ≡ true → All (λ part. part.name ≢ pin.part) b.chain) (inert_passes b)
-      (λ pin w on. all_by (λ (part : Part). part.name ≢ pin.part) (λ part. not (same_text part.name pin.part)) (λ part u. texts_differ part.name pin.part u) b.chain (implied pin.inert (list_all (λ (part : Part). not (same_text part.name pin.part)) b.chain) w on))
+      (λ pin w on. all_by (λ (part : Part). part.name ≢ pin.part)
+      (λ part. not (same_text part.name pin.part))
+      (λ part u. texts_differ part.name pin.part u) b.chain
+      (implied pin.inert
+      (list_all (λ (part : Part). not (same_text part.name pin.part)) b.chain) w on))
       net.pins e)
       b.nets h;
   agree = λ m n i j first second p q s t same.
       same_of_is_same p.inert q.inert
-      (implied (same_text p.part q.part) (is_same p.inert q.inert) (two_by pins_agree first.pins second.pins i j p q (two_by nets_agree b.nets b.nets m n first second k s.on_board t.on_board) s.in_net t.in_net) (same_text_of p.part q.part same));
+      (implied (same_text p.part q.part) (is_same p.inert q.inert)
+      (two_by pins_agree first.pins second.pins i j p q
+      (two_by nets_agree b.nets b.nets m n first second k s.on_board t.on_board) s.in_net
+      t.in_net) (same_text_of p.part q.part same));
 }
 
 -- the test of the rules on drivers that are always on
@@ -132,8 +176,13 @@ drives_freely b net pin = not (is_always_on (drive b net pin)) || (not net.suppl
 
 free_of : (b : RawBoard) → list_all (λ net. list_all (drives_freely b net) net.pins) b.nets ≡ true → NoGuardedDriver b
 free_of b h n place net pin st on =
-    let there : drives_freely b net pin ≡ true = item_by (drives_freely b net) net.pins place pin (item_by (λ (v : Net). list_all (drives_freely b v) v.pins) b.nets n net h st.on_board) st.in_net in
-    let parts = and_parts (not net.supply) (not (list_any (is_test_pin b) net.pins)) (implied (is_always_on (drive b net pin)) (not net.supply && not (list_any (is_test_pin b) net.pins)) there (ap is_always_on on)) in
+    let there : drives_freely b net pin
+    ≡ true = item_by (drives_freely b net) net.pins place pin
+    (item_by (λ (v : Net). list_all (drives_freely b v) v.pins) b.nets n net h st.on_board)
+    st.in_net in
+    let parts = and_parts (not net.supply) (not (list_any (is_test_pin b) net.pins))
+    (implied (is_always_on (drive b net pin))
+    (not net.supply && not (list_any (is_test_pin b) net.pins)) there (ap is_always_on on)) in
     (not-true net.supply parts.0, not-true (list_any (is_test_pin b) net.pins) parts.1)
 
 abbrev both_on : RawBoard → Net → NetPin → NetPin → Bool
@@ -141,17 +190,33 @@ both_on b net p q = is_always_on (drive b net p) && is_always_on (drive b net q)
 
 one_of : (b : RawBoard) → list_all (λ net. later_pass (λ p q. not (both_on b net p q)) net.pins) b.nets ≡ true → OneAlwaysOn b
 one_of b h n net i j p q en ei ej ne dp dq =
-    ne (one_by (both_on b net) net.pins (item_by (λ (v : Net). later_pass (λ p q. not (both_on b v p q)) v.pins) b.nets n net h en) i j p q ei ej
+    ne
+    (one_by (both_on b net) net.pins
+    (item_by (λ (v : Net). later_pass (λ p q. not (both_on b v p q)) v.pins) b.nets n net h en)
+    i j p q ei ej
     (and_from (is_always_on (drive b net p)) (is_always_on (drive b net q)) (ap is_always_on dp) (ap is_always_on dq))
     (and_from (is_always_on (drive b net q)) (is_always_on (drive b net p)) (ap is_always_on dq) (ap is_always_on dp)))
 
 -- the test of all rules of boards
 abbrev pub board_passes : RawBoard → Bool
 board_passes b =
-    nat_le 1 (length b.chain) && (nat_le (length b.chain) 255 && (later_pass (λ x y. not (same_text x.name y.name)) b.chain && (list_all (λ part. part_passes part.kind) b.chain
-    && (nat_le (data_bits b) 65535 && (nat_le (length b.nets) 16382 && (later_pass (λ x y. not (same_text x.name y.name)) b.nets && (nat_le (sum_by (λ net. length net.pins) b.nets) 65535
-    && (pins_pass b && (list_all (λ net. list_all (λ pin. placed_passes b pin pin.at) net.pins) b.nets && (list_all (λ net. list_all (inert_passes b) net.pins) b.nets && (two_pass nets_agree b.nets b.nets
-    && (list_all (λ net. list_all (drives_freely b net) net.pins) b.nets && list_all (λ net. later_pass (λ p q. not (both_on b net p q)) net.pins) b.nets))))))))))))
+    nat_le 1 (length b.chain) &&
+    (nat_le (length b.chain) 255 &&
+    (later_pass (λ x y. not (same_text x.name y.name)) b.chain &&
+    (list_all (λ part. part_passes part.kind) b.chain
+    &&
+    (nat_le (data_bits b) 65535 &&
+    (nat_le (length b.nets) 16382 &&
+    (later_pass (λ x y. not (same_text x.name y.name)) b.nets &&
+    (nat_le (sum_by (λ net. length net.pins) b.nets) 65535
+    &&
+    (pins_pass b &&
+    (list_all (λ net. list_all (λ pin. placed_passes b pin pin.at) net.pins) b.nets &&
+    (list_all (λ net. list_all (inert_passes b) net.pins) b.nets &&
+    (two_pass nets_agree b.nets b.nets
+    &&
+    (list_all (λ net. list_all (drives_freely b net) net.pins) b.nets && list_all
+    (λ net. later_pass (λ p q. not (both_on b net p q)) net.pins) b.nets))))))))))))
 
 pub board_of : (b : RawBoard) → board_passes b ≡ true → IsBoard b
 board_of b h =
@@ -167,19 +232,29 @@ board_of b h =
     let l = and_parts (list_all (λ (net : Net). list_all (λ (pin : NetPin). placed_passes b pin pin.at) net.pins) b.nets) _ k.1 in
     let m = and_parts (list_all (λ (net : Net). list_all (inert_passes b) net.pins) b.nets) _ l.1 in
     let n = and_parts (two_pass nets_agree b.nets b.nets) _ m.1 in
-    let o = and_parts (list_all (λ (net : Net). list_all (drives_freely b net) net.pins) b.nets) (list_all (λ (net : Net). later_pass (λ p q. not (both_on b net p q)) net.pins) b.nets) n.1 in
+    let o = and_parts (list_all (λ (net : Net). list_all (drives_freely b net) net.pins) b.nets)
+    (list_all (λ (net : Net). later_pass (λ p q. not (both_on b net p q)) net.pins) b.nets) n.1
+    in
     record {
       chain_some = leb-true 1 (length b.chain) a.0;
       chain_most = leb-true (length b.chain) 255 c.0;
-      names_differ = pairs_by (λ (x y : Part). x.name ≢ y.name) (λ x y. not (same_text x.name y.name)) (λ x y w. texts_differ x.name y.name w) b.chain d.0;
+      names_differ =
+          pairs_by (λ (x y : Part). x.name ≢ y.name) (λ x y. not (same_text x.name y.name))
+          (λ x y w. texts_differ x.name y.name w) b.chain d.0;
       parts = all_by (λ (part : Part). IsPart part.kind) (λ part. part_passes part.kind) (λ part w. part_of part.kind w) b.chain e.0;
       data_most = leb-true (data_bits b) 65535 f.0;
       nets_most = leb-true (length b.nets) 16382 g.0;
-      nets_differ = pairs_by (λ (x y : Net). x.name ≢ y.name) (λ x y. not (same_text x.name y.name)) (λ x y w. texts_differ x.name y.name w) b.nets i.0;
+      nets_differ =
+          pairs_by (λ (x y : Net). x.name ≢ y.name) (λ x y. not (same_text x.name y.name))
+          (λ x y w. texts_differ x.name y.name w) b.nets i.0;
       pins_most = leb-true (sum_by (λ (net : Net). length net.pins) b.nets) 65535 j.0;
       pins_differ = pins_of b k.0;
-      placed = all_by (λ (net : Net). All (λ pin. IsPlaced b pin pin.at) net.pins) (λ net. list_all (λ pin. placed_passes b pin pin.at) net.pins)
-          (λ net w. all_by (λ (pin : NetPin). IsPlaced b pin pin.at) (λ pin. placed_passes b pin pin.at) (λ pin u. placed_of b pin pin.at u) net.pins w) b.nets l.0;
+      placed =
+          all_by (λ (net : Net). All (λ pin. IsPlaced b pin pin.at) net.pins)
+          (λ net. list_all (λ pin. placed_passes b pin pin.at) net.pins)
+          (λ net w. all_by (λ (pin : NetPin). IsPlaced b pin pin.at)
+          (λ pin. placed_passes b pin pin.at) (λ pin u. placed_of b pin pin.at u) net.pins w)
+          b.nets l.0;
       inert = inert_of b m.0 n.0;
       no_guarded_driver = free_of b o.0;
       one_always_on = one_of b o.1;

@@ -7,11 +7,15 @@ use Rattle.std.proofs.lemmas.List.Elements.{All-cons, All-nil}
 use Rattle.board_defs.proofs.Members.{has_at, has_range, all_has}
 
 -- if each item passes a test that implies `P`, `P` is true of each item
-pub all_by : {X : Type 0} (P : X → Type 0) (test : X → Bool) → ((x : X) → test x ≡ true → P x) → (xs : List X) → list_all test xs ≡ true → All P xs
+pub all_by : {X : Type 0} (P : X → Type 0) (test : X → Bool) → ((x : X) → test x ≡ true → P x)
+    → (xs : List X) → list_all test xs ≡ true → All P xs
 all_by P test gives [] h = All-nil P
-all_by P test gives (x ∷ xs) h = let parts = and_parts (test x) (list_all test xs) h in All-cons P x xs (gives x parts.0) (all_by P test gives xs parts.1)
+all_by P test gives (x ∷ xs) h =
+    let parts = and_parts (test x) (list_all test xs) h in
+    All-cons P x xs (gives x parts.0) (all_by P test gives xs parts.1)
 
-pub item_by : {X : Type 0} (test : X → Bool) (xs : List X) (i : ℕ) (x : X) → list_all test xs ≡ true → slice_get xs i ≡ Some x → test x ≡ true
+pub item_by : {X : Type 0} (test : X → Bool) (xs : List X) (i : ℕ) (x : X) → list_all test xs ≡ true
+    → slice_get xs i ≡ Some x → test x ≡ true
 item_by test xs i x h e = all_has test xs x h (has_at xs i x e)
 
 -- if each number below n passes the test, so does a number k below n
@@ -23,23 +27,35 @@ abbrev pub later_pass : {X : Type 0} → (X → X → Bool) → List X → Bool
 later_pass test [] = true
 later_pass test (x ∷ xs) = list_all (test x) xs && later_pass test xs
 
-pub later_by : {X : Type 0} (test : X → X → Bool) (xs : List X) → later_pass test xs ≡ true → (i j : ℕ) (x y : X) → i < j → slice_get xs i ≡ Some x → slice_get xs j ≡ Some y → test x y ≡ true
+pub later_by : {X : Type 0} (test : X → X → Bool) (xs : List X) → later_pass test xs ≡ true
+    → (i j : ℕ) (x y : X) → i < j → slice_get xs i ≡ Some x → slice_get xs j ≡ Some y
+    → test x y ≡ true
 later_by test [] h i j x y less ei ej = cc ei
 later_by test (z ∷ xs) h i zero x y less ei ej = absurd (omega arith)
 later_by {X} test (z ∷ xs) h zero (suc j) x y less ei ej =
     let same : z ≡ x = cc ei in
     let P : X → Type 0 = λ v. test v y ≡ true in
     subst P same (item_by (test z) xs j y (and_parts (list_all (test z) xs) (later_pass test xs) h).0 ej)
-later_by test (z ∷ xs) h (suc i) (suc j) x y less ei ej = later_by test xs (and_parts (list_all (test z) xs) (later_pass test xs) h).1 i j x y (omega arith) ei ej
+later_by test (z ∷ xs) h (suc i) (suc j) x y less ei ej =
+    later_by test xs (and_parts (list_all (test z) xs) (later_pass test xs) h).1 i j x y
+    (omega arith) ei ej
 
-pub pairs_by : {X : Type 0} (R : X → X → Type 0) (test : X → X → Bool) → ((x y : X) → test x y ≡ true → R x y) → (xs : List X) → later_pass test xs ≡ true → AllPairs R xs
+pub pairs_by : {X : Type 0} (R : X → X → Type 0) (test : X → X → Bool)
+    → ((x y : X) → test x y ≡ true → R x y) → (xs : List X) → later_pass test xs ≡ true
+    → AllPairs R xs
 pairs_by R test gives [] h i j d less within = absurd (omega arith)
 pairs_by R test gives (x ∷ xs) h i zero d less within = absurd (omega arith)
-pairs_by R test gives (x ∷ xs) h zero (suc j) d less within = all_by (R x) (test x) (gives x) xs (and_parts (list_all (test x) xs) (later_pass test xs) h).0 j d (omega arith)
-pairs_by R test gives (x ∷ xs) h (suc i) (suc j) d less within = pairs_by R test gives xs (and_parts (list_all (test x) xs) (later_pass test xs) h).1 i j d (omega arith) (omega arith)
+pairs_by R test gives (x ∷ xs) h zero (suc j) d less within =
+    all_by (R x) (test x) (gives x) xs (and_parts (list_all (test x) xs) (later_pass test xs) h).0 j
+    d (omega arith)
+pairs_by R test gives (x ∷ xs) h (suc i) (suc j) d less within =
+    pairs_by R test gives xs (and_parts (list_all (test x) xs) (later_pass test xs) h).1 i j d
+    (omega arith) (omega arith)
 
 -- if no item clashes with a later one, two items that clash are at the same place
-pub one_by : {X : Type 0} (clash : X → X → Bool) (xs : List X) → later_pass (λ x y. not (clash x y)) xs ≡ true → (i j : ℕ) (x y : X) → slice_get xs i ≡ Some x → slice_get xs j ≡ Some y → clash x y ≡ true → clash y x ≡ true → i ≡ j
+pub one_by : {X : Type 0} (clash : X → X → Bool) (xs : List X)
+    → later_pass (λ x y. not (clash x y)) xs ≡ true → (i j : ℕ) (x y : X) → slice_get xs i ≡ Some x
+    → slice_get xs j ≡ Some y → clash x y ≡ true → clash y x ≡ true → i ≡ j
 one_by {X} clash xs h i j x y ei ej c d = by_order (cases_order i j)
   where
     wrong : (b : Bool) → b ≡ true → not b ≡ true → ⊥
@@ -55,7 +71,9 @@ one_by {X} clash xs h i j x y ei ej c d = by_order (cases_order i j)
 abbrev pub two_pass : {X Y : Type 0} → (X → Y → Bool) → List X → List Y → Bool
 two_pass test xs ys = list_all (λ x. list_all (test x) ys) xs
 
-pub two_by : {X Y : Type 0} (test : X → Y → Bool) (xs : List X) (ys : List Y) (i j : ℕ) (x : X) (y : Y) → two_pass test xs ys ≡ true → slice_get xs i ≡ Some x → slice_get ys j ≡ Some y → test x y ≡ true
+pub two_by : {X Y : Type 0} (test : X → Y → Bool) (xs : List X) (ys : List Y) (i j : ℕ) (x : X)
+    (y : Y) → two_pass test xs ys ≡ true → slice_get xs i ≡ Some x → slice_get ys j ≡ Some y
+    → test x y ≡ true
 two_by test xs ys i j x y h ei ej = item_by (test x) ys j y (item_by (λ a. list_all (test a) ys) xs i x h ei) ej
 
 -- a test of equality for texts

@@ -45,7 +45,10 @@ order_cons d list before rest (suc i) (suc j) e less within = rest i j e (omega 
 -- if `d` does not precede the control, a list in order whose controls all come after `d` does not have the control
 none_after : (c d : Ctl) (list : List Ctl) → precedes d c ≡ false → All (λ e. IsTrue (precedes d e)) list → holds list c ≡ false
 none_after c d [] not_before after = refl
-none_after c d (e ∷ list) not_before after = by_same (none_after c d list not_before (All-tail (λ (v : Ctl). IsTrue (precedes d v)) e list after)) (same_ctl c e) refl
+none_after c d (e ∷ list) not_before after =
+    by_same
+    (none_after c d list not_before (All-tail (λ (v : Ctl). IsTrue (precedes d v)) e list after))
+    (same_ctl c e) refl
   where
     by_same : holds list c ≡ false → (t : Bool) → same_ctl c e ≡ t → (t || holds list c) ≡ false
     by_same rest true s =
@@ -73,11 +76,17 @@ unfolding is_there
 holds_at_place c [] h = refl
 holds_at_place c (d ∷ list) h = by_before (precedes d c) refl (holds_at_place c list (order_tail d list h))
   where
-    by_before : (t : Bool) → precedes d c ≡ t → holds list c ≡ is_there c (slice_get list (place list c)) → (same_ctl c d || holds list c) ≡ is_there c (slice_get (d ∷ list) (cond t (1 + place list c) 0))
-    by_before true b rest = ap (λ t. t || holds list c) (precedes_not_same d c b) ∙ rest ∙ ap (is_there c) (sym (get_more d list (place list c)))
+    by_before : (t : Bool) → precedes d c ≡ t
+        → holds list c ≡ is_there c (slice_get list (place list c))
+        → (same_ctl c d || holds list c)
+        ≡ is_there c (slice_get (d ∷ list) (cond t (1 + place list c) 0))
+    by_before true b rest =
+        ap (λ t. t || holds list c) (precedes_not_same d c b) ∙ rest
+        ∙ ap (is_there c) (sym (get_more d list (place list c)))
     by_before false b rest = ap (λ t. same_ctl c d || t) (none_after c d list b (order_head d list h)) ∙ or-false (same_ctl c d)
 
-pub holds_some : (c d : Ctl) (list : List Ctl) → IsInControlOrder list → slice_get list (place list c) ≡ Some d → holds list c ≡ same_ctl c d
+pub holds_some : (c d : Ctl) (list : List Ctl) → IsInControlOrder list
+    → slice_get list (place list c) ≡ Some d → holds list c ≡ same_ctl c d
 unfolding is_there
 holds_some c d list h e = holds_at_place c list h ∙ ap (is_there c) e
 
@@ -86,14 +95,17 @@ unfolding is_there
 holds_none c list h e = holds_at_place c list h ∙ ap (is_there c) e
 
 -- a control that the list lacks is inserted at its place in control order
-pub inserted_new : (c : Ctl) (list : List Ctl) → IsInControlOrder list → holds list c ≡ false → inserted c list ≡ insert list (place list c) c
+pub inserted_new : (c : Ctl) (list : List Ctl) → IsInControlOrder list → holds list c ≡ false
+    → inserted c list ≡ insert list (place list c) c
 inserted_new c [] h out = refl
 inserted_new c (d ∷ list) h out = by_before (precedes d c) refl (inserted_new c list (order_tail d list h) (parts.1))
   where
     parts : (same_ctl c d ≡ false) × (holds list c ≡ false)
     parts = or_parts (same_ctl c d) (holds list c) out
 
-    by_before : (t : Bool) → precedes d c ≡ t → inserted c list ≡ insert list (place list c) c → cond t (d ∷ inserted c list) (cond (same_ctl c d) (d ∷ list) (c ∷ d ∷ list)) ≡ insert (d ∷ list) (cond t (1 + place list c) 0) c
+    by_before : (t : Bool) → precedes d c ≡ t → inserted c list ≡ insert list (place list c) c
+        → cond t (d ∷ inserted c list) (cond (same_ctl c d) (d ∷ list) (c ∷ d ∷ list))
+        ≡ insert (d ∷ list) (cond t (1 + place list c) 0) c
     by_before true b rest = ap (λ v. d ∷ v) rest ∙ sym (insert_more d c list (place list c))
     by_before false b rest = ap (λ t. cond t (d ∷ list) (c ∷ d ∷ list)) parts.0
 
@@ -101,10 +113,15 @@ pub inserted_old : (c : Ctl) (list : List Ctl) → IsInControlOrder list → hol
 inserted_old c [] h there = cc there
 inserted_old c (d ∷ list) h there = by_before (inserted_old c list (order_tail d list h)) (precedes d c) refl (same_ctl c d) refl
   where
-    by_before : (holds list c ≡ true → inserted c list ≡ list) → (t : Bool) → precedes d c ≡ t → (s : Bool) → same_ctl c d ≡ s → cond t (d ∷ inserted c list) (cond s (d ∷ list) (c ∷ d ∷ list)) ≡ d ∷ list
+    by_before : (holds list c ≡ true → inserted c list ≡ list) → (t : Bool) → precedes d c ≡ t
+        → (s : Bool) → same_ctl c d ≡ s
+        → cond t (d ∷ inserted c list) (cond s (d ∷ list) (c ∷ d ∷ list)) ≡ d ∷ list
     by_before rest true b s e = ap (λ v. d ∷ v) (rest (sym (ap (λ t. t || holds list c) (precedes_not_same d c b)) ∙ there))
     by_before rest false b true e = refl
-    by_before rest false b false e = absurd (both_ways (holds list c) (none_after c d list b (order_head d list h)) (sym (ap (λ t. t || holds list c) e) ∙ there))
+    by_before rest false b false e =
+        absurd
+        (both_ways (holds list c) (none_after c d list b (order_head d list h))
+        (sym (ap (λ t. t || holds list c) e) ∙ there))
 
 -- if `P` is true of the control and of each control of the list, it is true of each control of the list with the control inserted
 inserted_all : (P : Ctl → Type 0) (c : Ctl) (list : List Ctl) → P c → All P list → All P (inserted c list)
@@ -120,12 +137,19 @@ pub order_inserted : (c : Ctl) (list : List Ctl) → IsInControlOrder list → I
 order_inserted c [] h = order_cons c [] (All-nil (λ (e : Ctl). IsTrue (precedes c e))) h
 order_inserted c (d ∷ list) h = by_before (order_inserted c list (order_tail d list h)) (precedes d c) refl (same_ctl c d) refl
   where
-    by_before : IsInControlOrder (inserted c list) → (t : Bool) → precedes d c ≡ t → (s : Bool) → same_ctl c d ≡ s → IsInControlOrder (cond t (d ∷ inserted c list) (cond s (d ∷ list) (c ∷ d ∷ list)))
-    by_before rest true b s e = order_cons d (inserted c list) (inserted_all (λ (v : Ctl). IsTrue (precedes d v)) c list b (order_head d list h)) rest
+    by_before : IsInControlOrder (inserted c list) → (t : Bool) → precedes d c ≡ t → (s : Bool)
+        → same_ctl c d ≡ s
+        → IsInControlOrder (cond t (d ∷ inserted c list) (cond s (d ∷ list) (c ∷ d ∷ list)))
+    by_before rest true b s e =
+        order_cons d (inserted c list)
+        (inserted_all (λ (v : Ctl). IsTrue (precedes d v)) c list b (order_head d list h)) rest
     by_before rest false b true e = h
     by_before rest false b false e =
         let before : precedes c d ≡ true = precedes_or d c b e in
-        order_cons c (d ∷ list) (All-cons (λ (v : Ctl). IsTrue (precedes c v)) d list before (λ k v less. precedes_trans c d (get_or list k v) before (order_head d list h k v less))) h
+        order_cons c (d ∷ list)
+        (All-cons (λ (v : Ctl). IsTrue (precedes c v)) d list before
+        (λ k v less. precedes_trans c d (get_or list k v) before
+        (order_head d list h k v less))) h
 
 -- in a list in control order, the controls that precede `c` come first
 pub order_parts : (c : Ctl) (list : List Ctl) → IsInControlOrder list → IsPartitionedBy (λ d. precedes d c) list
@@ -137,11 +161,17 @@ order_parts c list h i j e le within before = by_cases (cases_eq i j)
         let less : i < j = omega arith in
         precedes_trans (get_or list i e) (get_or list j e) c (h i j e less within) before
 
-pub point_place : (c : Ctl) (list : List Ctl) (i : ℕ) → i ≤ length list → IsPartitionPoint (λ d. precedes d c ≡ true) (λ d. precedes d c ≡ false) list i → i ≡ place list c
+pub point_place : (c : Ctl) (list : List Ctl) (i : ℕ) → i ≤ length list
+    → IsPartitionPoint (λ d. precedes d c ≡ true) (λ d. precedes d c ≡ false) list i
+    → i ≡ place list c
 point_place c [] i le h = omega arith
 point_place c (d ∷ list) zero le h = sym (ap (λ t. cond t (1 + place list c) 0) (h.1 0 d (omega arith) (omega arith)))
 point_place c (d ∷ list) (suc i) le h =
-    let rest : i ≡ place list c = point_place c list i (omega arith) (λ k e low high. h.0 (suc k) e (omega arith) (omega arith), λ k e low high. h.1 (suc k) e (omega arith) (omega arith)) in
+    let rest : i
+    ≡ place list c = point_place c list i (omega arith) (
+      λ k e low high. h.0 (suc k) e (omega arith) (omega arith),
+      λ k e low high. h.1 (suc k) e (omega arith) (omega arith),
+    ) in
     let up : suc i ≡ 1 + place list c = omega (arith, rest) in
     up ∙ sym (ap (λ t. cond t (1 + place list c) 0) (h.0 0 d (omega arith) (omega arith)))
 
@@ -150,7 +180,8 @@ same_order list new e h = let P : List Ctl → Type 0 = λ v. IsInControlOrder v
 
 -- if a control that the list lacks is inserted at its place, the new list is in control order, and it has the control and
 -- those of the old list
-pub added : (c : Ctl) (list new : List Ctl) (k : ℕ) → IsInControlOrder list → holds list c ≡ false → k ≡ place list c → new ≡ insert list k c → new ≡ inserted c list
+pub added : (c : Ctl) (list new : List Ctl) (k : ℕ) → IsInControlOrder list → holds list c ≡ false
+    → k ≡ place list c → new ≡ insert list k c → new ≡ inserted c list
 added c list new k h out at e = e ∙ ap (λ n. insert list n c) at ∙ sym (inserted_new c list h out)
 
 pub added_order : (c : Ctl) (list new : List Ctl) → new ≡ inserted c list → IsInControlOrder list → IsInControlOrder new

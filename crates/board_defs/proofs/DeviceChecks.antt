@@ -71,7 +71,11 @@ length_has (Some code) n h = eqb-true (length code) n h
 
 abbrev codes_pass : RawDevice → Bool
 codes_pass d =
-    (length d.sample == d.ir) && ((length d.extest == d.ir) && (list_all is_given d.sample && (list_all is_given d.extest && (not (list_all bit_of d.sample) && (not (list_all bit_of d.extest)
+    (length d.sample == d.ir) &&
+    ((length d.extest == d.ir) &&
+    (list_all is_given d.sample &&
+    (list_all is_given d.extest &&
+    (not (list_all bit_of d.sample) && (not (list_all bit_of d.extest)
     && (not (bits_same d.sample d.extest) && ((not (is_old d.edition) || list_all is_zero d.extest) && length_is d.idcode 32)))))))
 
 codes_of : (d : RawDevice) → codes_pass d ≡ true → HasCodes d
@@ -92,7 +96,9 @@ codes_of d h =
       sample_not_ones = not-true (list_all bit_of d.sample) f.0;
       extest_not_ones = not-true (list_all bit_of d.extest) g.0;
       codes_differ = λ same. not_shared (bits_same d.sample d.extest) i.0 (ap (bits_same d.sample) (sym same) ∙ bits_same_refl d.sample);
-      old_extest = λ old. all_by (λ (s : Symbol). s ≡ Zero) is_zero zero_is d.extest (implied (is_old d.edition) (list_all is_zero d.extest) j.0 (old_is d.edition old));
+      old_extest =
+          λ old. all_by (λ (s : Symbol). s ≡ Zero) is_zero zero_is d.extest
+          (implied (is_old d.edition) (list_all is_zero d.extest) j.0 (old_is d.edition old));
       idcode_length = length_has d.idcode 32 j.1;
     }
 
@@ -151,17 +157,36 @@ abbrev indexes : List PortBit → List (Option ℕ)
 indexes bits = map (λ bit. bit.index) bits
 
 abbrev indexes_pass : List PortBit → Bool
-indexes_pass bits = indexes_same (indexes bits) (None ∷ []) || indexes_same (indexes bits) (map Some (range_indexes (first_index (indexes bits)) (last_index (indexes bits))))
+indexes_pass bits =
+    indexes_same (indexes bits) (None ∷ [])
+    || indexes_same (indexes bits)
+    (map Some (range_indexes (first_index (indexes bits)) (last_index (indexes bits))))
 
 are_indexed : (bits : List PortBit) → indexes_pass bits ≡ true → AreIndexed bits
-are_indexed bits h = by_part (or_cases (indexes_same (indexes bits) (None ∷ [])) (indexes_same (indexes bits) (map Some (range_indexes (first_index (indexes bits)) (last_index (indexes bits))))) h)
+are_indexed bits h =
+    by_part
+    (or_cases (indexes_same (indexes bits) (None ∷ []))
+    (indexes_same (indexes bits)
+    (map Some (range_indexes (first_index (indexes bits)) (last_index (indexes bits))))) h)
   where
-    by_part : (indexes_same (indexes bits) (None ∷ []) ≡ true) ⊎ (indexes_same (indexes bits) (map Some (range_indexes (first_index (indexes bits)) (last_index (indexes bits)))) ≡ true) → AreIndexed bits
+    by_part : (indexes_same (indexes bits) (None ∷ []) ≡ true)
+        ⊎ (indexes_same (indexes bits)
+        (map Some (range_indexes (first_index (indexes bits)) (last_index (indexes bits))))
+        ≡ true) → AreIndexed bits
     by_part (inl e) = inl (indexes_of (indexes bits) (None ∷ []) e)
-    by_part (inr e) = inr (first_index (indexes bits), last_index (indexes bits), indexes_of (indexes bits) (map Some (range_indexes (first_index (indexes bits)) (last_index (indexes bits)))) e)
+    by_part (inr e) =
+        inr (
+          first_index (indexes bits),
+          last_index (indexes bits),
+          indexes_of (indexes bits)
+              (map Some (range_indexes (first_index (indexes bits)) (last_index (indexes bits)))) e,
+        )
 
 abbrev port_passes : List PortBit → Bool
-port_passes bits = indexes_pass bits && (later_pass (λ a b. mode_number a.mode == mode_number b.mode) bits && later_pass (λ a b. is_same (is_some a.pin) (is_some b.pin)) bits)
+port_passes bits =
+    indexes_pass bits
+    && (later_pass (λ a b. mode_number a.mode == mode_number b.mode) bits
+    && later_pass (λ a b. is_same (is_some a.pin) (is_some b.pin)) bits)
 
 port_of : (bits : List PortBit) → port_passes bits ≡ true → ArePort bits
 port_of bits h =
@@ -169,8 +194,14 @@ port_of bits h =
     let b = and_parts (later_pass (λ (a b : PortBit). mode_number a.mode == mode_number b.mode) bits) _ a.1 in
     record {
       indexed = are_indexed bits a.0;
-      one_mode = pairs_by (λ (a b : PortBit). a.mode ≡ b.mode) (λ a b. mode_number a.mode == mode_number b.mode) (λ a b e. mode_of a.mode b.mode e) bits b.0;
-      mapped_whole = pairs_by (λ (a b : PortBit). is_some a.pin ≡ is_some b.pin) (λ a b. is_same (is_some a.pin) (is_some b.pin)) (λ a b e. same_of_is_same (is_some a.pin) (is_some b.pin) e) bits b.1;
+      one_mode =
+          pairs_by (λ (a b : PortBit). a.mode ≡ b.mode)
+          (λ a b. mode_number a.mode == mode_number b.mode) (λ a b e. mode_of a.mode b.mode e) bits
+          b.0;
+      mapped_whole =
+          pairs_by (λ (a b : PortBit). is_some a.pin ≡ is_some b.pin)
+          (λ a b. is_same (is_some a.pin) (is_some b.pin))
+          (λ a b e. same_of_is_same (is_some a.pin) (is_some b.pin) e) bits b.1;
     }
 
 -- if each number is at most each later number, the numbers do not decrease
@@ -183,7 +214,9 @@ in_order ns h i j d le within = by_cases (cases_eq i j)
 
 abbrev ports_pass : RawDevice → Bool
 ports_pass d =
-    later_pass (λ a b. not (same_text a b)) d.ports && (later_pass nat_le (map (λ bit. bit.port) d.bits) && (list_all (λ bit. nat_lt bit.port (length d.ports)) d.bits
+    later_pass (λ a b. not (same_text a b)) d.ports &&
+    (later_pass nat_le (map (λ bit. bit.port) d.bits) &&
+    (list_all (λ bit. nat_lt bit.port (length d.ports)) d.bits
     && list_all (λ port. port_passes (bits_of_port d port)) (range_with_len 0 (length d.ports))))
 
 ports_of : (d : RawDevice) → ports_pass d ≡ true → AreOfPorts d
@@ -194,8 +227,13 @@ ports_of d h =
     record {
       ports_differ = pairs_by (λ (a b : List ℕ). a ≢ b) (λ a b. not (same_text a b)) texts_differ d.ports a.0;
       in_order = in_order (map (λ (bit : PortBit). bit.port) d.bits) b.0;
-      of_ports = all_by (λ (bit : PortBit). bit.port < length d.ports) (λ bit. nat_lt bit.port (length d.ports)) (λ bit e. ltb-true bit.port (length d.ports) e) d.bits c.0;
-      each_port = λ port less. port_of (bits_of_port d port) (below_by (λ port. port_passes (bits_of_port d port)) (length d.ports) port c.1 less);
+      of_ports =
+          all_by (λ (bit : PortBit). bit.port < length d.ports)
+          (λ bit. nat_lt bit.port (length d.ports)) (λ bit e. ltb-true bit.port (length d.ports) e)
+          d.bits c.0;
+      each_port =
+          λ port less. port_of (bits_of_port d port)
+          (below_by (λ port. port_passes (bits_of_port d port)) (length d.ports) port c.1 less);
     }
 
 -- the test of the rules on the test access port
@@ -211,10 +249,16 @@ none_of (Some n) h = cc h
 
 tap_bit_of : (bit : PortBit) → tap_bit_passes bit ≡ true → IsTrue bit.tap → IsTapBit bit
 tap_bit_of bit h t =
-    let parts = and_parts (is_none bit.index) (is_tap_mode bit.mode) (implied bit.tap (is_none bit.index && is_tap_mode bit.mode) h t) in
-    (none_of bit.index parts.0, by_mode (or_cases (mode_number bit.mode == mode_number Inward) (mode_number bit.mode == mode_number Outward) parts.1))
+    let parts = and_parts (is_none bit.index) (is_tap_mode bit.mode) (implied bit.tap (is_none bit.index && is_tap_mode bit.mode) h t) in (
+      none_of bit.index parts.0,
+      by_mode
+          (or_cases (mode_number bit.mode == mode_number Inward)
+          (mode_number bit.mode == mode_number Outward) parts.1),
+    )
   where
-    by_mode : ((mode_number bit.mode == mode_number Inward) ≡ true) ⊎ ((mode_number bit.mode == mode_number Outward) ≡ true) → (bit.mode ≡ Inward) ⊎ (bit.mode ≡ Outward)
+    by_mode : ((mode_number bit.mode == mode_number Inward) ≡ true)
+        ⊎ ((mode_number bit.mode == mode_number Outward) ≡ true)
+        → (bit.mode ≡ Inward) ⊎ (bit.mode ≡ Outward)
     by_mode (inl e) = inl (mode_of bit.mode Inward e)
     by_mode (inr e) = inr (mode_of bit.mode Outward e)
 
@@ -222,7 +266,10 @@ abbrev taps_in : List PortBit → ℕ
 taps_in bits = count_by (λ bit. bit.tap && may_receive bit.mode) bits
 
 abbrev tap_passes : List PortBit → Bool
-tap_passes bits = list_all tap_bit_passes bits && ((count_by (λ bit. bit.tap && may_drive bit.mode) bits == 1) && ((taps_in bits == 3) || (taps_in bits == 4)))
+tap_passes bits =
+    list_all tap_bit_passes bits
+    && ((count_by (λ bit. bit.tap && may_drive bit.mode) bits == 1)
+    && ((taps_in bits == 3) || (taps_in bits == 4)))
 
 tap_of : (bits : List PortBit) → tap_passes bits ≡ true → HasTap bits
 tap_of bits h =
@@ -248,7 +295,9 @@ same_pin_of : (a b : Option (List ℕ)) (pin : List ℕ) → a ≡ Some pin → 
 same_pin_of a b pin ea eb = ap (λ (v : Option (List ℕ)). same_pin v b) ea ∙ ap (same_pin (Some pin)) eb ∙ same_text_of pin pin refl
 
 pins_of : (d : RawDevice) → later_pass (λ x y. not (same_pin x.pin y.pin)) d.bits ≡ true → PortPinsDiffer d
-pins_of d h i j a b pin ei ej ea eb = one_by (λ (x y : PortBit). same_pin x.pin y.pin) d.bits h i j a b ei ej (same_pin_of a.pin b.pin pin ea eb) (same_pin_of b.pin a.pin pin eb ea)
+pins_of d h i j a b pin ei ej ea eb =
+    one_by (λ (x y : PortBit). same_pin x.pin y.pin) d.bits h i j a b ei ej
+    (same_pin_of a.pin b.pin pin ea eb) (same_pin_of b.pin a.pin pin eb ea)
 
 -- the test of the rules on entries
 abbrev place_passes : ℕ → Role → Option ℕ → Bool
@@ -257,7 +306,9 @@ place_passes bits role (Some bit) = not (is_inner role) && nat_lt bit bits
 
 place_of : (bits : ℕ) (role : Role) (bit : Option ℕ) → place_passes bits role bit ≡ true → HasPlace bits role bit
 place_of bits role None h = h
-place_of bits role (Some bit) h = let parts = and_parts (not (is_inner role)) (nat_lt bit bits) h in (not-true (is_inner role) parts.0, ltb-true bit bits parts.1)
+place_of bits role (Some bit) h =
+    let parts = and_parts (not (is_inner role)) (nat_lt bit bits) h in
+    (not-true (is_inner role) parts.0, ltb-true bit bits parts.1)
 
 abbrev control_passes : Role → Option Control → Bool
 control_passes Output2 control = true
@@ -281,7 +332,9 @@ stands_passes cells num None = true
 stands_passes cells num (Some control) = (control.cell == num) || list_any (is_control_entry control.cell) cells
 
 stands_of : (d : RawDevice) → list_all (λ e. stands_passes d.cells e.num e.ctl) d.cells ≡ true → ControlsStand d
-stands_of d h i e control ei ec = sym (ap (stands_passes d.cells e.num) ec) ∙ item_by (λ (v : Cell). stands_passes d.cells v.num v.ctl) d.cells i e h ei
+stands_of d h i e control ei ec =
+    sym (ap (stands_passes d.cells e.num) ec)
+    ∙ item_by (λ (v : Cell). stands_passes d.cells v.num v.ctl) d.cells i e h ei
 
 abbrev below_passes : ℕ → Option Control → Bool
 below_passes n None = true
@@ -298,17 +351,25 @@ disable_passes (Some a) (Some b) = not (a.cell == b.cell) || is_same a.disable b
 
 disable_is : (d : RawDevice) → two_pass (λ x y. disable_passes x.ctl y.ctl) d.cells d.cells ≡ true → OneDisable d
 disable_is d h i j e f a b ei ej ea fb same =
-    let both : disable_passes (Some a) (Some b) ≡ true = sym (ap (λ (v : Option Control). disable_passes v f.ctl) ea ∙ ap (disable_passes (Some a)) fb) ∙ two_by (λ (x y : Cell). disable_passes x.ctl y.ctl) d.cells d.cells i j e f h ei ej in
+    let both : disable_passes (Some a) (Some b)
+    ≡ true = sym
+    (ap (λ (v : Option Control). disable_passes v f.ctl) ea
+    ∙ ap (disable_passes (Some a)) fb)
+    ∙ two_by (λ (x y : Cell). disable_passes x.ctl y.ctl) d.cells d.cells i j e f h ei ej in
     same_of_is_same a.disable b.disable (implied (a.cell == b.cell) (is_same a.disable b.disable) both (eq-eqb a.cell b.cell same))
 
 abbrev both_of : (Role → Bool) → Cell → Cell → Bool
 both_of roles x y = roles x.role && (roles y.role && (x.num == y.num))
 
 one_of : (roles : Role → Bool) (d : RawDevice) → later_pass (λ x y. not (both_of roles x y)) d.cells ≡ true → OneOf roles d
-one_of roles d h i j e f ei ej re rf same = one_by (both_of roles) d.cells h i j e f ei ej (clashes e f re rf same) (clashes f e rf re (sym same))
+one_of roles d h i j e f ei ej re rf same =
+    one_by (both_of roles) d.cells h i j e f ei ej (clashes e f re rf same)
+    (clashes f e rf re (sym same))
   where
     clashes : (x y : Cell) → roles x.role ≡ true → roles y.role ≡ true → x.num ≡ y.num → both_of roles x y ≡ true
-    clashes x y rx ry n = and_from (roles x.role) (roles y.role && (x.num == y.num)) rx (and_from (roles y.role) (x.num == y.num) ry (eq-eqb x.num y.num n))
+    clashes x y rx ry n =
+        and_from (roles x.role) (roles y.role && (x.num == y.num)) rx
+        (and_from (roles y.role) (x.num == y.num) ry (eq-eqb x.num y.num n))
 
 abbrev same_bit : Option ℕ → Option ℕ → Bool
 same_bit None b = false
@@ -330,7 +391,9 @@ one_driver_of d h i j b e f ei ej de df = one_by drive_one d.cells h i j e f ei 
     clashes x y dx dy =
         let p = and_parts (is_on b x.bit) (is_driving x.role) dx in
         let q = and_parts (is_on b y.bit) (is_driving y.role) dy in
-        and_from (is_driving x.role) (is_driving y.role && same_bit x.bit y.bit) p.1 (and_from (is_driving y.role) (same_bit x.bit y.bit) q.1 (same_bit_of b x.bit y.bit p.0 q.0))
+        and_from (is_driving x.role) (is_driving y.role && same_bit x.bit y.bit) p.1
+        (and_from (is_driving y.role) (same_bit x.bit y.bit) q.1
+        (same_bit_of b x.bit y.bit p.0 q.0))
 
 abbrev fits_bit : Role → Option PortBit → Bool
 fits_bit role None = true
@@ -342,21 +405,38 @@ fits bits role (Some b) = fits_bit role (slice_get bits b)
 
 fits_of : (d : RawDevice) → list_all (λ e. fits d.bits e.role e.bit) d.cells ≡ true → EntriesFitPorts d
 fits_of d h i b e bit ei eb en =
-    let there : fits_bit e.role (Some bit) ≡ true = sym (ap (fits d.bits e.role) eb ∙ ap (fits_bit e.role) en) ∙ item_by (λ (v : Cell). fits d.bits v.role v.bit) d.cells i e h ei in
+    let there : fits_bit e.role (Some bit)
+    ≡ true = sym (ap (fits d.bits e.role) eb ∙ ap (fits_bit e.role) en)
+    ∙ item_by (λ (v : Cell). fits d.bits v.role v.bit) d.cells i e h ei in
     let parts = and_parts (not bit.tap) (not (is_driving e.role) || may_drive bit.mode) there in
     (not-true bit.tap parts.0, λ drives. implied (is_driving e.role) (may_drive bit.mode) parts.1 drives)
 
 abbrev cells_pass : RawDevice → Bool
 cells_pass d =
-    list_all (λ e. nat_lt e.num d.boundary) d.cells && (list_all (λ cell. list_any (λ n. n == cell) (map (λ e. e.num) d.cells)) (range_with_len 0 d.boundary)
-    && (list_all (λ e. place_passes (length d.bits) e.role e.bit) d.cells && (list_all (λ e. control_passes e.role e.ctl) d.cells && (list_all (λ e. stands_passes d.cells e.num e.ctl) d.cells
-    && (list_all (λ e. below_passes d.boundary e.ctl) d.cells && (two_pass (λ x y. disable_passes x.ctl y.ctl) d.cells d.cells && (later_pass (λ x y. not (both_of is_loading x y)) d.cells
-    && (later_pass (λ x y. not (both_of is_writing x y)) d.cells && (later_pass (λ x y. not (drive_one x y)) d.cells && list_all (λ e. fits d.bits e.role e.bit) d.cells)))))))))
+    list_all (λ e. nat_lt e.num d.boundary) d.cells &&
+    (list_all (λ cell. list_any (λ n. n == cell) (map (λ e. e.num) d.cells))
+    (range_with_len 0 d.boundary)
+    &&
+    (list_all (λ e. place_passes (length d.bits) e.role e.bit) d.cells &&
+    (list_all (λ e. control_passes e.role e.ctl) d.cells &&
+    (list_all (λ e. stands_passes d.cells e.num e.ctl) d.cells
+    &&
+    (list_all (λ e. below_passes d.boundary e.ctl) d.cells &&
+    (two_pass (λ x y. disable_passes x.ctl y.ctl) d.cells d.cells &&
+    (later_pass (λ x y. not (both_of is_loading x y)) d.cells
+    &&
+    (later_pass (λ x y. not (both_of is_writing x y)) d.cells &&
+    (later_pass (λ x y. not (drive_one x y)) d.cells && list_all (λ e. fits d.bits e.role e.bit)
+    d.cells)))))))))
 
 -- the test of all rules of devices
 abbrev pub device_passes : RawDevice → Bool
 device_passes d =
-    nat_le 2 d.ir && (nat_le d.ir 255 && (nat_le 1 d.boundary && (nat_le d.boundary 65535 && (nat_le (length d.bits) 65535 && (codes_pass d && (ports_pass d && (tap_passes d.bits
+    nat_le 2 d.ir &&
+    (nat_le d.ir 255 &&
+    (nat_le 1 d.boundary &&
+    (nat_le d.boundary 65535 &&
+    (nat_le (length d.bits) 65535 && (codes_pass d && (ports_pass d && (tap_passes d.bits
     && (later_pass (λ x y. not (same_pin x.pin y.pin)) d.bits && cells_pass d))))))))
 
 number_listed : (ns : List ℕ) (n : ℕ) → list_any (λ m. m == n) ns ≡ true → Contains ns n
@@ -377,7 +457,9 @@ device_of d h =
     let j = and_parts (tap_passes d.bits) _ i.1 in
     let k = and_parts (later_pass (λ (x y : PortBit). not (same_pin x.pin y.pin)) d.bits) (cells_pass d) j.1 in
     let l = and_parts (list_all (λ (e : Cell). nat_lt e.num d.boundary) d.cells) _ k.1 in
-    let m = and_parts (list_all (λ (cell : ℕ). list_any (λ n. n == cell) (map (λ (e : Cell). e.num) d.cells)) (range_with_len 0 d.boundary)) _ l.1 in
+    let m = and_parts
+    (list_all (λ (cell : ℕ). list_any (λ n. n == cell) (map (λ (e : Cell). e.num) d.cells))
+    (range_with_len 0 d.boundary)) _ l.1 in
     let n = and_parts (list_all (λ (e : Cell). place_passes (length d.bits) e.role e.bit) d.cells) _ m.1 in
     let o = and_parts (list_all (λ (e : Cell). control_passes e.role e.ctl) d.cells) _ n.1 in
     let p = and_parts (list_all (λ (e : Cell). stands_passes d.cells e.num e.ctl) d.cells) _ o.1 in
@@ -385,7 +467,8 @@ device_of d h =
     let r = and_parts (two_pass (λ (x y : Cell). disable_passes x.ctl y.ctl) d.cells d.cells) _ q.1 in
     let s = and_parts (later_pass (λ (x y : Cell). not (both_of is_loading x y)) d.cells) _ r.1 in
     let t = and_parts (later_pass (λ (x y : Cell). not (both_of is_writing x y)) d.cells) _ s.1 in
-    let u = and_parts (later_pass (λ (x y : Cell). not (drive_one x y)) d.cells) (list_all (λ (e : Cell). fits d.bits e.role e.bit) d.cells) t.1 in
+    let u = and_parts (later_pass (λ (x y : Cell). not (drive_one x y)) d.cells)
+    (list_all (λ (e : Cell). fits d.bits e.role e.bit) d.cells) t.1 in
     record {
       ir_least = leb-true 2 d.ir a.0;
       ir_most = leb-true d.ir 255 b.0;
@@ -396,12 +479,24 @@ device_of d h =
       ports = ports_of d i.0;
       tap = tap_of d.bits j.0;
       pins_differ = pins_of d k.0;
-      cells_below = all_by (λ (e : Cell). e.num < d.boundary) (λ e. nat_lt e.num d.boundary) (λ e w. ltb-true e.num d.boundary w) d.cells l.0;
-      cells_all = λ cell less. number_listed (map (λ (e : Cell). e.num) d.cells) cell (below_by (λ cell. list_any (λ n. n == cell) (map (λ (e : Cell). e.num) d.cells)) d.boundary cell m.0 less);
-      places = all_by (λ (e : Cell). HasPlace (length d.bits) e.role e.bit) (λ e. place_passes (length d.bits) e.role e.bit) (λ e w. place_of (length d.bits) e.role e.bit w) d.cells n.0;
-      controls_given = all_by (λ (e : Cell). MayHaveControl e.role e.ctl) (λ e. control_passes e.role e.ctl) (λ e w. control_of e.role e.ctl w) d.cells o.0;
+      cells_below =
+          all_by (λ (e : Cell). e.num < d.boundary) (λ e. nat_lt e.num d.boundary)
+          (λ e w. ltb-true e.num d.boundary w) d.cells l.0;
+      cells_all =
+          λ cell less. number_listed (map (λ (e : Cell). e.num) d.cells) cell
+          (below_by (λ cell. list_any (λ n. n == cell) (map (λ (e : Cell). e.num) d.cells))
+          d.boundary cell m.0 less);
+      places =
+          all_by (λ (e : Cell). HasPlace (length d.bits) e.role e.bit)
+          (λ e. place_passes (length d.bits) e.role e.bit)
+          (λ e w. place_of (length d.bits) e.role e.bit w) d.cells n.0;
+      controls_given =
+          all_by (λ (e : Cell). MayHaveControl e.role e.ctl) (λ e. control_passes e.role e.ctl)
+          (λ e w. control_of e.role e.ctl w) d.cells o.0;
       controls_stand = stands_of d p.0;
-      controls_below = all_by (λ (e : Cell). IfSome e.ctl (λ control. control.cell < d.boundary)) (λ e. below_passes d.boundary e.ctl) (λ e w. below_of d.boundary e.ctl w) d.cells q.0;
+      controls_below =
+          all_by (λ (e : Cell). IfSome e.ctl (λ control. control.cell < d.boundary))
+          (λ e. below_passes d.boundary e.ctl) (λ e w. below_of d.boundary e.ctl w) d.cells q.0;
       one_disable = disable_is d r.0;
       one_loading = one_of is_loading d s.0;
       one_writing = one_of is_writing d t.0;

@@ -27,49 +27,75 @@ both_second c d = or_right (same_ctl d c) (same_ctl d d) (same_refl d)
 -- a pin that a setting enables is a driver that is always on, or a control of the setting enables it
 pub data Enabled (board : RawBoard) (setting : Enabling) (net : Net) (pin : NetPin) : Type 0 where
   always : drive board net pin ≡ Some AlwaysOn → ((other : Enabling) → enables board other pin ≡ true) → Enabled board setting net pin
-  by_control : (c : Ctl) → setting c ≡ true → ((other : Enabling) → other c ≡ true → enables board other pin ≡ true) → Enabled board setting net pin
+  by_control : (c : Ctl) → setting c ≡ true
+      → ((other : Enabling) → other c ≡ true → enables board other pin ≡ true)
+      → Enabled board setting net pin
 
-enabled_by : (board : RawBoard) (setting : Enabling) (net : Net) (at : PinAt) (cell : Cell) (ctl : Option Control) (pin : NetPin) → enables_by setting at.part ctl ≡ true →
+enabled_by : (board : RawBoard) (setting : Enabling) (net : Net) (at : PinAt) (cell : Cell)
+    (ctl : Option Control) (pin : NetPin) → enables_by setting at.part ctl ≡ true →
     ((other : Enabling) → enables_by other at.part ctl ≡ true → enables board other pin ≡ true) →
     drive board net pin ≡ Some (drive_by board net at.part cell ctl) → Enabled board setting net pin
 enabled_by board setting net at cell None pin e up d = always d (λ other. up other refl)
-enabled_by board setting net at cell (Some control) pin e up d = by_control (record { part = at.part; cell = control.cell }) e (λ other h. up other h)
+enabled_by board setting net at cell (Some control) pin e up d =
+    by_control (record { part = at.part; cell = control.cell }) e (λ other h. up other h)
 
-enabled_entry : (board : RawBoard) (setting : Enabling) (net : Net) (at : PinAt) (entry : Option Cell) (pin : NetPin) → enables_entry setting at.part entry ≡ true →
+enabled_entry : (board : RawBoard) (setting : Enabling) (net : Net) (at : PinAt)
+    (entry : Option Cell) (pin : NetPin) → enables_entry setting at.part entry ≡ true →
     ((other : Enabling) → enables_entry other at.part entry ≡ true → enables board other pin ≡ true) →
     drive board net pin ≡ option_map (λ cell. drive_by board net at.part cell cell.ctl) entry → Enabled board setting net pin
 enabled_entry board setting net at None pin e up d = cc e
 enabled_entry board setting net at (Some cell) pin e up d = enabled_by board setting net at cell cell.ctl pin e up d
 
-enabled_where : (board : RawBoard) (setting : Enabling) (net : Net) (where_at : Option PinAt) (pin : NetPin) → pin.at ≡ where_at → enables_where board setting where_at ≡ true → Enabled board setting net pin
+enabled_where : (board : RawBoard) (setting : Enabling) (net : Net) (where_at : Option PinAt)
+    (pin : NetPin) → pin.at ≡ where_at → enables_where board setting where_at ≡ true
+    → Enabled board setting net pin
 enabled_where board setting net None pin p e = cc e
 enabled_where board setting net (Some at) pin p e =
-    enabled_entry board setting net at (entry_at board at) pin e (λ other h. ap (λ (w : Option PinAt). enables_where board other w) p ∙ h) (ap (λ (w : Option PinAt). drive_where board net w) p)
+    enabled_entry board setting net at (entry_at board at) pin e
+    (λ other h. ap (λ (w : Option PinAt). enables_where board other w) p ∙ h)
+    (ap (λ (w : Option PinAt). drive_where board net w) p)
 
-pub enabled : (board : RawBoard) (setting : Enabling) (net : Net) (pin : NetPin) → enables board setting pin ≡ true → Enabled board setting net pin
+pub enabled : (board : RawBoard) (setting : Enabling) (net : Net) (pin : NetPin)
+    → enables board setting pin ≡ true → Enabled board setting net pin
 enabled board setting net pin e = enabled_where board setting net pin.at pin refl e
 
-one_by : (board : RawBoard) (setting : Enabling) → OneAlwaysOn board → IsPairwiseSafe board setting → (n : ℕ) (net : Net) (i j : ℕ) (p q : NetPin) → slice_get board.nets n ≡ Some net → slice_get net.pins i ≡ Some p → slice_get net.pins j ≡ Some q → i ≢ j → Enabled board setting net p → Enabled board setting net q → ⊥
+one_by : (board : RawBoard) (setting : Enabling) → OneAlwaysOn board → IsPairwiseSafe board setting
+    → (n : ℕ) (net : Net) (i j : ℕ) (p q : NetPin) → slice_get board.nets n ≡ Some net
+    → slice_get net.pins i ≡ Some p → slice_get net.pins j ≡ Some q → i ≢ j
+    → Enabled board setting net p → Enabled board setting net q → ⊥
 one_by board setting rule h n net i j p q en ei ej ne (always dp up) (always dq uq) = rule n net i j p q en ei ej ne dp dq
-one_by board setting rule h n net i j p q en ei ej ne (always dp up) (by_control c sc uq) = (h.each c sc).one n net i j p q en ei ej ne (up (just c)) (uq (just c) (just_has c))
-one_by board setting rule h n net i j p q en ei ej ne (by_control c sc up) (always dq uq) = (h.each c sc).one n net i j p q en ei ej ne (up (just c) (just_has c)) (uq (just c))
-one_by board setting rule h n net i j p q en ei ej ne (by_control c sc up) (by_control d sd uq) = (h.each_two c d sc sd).one n net i j p q en ei ej ne (up (both c d) (both_first c d)) (uq (both c d) (both_second c d))
+one_by board setting rule h n net i j p q en ei ej ne (always dp up) (by_control c sc uq) =
+    (h.each c sc).one n net i j p q en ei ej ne (up (just c)) (uq (just c) (just_has c))
+one_by board setting rule h n net i j p q en ei ej ne (by_control c sc up) (always dq uq) =
+    (h.each c sc).one n net i j p q en ei ej ne (up (just c) (just_has c)) (uq (just c))
+one_by board setting rule h n net i j p q en ei ej ne (by_control c sc up) (by_control d sd uq) =
+    (h.each_two c d sc sd).one n net i j p q en ei ej ne (up (both c d) (both_first c d))
+    (uq (both c d) (both_second c d))
 
 pub safe_from_pairs : (board : RawBoard) (setting : Enabling) → OneAlwaysOn board → IsPairwiseSafe board setting → IsSafe board setting
 safe_from_pairs board setting rule h = record {
-  one = λ n net i j p q en ei ej ne ep eq. one_by board setting rule h n net i j p q en ei ej ne (enabled board setting net p ep) (enabled board setting net q eq);
-  free = λ n net i p c en ei g d. false_from_ne_true (setting c) (λ s. both_ways (just c c) ((h.each c s).free n net i p c en ei g d) (just_has c));
+  one =
+      λ n net i j p q en ei ej ne ep eq. one_by board setting rule h n net i j p q en ei ej ne
+      (enabled board setting net p ep) (enabled board setting net q eq);
+  free =
+      λ n net i p c en ei g d. false_from_ne_true (setting c)
+      (λ s. both_ways (just c c) ((h.each c s).free n net i p c en ei g d) (just_has c));
   own = λ at cell control pinned e k same s.
       let c : Ctl = record { part = at.part; cell = control.cell } in
       (h.each c s).own at cell control pinned e k same (just_has c);
 }
 
 -- every subset of a safe setting is safe
-pub safe_within : (board : RawBoard) (small big : Enabling) → ((c : Ctl) → small c ≡ true → big c ≡ true) → IsSafe board big → IsSafe board small
+pub safe_within : (board : RawBoard) (small big : Enabling)
+    → ((c : Ctl) → small c ≡ true → big c ≡ true) → IsSafe board big → IsSafe board small
 safe_within board small big within h = record {
-  one = λ n net i j p q en ei ej ne ep eq. h.one n net i j p q en ei ej ne (grow net p (enabled board small net p ep)) (grow net q (enabled board small net q eq));
+  one =
+      λ n net i j p q en ei ej ne ep eq. h.one n net i j p q en ei ej ne
+      (grow net p (enabled board small net p ep)) (grow net q (enabled board small net q eq));
   free = λ n net i p c en ei g d. false_from_ne_true (small c) (λ s. both_ways (big c) (h.free n net i p c en ei g d) (within c s));
-  own = λ at cell control pinned e k same s. h.own at cell control pinned e k same (within (record { part = at.part; cell = control.cell }) s);
+  own =
+      λ at cell control pinned e k same s. h.own at cell control pinned e k same
+      (within (record { part = at.part; cell = control.cell }) s);
 }
   where
     grow : (net : Net) (p : NetPin) → Enabled board small net p → enables board big p ≡ true

@@ -6,13 +6,16 @@ use Rattle.board_defs.specs.declared.board.RawBoard.{RawBoard}
 use Rattle.board_defs.specs.Passes.{ArePasses, EnablesNew, ObservesNew}
 
 -- an item before place `y` is among the first `y` items
-earlier_at : {A : Type 0} (items : List A) (x y : ℕ) (item : A) → x < y → slice_get items x ≡ Some item → slice_get (take y items) x ≡ Some item
+earlier_at : {A : Type 0} (items : List A) (x y : ℕ) (item : A) → x < y
+    → slice_get items x ≡ Some item → slice_get (take y items) x ≡ Some item
 earlier_at [] x y item less at = cc at
 earlier_at (first ∷ items) x zero item less at = absurd (omega (arith, less))
 earlier_at (first ∷ items) zero (suc y) item less at = at
 earlier_at (first ∷ items) (suc x) (suc y) item less at = earlier_at items x y item (omega (arith, less)) at
 
-pub passes_differ : (board : RawBoard) (passes : List (List Ctl)) (x y : ℕ) (pass : List Ctl) → ArePasses board passes → x < y → slice_get passes x ≡ Some pass → slice_get passes y ≡ Some pass → ⊥
+pub passes_differ : (board : RawBoard) (passes : List (List Ctl)) (x y : ℕ) (pass : List Ctl)
+    → ArePasses board passes → x < y → slice_get passes x ≡ Some pass
+    → slice_get passes y ≡ Some pass → ⊥
 passes_differ board passes x y pass are less earlier later = by_need (are.needed y pass later)
   where
     before : slice_get (take y passes) x ≡ Some pass

@@ -91,15 +91,19 @@ leg k b = record { part = (pin k 0).part; pin = letter b; at = (pin k b).at; ine
 
 -- Ports of all kinds, with one pin each. The compliance patterns name the last one.
 abbrev kinds_of : List Mode
-kinds_of = Linkage ∷ Linkage ∷ Inward ∷ Inward ∷ Inward ∷ Inward ∷ Outward ∷ Buffer ∷ Both ∷ Outward ∷ Buffer ∷ Both ∷ Both ∷ Both ∷ Inward ∷ []
+kinds_of =
+    Linkage ∷ Linkage ∷ Inward ∷ Inward ∷ Inward ∷ Inward ∷ Outward ∷ Buffer ∷ Both ∷ Outward
+    ∷ Buffer ∷ Both ∷ Both ∷ Both ∷ Inward ∷ []
 
 abbrev marked : ℕ → PortBit → PortBit
 marked port bit = record bit { compliance = bit.port == port }
 
 abbrev pub mixed : RawDevice
 mixed = device (letters 0 kinds_of) (map (marked 18) (plain 0 kinds_of))
-    (entry 0 Input 5 None ∷ entry 1 Input 7 None ∷ entry 2 ObserveOnly 8 None ∷ entry 3 Clock 9 None ∷ entry 4 Input 10 None ∷ entry 5 Input 11 None ∷ entry 6 Input 12 None
-    ∷ entry 7 Input 13 None ∷ entry 8 Output2 13 None ∷ entry 9 Input 14 None ∷ entry 10 Output3 14 (by 15) ∷ entry 11 Bidir 15 (by 15) ∷ entry 12 Input 16 None
+    (entry 0 Input 5 None ∷ entry 1 Input 7 None ∷ entry 2 ObserveOnly 8 None ∷ entry 3 Clock 9 None
+    ∷ entry 4 Input 10 None ∷ entry 5 Input 11 None ∷ entry 6 Input 12 None
+    ∷ entry 7 Input 13 None ∷ entry 8 Output2 13 None ∷ entry 9 Input 14 None
+    ∷ entry 10 Output3 14 (by 15) ∷ entry 11 Bidir 15 (by 15) ∷ entry 12 Input 16 None
     ∷ entry 13 Output3 16 (by 15) ∷ entry 14 Output3 17 (by 15) ∷ control 15 ∷ entry 16 Input 18 None ∷ []) 17
 
 abbrev kinds : RawBoard
@@ -183,7 +187,8 @@ half port index mode b = port_bit (4 + port) (Some index) mode (Some (letter b))
 abbrev halves_device : RawDevice
 halves_device = device (letter 0 ∷ letter 1 ∷ letter 2 ∷ [])
     (half 0 1 Both 0 ∷ half 0 2 Both 1 ∷ half 1 1 Inward 2 ∷ half 1 2 Inward 3 ∷ half 2 1 Outward 4 ∷ half 2 2 Outward 5 ∷ [])
-    (entry 0 Bidir 4 (by 5) ∷ entry 1 Input 6 None ∷ entry 2 ObserveOnly 7 None ∷ entry 3 Output2 8 None ∷ entry 4 Input 9 None ∷ control 5 ∷ []) 6
+    (entry 0 Bidir 4 (by 5) ∷ entry 1 Input 6 None ∷ entry 2 ObserveOnly 7 None
+    ∷ entry 3 Output2 8 None ∷ entry 4 Input 9 None ∷ control 5 ∷ []) 6
 
 abbrev halves : RawBoard
 halves = board (halves_device ∷ []) []
@@ -192,7 +197,8 @@ halves_rules : IsBoard halves
 halves_rules = board_of halves refl
 
 halves_pins : map (is halves) (0 ∷ 1 ∷ 2 ∷ 3 ∷ 4 ∷ 5 ∷ []) ≡
-    (false, true, Some (By (c 0 5))) ∷ (true, false, None) ∷ (false, true, None) ∷ (false, false, None) ∷ (false, false, Some AlwaysOn) ∷ (true, false, None) ∷ []
+    (false, true, Some (By (c 0 5))) ∷ (true, false, None) ∷ (false, true, None)
+    ∷ (false, false, None) ∷ (false, false, Some AlwaysOn) ∷ (true, false, None) ∷ []
 halves_pins = refl
 
 -- A pin of a part outside the chain and a pin of a part without a description are dark. A pin of an inert part is not. None of these pins
@@ -201,7 +207,12 @@ abbrev pub inert : NetPin
 inert = record { part = codes "J1"; pin = codes "1"; at = None; inert = true }
 
 abbrev undescribed : RawBoard
-undescribed = record { chain = record { name = codes "U1"; kind = Bypass 4 } ∷ record { name = codes "U2"; kind = Described rcv } ∷ []; nets = [] }
+undescribed =
+    record {
+      chain = record { name = codes "U1"; kind = Bypass 4 }
+          ∷ record { name = codes "U2"; kind = Described rcv } ∷ [];
+      nets = [];
+    }
 
 abbrev bypass_pin : NetPin
 bypass_pin = record { part = codes "U1"; pin = codes "1"; at = None; inert = false }
@@ -235,7 +246,9 @@ supply_guarded = refl
 
 -- a driver that its own cell disables at 0 is a switching driver of an unguarded net that is pulled to 0, and of no other net
 abbrev od0 : RawDevice
-od0 = device (codes "Q" ∷ []) (port_bit 4 None Outward (Some (codes "1")) false ∷ []) (entry 0 Output2 4 (Some (record { cell = 0; disable = false })) ∷ []) 1
+od0 =
+    device (codes "Q" ∷ []) (port_bit 4 None Outward (Some (codes "1")) false ∷ [])
+    (entry 0 Output2 4 (Some (record { cell = 0; disable = false })) ∷ []) 1
 
 abbrev own : RawBoard
 own = board (od ∷ od0 ∷ rcv ∷ []) []
@@ -243,13 +256,16 @@ own = board (od ∷ od0 ∷ rcv ∷ []) []
 abbrev held : Option Bool → List NetPin → Net
 held pull more = net 0 pull (pin 2 0 ∷ more)
 
-own_by_pull : map (λ pull. drive own (held pull []) (pin 1 0)) (Some false ∷ Some true ∷ None ∷ []) ≡ Some (By (c 1 0)) ∷ Some OneSided ∷ Some OneSided ∷ []
+own_by_pull : map (λ pull. drive own (held pull []) (pin 1 0)) (Some false ∷ Some true ∷ None ∷ [])
+    ≡ Some (By (c 1 0)) ∷ Some OneSided ∷ Some OneSided ∷ []
 own_by_pull = refl
 
 own_switches : map (λ pull. switches own (held pull []) (pin 1 0)) (Some false ∷ Some true ∷ None ∷ []) ≡ true ∷ false ∷ false ∷ []
 own_switches = refl
 
-own_guarded : map (λ p. drive own (held (Some true) (p ∷ [])) (pin 0 0)) (inert ∷ foreign (codes "RAM") ∷ clock 2 ∷ []) ≡ Some (By (c 0 0)) ∷ Some OneSided ∷ Some OneSided ∷ []
+own_guarded : map (λ p. drive own (held (Some true) (p ∷ [])) (pin 0 0))
+    (inert ∷ foreign (codes "RAM") ∷ clock 2 ∷ [])
+    ≡ Some (By (c 0 0)) ∷ Some OneSided ∷ Some OneSided ∷ []
 own_guarded = refl
 
 own_supply : drive own (record (held (Some true) []) { supply = true }) (pin 0 0) ≡ Some OneSided
@@ -266,13 +282,16 @@ kept num role bit safe = record { num = num; role = role; bit = bit; safe = safe
 
 abbrev safes : RawDevice
 safes = device [] [] (
-    kept 0 Input (Some 4) One ∷ kept 1 Input (Some 5) Zero ∷ kept 1 ControlRole None One ∷ kept 2 ControlR None Zero ∷ kept 2 Clock (Some 6) One ∷ kept 3 Internal None One
+    kept 0 Input (Some 4) One ∷ kept 1 Input (Some 5) Zero ∷ kept 1 ControlRole None One
+    ∷ kept 2 ControlR None Zero ∷ kept 2 Clock (Some 6) One ∷ kept 3 Internal None One
     ∷ kept 4 ObserveOnly (Some 7) Zero ∷ kept 5 Output2 (Some 8) Any ∷ kept 6 Input (Some 9) One ∷ kept 6 Output2 (Some 10) Any ∷ []) 7
 
-safe_values : map (safe_value safes) (0 ∷ 1 ∷ 2 ∷ 3 ∷ 4 ∷ 5 ∷ 6 ∷ 7 ∷ []) ≡ Some One ∷ Some One ∷ Some Zero ∷ Some One ∷ Some Zero ∷ Some Any ∷ Some Any ∷ None ∷ []
+safe_values : map (safe_value safes) (0 ∷ 1 ∷ 2 ∷ 3 ∷ 4 ∷ 5 ∷ 6 ∷ 7 ∷ [])
+    ≡ Some One ∷ Some One ∷ Some Zero ∷ Some One ∷ Some Zero ∷ Some Any ∷ Some Any ∷ None ∷ []
 safe_values = refl
 
 -- Disable values. Cell 15 disables its drivers at 1, and cell 8 controls none. The other two cells disable their own drivers, at 0 and at
 -- 1.
-disables : disable_of mixed 15 ∷ disable_of mixed 8 ∷ disable_of od0 0 ∷ disable_of od 0 ∷ [] ≡ Some true ∷ None ∷ Some false ∷ Some true ∷ []
+disables : disable_of mixed 15 ∷ disable_of mixed 8 ∷ disable_of od0 0 ∷ disable_of od 0 ∷ []
+    ≡ Some true ∷ None ∷ Some false ∷ Some true ∷ []
 disables = refl

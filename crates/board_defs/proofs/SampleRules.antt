@@ -85,7 +85,9 @@ two_modes rules = let one : Inward ≡ Outward = rules.one_mode 0 1 (of_port 1 I
 half_mapped : ArePort (of_port 1 Inward (Some (codes "1")) ∷ of_port 2 Inward None ∷ []) → ⊥
 half_mapped rules = let whole : true ≡ false = rules.mapped_whole 0 1 (of_port 1 Inward None) (omega arith) (omega arith) in cc whole
 
-pin_twice : PortPinsDiffer (device (codes "Q" ∷ []) (of_port 1 Inward (Some (codes "1")) ∷ of_port 2 Inward (Some (codes "1")) ∷ []) [] 1) → ⊥
+pin_twice : PortPinsDiffer
+    (device (codes "Q" ∷ [])
+    (of_port 1 Inward (Some (codes "1")) ∷ of_port 2 Inward (Some (codes "1")) ∷ []) [] 1) → ⊥
 pin_twice rules = let same = rules 4 5 _ _ _ refl refl refl refl in omega (arith, same)
 
 -- an entry has a port bit if and only if its function has a port, and the port bit must exist
@@ -134,7 +136,10 @@ disabled cell value = Some (record { cell = cell; disable = value })
 no_control_cell : ControlsStand (of_cells Both (entry 0 Output3 4 (by 1) ∷ entry 1 Input 5 None ∷ [])) → ⊥
 no_control_cell rules = let z : false ≡ true = rules 0 _ _ refl refl in cc z
 
-two_disables : OneDisable (of_cells Outward (entry 0 Output3 4 (disabled 2 true) ∷ entry 1 Output3 5 (disabled 2 false) ∷ control 2 ∷ [])) → ⊥
+two_disables : OneDisable
+    (of_cells Outward
+    (entry 0 Output3 4 (disabled 2 true) ∷ entry 1 Output3 5 (disabled 2 false) ∷ control 2
+    ∷ [])) → ⊥
 two_disables rules = let z : true ≡ false = rules 0 1 _ _ _ _ refl refl refl refl refl in cc z
 
 two_readings : OneOf is_loading (of_cells Inward (entry 0 Input 4 None ∷ entry 0 Clock 5 None ∷ [])) → ⊥
@@ -183,24 +188,43 @@ no_chain rules = let some = rules.chain_some in omega (arith, some)
 abbrev pair : List Net → RawBoard
 pair nets = board (ts ∷ rcv ∷ []) nets
 
-names_twice : IsBoard (record (pair []) { chain = record { name = codes "U1"; kind = Bypass 2 } ∷ record { name = codes "U1"; kind = Bypass 3 } ∷ [] }) → ⊥
+names_twice : IsBoard
+    (record (pair []) {
+      chain = record { name = codes "U1"; kind = Bypass 2 }
+          ∷ record { name = codes "U1"; kind = Bypass 3 } ∷ [];
+    }) → ⊥
 names_twice rules = rules.names_differ 0 1 (record { name = codes "U1"; kind = Bypass 2 }) (omega arith) (omega arith) refl
 
 in_two_nets : PinsDiffer (pair (net 0 None (pin 1 0 ∷ []) ∷ net 1 None (pin 1 0 ∷ []) ∷ [])) → ⊥
 in_two_nets rules =
-    let same = (rules 0 1 0 0 _ _ _ _ (record { on_board = refl; in_net = refl }) (record { on_board = refl; in_net = refl }) refl refl).0 in omega (arith, same)
+    let same =
+    (rules 0 1 0 0 _ _ _ _ (record { on_board = refl; in_net = refl })
+    (record { on_board = refl; in_net = refl }) refl refl).0 in
+    omega (arith, same)
 
 twice_in_net : PinsDiffer (pair (net 0 None (pin 1 0 ∷ pin 1 0 ∷ []) ∷ [])) → ⊥
 twice_in_net rules =
-    let same = (rules 0 0 0 1 _ _ _ _ (record { on_board = refl; in_net = refl }) (record { on_board = refl; in_net = refl }) refl refl).1 in omega (arith, same)
+    let same =
+    (rules 0 0 0 1 _ _ _ _ (record { on_board = refl; in_net = refl })
+    (record { on_board = refl; in_net = refl }) refl refl).1 in
+    omega (arith, same)
 
 -- a pin of a described part has a place in the chain, and no pin of a part in the chain is inert
 without_place : IsPlaced (pair []) (record (pin 1 0) { at = None }) None → ⊥
 without_place rules = let none = rules 1 (record { name = codes "U2"; kind = Bypass 2 }) (omega arith) refl in cc none
 
 inert_in_chain : AreInertAlike (pair (net 0 None (record (pin 1 0) { inert = true } ∷ []) ∷ [])) → ⊥
-inert_in_chain rules = rules.in_chain 0 (net 0 None []) (omega arith) 0 (pin 1 0) (omega arith) refl 1 (record { name = codes "U2"; kind = Bypass 2 }) (omega arith) refl
+inert_in_chain rules =
+    rules.in_chain 0 (net 0 None []) (omega arith) 0 (pin 1 0) (omega arith) refl 1
+    (record { name = codes "U2"; kind = Bypass 2 }) (omega arith) refl
 
-inert_apart : AreInertAlike (pair (net 0 None (record (pin 5 0) { at = None } ∷ record (pin 5 1) { at = None; inert = true } ∷ []) ∷ [])) → ⊥
+inert_apart : AreInertAlike
+    (pair
+    (net 0 None
+    (record (pin 5 0) { at = None } ∷ record (pin 5 1) { at = None; inert = true } ∷ [])
+    ∷ [])) → ⊥
 inert_apart rules =
-    let z : false ≡ true = rules.agree 0 0 0 1 _ _ _ _ (record { on_board = refl; in_net = refl }) (record { on_board = refl; in_net = refl }) refl in cc z
+    let z : false
+    ≡ true = rules.agree 0 0 0 1 _ _ _ _ (record { on_board = refl; in_net = refl })
+    (record { on_board = refl; in_net = refl }) refl in
+    cc z

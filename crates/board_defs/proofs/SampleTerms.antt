@@ -164,7 +164,9 @@ dark_steady_reasons = refl
 
 -- A one-sided driver, which may be on a net or not. Its cell is in no safe setting. Without a pin there is no such driver.
 abbrev unpinned : RawDevice
-unpinned = device (codes "Q" ∷ []) (port_bit 4 None Outward None false ∷ []) (entry 0 Output2 4 (Some (record { cell = 0; disable = true })) ∷ []) 1
+unpinned =
+    device (codes "Q" ∷ []) (port_bit 4 None Outward None false ∷ [])
+    (entry 0 Output2 4 (Some (record { cell = 0; disable = true })) ∷ []) 1
 
 abbrev loose : RawBoard
 loose = board (od ∷ unpinned ∷ ts ∷ od ∷ rcv ∷ []) (net 0 None (pin 3 0 ∷ pin 4 0 ∷ []) ∷ [])
@@ -197,7 +199,9 @@ split_passes = refl
 abbrev more_fours : RawBoard
 more_fours = board (four ∷ rcv ∷ rcv ∷ rcv ∷ ts ∷ []) (fours.nets ++ net 5 None (pin 4 0 ∷ pin 3 1 ∷ []) ∷ [])
 
-more_fours_passes : passes_of more_fours ≡ (c 0 8 ∷ c 0 9 ∷ c 4 1 ∷ []) ∷ (c 0 10 ∷ c 0 11 ∷ c 4 1 ∷ []) ∷ (c 0 9 ∷ c 0 10 ∷ c 4 1 ∷ []) ∷ []
+more_fours_passes : passes_of more_fours
+    ≡ (c 0 8 ∷ c 0 9 ∷ c 4 1 ∷ []) ∷ (c 0 10 ∷ c 0 11 ∷ c 4 1 ∷ []) ∷ (c 0 9 ∷ c 0 10 ∷ c 4 1 ∷ [])
+    ∷ []
 more_fours_passes = refl
 
 -- a net with two pins; a driver is tested only if another pin receives, and a receiver only if another pin drives
@@ -237,13 +241,18 @@ abbrev couple : RawBoard
 couple = board (ts ∷ ts ∷ rcv ∷ []) (net 0 None (pin 0 0 ∷ pin 2 0 ∷ []) ∷ net 1 None (pin 1 0 ∷ pin 2 1 ∷ []) ∷ [])
 
 couple_faults : singles couple ≡
-    StuckNet 0 false ∷ StuckNet 0 true ∷ StuckNet 1 false ∷ StuckNet 1 true ∷ OpenPin (at 0 0) false ∷ OpenPin (at 0 0) true ∷ OpenPin (at 0 1) false ∷ OpenPin (at 0 1) true
-    ∷ OpenPin (at 1 0) false ∷ OpenPin (at 1 0) true ∷ OpenPin (at 1 1) false ∷ OpenPin (at 1 1) true ∷ Short 0 1 And ∷ Short 0 1 Or ∷ Short 0 1 First ∷ Short 0 1 Second ∷ []
+    StuckNet 0 false ∷ StuckNet 0 true ∷ StuckNet 1 false ∷ StuckNet 1 true ∷ OpenPin (at 0 0) false
+    ∷ OpenPin (at 0 0) true ∷ OpenPin (at 0 1) false ∷ OpenPin (at 0 1) true
+    ∷ OpenPin (at 1 0) false ∷ OpenPin (at 1 0) true ∷ OpenPin (at 1 1) false
+    ∷ OpenPin (at 1 1) true ∷ Short 0 1 And ∷ Short 0 1 Or ∷ Short 0 1 First ∷ Short 0 1 Second
+    ∷ []
 couple_faults = refl
 
 -- the single faults of a board with one net
 bus_faults : singles bus ≡
-    StuckNet 0 false ∷ StuckNet 0 true ∷ OpenPin (at 0 0) false ∷ OpenPin (at 0 0) true ∷ OpenPin (at 0 1) false ∷ OpenPin (at 0 1) true ∷ OpenPin (at 0 2) false ∷ OpenPin (at 0 2) true ∷ []
+    StuckNet 0 false ∷ StuckNet 0 true ∷ OpenPin (at 0 0) false ∷ OpenPin (at 0 0) true
+    ∷ OpenPin (at 0 1) false ∷ OpenPin (at 0 1) true ∷ OpenPin (at 0 2) false
+    ∷ OpenPin (at 0 2) true ∷ []
 bus_faults = refl
 
 -- boards that break the rules on always-on drivers: the driver is on a supply net or on a net with a TAP or compliance pin,
@@ -258,10 +267,18 @@ supply_refused : NoGuardedDriver (steady_beside true []) → ⊥
 supply_refused h = let broken = (h 0 0 (steady_net true []) (leg 0 9) (record { on_board = refl; in_net = refl }) refl).0 in cc broken
 
 tap_refused : NoGuardedDriver (steady_beside false (clock 0 ∷ [])) → ⊥
-tap_refused h = let broken = (h 0 0 (steady_net false (clock 0 ∷ [])) (leg 0 9) (record { on_board = refl; in_net = refl }) refl).1 in cc broken
+tap_refused h =
+    let broken =
+    (h 0 0 (steady_net false (clock 0 ∷ [])) (leg 0 9) (record { on_board = refl; in_net = refl })
+    refl).1 in
+    cc broken
 
 compliance_refused : NoGuardedDriver (steady_beside false (leg 0 14 ∷ [])) → ⊥
-compliance_refused h = let broken = (h 0 0 (steady_net false (leg 0 14 ∷ [])) (leg 0 9) (record { on_board = refl; in_net = refl }) refl).1 in cc broken
+compliance_refused h =
+    let broken =
+    (h 0 0 (steady_net false (leg 0 14 ∷ [])) (leg 0 9)
+    (record { on_board = refl; in_net = refl }) refl).1 in
+    cc broken
 
 two_refused : OneAlwaysOn (steady_beside false (leg 1 9 ∷ [])) → ⊥
 two_refused h = h 0 (steady_net false (leg 1 9 ∷ [])) 0 1 (leg 0 9) (leg 1 9) refl refl refl (λ e. omega (arith, e)) refl refl

@@ -35,7 +35,9 @@ port_bit port index mode pin tap = record { port = port; index = index; mode = m
 
 abbrev pub taps : List PortBit
 taps =
-    port_bit 0 None Inward (Some (codes "T1")) true ∷ port_bit 1 None Inward (Some (codes "T3")) true ∷ port_bit 2 None Inward (Some (codes "T4")) true
+    port_bit 0 None Inward (Some (codes "T1")) true
+    ∷ port_bit 1 None Inward (Some (codes "T3")) true
+    ∷ port_bit 2 None Inward (Some (codes "T4")) true
     ∷ port_bit 3 None Outward (Some (codes "T2")) true ∷ []
 
 -- the bits of a vector port of this mode, one for each pin, with indexes from `i` on
@@ -81,7 +83,8 @@ bi = device (codes "Q" ∷ []) (port_bit 4 None Both (Some (codes "1")) false �
 
 abbrev pub two : RawDevice
 two = device (codes "Q" ∷ []) (vector 4 Outward 1 (codes "1" ∷ codes "2" ∷ codes "3" ∷ codes "4" ∷ []))
-    (entry 0 Output3 4 (by 4) ∷ entry 1 Output3 5 (by 4) ∷ entry 2 Output3 6 (by 5) ∷ entry 3 Output3 7 (by 5) ∷ control 4 ∷ control 5 ∷ []) 6
+    (entry 0 Output3 4 (by 4) ∷ entry 1 Output3 5 (by 4) ∷ entry 2 Output3 6 (by 5)
+    ∷ entry 3 Output3 7 (by 5) ∷ control 4 ∷ control 5 ∷ []) 6
 
 abbrev pub od : RawDevice
 od = device (codes "Q" ∷ []) (port_bit 4 None Outward (Some (codes "1")) false ∷ []) (entry 0 Output2 4 (by 0) ∷ []) 1
@@ -89,10 +92,12 @@ od = device (codes "Q" ∷ []) (port_bit 4 None Outward (Some (codes "1")) false
 -- a two-bit three-state buffer: OE_N, A(1), A(0), Y(1), Y(0), GND and VCC; cell 4 reads OE_N and controls Y
 abbrev buf2 : RawDevice
 buf2 = device (codes "OE_N" ∷ codes "A" ∷ codes "Y" ∷ codes "GND" ∷ codes "VCC" ∷ [])
-    (port_bit 4 None Inward (Some (codes "1")) false ∷ port_bit 5 (Some 1) Inward (Some (codes "2")) false ∷ port_bit 5 (Some 0) Inward (Some (codes "3")) false
+    (port_bit 4 None Inward (Some (codes "1")) false ∷ port_bit 5 (Some 1) Inward (Some (codes "2"))
+    false ∷ port_bit 5 (Some 0) Inward (Some (codes "3")) false
     ∷ port_bit 6 (Some 1) Outward (Some (codes "4")) false ∷ port_bit 6 (Some 0) Outward (Some (codes "5")) false
     ∷ port_bit 7 None Linkage (Some (codes "6")) false ∷ port_bit 8 None Linkage (Some (codes "7")) false ∷ [])
-    (entry 4 Input 4 None ∷ control 4 ∷ entry 3 Input 5 None ∷ entry 2 Input 6 None ∷ entry 1 Output3 7 (by 4) ∷ entry 0 Output3 8 (by 4) ∷ []) 5
+    (entry 4 Input 4 None ∷ control 4 ∷ entry 3 Input 5 None ∷ entry 2 Input 6 None
+    ∷ entry 1 Output3 7 (by 4) ∷ entry 0 Output3 8 (by 4) ∷ []) 5
 
 -- Part `k` is named U followed by `k + 1`. Its pins from 1 on come after those of the test access port.
 abbrev pub part_name : ℕ → List ℕ
@@ -149,7 +154,10 @@ bus_passes = refl
 -- A board with a net that has drivers of both controls. The net is paired with each of the other two nets, and those two
 -- are not paired with each other.
 abbrev pub crossing : RawBoard
-crossing = board (two ∷ rcv ∷ rcv ∷ []) (net 0 None (pin 0 0 ∷ pin 1 0 ∷ []) ∷ net 1 None (pin 0 1 ∷ pin 0 2 ∷ pin 1 1 ∷ []) ∷ net 2 None (pin 0 3 ∷ pin 2 0 ∷ []) ∷ [])
+crossing =
+    board (two ∷ rcv ∷ rcv ∷ [])
+    (net 0 None (pin 0 0 ∷ pin 1 0 ∷ []) ∷ net 1 None (pin 0 1 ∷ pin 0 2 ∷ pin 1 1 ∷ [])
+    ∷ net 2 None (pin 0 3 ∷ pin 2 0 ∷ []) ∷ [])
 
 crossing_covered : reasons crossing ≡ None ∷ None ∷ None ∷ []
 crossing_covered = refl
@@ -247,19 +255,27 @@ one_sided_passes : passes_of (pull None) ≡ []
 one_sided_passes = refl
 
 -- the single faults of the pulled net, in order
-switching_faults : singles (pull (Some true)) ≡ StuckNet 0 false ∷ StuckNet 0 true ∷ OpenPin (at 0 0) false ∷ OpenPin (at 0 0) true ∷ OpenPin (at 0 1) false ∷ OpenPin (at 0 1) true ∷ []
+switching_faults : singles (pull (Some true))
+    ≡ StuckNet 0 false ∷ StuckNet 0 true ∷ OpenPin (at 0 0) false ∷ OpenPin (at 0 0) true
+    ∷ OpenPin (at 0 1) false ∷ OpenPin (at 0 1) true ∷ []
 switching_faults = refl
 
 -- a device in which each control enables two drivers; on its board, the third pass is for two nets that neither of the
 -- first two passes observes together
 abbrev pub four : RawDevice
-four = device (codes "Q" ∷ []) (vector 4 Outward 1 (codes "1" ∷ codes "2" ∷ codes "3" ∷ codes "4" ∷ codes "5" ∷ codes "6" ∷ codes "7" ∷ codes "8" ∷ []))
-    (entry 0 Output3 4 (by 8) ∷ entry 1 Output3 5 (by 8) ∷ entry 2 Output3 6 (by 9) ∷ entry 3 Output3 7 (by 9) ∷ entry 4 Output3 8 (by 10) ∷ entry 5 Output3 9 (by 10)
+four =
+    device (codes "Q" ∷ [])
+    (vector 4 Outward 1
+    (codes "1" ∷ codes "2" ∷ codes "3" ∷ codes "4" ∷ codes "5" ∷ codes "6" ∷ codes "7"
+    ∷ codes "8" ∷ []))
+    (entry 0 Output3 4 (by 8) ∷ entry 1 Output3 5 (by 8) ∷ entry 2 Output3 6 (by 9) ∷ entry 3
+    Output3 7 (by 9) ∷ entry 4 Output3 8 (by 10) ∷ entry 5 Output3 9 (by 10)
     ∷ entry 6 Output3 10 (by 11) ∷ entry 7 Output3 11 (by 11) ∷ control 8 ∷ control 9 ∷ control 10 ∷ control 11 ∷ []) 12
 
 abbrev pub fours : RawBoard
 fours = board (four ∷ rcv ∷ rcv ∷ rcv ∷ []) (
-    net 0 None (pin 0 0 ∷ pin 0 4 ∷ pin 1 0 ∷ []) ∷ net 1 None (pin 0 1 ∷ pin 0 6 ∷ pin 1 1 ∷ []) ∷ net 2 None (pin 0 2 ∷ pin 0 7 ∷ pin 2 0 ∷ [])
+    net 0 None (pin 0 0 ∷ pin 0 4 ∷ pin 1 0 ∷ []) ∷ net 1 None (pin 0 1 ∷ pin 0 6 ∷ pin 1 1 ∷ [])
+    ∷ net 2 None (pin 0 2 ∷ pin 0 7 ∷ pin 2 0 ∷ [])
     ∷ net 3 None (pin 0 3 ∷ pin 2 1 ∷ []) ∷ net 4 None (pin 0 5 ∷ pin 3 0 ∷ []) ∷ [])
 
 fours_rules : IsBoard fours

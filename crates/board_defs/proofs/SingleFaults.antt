@@ -36,16 +36,27 @@ numbered_has board n net e =
 -- the place of a net in the list of numbered nets is its number
 numbered_place : (n : ℕ) (nets : List Net) (k : ℕ) (m : Numbered) → slice_get (enumerate_from n nets) k ≡ Some m → m.0 ≡ n + k
 numbered_place n [] k m e = cc e
-numbered_place n (net ∷ nets) zero m e = let same : (n, net) ≡ m = cc e in let at : n ≡ m.0 = ap (λ (q : Numbered). q.0) same in omega (arith, at)
+numbered_place n (net ∷ nets) zero m e =
+    let same : (n, net) ≡ m = cc e in
+    let at : n ≡ m.0 = ap (λ (q : Numbered). q.0) same in
+    omega (arith, at)
 numbered_place n (net ∷ nets) (suc k) m e = let at : m.0 ≡ n + 1 + k = numbered_place (n + 1) nets k m e in omega (arith, at)
 
-at_place : (n : ℕ) (nets : List Net) (k : ℕ) (net : Net) → slice_get nets k ≡ Some net → slice_get (enumerate_from n nets) k ≡ Some (n + k, net)
+at_place : (n : ℕ) (nets : List Net) (k : ℕ) (net : Net) → slice_get nets k ≡ Some net
+    → slice_get (enumerate_from n nets) k ≡ Some (n + k, net)
 at_place n [] k net e = cc e
-at_place n (v ∷ nets) zero net e = let same : v ≡ net = cc e in let at : n ≡ n + 0 = omega arith in ap (λ w. let q : Numbered = (n, w) in Some q) same ∙ ap (λ m. let q : Numbered = (m, net) in Some q) at
-at_place n (v ∷ nets) (suc k) net e = let at : n + 1 + k ≡ n + suc k = omega arith in at_place (n + 1) nets k net e ∙ ap (λ m. let q : Numbered = (m, net) in Some q) at
+at_place n (v ∷ nets) zero net e =
+    let same : v ≡ net = cc e in
+    let at : n ≡ n + 0 = omega arith in
+    ap (λ w. let q : Numbered = (n, w) in Some q) same
+    ∙ ap (λ m. let q : Numbered = (m, net) in Some q) at
+at_place n (v ∷ nets) (suc k) net e =
+    let at : n + 1 + k ≡ n + suc k = omega arith in
+    at_place (n + 1) nets k net e ∙ ap (λ m. let q : Numbered = (m, net) in Some q) at
 
 -- the list of stuck faults has exactly those of covered nets
-stuck_is : (board : RawBoard) → IsBoard board → (s : Single) → Has (flat_map (λ net. stuck_faults net.0) (covered_nets board)) s → IsSingle board s
+stuck_is : (board : RawBoard) → IsBoard board → (s : Single)
+    → Has (flat_map (λ net. stuck_faults net.0) (covered_nets board)) s → IsSingle board s
 stuck_is board rules s h = by_value r.2
   where
     r : (m : Numbered) × Has (covered_nets board) m × Has (stuck_faults m.0) s
@@ -61,10 +72,13 @@ stuck_is board rules s h = by_value r.2
     by_value (inr (inl e)) = let P : Single → Type 0 = λ v. IsSingle board v in subst P e covered
     by_value (inr (inr k)) = absurd k
 
-stuck_has : (board : RawBoard) → IsBoard board → (n : ℕ) (value : Bool) → IsCovered board n → Has (flat_map (λ net. stuck_faults net.0) (covered_nets board)) (StuckNet n value)
+stuck_has : (board : RawBoard) → IsBoard board → (n : ℕ) (value : Bool) → IsCovered board n
+    → Has (flat_map (λ net. stuck_faults net.0) (covered_nets board)) (StuckNet n value)
 stuck_has board rules n value (setting, safe, (net, en, o)) =
     has_flat_map (λ (m : Numbered). stuck_faults m.0) (covered_nets board) (n, net) (StuckNet n value)
-    (has_filter (λ (m : Numbered). is_covered board m.1) (numbered_nets board) (n, net) (numbered_has board n net en) (covered_true board n net rules en (setting, safe, (net, en, o))))
+    (has_filter (λ (m : Numbered). is_covered board m.1) (numbered_nets board) (n, net)
+    (numbered_has board n net en)
+    (covered_true board n net rules en (setting, safe, (net, en, o))))
     (by_value value)
   where
     by_value : (v : Bool) → Has (stuck_faults n) (StuckNet n v)
@@ -81,12 +95,19 @@ open_is board rules s h = by_value r.2
     tested : IsTestedDriver board r.0.net r.0.place ⊎ IsTestedReceiver board r.0.net r.0.place
     tested =
         let f = flat_map_has (tested_pins_in board) (numbered_nets board) r.0 r.1 in
-        let g = map_has (λ place. let pin : PinRef = record { net = f.0.0; place = place } in pin) (filter (is_tested_pin board f.0.1) (range_with_len 0 (length f.0.1.pins))) r.0 f.2 in
+        let g = map_has (λ place. let pin : PinRef = record { net = f.0.0; place = place } in pin)
+        (filter (is_tested_pin board f.0.1) (range_with_len 0 (length f.0.1.pins))) r.0 f.2 in
         let k = filter_has (is_tested_pin board f.0.1) (range_with_len 0 (length f.0.1.pins)) g.0 g.1 in
         let P : PinRef → Type 0 = λ v. IsTestedDriver board v.net v.place ⊎ IsTestedReceiver board v.net v.place in
-        subst P g.2 (by_test f.0 g.0 (numbered_at board f.0 f.1) (or_cases (is_tested_driver board f.0.1 g.0) (is_tested_receiver board f.0.1 g.0) k.1))
+        subst P g.2
+        (by_test f.0 g.0 (numbered_at board f.0 f.1)
+        (or_cases (is_tested_driver board f.0.1 g.0) (is_tested_receiver board f.0.1 g.0)
+        k.1))
       where
-        by_test : (m : Numbered) (place : ℕ) → slice_get board.nets m.0 ≡ Some m.1 → (is_tested_driver board m.1 place ≡ true) ⊎ (is_tested_receiver board m.1 place ≡ true) → IsTestedDriver board m.0 place ⊎ IsTestedReceiver board m.0 place
+        by_test : (m : Numbered) (place : ℕ) → slice_get board.nets m.0 ≡ Some m.1
+            → (is_tested_driver board m.1 place ≡ true)
+            ⊎ (is_tested_receiver board m.1 place ≡ true)
+            → IsTestedDriver board m.0 place ⊎ IsTestedReceiver board m.0 place
         by_test m place en (inl t) = inl (tested_driver_is board m.0 m.1 place rules en t)
         by_test m place en (inr t) = inr (tested_receiver_is board m.0 m.1 place rules en t)
 
@@ -102,21 +123,43 @@ record TestedAt (board : RawBoard) (pin : PinRef) : Type 0 where
   below : pin.place < length net.pins
   tested : is_tested_pin board net pin.place ≡ true
 
-tested_at : (board : RawBoard) (pin : PinRef) → IsBoard board → IsTestedDriver board pin.net pin.place ⊎ IsTestedReceiver board pin.net pin.place → TestedAt board pin
+tested_at : (board : RawBoard) (pin : PinRef) → IsBoard board
+    → IsTestedDriver board pin.net pin.place ⊎ IsTestedReceiver board pin.net pin.place
+    → TestedAt board pin
 tested_at board pin rules (inl (s, safe, (net, en, o))) =
     let t : is_tested_driver board net pin.place ≡ true = tested_driver_true board pin.net net pin.place rules en (s, safe, (net, en, o)) in
-    record { net = net; on_board = en; below = tested_below board net pin.place t; tested = or_left (is_tested_driver board net pin.place) (is_tested_receiver board net pin.place) t }
+    record {
+      net = net;
+      on_board = en;
+      below = tested_below board net pin.place t;
+      tested = or_left
+          (is_tested_driver board net pin.place) (is_tested_receiver board net pin.place) t;
+    }
 tested_at board pin rules (inr (s, safe, (net, p, driver, en, ep, reads, ne, o))) =
-    let t : is_tested_receiver board net pin.place ≡ true = tested_receiver_true board pin.net net pin.place rules en (s, safe, (net, p, driver, en, ep, reads, ne, o)) in
-    record { net = net; on_board = en; below = slice_get_within net.pins pin.place p ep; tested = or_right (is_tested_driver board net pin.place) (is_tested_receiver board net pin.place) t }
+    let t : is_tested_receiver board net pin.place
+    ≡ true = tested_receiver_true board pin.net net pin.place rules en
+    (s, safe, (net, p, driver, en, ep, reads, ne, o)) in
+    record {
+      net = net;
+      on_board = en;
+      below = slice_get_within net.pins pin.place p ep;
+      tested =
+          or_right (is_tested_driver board net pin.place) (is_tested_receiver board net pin.place)
+          t;
+    }
 
-open_has : (board : RawBoard) → IsBoard board → (pin : PinRef) (value : Bool) → IsTestedDriver board pin.net pin.place ⊎ IsTestedReceiver board pin.net pin.place → Has (flat_map open_faults (tested_pins board)) (OpenPin pin value)
+open_has : (board : RawBoard) → IsBoard board → (pin : PinRef) (value : Bool)
+    → IsTestedDriver board pin.net pin.place ⊎ IsTestedReceiver board pin.net pin.place
+    → Has (flat_map open_faults (tested_pins board)) (OpenPin pin value)
 open_has board rules pin value h =
     let t : TestedAt board pin = tested_at board pin rules h in
     has_flat_map open_faults (tested_pins board) pin (OpenPin pin value)
     (has_flat_map (tested_pins_in board) (numbered_nets board) (pin.net, t.net) pin (numbered_has board pin.net t.net t.on_board)
-    (has_map (λ place. let r : PinRef = record { net = pin.net; place = place } in r) (filter (is_tested_pin board t.net) (range_with_len 0 (length t.net.pins))) pin.place
-    (has_filter (is_tested_pin board t.net) (range_with_len 0 (length t.net.pins)) pin.place (has_range 0 (length t.net.pins) pin.place (omega arith) (omega (arith, t.below))) t.tested)))
+    (has_map (λ place. let r : PinRef = record { net = pin.net; place = place } in r)
+    (filter (is_tested_pin board t.net) (range_with_len 0 (length t.net.pins))) pin.place
+    (has_filter (is_tested_pin board t.net) (range_with_len 0 (length t.net.pins)) pin.place
+    (has_range 0 (length t.net.pins) pin.place (omega arith) (omega (arith, t.below)))
+    t.tested)))
     (by_value value)
   where
     by_value : (v : Bool) → Has (open_faults pin) (OpenPin pin v)
@@ -124,7 +167,9 @@ open_has board rules pin value h =
     by_value true = inr (inl refl)
 
 -- the list of shorts has exactly those of paired nets
-short_is : (board : RawBoard) → IsBoard board → (s : Single) → Has (flat_map (λ pair. short_faults pair.0.0 pair.1.0) (paired_nets board)) s → IsSingle board s
+short_is : (board : RawBoard) → IsBoard board → (s : Single)
+    → Has (flat_map (λ pair. short_faults pair.0.0 pair.1.0) (paired_nets board)) s
+    → IsSingle board s
 short_is board rules s h = by_kind r.2
   where
     r : (pair : Numbered × Numbered) × Has (paired_nets board) pair × Has (short_faults pair.0.0 pair.1.0) s
@@ -132,13 +177,17 @@ short_is board rules s h = by_kind r.2
 
     paired : (r.0.0.0 < r.0.1.0) × ArePaired board r.0.0.0 r.0.1.0
     paired =
-        let f = filter_has (λ (pair : Numbered × Numbered). are_paired board pair.0.1 pair.1.1) (pairs_within (numbered_nets board)) r.0 r.1 in
+        let f = filter_has (λ (pair : Numbered × Numbered). are_paired board pair.0.1 pair.1.1)
+        (pairs_within (numbered_nets board)) r.0 r.1 in
         let a : Apart (numbered_nets board) r.0 = pairs_within_has (numbered_nets board) r.0 f.0 in
         let low : r.0.0.0 ≡ 0 + a.low = numbered_place 0 board.nets a.low r.0.0 a.at_low in
         let high : r.0.1.0 ≡ 0 + a.high = numbered_place 0 board.nets a.high r.0.1 a.at_high in
         let less : r.0.0.0 < r.0.1.0 = omega (arith, low, high, a.below) in (
           less,
-          paired_is board r.0.0.0 r.0.1.0 r.0.0.1 r.0.1.1 rules (numbered_at board r.0.0 (has_at (numbered_nets board) a.low r.0.0 a.at_low)) (numbered_at board r.0.1 (has_at (numbered_nets board) a.high r.0.1 a.at_high)) (less_differ r.0.0.0 r.0.1.0 less) f.1,
+          paired_is board r.0.0.0 r.0.1.0 r.0.0.1 r.0.1.1 rules
+              (numbered_at board r.0.0 (has_at (numbered_nets board) a.low r.0.0 a.at_low))
+              (numbered_at board r.0.1 (has_at (numbered_nets board) a.high r.0.1 a.at_high))
+              (less_differ r.0.0.0 r.0.1.0 less) f.1,
         )
       where
         less_differ : (m n : ℕ) → m < n → m ≢ n
@@ -151,11 +200,17 @@ short_is board rules s h = by_kind r.2
     by_kind (inr (inr (inr (inl e)))) = let P : Single → Type 0 = λ v. IsSingle board v in subst P e paired
     by_kind (inr (inr (inr (inr k)))) = absurd k
 
-short_has : (board : RawBoard) → IsBoard board → (a b : ℕ) (kind : Kind) → a < b → ArePaired board a b → Has (flat_map (λ pair. short_faults pair.0.0 pair.1.0) (paired_nets board)) (Short a b kind)
+short_has : (board : RawBoard) → IsBoard board → (a b : ℕ) (kind : Kind) → a < b
+    → ArePaired board a b
+    → Has (flat_map (λ pair. short_faults pair.0.0 pair.1.0) (paired_nets board)) (Short a b kind)
 short_has board rules a b kind less (ne, (s, safe, ((first, ea, oa), (second, eb, ob)))) =
-    has_flat_map (λ (pair : Numbered × Numbered). short_faults pair.0.0 pair.1.0) (paired_nets board) ((a, first), (b, second)) (Short a b kind)
-    (has_filter (λ (pair : Numbered × Numbered). are_paired board pair.0.1 pair.1.1) (pairs_within (numbered_nets board)) ((a, first), (b, second))
-    (has_pairs_within (numbered_nets board) a b (a, first) (b, second) less (at_place 0 board.nets a first ea ∙ number a first) (at_place 0 board.nets b second eb ∙ number b second))
+    has_flat_map (λ (pair : Numbered × Numbered). short_faults pair.0.0 pair.1.0)
+    (paired_nets board) ((a, first), (b, second)) (Short a b kind)
+    (has_filter (λ (pair : Numbered × Numbered). are_paired board pair.0.1 pair.1.1)
+    (pairs_within (numbered_nets board)) ((a, first), (b, second))
+    (has_pairs_within (numbered_nets board) a b (a, first) (b, second) less
+    (at_place 0 board.nets a first ea ∙ number a first)
+    (at_place 0 board.nets b second eb ∙ number b second))
     (paired_true board a b first second rules ea eb (ne, (s, safe, ((first, ea, oa), (second, eb, ob))))))
     (by_kind kind)
   where
@@ -202,8 +257,12 @@ single_listed board rules s h = has_contains (singles board) s (by_case s h)
     shorts = flat_map (λ (pair : Numbered × Numbered). short_faults pair.0.0 pair.1.0) (paired_nets board)
 
     by_case : (s : Single) → IsSingle board s → Has (singles board) s
-    by_case (StuckNet net value) h = has_left (stuck ++ opens) shorts (StuckNet net value) (has_left stuck opens (StuckNet net value) (stuck_has board rules net value h))
-    by_case (OpenPin pin value) h = has_left (stuck ++ opens) shorts (OpenPin pin value) (has_right stuck opens (OpenPin pin value) (open_has board rules pin value h))
+    by_case (StuckNet net value) h =
+        has_left (stuck ++ opens) shorts (StuckNet net value)
+        (has_left stuck opens (StuckNet net value) (stuck_has board rules net value h))
+    by_case (OpenPin pin value) h =
+        has_left (stuck ++ opens) shorts (OpenPin pin value)
+        (has_right stuck opens (OpenPin pin value) (open_has board rules pin value h))
     by_case (Short a b kind) h = has_right (stuck ++ opens) shorts (Short a b kind) (short_has board rules a b kind h.0 h.1)
 
 -- each fault in one of the three lists has the form of that list
@@ -252,12 +311,19 @@ stuck_order board =
 pin_order : (board : RawBoard) → InOrder PinPrecedes (tested_pins board)
 pin_order board =
     order_flat_map (λ (p q : Numbered). p.0 < q.0) PinPrecedes (tested_pins_in board) (numbered_nets board) (order_enumerate 0 board.nets)
-    (λ net h. order_map (λ (x y : ℕ). x < y) PinPrecedes (λ place. let pin : PinRef = record { net = net.0; place = place } in pin) (filter (is_tested_pin board net.1) (range_with_len 0 (length net.1.pins)))
-    (λ x y less. inr (refl, less)) (order_filter (λ (x y : ℕ). x < y) (is_tested_pin board net.1) (range_with_len 0 (length net.1.pins)) (order_range 0 (length net.1.pins))))
+    (λ net h. order_map (λ (x y : ℕ). x < y) PinPrecedes
+    (λ place. let pin : PinRef = record { net = net.0; place = place } in pin)
+    (filter (is_tested_pin board net.1) (range_with_len 0 (length net.1.pins)))
+    (λ x y less. inr (refl, less))
+    (order_filter (λ (x y : ℕ). x < y) (is_tested_pin board net.1)
+    (range_with_len 0 (length net.1.pins)) (order_range 0 (length net.1.pins))))
     (λ p q less a b ha hb. inl (across p q less a b (of_net p a ha) (of_net q b hb)))
   where
     of_net : (net : Numbered) (pin : PinRef) → Has (tested_pins_in board net) pin → pin.net ≡ net.0
-    of_net net pin h = let r = map_has (λ place. let p : PinRef = record { net = net.0; place = place } in p) (filter (is_tested_pin board net.1) (range_with_len 0 (length net.1.pins))) pin h in ap (λ (p : PinRef). p.net) (sym r.2)
+    of_net net pin h =
+        let r = map_has (λ place. let p : PinRef = record { net = net.0; place = place } in p)
+        (filter (is_tested_pin board net.1) (range_with_len 0 (length net.1.pins))) pin h in
+        ap (λ (p : PinRef). p.net) (sym r.2)
 
     across : (p q : Numbered) → p.0 < q.0 → (a b : PinRef) → a.net ≡ p.0 → b.net ≡ q.0 → a.net < b.net
     across p q less a b ea eb = omega (arith, ea, eb)
@@ -278,7 +344,9 @@ open_order board =
 short_order : (board : RawBoard) → InOrder SinglePrecedes (flat_map (λ pair. short_faults pair.0.0 pair.1.0) (paired_nets board))
 short_order board =
     order_flat_map (PairPrecedes Lower) SinglePrecedes (λ pair. short_faults pair.0.0 pair.1.0) (paired_nets board)
-    (order_filter (PairPrecedes Lower) (λ pair. are_paired board pair.0.1 pair.1.1) (pairs_within (numbered_nets board)) (order_pairs_within Lower (numbered_nets board) (order_enumerate 0 board.nets)))
+    (order_filter (PairPrecedes Lower) (λ pair. are_paired board pair.0.1 pair.1.1)
+    (pairs_within (numbered_nets board))
+    (order_pairs_within Lower (numbered_nets board) (order_enumerate 0 board.nets)))
     (λ pair h. kinds pair.0.0 pair.1.0)
     (λ p q before s t hs ht.
     let a = short_form p.0.0 p.1.0 s hs in
@@ -311,7 +379,11 @@ short_order board =
     kinds a b = (after_and a b, (after_or a b, (after_first a b, (λ s m. absurd m, tt))))
 
 pub singles_order : (board : RawBoard) → AllPairs SinglePrecedes (singles board)
-singles_order board = order_pairs SinglePrecedes (singles board) (order_append SinglePrecedes (stuck ++ opens) shorts (order_append SinglePrecedes stuck opens (stuck_order board) (open_order board) first_two) (short_order board) third)
+singles_order board =
+    order_pairs SinglePrecedes (singles board)
+    (order_append SinglePrecedes (stuck ++ opens) shorts
+    (order_append SinglePrecedes stuck opens (stuck_order board) (open_order board) first_two)
+    (short_order board) third)
   where
     stuck : List Single
     stuck = flat_map (λ (net : Numbered). stuck_faults net.0) (covered_nets board)
@@ -323,13 +395,20 @@ singles_order board = order_pairs SinglePrecedes (singles board) (order_append S
     shorts = flat_map (λ (pair : Numbered × Numbered). short_faults pair.0.0 pair.1.0) (paired_nets board)
 
     of_stuck : (s : Single) → Has stuck s → (n : ℕ) × (v : Bool) × (StuckNet n v ≡ s)
-    of_stuck s h = let r = flat_map_has (λ (net : Numbered). stuck_faults net.0) (covered_nets board) s h in let f = stuck_form r.0.0 s r.2 in (r.0.0, f.0, f.1)
+    of_stuck s h =
+        let r = flat_map_has (λ (net : Numbered). stuck_faults net.0) (covered_nets board) s h in
+        let f = stuck_form r.0.0 s r.2 in
+        (r.0.0, f.0, f.1)
 
     of_opens : (s : Single) → Has opens s → (pin : PinRef) × (v : Bool) × (OpenPin pin v ≡ s)
     of_opens s h = let r = flat_map_has open_faults (tested_pins board) s h in let f = open_form r.0 s r.2 in (r.0, f.0, f.1)
 
     of_shorts : (s : Single) → Has shorts s → (a : ℕ) × (b : ℕ) × (kind : Kind) × (Short a b kind ≡ s)
-    of_shorts s h = let r = flat_map_has (λ (pair : Numbered × Numbered). short_faults pair.0.0 pair.1.0) (paired_nets board) s h in let f = short_form r.0.0.0 r.0.1.0 s r.2 in (r.0.0.0, r.0.1.0, f.0, f.1)
+    of_shorts s h =
+        let r = flat_map_has (λ (pair : Numbered × Numbered). short_faults pair.0.0 pair.1.0)
+        (paired_nets board) s h in
+        let f = short_form r.0.0.0 r.0.1.0 s r.2 in
+        (r.0.0.0, r.0.1.0, f.0, f.1)
 
     first_two : (s t : Single) → Has stuck s → Has opens t → SinglePrecedes s t
     first_two s t hs ht = let a = of_stuck s hs in let b = of_opens t ht in precedes_as (StuckNet a.0 a.1) (OpenPin b.0 b.1) s t a.2 b.2 tt

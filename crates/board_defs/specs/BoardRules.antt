@@ -28,7 +28,8 @@ pub record Stands (board : RawBoard) (n : ℕ) (net : Net) (place : ℕ) (pin : 
 -- no pin occurs twice in the nets
 abbrev pub PinsDiffer : RawBoard → Type 0
 PinsDiffer board =
-    (m n i j : ℕ) (first second : Net) (p q : NetPin) → Stands board m first i p → Stands board n second j q → p.part ≡ q.part → p.pin ≡ q.pin → (m ≡ n) × (i ≡ j)
+    (m n i j : ℕ) (first second : Net) (p q : NetPin) → Stands board m first i p
+    → Stands board n second j q → p.part ≡ q.part → p.pin ≡ q.pin → (m ≡ n) × (i ≡ j)
 
 -- `at` is the place of the pin in the chain: `at.part` is the part with the name of the pin's part, and `at.bit` is the
 -- port bit of that part that has this pin
@@ -50,17 +51,22 @@ IsPlaced board pin (Some at) = IsPlacedAt board pin at
 -- No pin of a part in the chain is inert. Of the pins of one part, all are inert or none is.
 pub record AreInertAlike (board : RawBoard) : Type 0 where
   pub in_chain : All (λ net. All (λ pin. pin.inert ≡ true → All (λ part. part.name ≢ pin.part) board.chain) net.pins) board.nets
-  pub agree : (m n i j : ℕ) (first second : Net) (p q : NetPin) → Stands board m first i p → Stands board n second j q → p.part ≡ q.part → p.inert ≡ q.inert
+  pub agree : (m n i j : ℕ) (first second : Net) (p q : NetPin) → Stands board m first i p
+      → Stands board n second j q → p.part ≡ q.part → p.inert ≡ q.inert
 
 -- a net with a driver that is always on is not a supply net, and has no pin of a test access port or of compliance patterns
 abbrev pub NoGuardedDriver : RawBoard → Type 0
 NoGuardedDriver board =
-    (n place : ℕ) (net : Net) (pin : NetPin) → Stands board n net place pin → drive board net pin ≡ Some AlwaysOn → (net.supply ≡ false) × (list_any (is_test_pin board) net.pins ≡ false)
+    (n place : ℕ) (net : Net) (pin : NetPin) → Stands board n net place pin
+    → drive board net pin ≡ Some AlwaysOn
+    → (net.supply ≡ false) × (list_any (is_test_pin board) net.pins ≡ false)
 
 -- no net has two drivers that are always on
 abbrev pub OneAlwaysOn : RawBoard → Type 0
 OneAlwaysOn board =
-    (n : ℕ) (net : Net) (i j : ℕ) (p q : NetPin) → slice_get board.nets n ≡ Some net → slice_get net.pins i ≡ Some p → slice_get net.pins j ≡ Some q → i ≢ j → drive board net p ≡ Some AlwaysOn → drive board net q ≡ Some AlwaysOn → ⊥
+    (n : ℕ) (net : Net) (i j : ℕ) (p q : NetPin) → slice_get board.nets n ≡ Some net
+    → slice_get net.pins i ≡ Some p → slice_get net.pins j ≡ Some q → i ≢ j
+    → drive board net p ≡ Some AlwaysOn → drive board net q ≡ Some AlwaysOn → ⊥
 
 -- the rules of boards
 pub record IsBoard (board : RawBoard) : Type 0 where

@@ -19,7 +19,9 @@ TestsDriver board setting n place = (net : Net) × (slice_get board.nets n ≡ S
 -- the pin at `place` of net `n` is a receiver, and the setting observes the net by a driver on another pin
 abbrev pub TestsReceiver : RawBoard → Enabling → ℕ → ℕ → Type 0
 TestsReceiver board setting n place =
-    (net : Net) × (pin : NetPin) × (driver : ℕ) × (slice_get board.nets n ≡ Some net) × (slice_get net.pins place ≡ Some pin) × (receives board pin ≡ true) × (driver ≢ place) × ObservesBy board setting net driver
+    (net : Net) × (pin : NetPin) × (driver : ℕ) × (slice_get board.nets n ≡ Some net)
+    × (slice_get net.pins place ≡ Some pin) × (receives board pin ≡ true) × (driver ≢ place)
+    × ObservesBy board setting net driver
 
 -- `P` is true of some safe setting
 abbrev pub SomeSafe : RawBoard → (Enabling → Type 0) → Type 0
@@ -43,7 +45,10 @@ IsTestedReceiver board n place = SomeSafe board (λ setting. TestsReceiver board
 
 -- the control is useful: the setting with this control alone is safe, and the control enables a tested driver
 abbrev pub IsUseful : RawBoard → Ctl → Type 0
-IsUseful board c = IsSafe board (just c) × (n : ℕ) × (net : Net) × (place : ℕ) × (pin : NetPin) × (slice_get board.nets n ≡ Some net) × (slice_get net.pins place ≡ Some pin) × (drive board net pin ≡ Some (By c)) × IsTestedDriver board n place
+IsUseful board c =
+    IsSafe board (just c) × (n : ℕ) × (net : Net) × (place : ℕ) × (pin : NetPin)
+    × (slice_get board.nets n ≡ Some net) × (slice_get net.pins place ≡ Some pin)
+    × (drive board net pin ≡ Some (By c)) × IsTestedDriver board n place
 
 -- the two controls are together: the setting with these two controls is safe
 abbrev pub AreTogether : RawBoard → Ctl → Ctl → Type 0
@@ -55,7 +60,9 @@ HasNoDriver board n net = (place : ℕ) (pin : NetPin) → Stands board n net pl
 
 -- the net is blocked: no safe setting enables a driver on it
 abbrev pub IsBlocked : RawBoard → ℕ → Net → Type 0
-IsBlocked board n net = (setting : Enabling) (place : ℕ) (pin : NetPin) → IsSafe board setting → Stands board n net place pin → enables board setting pin ≡ false
+IsBlocked board n net =
+    (setting : Enabling) (place : ℕ) (pin : NetPin) → IsSafe board setting
+    → Stands board n net place pin → enables board setting pin ≡ false
 
 -- the reason applies to the net
 abbrev pub ReasonHolds : RawBoard → ℕ → Net → Reason → Type 0

@@ -92,12 +92,15 @@ bit_count None = 0
 bit_count (Some device) = length device.bits
 
 -- the number of port bits of a part
-abbrev pub port_bits : RawBoard → ℕ → ℕ
-port_bits board part = bit_count (device_at board part)
+abbrev pub count_port_bits : RawBoard → ℕ → ℕ
+count_port_bits board part = bit_count (device_at board part)
 
 -- the control enables a one-sided driver, which may be on a net or not
 abbrev pub enables_one_sided : RawBoard → Ctl → Bool
-enables_one_sided board c = any_below (port_bits board c.part) (λ bit. let at : PinAt = record { part = c.part; bit = bit } in is_one_sided_by board c.cell at (own_control board at))
+enables_one_sided board c =
+    any_below (count_port_bits board c.part)
+    (λ bit. let at : PinAt = record { part = c.part; bit = bit } in
+    is_one_sided_by board c.cell at (own_control board at))
 
 -- the setting with this control alone is safe
 abbrev pub is_safe_alone : RawBoard → Ctl → Bool
@@ -128,11 +131,15 @@ place_drive board net place = drive_in board net (slice_get net.pins place)
 
 -- the driver at `place` of the net is tested
 abbrev pub is_tested_driver : RawBoard → Net → ℕ → Bool
-is_tested_driver board net place = not (guarded board net) && can_enable board (place_drive board net place) && any_other (receives board) place net.pins
+is_tested_driver board net place =
+    not (guarded board net) && can_enable board (place_drive board net place)
+    && any_other (receives board) place net.pins
 
 -- the receiver at `place` of the net is tested
 abbrev pub is_tested_receiver : RawBoard → Net → ℕ → Bool
-is_tested_receiver board net place = not (guarded board net) && receives_of board (slice_get net.pins place) && any_other (λ p. can_enable board (drive board net p)) place net.pins
+is_tested_receiver board net place =
+    not (guarded board net) && receives_of board (slice_get net.pins place)
+    && any_other (λ p. can_enable board (drive board net p)) place net.pins
 
 -- the net is covered
 abbrev pub is_covered : RawBoard → Net → Bool
@@ -149,12 +156,14 @@ are_compatible board (Some (By c)) (Some AlwaysOn) = is_safe_alone board c
 are_compatible board (Some (By c)) (Some (By d)) = are_together board c d
 
 -- the drivers at these places of the two nets are tested, and one safe setting enables both
-abbrev pub pairs_at : RawBoard → Net → Net → ℕ → ℕ → Bool
-pairs_at board a b i j = is_tested_driver board a i && is_tested_driver board b j && are_compatible board (place_drive board a i) (place_drive board b j)
+abbrev pub are_paired_at : RawBoard → Net → Net → ℕ → ℕ → Bool
+are_paired_at board a b i j =
+    is_tested_driver board a i && is_tested_driver board b j
+    && are_compatible board (place_drive board a i) (place_drive board b j)
 
 -- one safe setting observes both nets
 abbrev pub are_paired : RawBoard → Net → Net → Bool
-are_paired board a b = any_below (length a.pins) (λ i. any_below (length b.pins) (pairs_at board a b i))
+are_paired board a b = any_below (length a.pins) (λ i. any_below (length b.pins) (are_paired_at board a b i))
 
 -- the control enables the driver at `place` of the net, and this driver is tested
 abbrev pub tests_by_at : RawBoard → Ctl → Net → ℕ → Bool

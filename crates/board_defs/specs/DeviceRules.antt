@@ -171,12 +171,16 @@ bits_of_port device port = filter (λ bit. bit.port == port) device.bits
 
 -- the indexes of a range, from left to right
 abbrev pub range_indexes : ℕ → ℕ → List ℕ
-range_indexes left right = cond (nat_le left right) (range_with_len left (right - left + 1)) (reverse (range_with_len right (left - right + 1)))
+range_indexes left right =
+    cond (nat_le left right) (range_with_len left (right - left + 1))
+    (reverse (range_with_len right (left - right + 1)))
 
 -- the one bit of a plain port has no index, and the bits of a vector have the indexes of its range
 abbrev pub AreIndexed : List PortBit → Type 0
 AreIndexed bits =
-    (map (λ bit. bit.index) bits ≡ None ∷ []) ⊎ ((left : ℕ) × (right : ℕ) × (map (λ bit. bit.index) bits ≡ map Some (range_indexes left right)))
+    (map (λ bit. bit.index) bits ≡ None ∷ [])
+    ⊎ ((left : ℕ) × (right : ℕ)
+    × (map (λ bit. bit.index) bits ≡ map Some (range_indexes left right)))
 
 -- the bits of one port have one mode, and the pin map assigns pins to all of them or to none
 pub record ArePort (bits : List PortBit) : Type 0 where
@@ -204,7 +208,8 @@ pub record HasTap (bits : List PortBit) : Type 0 where
 -- no two port bits have the same pin
 abbrev pub PortPinsDiffer : RawDevice → Type 0
 PortPinsDiffer device =
-    (i j : ℕ) (a b : PortBit) (pin : List ℕ) → slice_get device.bits i ≡ Some a → slice_get device.bits j ≡ Some b → a.pin ≡ Some pin → b.pin ≡ Some pin → i ≡ j
+    (i j : ℕ) (a b : PortBit) (pin : List ℕ) → slice_get device.bits i ≡ Some a
+    → slice_get device.bits j ≡ Some b → a.pin ≡ Some pin → b.pin ≡ Some pin → i ≡ j
 
 -- an entry has a port bit, which must exist, if and only if its function is not CONTROL, CONTROLR or INTERNAL
 abbrev pub HasPlace : ℕ → Role → Option ℕ → Type 0
@@ -227,17 +232,21 @@ ControlsStand device =
 -- entries with the same control have the same disable value
 abbrev pub OneDisable : RawDevice → Type 0
 OneDisable device =
-    (i j : ℕ) (e d : Cell) (a b : Control) → slice_get device.cells i ≡ Some e → slice_get device.cells j ≡ Some d → e.ctl ≡ Some a → d.ctl ≡ Some b → a.cell ≡ b.cell → a.disable ≡ b.disable
+    (i j : ℕ) (e d : Cell) (a b : Control) → slice_get device.cells i ≡ Some e
+    → slice_get device.cells j ≡ Some d → e.ctl ≡ Some a → d.ctl ≡ Some b → a.cell ≡ b.cell
+    → a.disable ≡ b.disable
 
 -- a cell has at most one entry whose function is one of `roles`
 abbrev pub OneOf : (Role → Bool) → RawDevice → Type 0
 OneOf roles device =
-    (i j : ℕ) (e d : Cell) → slice_get device.cells i ≡ Some e → slice_get device.cells j ≡ Some d → roles e.role ≡ true → roles d.role ≡ true → e.num ≡ d.num → i ≡ j
+    (i j : ℕ) (e d : Cell) → slice_get device.cells i ≡ Some e → slice_get device.cells j ≡ Some d
+    → roles e.role ≡ true → roles d.role ≡ true → e.num ≡ d.num → i ≡ j
 
 -- a port bit has at most one driving entry
 abbrev pub OneDriver : RawDevice → Type 0
 OneDriver device =
-    (i j b : ℕ) (e d : Cell) → slice_get device.cells i ≡ Some e → slice_get device.cells j ≡ Some d → drives_bit b e ≡ true → drives_bit b d ≡ true → i ≡ j
+    (i j b : ℕ) (e d : Cell) → slice_get device.cells i ≡ Some e → slice_get device.cells j ≡ Some d
+    → drives_bit b e ≡ true → drives_bit b d ≡ true → i ≡ j
 
 -- no entry is on a TAP port, and no driving entry is on a port of mode in or linkage
 abbrev pub EntriesFitPorts : RawDevice → Type 0

@@ -30,7 +30,9 @@ is_tested_pin board net place = is_tested_driver board net place || is_tested_re
 
 -- the tested pins of a net, in pin order
 abbrev pub tested_pins_in : RawBoard → Numbered → List PinRef
-tested_pins_in board net = map (λ place. record { net = net.0; place = place }) (filter (is_tested_pin board net.1) (range_with_len 0 (length net.1.pins)))
+tested_pins_in board net =
+    map (λ place. record { net = net.0; place = place })
+    (filter (is_tested_pin board net.1) (range_with_len 0 (length net.1.pins)))
 
 -- the tested pins of the board, in pin order
 abbrev pub tested_pins : RawBoard → List PinRef

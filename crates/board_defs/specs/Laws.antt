@@ -13,7 +13,7 @@ use Rattle.board_defs.specs.Pins.{drive}
 use Rattle.board_defs.specs.Settings.{Enabling, holds, just, enables, IsInControlOrder, IsSafe, IsPairwiseSafe, ObservesNet}
 use Rattle.board_defs.specs.Coverage.{IsCovered, ArePaired, IsTestedDriver, IsTestedReceiver, IsUseful, AreTogether, IsReason}
 use Rattle.board_defs.specs.Decided.{is_safe_alone, are_together, are_compatible, is_useful, is_covered, are_paired, is_tested_driver, is_tested_receiver, reason_of}
-use Rattle.board_defs.specs.Passes.{useful_controls, tested_drivers, is_enabled, with_driver, fits, is_new, shows, passes_of, SomePass, ArePasses}
+use Rattle.board_defs.specs.Passes.{useful_controls, tested_drivers, is_enabled, with_driver, joins_setting, is_new, shows, passes_of, SomePass, ArePasses}
 use Rattle.board_defs.specs.Faults.{singles, SinglePrecedes, IsSingle}
 
 -- a setting is safe if and only if each of its controls alone and every two of its controls are safe
@@ -27,10 +27,16 @@ pub record DecidesTerms (board : RawBoard) : Type 0 where
   pub together : (a b : Ctl) → Decides (are_together board a b) (AreTogether board a b)
   pub useful : (c : Ctl) → Decides (is_useful board c) (IsUseful board c)
   pub covered : (n : ℕ) (net : Net) → slice_get board.nets n ≡ Some net → Decides (is_covered board net) (IsCovered board n)
-  pub paired : (m n : ℕ) (a b : Net) → slice_get board.nets m ≡ Some a → slice_get board.nets n ≡ Some b → m ≢ n → Decides (are_paired board a b) (ArePaired board m n)
-  pub tested_driver : (n : ℕ) (net : Net) (place : ℕ) → slice_get board.nets n ≡ Some net → Decides (is_tested_driver board net place) (IsTestedDriver board n place)
-  pub reason : (n : ℕ) (net : Net) → slice_get board.nets n ≡ Some net → MatchOption (reason_of board net) (IsCovered board n) (λ reason. IsReason board n net reason)
-  pub tested_receiver : (n : ℕ) (net : Net) (place : ℕ) → slice_get board.nets n ≡ Some net → Decides (is_tested_receiver board net place) (IsTestedReceiver board n place)
+  pub paired : (m n : ℕ) (a b : Net) → slice_get board.nets m ≡ Some a
+      → slice_get board.nets n ≡ Some b → m ≢ n
+      → Decides (are_paired board a b) (ArePaired board m n)
+  pub tested_driver : (n : ℕ) (net : Net) (place : ℕ) → slice_get board.nets n ≡ Some net
+      → Decides (is_tested_driver board net place) (IsTestedDriver board n place)
+  pub reason : (n : ℕ) (net : Net) → slice_get board.nets n ≡ Some net
+      → MatchOption (reason_of board net) (IsCovered board n)
+      (λ reason. IsReason board n net reason)
+  pub tested_receiver : (n : ℕ) (net : Net) (place : ℕ) → slice_get board.nets n ≡ Some net
+      → Decides (is_tested_receiver board net place) (IsTestedReceiver board n place)
 
 -- the functions decide the terms on every board
 abbrev pub TermsDecided : Type 0
@@ -59,12 +65,22 @@ pub record ControlsNew (board : RawBoard) (earlier : List (List Ctl)) (c : Ctl) 
 pub record SaysPasses (board : RawBoard) : Type 0 where
   pub useful_in_order : IsInControlOrder (useful_controls board)
   pub useful : (c : Ctl) → Decides (holds (useful_controls board) c) (IsUseful board c)
-  pub drivers : (n : ℕ) (net : Net) (d : Drive) → slice_get board.nets n ≡ Some net → Contains (tested_drivers board net) d ↔ HasTestedDriver board n net d
-  pub enabled : (n : ℕ) (net : Net) (place : ℕ) (pin : NetPin) (d : Drive) (pass : List Ctl) → Stands board n net place pin → IsTestedDriver board n place → drive board net pin ≡ Some d → is_enabled pass d ≡ enables board (holds pass) pin
-  pub fits_all : (setting : List Ctl) (c : Ctl) → Decides (fits board setting c) ((d : Ctl) → holds setting d ≡ true → AreTogether board c d)
+  pub drivers : (n : ℕ) (net : Net) (d : Drive) → slice_get board.nets n ≡ Some net
+      → Contains (tested_drivers board net) d ↔ HasTestedDriver board n net d
+  pub enabled : (n : ℕ) (net : Net) (place : ℕ) (pin : NetPin) (d : Drive) (pass : List Ctl)
+      → Stands board n net place pin → IsTestedDriver board n place → drive board net pin ≡ Some d
+      → is_enabled pass d ≡ enables board (holds pass) pin
+  pub fits_all : (setting : List Ctl) (c : Ctl)
+      → Decides (joins_setting board setting c)
+      ((d : Ctl) → holds setting d ≡ true → AreTogether board c d)
   pub new : (earlier : List (List Ctl)) (c : Ctl) → IsUseful board c → Decides (is_new earlier c) (ControlsNew board earlier c)
-  pub shown : (n : ℕ) (net : Net) (pass : List Ctl) → slice_get board.nets n ≡ Some net → IsSafe board (holds pass) → Decides (shows (tested_drivers board net) pass) (ObservesNet board (holds pass) n)
-  pub compatible : (m n : ℕ) (a b : Net) (d e : Drive) → HasTestedDriver board m a d → HasTestedDriver board n b e → Decides (are_compatible board (Some d) (Some e)) (IsSafe board (holds (with_driver (with_driver [] d) e)))
+  pub shown : (n : ℕ) (net : Net) (pass : List Ctl) → slice_get board.nets n ≡ Some net
+      → IsSafe board (holds pass)
+      → Decides (shows (tested_drivers board net) pass) (ObservesNet board (holds pass) n)
+  pub compatible : (m n : ℕ) (a b : Net) (d e : Drive) → HasTestedDriver board m a d
+      → HasTestedDriver board n b e
+      → Decides (are_compatible board (Some d) (Some e))
+      (IsSafe board (holds (with_driver (with_driver [] d) e)))
 
 -- the tests that choose the passes agree with the terms, and `passes_of` gives passes of the board
 pub record PassesAre (board : RawBoard) : Type 0 where

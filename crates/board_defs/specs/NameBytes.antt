@@ -8,6 +8,6 @@ kept_bytes (Short bytes count) = take count bytes
 kept_bytes (Long bytes) = bytes.items
 
 -- the number of bytes of a short name is at most the room in the value
-abbrev pub HasLength : Kept → Type 0
-HasLength (Short bytes count) = count ≤ 24
-HasLength (Long bytes) = ⊤
+abbrev pub FitsInPlace : Kept → Type 0
+FitsInPlace (Short bytes count) = count ≤ 24
+FitsInPlace (Long bytes) = ⊤

@@ -47,8 +47,8 @@ with_driver setting OneSided = setting
 with_driver setting (By c) = inserted c setting
 
 -- every control of the setting is together with control `c`
-abbrev pub fits : RawBoard → List Ctl → Ctl → Bool
-fits board setting c = list_all (are_together board c) setting
+abbrev pub joins_setting : RawBoard → List Ctl → Ctl → Bool
+joins_setting board setting c = list_all (are_together board c) setting
 
 -- no earlier pass has the control, so no earlier pass enables the drivers of that control
 abbrev pub is_new : List (List Ctl) → Ctl → Bool
@@ -60,11 +60,11 @@ walk accepts controls setting = fold (λ s c. cond (accepts s c) (inserted c s) 
 
 -- First walk: adds each useful control that fits and that no earlier pass has.
 abbrev pub first_walk : RawBoard → List Ctl → List (List Ctl) → List Ctl → List Ctl
-first_walk board useful earlier setting = walk (λ s c. is_new earlier c && fits board s c) useful setting
+first_walk board useful earlier setting = walk (λ s c. is_new earlier c && joins_setting board s c) useful setting
 
 -- Second walk: adds each useful control that fits.
 abbrev pub second_walk : RawBoard → List Ctl → List Ctl → List Ctl
-second_walk board useful setting = walk (fits board) useful setting
+second_walk board useful setting = walk (joins_setting board) useful setting
 
 -- the pass that is made for a tested driver that no earlier pass enables
 abbrev pub driver_pass : RawBoard → List Ctl → List (List Ctl) → Drive → List Ctl
@@ -72,7 +72,9 @@ driver_pass board useful earlier d = second_walk board useful (first_walk board 
 
 -- the passes, followed by one for the driver if none of them enables it
 abbrev pub add_for_driver : RawBoard → List Ctl → List (List Ctl) → Drive → List (List Ctl)
-add_for_driver board useful passes d = cond (list_any (λ pass. is_enabled pass d) passes) passes (passes ++ driver_pass board useful passes d ∷ [])
+add_for_driver board useful passes d =
+    cond (list_any (λ pass. is_enabled pass d) passes) passes
+    (passes ++ driver_pass board useful passes d ∷ [])
 
 -- the passes that are made for the drivers in turn, so that each driver is enabled in some pass
 abbrev pub driver_passes : RawBoard → List Ctl → List Drive → List (List Ctl)
@@ -110,7 +112,9 @@ with_pair board useful passes (Some pair) = passes ++ pair_pass board useful pai
 
 -- the passes, followed by one for the two nets if these are paired and none of the passes observes both
 abbrev pub add_for_nets : RawBoard → List Ctl → List (List Ctl) → List Drive × List Drive → List (List Ctl)
-add_for_nets board useful passes nets = cond (are_shown passes nets.0 nets.1) passes (with_pair board useful passes (first_pair board nets.0 nets.1))
+add_for_nets board useful passes nets =
+    cond (are_shown passes nets.0 nets.1) passes
+    (with_pair board useful passes (first_pair board nets.0 nets.1))
 
 -- The passes, followed by those that are made for the pairs of nets in turn. For every two paired nets, some pass then observes both.
 abbrev pub pair_passes : RawBoard → List Ctl → List (List Ctl) → List (List Drive) → List (List Ctl)
@@ -155,4 +159,5 @@ pub record ArePasses (board : RawBoard) (passes : List (List Ctl)) : Type 0 wher
   pub pairs : (a b : ℕ) → ArePaired board a b → SomePass passes (λ setting. ObservesNet board setting a × ObservesNet board setting b)
   pub drivers : (n place : ℕ) → IsTestedDriver board n place → SomePass passes (λ setting. TestsDriver board setting n place)
   pub receivers : (n place : ℕ) → IsTestedReceiver board n place → SomePass passes (λ setting. TestsReceiver board setting n place)
-  pub needed : (x : ℕ) (pass : List Ctl) → slice_get passes x ≡ Some pass → EnablesNew board (take x passes) pass ⊎ ObservesNew board (take x passes) pass
+  pub needed : (x : ℕ) (pass : List Ctl) → slice_get passes x ≡ Some pass
+      → EnablesNew board (take x passes) pass ⊎ ObservesNew board (take x passes) pass

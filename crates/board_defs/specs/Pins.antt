@@ -1,5 +1,5 @@
 -- The pins of a board: drivers, receivers, dark pins and guarded nets.
-use Rattle.std.specs.Prelude.{◌≡◌, ℕ, ◌<◌, ◌==◌, Bool, true, false, not, ◌&&◌, ◌||◌, length, sum_by, Option, Some, None, slice_get, is_some, option_and_then, option_map, if◌then◌else◌}
+use Rattle.std.specs.Prelude.{◌≡◌, ℕ, ◌<◌, ◌==◌, Bool, true, false, not, ◌&&◌, ◌||◌, length, sum_by, Option, Some, None, slice_get, is_some, option_and_then, option_map, if◌then◌else◌, List, []}
 use Rattle.std.specs.List.{list_any}
 use Rattle.board_defs.specs.declared.device.Control.{Control}
 use Rattle.board_defs.specs.declared.device.Cell.{Cell}
@@ -16,6 +16,15 @@ use Rattle.board_defs.specs.declared.board.RawBoard.{RawBoard}
 use Rattle.board_defs.specs.declared.board.Drive.{Drive}
 use Rattle.board_defs.specs.declared.board.Drive.TheVariants.{AlwaysOn, OneSided, By}
 use Rattle.board_defs.specs.DeviceRules.{driving_entry, drives_bit, reads_bit, is_on, is_linkage, may_drive, may_receive}
+
+-- the name of a net, or an empty text if there is no net
+abbrev pub name_of : Option Net → List ℕ
+name_of None = []
+name_of (Some net) = net.name
+
+-- the name of net `n`, or an empty text if the board has no such net
+abbrev pub net_name : RawBoard → ℕ → List ℕ
+net_name board n = name_of (slice_get board.nets n)
 
 -- the device, if the part is described
 abbrev pub described : PartKind → Option RawDevice

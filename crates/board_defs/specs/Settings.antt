@@ -69,14 +69,24 @@ enables board setting pin = enables_where board setting pin.at
 
 -- the pin at `at` is on an unguarded net that is pulled to `value`
 abbrev pub SwitchesAt : RawBoard → PinAt → Bool → Type 0
-SwitchesAt board at value = (n : ℕ) × (net : Net) × (i : ℕ) × (pin : NetPin) × (slice_get board.nets n ≡ Some net) × (slice_get net.pins i ≡ Some pin) × (pin.at ≡ Some at) × (guarded board net ≡ false) × (net.pull ≡ Some value)
+SwitchesAt board at value =
+    (n : ℕ) × (net : Net) × (i : ℕ) × (pin : NetPin) × (slice_get board.nets n ≡ Some net)
+    × (slice_get net.pins i ≡ Some pin) × (pin.at ≡ Some at) × (guarded board net ≡ false)
+    × (net.pull ≡ Some value)
 
 -- Each net has at most one enabled driver. No controlled driver of a guarded net is enabled. A driver that is enabled by its own
 -- cell is a switching driver, so no one-sided driver is enabled, whether or not it is on a net.
 pub record IsSafe (board : RawBoard) (setting : Enabling) : Type 0 where
-  pub one : (n : ℕ) (net : Net) (i j : ℕ) (p q : NetPin) → slice_get board.nets n ≡ Some net → slice_get net.pins i ≡ Some p → slice_get net.pins j ≡ Some q → i ≢ j → enables board setting p ≡ true → enables board setting q ≡ true → ⊥
-  pub free : (n : ℕ) (net : Net) (i : ℕ) (p : NetPin) (c : Ctl) → slice_get board.nets n ≡ Some net → slice_get net.pins i ≡ Some p → guarded board net ≡ true → drive board net p ≡ Some (By c) → setting c ≡ false
-  pub own : (at : PinAt) (cell : Cell) (control : Control) → is_pinned board at ≡ true → entry_at board at ≡ Some cell → cell.ctl ≡ Some control → control.cell ≡ cell.num → setting (record { part = at.part; cell = control.cell }) ≡ true → SwitchesAt board at control.disable
+  pub one : (n : ℕ) (net : Net) (i j : ℕ) (p q : NetPin) → slice_get board.nets n ≡ Some net
+      → slice_get net.pins i ≡ Some p → slice_get net.pins j ≡ Some q → i ≢ j
+      → enables board setting p ≡ true → enables board setting q ≡ true → ⊥
+  pub free : (n : ℕ) (net : Net) (i : ℕ) (p : NetPin) (c : Ctl) → slice_get board.nets n ≡ Some net
+      → slice_get net.pins i ≡ Some p → guarded board net ≡ true → drive board net p ≡ Some (By c)
+      → setting c ≡ false
+  pub own : (at : PinAt) (cell : Cell) (control : Control) → is_pinned board at ≡ true
+      → entry_at board at ≡ Some cell → cell.ctl ≡ Some control → control.cell ≡ cell.num
+      → setting (record { part = at.part; cell = control.cell }) ≡ true
+      → SwitchesAt board at control.disable
 
 -- the setting enables the pin at `place` of the net, the net is not guarded, and another pin of the net is a receiver
 pub record ObservesBy (board : RawBoard) (setting : Enabling) (net : Net) (place : ℕ) : Type 0 where

@@ -31,5 +31,7 @@ pub fn singles_listed()
 
 /// No two passes of a board are equal, since each pass does something that no earlier pass does.
 pub fn passes_differ()
-    ensures { (board : RawBoard) (passes : List (List Ctl)) (x y : ℕ) (pass : List Ctl) → ArePasses board passes → x < y → slice_get passes x ≡ Some pass → slice_get passes y ≡ Some pass → ⊥ }
+    ensures { (board : RawBoard) (passes : List (List Ctl)) (x y : ℕ) (pass : List Ctl)
+        → ArePasses board passes → x < y → slice_get passes x ≡ Some pass
+        → slice_get passes y ≡ Some pass → ⊥ }
 {}

@@ -25,13 +25,13 @@ pub struct Name {
 
 impl Model for Name {
     ghost use Rattle.std.specs.Prelude.{List, ℕ};
-    ghost use Rattle.board_defs.specs.NameBytes.{kept_bytes, HasLength};
+    ghost use Rattle.board_defs.specs.NameBytes.{kept_bytes, FitsInPlace};
 
     ghost Value = { List ℕ };
 
     ghost view = { λ a. kept_bytes a.kept };
 
-    ghost invariant = { λ a. HasLength a.kept };
+    ghost invariant = { λ a. FitsInPlace a.kept };
 }
 
 impl Name {

@@ -7,10 +7,10 @@ use Rattle.std.specs.Str.{bytes_eq}
 use Rattle.board_files.specs.declared.fault.LineFault.{LineFault}
 use Rattle.board_files.specs.declared.net_file.NetLine.{NetLine}
 use Rattle.board_files.specs.declared.net_file.PinWord.{PinWord}
-use Rattle.text_lines.specs.Words.{Word, words_of, is_newline, is_blank, is_filled, begins_no_comment, is_word}
+use Rattle.text_lines.specs.Words.{Word, words_of, is_newline, is_line_blank, is_filled, begins_no_comment, is_word}
 use Rattle.board_files.specs.Files.{HasFewPins, IsNetFile}
 use Rattle.board_files.specs.Reading.{◌>>=◌, line_then, lines_from}
-use Rattle.board_files.specs.NetLines.{pin_of, pins_of, net_of, net_line, net_lines}
+use Rattle.board_files.specs.NetLines.{read_pin_word, read_pins, read_net, read_net_line, net_lines}
 
 -- the number of pieces that are not empty
 filled : List (List ℕ) → ℕ
@@ -26,7 +26,8 @@ onto_filled x [] = omega arith
 onto_filled x ([] ∷ pieces) = omega arith
 onto_filled x ((b ∷ bs) ∷ pieces) = omega arith
 
-filled_by : (p : ℕ → Bool) (x : ℕ) (xs : List ℕ) (b : Bool) → filled (slice_split p xs) ≤ length xs → filled (cond b ([] ∷ slice_split p xs) (onto_first x (slice_split p xs))) ≤ length (x ∷ xs)
+filled_by : (p : ℕ → Bool) (x : ℕ) (xs : List ℕ) (b : Bool) → filled (slice_split p xs) ≤ length xs
+    → filled (cond b ([] ∷ slice_split p xs) (onto_first x (slice_split p xs))) ≤ length (x ∷ xs)
 filled_by p x xs true few = omega (arith, few, empty_first (slice_split p xs))
 filled_by p x xs false few = omega (arith, few, onto_filled x (slice_split p xs))
 
@@ -37,14 +38,16 @@ few_filled p (x ∷ xs) = filled_by p x xs (p x) (few_filled p xs)
 
 few_words_taken : (words : List Word) → length (take_while begins_no_comment words) ≤ length words
 few_words_taken words =
-    let taken : length (take_while begins_no_comment words) ≡ min (prefix_len begins_no_comment words) (length words) = length-take (prefix_len begins_no_comment words) words in
+    let taken : length (take_while begins_no_comment words)
+    ≡ min (prefix_len begins_no_comment words) (length words) = length-take
+    (prefix_len begins_no_comment words) words in
     omega (arith, taken)
 
 few_words : (line : List ℕ) → length (words_of line) ≤ length line
 unfolding words_of filled
 few_words line =
-    let taken = few_words_taken (filter is_filled (slice_split is_blank line)) in
-    omega (arith, taken, few_filled is_blank line)
+    let taken = few_words_taken (filter is_filled (slice_split is_line_blank line)) in
+    omega (arith, taken, few_filled is_line_blank line)
 
 -- no piece has more than `n` bytes
 AllWithin : ℕ → List (List ℕ) → Type 0
@@ -64,7 +67,9 @@ onto_within n x (piece ∷ pieces) all =
     let here : length piece ≤ n = all.0 in
     (omega (arith, here), wider n (1 + n) pieces (omega arith) all.1)
 
-within_by : (p : ℕ → Bool) (x : ℕ) (xs : List ℕ) (b : Bool) → AllWithin (length xs) (slice_split p xs) → AllWithin (1 + length xs) (cond b ([] ∷ slice_split p xs) (onto_first x (slice_split p xs)))
+within_by : (p : ℕ → Bool) (x : ℕ) (xs : List ℕ) (b : Bool)
+    → AllWithin (length xs) (slice_split p xs)
+    → AllWithin (1 + length xs) (cond b ([] ∷ slice_split p xs) (onto_first x (slice_split p xs)))
 unfolding AllWithin
 within_by p x xs true all = (omega arith, wider (length xs) (1 + length xs) (slice_split p xs) (omega arith) all)
 within_by p x xs false all = onto_within (length xs) x (slice_split p xs) all
@@ -72,11 +77,17 @@ within_by p x xs false all = onto_within (length xs) x (slice_split p xs) all
 pieces_within : (p : ℕ → Bool) (xs : List ℕ) → AllWithin (length xs) (slice_split p xs)
 unfolding AllWithin
 pieces_within p [] = (omega arith, tt)
-pieces_within p (x ∷ xs) = wider (1 + length xs) (length (x ∷ xs)) (slice_split p (x ∷ xs)) (omega arith) (within_by p x xs (p x) (pieces_within p xs))
+pieces_within p (x ∷ xs) =
+    wider (1 + length xs) (length (x ∷ xs)) (slice_split p (x ∷ xs)) (omega arith)
+    (within_by p x xs (p x) (pieces_within p xs))
 
 -- if the later words give as many pins as there are words, the same is true of this word and the
 -- later words
-more_pins : (n : ℕ) (word : Word) (words : List Word) (pin : Result PinWord LineFault) (rest : Result (List PinWord) LineFault) (pins : List PinWord) → (pin >>= (λ p. rest >>= (λ ps. Ok (p ∷ ps)))) ≡ Ok pins → ((ps : List PinWord) → rest ≡ Ok ps → length ps ≡ length words) → length pins ≡ length (word ∷ words)
+more_pins : (n : ℕ) (word : Word) (words : List Word) (pin : Result PinWord LineFault)
+    (rest : Result (List PinWord) LineFault) (pins : List PinWord)
+    → (pin >>= (λ p. rest >>= (λ ps. Ok (p ∷ ps)))) ≡ Ok pins
+    → ((ps : List PinWord) → rest ≡ Ok ps → length ps ≡ length words)
+    → length pins ≡ length (word ∷ words)
 more_pins n word words (Ok p) (Ok ps) pins is same =
     let here : p ∷ ps ≡ pins = cc in
     let count : length pins ≡ length (p ∷ ps) = ap length (sym here) in
@@ -84,33 +95,44 @@ more_pins n word words (Ok p) (Ok ps) pins is same =
 more_pins n word words (Ok p) (Err e) pins is same = absurd cc
 more_pins n word words (Err e) rest pins is same = absurd cc
 
-count_pins : (n : ℕ) (words : List Word) (pins : List PinWord) → pins_of n words ≡ Ok pins → length pins ≡ length words
+count_pins : (n : ℕ) (words : List Word) (pins : List PinWord) → read_pins n words ≡ Ok pins → length pins ≡ length words
 count_pins n [] pins is =
     let none : [] ≡ pins = cc in
     ap length (sym none)
-count_pins n (word ∷ words) pins is = more_pins n word words (pin_of n word) (pins_of n words) pins is (count_pins n words)
+count_pins n (word ∷ words) pins is = more_pins n word words (read_pin_word n word) (read_pins n words) pins is (count_pins n words)
 
-line_pins : (n : ℕ) (name : Word) (words : List Word) (pins : Result (List PinWord) LineFault) (line : NetLine) → (pins >>= (λ ps. Ok (record { line = n; name = name; pins = ps }))) ≡ Ok line → ((ps : List PinWord) → pins ≡ Ok ps → length ps ≡ length words) → length line.pins ≡ length words
+line_pins : (n : ℕ) (name : Word) (words : List Word) (pins : Result (List PinWord) LineFault)
+    (line : NetLine) → (pins >>= (λ ps. Ok (record { line = n; name = name; pins = ps }))) ≡ Ok line
+    → ((ps : List PinWord) → pins ≡ Ok ps → length ps ≡ length words)
+    → length line.pins ≡ length words
 line_pins n name words (Ok ps) line is same =
     let here : ◌≡◌ {A = NetLine} (record { line = n; name = name; pins = ps }) line = cc in
     ap (λ (l : NetLine). length l.pins) (sym here) ∙ same ps refl
 line_pins n name words (Err e) line is same = absurd cc
 
-net_pins : (n : ℕ) (words : List Word) (line : NetLine) → net_of n words ≡ Ok line → length line.pins + 1 ≡ length words
-unfolding net_of
+net_pins : (n : ℕ) (words : List Word) (line : NetLine) → read_net n words ≡ Ok line → length line.pins + 1 ≡ length words
+unfolding read_net
 net_pins n [] line is = absurd cc
 net_pins n (name ∷ words) line is = by_test (is_word name) is
   where
-    by_test : (b : Bool) → (if b then (pins_of n words >>= (λ pins. Ok (record { line = n; name = name; pins = pins }))) else Err (Rattle.board_files.specs.declared.fault.LineFault.TheVariants.Word n)) ≡ Ok line → length line.pins + 1 ≡ length (name ∷ words)
-    by_test true found = omega (arith, line_pins n name words (pins_of n words) line found (count_pins n words))
+    by_test : (b : Bool)
+        → (if b
+        then (read_pins n words >>=
+        (λ pins. Ok (record { line = n; name = name; pins = pins })))
+        else Err (Rattle.board_files.specs.declared.fault.LineFault.TheVariants.Word n)) ≡ Ok line
+        → length line.pins + 1 ≡ length (name ∷ words)
+    by_test true found = omega (arith, line_pins n name words (read_pins n words) line found (count_pins n words))
     by_test false found = absurd cc
 
 -- a net line has exactly two words more than pins
-statement_pins : (n : ℕ) (words : List Word) (line : NetLine) → net_line n words ≡ Ok line → length line.pins + 2 ≡ length words
+statement_pins : (n : ℕ) (words : List Word) (line : NetLine) → read_net_line n words ≡ Ok line → length line.pins + 2 ≡ length words
 statement_pins n [] line is = absurd cc
 statement_pins n (keyword ∷ words) line is = by_test (bytes_eq keyword (codes "NET")) is
   where
-    by_test : (b : Bool) → (if b then net_of n words else Err (Rattle.board_files.specs.declared.fault.LineFault.TheVariants.Statement n)) ≡ Ok line → length line.pins + 2 ≡ length (keyword ∷ words)
+    by_test : (b : Bool)
+        → (if b then read_net n words
+        else Err (Rattle.board_files.specs.declared.fault.LineFault.TheVariants.Statement n))
+        ≡ Ok line → length line.pins + 2 ≡ length (keyword ∷ words)
     by_test true found = omega (arith, net_pins n words line found)
     by_test false found = absurd cc
 
@@ -129,14 +151,21 @@ unfolding filled
 filled_cons [] lines = omega arith
 filled_cons (b ∷ bs) lines = omega arith
 
-counts_more : (n number : ℕ) (line : List ℕ) (words : List Word) (rest : Result (List NetLine) LineFault) (count : ℕ) → length line ≤ n → words ≡ words_of line → ((values : List NetLine) → rest ≡ Ok values → HasCounts n count values)
-    → (values : List NetLine) → line_then net_line number words rest ≡ Ok values → HasCounts n (count + filled (line ∷ [])) values
+counts_more : (n number : ℕ) (line : List ℕ) (words : List Word)
+    (rest : Result (List NetLine) LineFault) (count : ℕ) → length line ≤ n → words ≡ words_of line
+    → ((values : List NetLine) → rest ≡ Ok values → HasCounts n count values)
+    → (values : List NetLine) → line_then read_net_line number words rest ≡ Ok values → HasCounts n (count + filled (line ∷ [])) values
 counts_more n number line [] rest count within are counts values is =
     let more = counts values is in
     record { lines_few = omega (arith, more.lines_few); pins_few = more.pins_few }
-counts_more n number line (word ∷ words) rest count within are counts values is = by_value (net_line number (word ∷ words)) rest refl counts is
+counts_more n number line (word ∷ words) rest count within are counts values is =
+    by_value (read_net_line number (word ∷ words)) rest refl counts is
   where
-    by_value : (value : Result NetLine LineFault) (rest : Result (List NetLine) LineFault) → net_line number (word ∷ words) ≡ value → ((values : List NetLine) → rest ≡ Ok values → HasCounts n count values) → (value >>= (λ v. rest >>= (λ vs. Ok (v ∷ vs)))) ≡ Ok values → HasCounts n (count + filled (line ∷ [])) values
+    by_value : (value : Result NetLine LineFault) (rest : Result (List NetLine) LineFault)
+        → read_net_line number (word ∷ words) ≡ value
+        → ((values : List NetLine) → rest ≡ Ok values → HasCounts n count values)
+        → (value >>= (λ v. rest >>= (λ vs. Ok (v ∷ vs)))) ≡ Ok values
+        → HasCounts n (count + filled (line ∷ [])) values
     by_value (Ok v) (Ok vs) read more found =
         let here : v ∷ vs ≡ values = cc in
         let rests = more vs refl in
@@ -144,18 +173,25 @@ counts_more n number line (word ∷ words) rest count within are counts values i
         let same : length (word ∷ words) ≡ length (words_of line) = ap length are in
         let pins : length v.pins + 2 ≤ n = omega (arith, statement_pins number (word ∷ words) v read, count_words, same, within) in
         let some : filled (line ∷ []) ≡ 1 = filled_line line (omega (arith, same, count_words)) in
-        subst (HasCounts n (count + filled (line ∷ []))) here (record { lines_few = omega (arith, rests.lines_few, some); pins_few = (pins, rests.pins_few) })
+        subst (HasCounts n (count + filled (line ∷ []))) here
+        (record {
+          lines_few = omega (arith, rests.lines_few, some);
+          pins_few =
+              (pins, rests.pins_few);
+        })
     by_value (Ok v) (Err e) read more found = absurd cc
     by_value (Err e) rest read more found = absurd cc
 
-counts_from : (n number : ℕ) (lines : List (List ℕ)) → AllWithin n lines → (values : List NetLine) → lines_from net_line number lines ≡ Ok values → HasCounts n (filled lines) values
+counts_from : (n number : ℕ) (lines : List (List ℕ)) → AllWithin n lines → (values : List NetLine)
+    → lines_from read_net_line number lines ≡ Ok values → HasCounts n (filled lines) values
 unfolding AllWithin
 counts_from n number [] all values is =
     let none : [] ≡ values = cc in
     subst (HasCounts n (filled [])) none (record { lines_few = omega arith; pins_few = tt })
 counts_from n number (line ∷ lines) all values is =
     subst (λ (count : ℕ). HasCounts n count values) (sym (filled_cons line lines))
-    (counts_more n number line (words_of line) (lines_from net_line (number + 1) lines) (filled lines) all.0 refl (counts_from n (number + 1) lines all.1) values is)
+    (counts_more n number line (words_of line) (lines_from read_net_line (number + 1) lines)
+    (filled lines) all.0 refl (counts_from n (number + 1) lines all.1) values is)
 
 -- a net file has at most as many lines as the text has bytes, and each line has at most as many
 -- words
@@ -164,7 +200,8 @@ net_counts text values is =
     let counts = counts_from (length text) 1 (slice_split is_newline text) (pieces_within is_newline text) values is in
     record { lines_few = omega (arith, counts.lines_few, few_filled is_newline text); pins_few = counts.pins_few }
 
-few_pins : (n : ℕ) → n < 2 ^ 32 → (lines : List NetLine) → AllByRecursion (λ line. length line.pins + 2 ≤ n) lines → AllByRecursion HasFewPins lines
+few_pins : (n : ℕ) → n < 2 ^ 32 → (lines : List NetLine)
+    → AllByRecursion (λ line. length line.pins + 2 ≤ n) lines → AllByRecursion HasFewPins lines
 few_pins n few [] pins = tt
 few_pins n few (line ∷ lines) pins =
     let narrow : length line.pins + 2 ≤ n = pins.0 in

@@ -4,7 +4,7 @@ use Rattle.std.specs.Prelude.{◌<◌, ◌≤◌, ◌-◌, ◌^◌, List, length
 use Rattle.std.specs.List.{AllByRecursion}
 use Rattle.board_files.specs.declared.chain_file.ChainLine.{ChainLine}
 use Rattle.board_files.specs.declared.net_file.NetLine.{NetLine}
-use Rattle.board_files.specs.ChainLines.{HasLength}
+use Rattle.board_files.specs.ChainLines.{HasBypassLength}
 
 -- the number of each word on the line is below 2^32
 abbrev pub HasFewPins : NetLine → Type 0
@@ -14,7 +14,7 @@ HasFewPins line = length line.pins ≤ 2 ^ 32 - 3
 -- file
 pub record IsChainFile (lines : List ChainLine) : Type 0 where
   pub few : length lines < 2 ^ 32
-  pub lengths : AllByRecursion (λ line. HasLength line.statement) lines
+  pub lengths : AllByRecursion (λ line. HasBypassLength line.statement) lines
 
 -- there are fewer than 2^32 lines, and the number of each word is below 2^32, as in every net file
 pub record IsNetFile (lines : List NetLine) : Type 0 where

@@ -15,11 +15,11 @@ abbrev pub is_symbol_byte : ℕ → Bool
 is_symbol_byte b = is_ascii_alphanumeric b || (b == 95)
 
 -- the word is an allowed word of letters, digits and `_`
-abbrev pub is_symbol : Word → Bool
-is_symbol word = is_word word && list_all is_symbol_byte word
+abbrev pub is_symbol_word : Word → Bool
+is_symbol_word word = is_word word && list_all is_symbol_byte word
 
-abbrev pub upper : Word → Word
-upper word = map to_ascii_uppercase word
+abbrev pub upper_word : Word → Word
+upper_word word = map to_ascii_uppercase word
 
 -- the word, if there is exactly one
 abbrev pub one_of : List Word → Option Word

@@ -2,9 +2,9 @@
 ghost use Rattle.std.specs.Prelude.{◌≡◌, ◌<◌, ◌≤◌, ◌^◌, List, map, length, vec_len, IfOk, IsTrue, Some, None, option_map, option_copied, codes, if◌then◌else◌};
 ghost use Rattle.std.specs.Str.{bytes_eq};
 ghost use Rattle.std.specs.List.{AllByRecursion};
-ghost use Rattle.board_files.specs.Reading.{Reads};
+ghost use Rattle.board_files.specs.Reading.{ReadsLines};
 ghost use Rattle.board_files.specs.Files.{IsChainFile};
-ghost use Rattle.board_files.specs.ChainLines.{package_of, decimal_from, length_of, is_bit, device_of, bypass_of, inert_of, supply_of, pull_of, link_of, statement_of, chain_line, chain_lines, HasLength};
+ghost use Rattle.board_files.specs.ChainLines.{package_of, decimal_from, length_in_bypass, is_bit_word, device_statement, bypass_of, inert_statement, supply_statement, pull_statement, link_of, chain_statement, chain_line, chain_lines, HasBypassLength};
 
 use crate::fault::LineFault;
 use crate::words::{is_part, is_symbol, one_of, three_of, two_of};
@@ -98,8 +98,8 @@ impl ChainFile {
 /// `Number` that applies.
 pub fn chain(alloc: Global, bytes: &[u8]) -> Result<ChainFile, LineFault>
     requires { length bytes.now < 2 ^ 32 }
-    ensures read { Reads (λ file. file) result (chain_lines bytes.now) }
-    ensures lengths { IfOk result (AllByRecursion (λ line. HasLength line.statement)) }
+    ensures read { ReadsLines (λ file. file) result (chain_lines bytes.now) }
+    ensures lengths { IfOk result (AllByRecursion (λ line. HasBypassLength line.statement)) }
     ensures count { IfOk result (λ file. length file ≤ length bytes.now) }
 {
     let lines = read_lines(alloc, bytes)?;
@@ -109,7 +109,7 @@ pub fn chain(alloc: Global, bytes: &[u8]) -> Result<ChainFile, LineFault>
 // Returns the lines of a chain file, or the fault of its first faulty line.
 fn read_lines(alloc: Global, bytes: &[u8]) -> Result<Vec<ChainLine>, LineFault>
     requires { length bytes.now < 2 ^ 32 }
-    ensures read { Reads (λ lines. lines.items) result (chain_lines bytes.now) }
+    ensures read { ReadsLines (λ lines. lines.items) result (chain_lines bytes.now) }
     ensures count { IfOk result (λ lines. vec_len lines ≤ length bytes.now) }
 {
     let mut lines = Vec::new(alloc);
@@ -128,7 +128,7 @@ fn read_lines(alloc: Global, bytes: &[u8]) -> Result<Vec<ChainLine>, LineFault>
 }
 
 fn chain_line(alloc: Global, line: u32, words: &[&[u8]]) -> Result<ChainLine, LineFault>
-    ensures { Reads (λ line. line) result (chain_line line (map (λ w. w.now) words.now)) }
+    ensures { ReadsLines (λ line. line) result (chain_line line (map (λ w. w.now) words.now)) }
 {
     match words {
         [] => Err(LineFault::Statement(line)),
@@ -139,14 +139,15 @@ fn chain_line(alloc: Global, line: u32, words: &[&[u8]]) -> Result<ChainLine, Li
     }
 }
 
-#[tactic(auto, unfolding(crate::specs::ChainLines::statement_of))]
+#[tactic(auto, unfolding(crate::specs::ChainLines::chain_statement))]
 fn statement(
     alloc: Global,
     line: u32,
     name: &[u8],
     words: &[&[u8]],
 ) -> Result<ChainStatement, LineFault>
-    ensures { Reads (λ statement. statement) result (statement_of line name.now (map (λ w. w.now) words.now)) }
+    ensures { ReadsLines (λ statement. statement) result
+        (chain_statement line name.now (map (λ w. w.now) words.now)) }
 {
     if name == b"DEVICE".as_slice() {
         device(alloc, line, three_of(words))
@@ -180,7 +181,8 @@ fn device(
     line: u32,
     words: Option<(&[u8], &[u8], &[u8])>,
 ) -> Result<ChainStatement, LineFault>
-    ensures { Reads (λ statement. statement) result (device_of line (option_map (λ w. (w.0.now, w.1.now, w.2.now)) words.entry)) }
+    ensures { ReadsLines (λ statement. statement) result
+        (device_statement line (option_map (λ w. (w.0.now, w.1.now, w.2.now)) words.entry)) }
 {
     match words {
         None => Err(LineFault::Statement(line)),
@@ -215,7 +217,7 @@ fn decimal(word: &[u8]) -> Option<u32>
 }
 
 fn length_of(word: &[u8]) -> Option<u32>
-    ensures { result ≡ length_of word.now }
+    ensures { result ≡ length_in_bypass word.now }
 {
     if word.len() <= 3 {
         match decimal(word) {
@@ -238,7 +240,8 @@ fn bypass(
     line: u32,
     words: Option<(&[u8], &[u8])>,
 ) -> Result<ChainStatement, LineFault>
-    ensures { Reads (λ statement. statement) result (bypass_of line (option_map (λ w. (w.0.now, w.1.now)) words.entry)) }
+    ensures { ReadsLines (λ statement. statement) result
+        (bypass_of line (option_map (λ w. (w.0.now, w.1.now)) words.entry)) }
 {
     match words {
         None => Err(LineFault::Statement(line)),
@@ -259,7 +262,8 @@ fn bypass(
 }
 
 fn inert(alloc: Global, line: u32, word: Option<&[u8]>) -> Result<ChainStatement, LineFault>
-    ensures { Reads (λ statement. statement) result (inert_of line (option_copied word.entry)) }
+    ensures { ReadsLines (λ statement. statement) result
+        (inert_statement line (option_copied word.entry)) }
 {
     match word {
         None => Err(LineFault::Statement(line)),
@@ -276,7 +280,8 @@ fn inert(alloc: Global, line: u32, word: Option<&[u8]>) -> Result<ChainStatement
 }
 
 fn supply(alloc: Global, line: u32, word: Option<&[u8]>) -> Result<ChainStatement, LineFault>
-    ensures { Reads (λ statement. statement) result (supply_of line (option_copied word.entry)) }
+    ensures { ReadsLines (λ statement. statement) result
+        (supply_statement line (option_copied word.entry)) }
 {
     match word {
         None => Err(LineFault::Statement(line)),
@@ -297,7 +302,8 @@ fn pull(
     line: u32,
     words: Option<(&[u8], &[u8])>,
 ) -> Result<ChainStatement, LineFault>
-    ensures { Reads (λ statement. statement) result (pull_of line (option_map (λ w. (w.0.now, w.1.now)) words.entry)) }
+    ensures { ReadsLines (λ statement. statement) result
+        (pull_statement line (option_map (λ w. (w.0.now, w.1.now)) words.entry)) }
 {
     match words {
         None => Err(LineFault::Statement(line)),
@@ -318,7 +324,8 @@ fn pull(
 }
 
 fn pulled_to(word: &[u8]) -> Option<bool>
-    ensures { result ≡ (if is_bit word.now then Some (bytes_eq word.now (codes "1")) else None) }
+    ensures { result
+        ≡ (if is_bit_word word.now then Some (bytes_eq word.now (codes "1")) else None) }
 {
     if word == b"0".as_slice() {
         Some(false)
@@ -334,7 +341,8 @@ fn link(
     line: u32,
     words: Option<(&[u8], &[u8], &[u8])>,
 ) -> Result<ChainStatement, LineFault>
-    ensures { Reads (λ statement. statement) result (link_of line (option_map (λ w. (w.0.now, w.1.now, w.2.now)) words.entry)) }
+    ensures { ReadsLines (λ statement. statement) result
+        (link_of line (option_map (λ w. (w.0.now, w.1.now, w.2.now)) words.entry)) }
 {
     match words {
         None => Err(LineFault::Statement(line)),

@@ -2,9 +2,10 @@
 ghost use Rattle.std.specs.Prelude.{◌≡◌, ℕ, List};
 ghost use Rattle.std.specs.List.{AllByRecursion};
 ghost use Rattle.board_files.specs.declared.chain_file.ChainLine.{ChainLine};
-ghost use Rattle.board_files.specs.ChainLines.{HasLength, chain_lines};
+ghost use Rattle.board_files.specs.ChainLines.{HasBypassLength, chain_lines};
 
 /// The length on each BYPASS line of a chain file is from 2 to 255 bits.
 pub fn lengths_are_in_bounds()
-    ensures { (text : List ℕ) (lines : List ChainLine) → chain_lines text ≡ Ok lines → AllByRecursion (λ line. HasLength line.statement) lines }
+    ensures { (text : List ℕ) (lines : List ChainLine) → chain_lines text ≡ Ok lines
+        → AllByRecursion (λ line. HasBypassLength line.statement) lines }
 {}

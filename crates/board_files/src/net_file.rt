@@ -2,10 +2,10 @@
 ghost use Rattle.std.specs.Prelude.{◌≡◌, ◌+◌, ◌<◌, ◌≤◌, ◌^◌, ◌∷◌, List, map, length, vec_len, IfOk, Option, Some, None};
 ghost use Rattle.std.specs.List.{AllByRecursion, before_first, after_first};
 ghost use Rattle.board_files.specs.Words.{is_dot};
-ghost use Rattle.board_files.specs.Reading.{Reads};
+ghost use Rattle.board_files.specs.Reading.{ReadsLines};
 ghost use Rattle.board_files.specs.Files.{IsNetFile};
 ghost use Rattle.board_files.specs.Names.{line_names};
-ghost use Rattle.board_files.specs.NetLines.{pin_of, pins_of, net_of, net_line, net_lines};
+ghost use Rattle.board_files.specs.NetLines.{read_pin_word, read_pins, read_net, read_net_line, net_lines};
 
 use crate::fault::LineFault;
 use board_defs::{Items, Name};
@@ -81,7 +81,7 @@ pub fn line_names<'a>(alloc: Global, lines: &'a [NetLine]) -> Result<Vec<&'a [u8
 /// many lines as the text has bytes, and a line has at most as many words.
 pub fn nets(alloc: Global, bytes: &[u8]) -> Result<NetFile, LineFault>
     requires { length bytes.now < 2 ^ 32 }
-    ensures read { Reads (λ file. file) result (net_lines bytes.now) }
+    ensures read { ReadsLines (λ file. file) result (net_lines bytes.now) }
     ensures count { IfOk result (λ file. length file ≤ length bytes.now) }
     ensures pins { IfOk result (AllByRecursion (λ line. length line.pins + 2 ≤ length bytes.now)) }
 {
@@ -92,7 +92,7 @@ pub fn nets(alloc: Global, bytes: &[u8]) -> Result<NetFile, LineFault>
 // Returns the lines of a net file, or the fault of its first faulty line.
 fn read_lines(alloc: Global, bytes: &[u8]) -> Result<Vec<NetLine>, LineFault>
     requires { length bytes.now < 2 ^ 32 }
-    ensures { Reads (λ lines. lines.items) result (net_lines bytes.now) }
+    ensures { ReadsLines (λ lines. lines.items) result (net_lines bytes.now) }
 {
     let mut lines = Vec::new(alloc);
     let mut rest = Some(bytes);
@@ -110,7 +110,7 @@ fn read_lines(alloc: Global, bytes: &[u8]) -> Result<Vec<NetLine>, LineFault>
 }
 
 fn net_line(alloc: Global, line: u32, words: &[&[u8]]) -> Result<NetLine, LineFault>
-    ensures { Reads (λ line. line) result (net_line line (map (λ w. w.now) words.now)) }
+    ensures { ReadsLines (λ line. line) result (read_net_line line (map (λ w. w.now) words.now)) }
 {
     match words {
         [keyword, rest @ ..] if *keyword == b"NET".as_slice() => net(alloc, line, rest),
@@ -118,9 +118,9 @@ fn net_line(alloc: Global, line: u32, words: &[&[u8]]) -> Result<NetLine, LineFa
     }
 }
 
-#[tactic(auto, unfolding(crate::specs::NetLines::net_of))]
+#[tactic(auto, unfolding(crate::specs::NetLines::read_net))]
 fn net(alloc: Global, line: u32, words: &[&[u8]]) -> Result<NetLine, LineFault>
-    ensures { Reads (λ line. line) result (net_of line (map (λ w. w.now) words.now)) }
+    ensures { ReadsLines (λ line. line) result (read_net line (map (λ w. w.now) words.now)) }
 {
     match words {
         [name, rest @ ..] => {
@@ -140,7 +140,7 @@ fn net(alloc: Global, line: u32, words: &[&[u8]]) -> Result<NetLine, LineFault>
 }
 
 fn pins(alloc: Global, line: u32, words: &[&[u8]]) -> Result<Vec<PinWord>, LineFault>
-    ensures { Reads (λ pins. pins.items) result (pins_of line (map (λ w. w.now) words.now)) }
+    ensures { ReadsLines (λ pins. pins.items) result (read_pins line (map (λ w. w.now) words.now)) }
 {
     let mut pins = Vec::with_capacity(alloc, words.len())?;
     for word in words {
@@ -150,7 +150,7 @@ fn pins(alloc: Global, line: u32, words: &[&[u8]]) -> Result<Vec<PinWord>, LineF
 }
 
 fn pin(alloc: Global, line: u32, word: &[u8]) -> Result<PinWord, LineFault>
-    ensures { Reads (λ pin. pin) result (pin_of line word.now) }
+    ensures { ReadsLines (λ pin. pin) result (read_pin_word line word.now) }
 {
     if !is_word(word) {
         return Err(LineFault::Word(line));

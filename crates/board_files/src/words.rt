@@ -1,7 +1,7 @@
 // The rules on words in the files of a board.
 ghost use Rattle.std.specs.Prelude.{◌≡◌, map, option_map, option_copied};
 ghost use Rattle.std.specs.List.{list_all, list_any};
-ghost use Rattle.board_files.specs.Words.{is_part, is_symbol, is_symbol_byte, is_dot, one_of, two_of, three_of};
+ghost use Rattle.board_files.specs.Words.{is_part, is_symbol_word, is_symbol_byte, is_dot, one_of, two_of, three_of};
 
 use text_lines::is_word;
 
@@ -32,7 +32,7 @@ fn has_symbol_bytes(word: &[u8]) -> bool
 
 /// Returns whether the word is an allowed word of letters, digits and `_`.
 pub fn is_symbol(word: &[u8]) -> bool
-    ensures { result ≡ is_symbol word.now }
+    ensures { result ≡ is_symbol_word word.now }
 {
     is_word(word) && has_symbol_bytes(word)
 }
@@ -56,7 +56,8 @@ pub fn two_of<'a>(words: &[&'a [u8]]) -> Option<(&'a [u8], &'a [u8])>
 }
 
 pub fn three_of<'a>(words: &[&'a [u8]]) -> Option<(&'a [u8], &'a [u8], &'a [u8])>
-    ensures { option_map (λ w. (w.0.now, w.1.now, w.2.now)) result ≡ three_of (map (λ w. w.now) words.now) }
+    ensures { option_map (λ w. (w.0.now, w.1.now, w.2.now)) result
+        ≡ three_of (map (λ w. w.now) words.now) }
 {
     match words {
         [a, b, c] => Some((*a, *b, *c)),

@@ -22,7 +22,8 @@ appended_none old f a i h =
     let none : 0 ≡ i - a = omega arith in
     sym (append-nil old) ∙ ap (λ n. old ++ each f a n) none
 
-pub appended_more : (old now new : List ℕ) (f : ℕ → List ℕ) (a i : ℕ) → a ≤ i → Appended old now f a i → new ≡ now ++ f i → Appended old new f a (i + 1)
+pub appended_more : (old now new : List ℕ) (f : ℕ → List ℕ) (a i : ℕ) → a ≤ i
+    → Appended old now f a i → new ≡ now ++ f i → Appended old new f a (i + 1)
 appended_more old now new f a i h before step =
     let last : a + (i - a) ≡ i = omega arith in
     let more : i - a + 1 ≡ i + 1 - a = omega arith in
@@ -37,6 +38,7 @@ pub appended_all : (old now : List ℕ) (f : ℕ → List ℕ) (a n i : ℕ) →
 appended_all old now f a n i e h = let all : i - a ≡ n = omega arith in h ∙ ap (λ m. old ++ each f a m) all
 
 -- if `a` has been appended to `old`, and appending `b` succeeds, the new text is `old` with `a` and `b` appended
-pub ends_with : {X E : Type 0} (r : Result X E) (old a b : List ℕ) {now new : List ℕ} → now ≡ old ++ a → new ≡ cond (is_ok r) (now ++ b) now → OnOk r (new ≡ old ++ (a ++ b))
+pub ends_with : {X E : Type 0} (r : Result X E) (old a b : List ℕ) {now new : List ℕ}
+    → now ≡ old ++ a → new ≡ cond (is_ok r) (now ++ b) now → OnOk r (new ≡ old ++ (a ++ b))
 ends_with (Ok x) old a b first last = last ∙ ap (λ t. t ++ b) first ∙ append_assoc old a b
 ends_with (Err e) old a b first last = tt

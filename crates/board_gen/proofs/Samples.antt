@@ -3,15 +3,15 @@ use Rattle.std.proofs.Common.{◌≡◌, ◌==◌, ◌+◌, [], ◌∷◌, map, 
 use Rattle.std.specs.Prelude.{codes, count_by}
 use Rattle.std.specs.List.{range_with_len}
 use Rattle.std.specs.Fmt.{digits}
-use Rattle.board_gen.specs.BoardTexts.{chain_text, net_text, ring_line, bus_line}
-use Rattle.board_gen.specs.DeviceText.{attributes_text, bsdl_text, cell_line, head_text, map_line, numbers}
+use Rattle.board_gen.specs.BoardTexts.{chain_file_text, net_text, ring_line, bus_line}
+use Rattle.board_gen.specs.DeviceText.{attributes_text, bsdl_text, device_cell_line, device_head, map_line, numbers}
 
-chain_of_one : chain_text 1 ≡ codes "DEVICE U1 GEN -\n"
-unfolding chain_text digits
+chain_of_one : chain_file_text 1 ≡ codes "DEVICE U1 GEN -\n"
+unfolding chain_file_text digits
 chain_of_one = refl
 
-chain_of_two : chain_text 2 ≡ codes "DEVICE U1 GEN -\nDEVICE U2 GEN -\n"
-unfolding chain_text digits
+chain_of_two : chain_file_text 2 ≡ codes "DEVICE U1 GEN -\nDEVICE U2 GEN -\n"
+unfolding chain_file_text digits
 chain_of_two = refl
 
 -- The line of a net from part 1 to part 2. The next sample has a net from the last part to the first.
@@ -50,36 +50,36 @@ unfolding net_text digits
 nets_of_two = refl
 
 -- the line of the last control cell; the next samples are the lines of the first and the last cell of each other kind
-last_control : cell_line 4 ≡ codes "\"4 (BC_1, *, control, 1),\" &\n"
+last_control : device_cell_line 4 ≡ codes "\"4 (BC_1, *, control, 1),\" &\n"
 unfolding digits
 last_control = refl
 
-first_output : cell_line 5 ≡ codes "\"5 (BC_1, Q(0), output3, X, 0, 1, Z),\" &\n"
+first_output : device_cell_line 5 ≡ codes "\"5 (BC_1, Q(0), output3, X, 0, 1, Z),\" &\n"
 unfolding digits
 first_output = refl
 
-last_output : cell_line 36 ≡ codes "\"36 (BC_1, Q(31), output3, X, 3, 1, Z),\" &\n"
+last_output : device_cell_line 36 ≡ codes "\"36 (BC_1, Q(31), output3, X, 3, 1, Z),\" &\n"
 unfolding digits
 last_output = refl
 
-first_input : cell_line 37 ≡ codes "\"37 (BC_1, D(0), input, X),\" &\n"
+first_input : device_cell_line 37 ≡ codes "\"37 (BC_1, D(0), input, X),\" &\n"
 unfolding digits
 first_input = refl
 
-last_input : cell_line 68 ≡ codes "\"68 (BC_1, D(31), input, X),\" &\n"
+last_input : device_cell_line 68 ≡ codes "\"68 (BC_1, D(31), input, X),\" &\n"
 unfolding digits
 last_input = refl
 
-first_bus_cell : cell_line 69 ≡ codes "\"69 (BC_7, B(0), bidir, X, 4, 1, Z),\" &\n"
+first_bus_cell : device_cell_line 69 ≡ codes "\"69 (BC_7, B(0), bidir, X, 4, 1, Z),\" &\n"
 unfolding digits
 first_bus_cell = refl
 
-last_cell : cell_line 76 ≡ codes "\"76 (BC_7, B(7), bidir, X, 4, 1, Z)\";\n"
+last_cell : device_cell_line 76 ≡ codes "\"76 (BC_7, B(7), bidir, X, 4, 1, Z)\";\n"
 unfolding digits
 last_cell = refl
 
 -- The lines of cells 0 to 4, which are the controls.
-control_cells : map cell_line (range_with_len 0 5) ≡
+control_cells : map device_cell_line (range_with_len 0 5) ≡
     codes "\"0 (BC_1, *, control, 1),\" &\n"
     ∷ codes "\"1 (BC_1, *, control, 1),\" &\n"
     ∷ codes "\"2 (BC_1, *, control, 1),\" &\n"
@@ -89,7 +89,7 @@ unfolding digits
 control_cells = refl
 
 -- the lines of cells 5 to 36, which are the outputs; each eight outputs have one control
-output_cells : map cell_line (range_with_len 5 32) ≡
+output_cells : map device_cell_line (range_with_len 5 32) ≡
     codes "\"5 (BC_1, Q(0), output3, X, 0, 1, Z),\" &\n"
     ∷ codes "\"6 (BC_1, Q(1), output3, X, 0, 1, Z),\" &\n"
     ∷ codes "\"7 (BC_1, Q(2), output3, X, 0, 1, Z),\" &\n"
@@ -126,7 +126,7 @@ unfolding digits
 output_cells = refl
 
 -- the lines of cells 37 to 68, which are the inputs
-input_cells : map cell_line (range_with_len 37 32) ≡
+input_cells : map device_cell_line (range_with_len 37 32) ≡
     codes "\"37 (BC_1, D(0), input, X),\" &\n"
     ∷ codes "\"38 (BC_1, D(1), input, X),\" &\n"
     ∷ codes "\"39 (BC_1, D(2), input, X),\" &\n"
@@ -163,7 +163,7 @@ unfolding digits
 input_cells = refl
 
 -- the lines of cells 69 to 76, which are the bus pins; all have one control
-bus_cells : map cell_line (range_with_len 69 8) ≡
+bus_cells : map device_cell_line (range_with_len 69 8) ≡
     codes "\"69 (BC_7, B(0), bidir, X, 4, 1, Z),\" &\n"
     ∷ codes "\"70 (BC_7, B(1), bidir, X, 4, 1, Z),\" &\n"
     ∷ codes "\"71 (BC_7, B(2), bidir, X, 4, 1, Z),\" &\n"
@@ -182,5 +182,5 @@ bus_pins = refl
 
 -- the BSDL text has 15 lines before the first cell, one line for each of the 77 cells, and one line after them
 lines_of_device : count_by (λ byte. byte == 10) bsdl_text ≡ 15 + 77 + 1
-unfolding bsdl_text head_text map_line attributes_text digits
+unfolding bsdl_text device_head map_line attributes_text digits
 lines_of_device = refl

@@ -12,8 +12,8 @@ abbrev pub part_line : ℕ → List ℕ
 part_line part = codes "DEVICE U" ++ decimal part ++ codes " GEN -\n"
 
 -- the chain file of a board with `k` parts
-unfoldable pub chain_text : ℕ → List ℕ
-chain_text k = each part_line 1 k
+unfoldable pub chain_file_text : ℕ → List ℕ
+chain_file_text k = each part_line 1 k
 
 -- a blank, followed by the word for a pin of a part in the net file
 abbrev pub pin_word : ℕ → ℕ → List ℕ
@@ -26,7 +26,8 @@ next_part k part = if part == k then 1 else part + 1
 -- the line of the net from output `bit` of a part to input `bit` of the next part
 abbrev pub ring_line : ℕ → ℕ → ℕ → List ℕ
 ring_line k part bit =
-    codes "NET R" ++ decimal part ++ codes "_" ++ decimal bit ++ pin_word part (bit + 1) ++ pin_word (next_part k part) (bit + 33) ++ codes "\n"
+    codes "NET R" ++ decimal part ++ codes "_" ++ decimal bit ++ pin_word part (bit + 1)
+    ++ pin_word (next_part k part) (bit + 33) ++ codes "\n"
 
 -- the line of the net of a bit of the bus, with a pin of each part
 abbrev pub bus_line : ℕ → ℕ → List ℕ

@@ -11,17 +11,18 @@ numbers first count = decimal first ++ each (λ n. codes "," ++ decimal n) (firs
 abbrev pub cell_text : ℕ → List ℕ
 cell_text cell =
     if nat_lt cell 5 then codes " (BC_1, *, control, 1)" else (
-    if nat_lt cell 37 then codes " (BC_1, Q(" ++ decimal (cell - 5) ++ codes "), output3, X, " ++ decimal ((cell - 5) / 8) ++ codes ", 1, Z)" else (
+    if nat_lt cell 37 then codes " (BC_1, Q(" ++ decimal (cell - 5) ++ codes "), output3, X, " ++
+    decimal ((cell - 5) / 8) ++ codes ", 1, Z)" else (
     if nat_lt cell 69 then codes " (BC_1, D(" ++ decimal (cell - 37) ++ codes "), input, X)"
     else codes " (BC_7, B(" ++ decimal (cell - 69) ++ codes "), bidir, X, 4, 1, Z)"))
 
 -- The line of a cell. The line of the last cell ends the string.
-abbrev pub cell_line : ℕ → List ℕ
-cell_line cell = codes "\"" ++ decimal cell ++ cell_text cell ++ (if cell == 76 then codes "\";\n" else codes ",\" &\n")
+abbrev pub device_cell_line : ℕ → List ℕ
+device_cell_line cell = codes "\"" ++ decimal cell ++ cell_text cell ++ (if cell == 76 then codes "\";\n" else codes ",\" &\n")
 
 -- the lines before the pin map
-unfoldable pub head_text : List ℕ
-head_text =
+unfoldable pub device_head : List ℕ
+device_head =
     codes "entity GEN is\n"
     ++ codes "generic (PHYSICAL_PIN_MAP : string := \"P\");\n"
     ++ codes "port (TDI, TMS, TCK : in bit; TDO : out bit; "
@@ -50,4 +51,4 @@ attributes_text =
 
 -- the whole BSDL text
 unfoldable pub bsdl_text : List ℕ
-bsdl_text = head_text ++ map_line ++ attributes_text ++ each cell_line 0 77 ++ codes "end GEN;\n"
+bsdl_text = device_head ++ map_line ++ attributes_text ++ each device_cell_line 0 77 ++ codes "end GEN;\n"

@@ -1,6 +1,6 @@
 // Makes the chain file and the net file of a board.
 ghost use Rattle.std.specs.Prelude.{◌≡◌, ◌+◌, ◌≤◌, ◌<◌, ◌++◌, IfOk, OnOk};
-ghost use Rattle.board_gen.specs.BoardTexts.{each, chain_text, part_line, net_text, pin_word, next_part, ring_line, bus_line};
+ghost use Rattle.board_gen.specs.BoardTexts.{each, chain_file_text, part_line, net_text, pin_word, next_part, ring_line, bus_line};
 
 use crate::pieces::push_numbered;
 use std::alloc::{AllocError, Global};
@@ -14,7 +14,7 @@ const BUS: u32 = 8;
 // Returns the chain file of `number` parts.
 pub fn chain(alloc: Global, number: u32) -> Result<Vec<u8>, AllocError>
     requires { number ≤ 255 }
-    ensures { IfOk result (λ text. text.items ≡ chain_text number) }
+    ensures { IfOk result (λ text. text.items ≡ chain_file_text number) }
 {
     let mut text = Vec::new(alloc);
     for part in 1..number + 1 {
@@ -46,7 +46,9 @@ pub fn nets(alloc: Global, number: u32) -> Result<Vec<u8>, AllocError>
 // Appends the nets between the parts.
 fn push_rings(text: &mut Vec<u8>, number: u32) -> Result<(), AllocError>
     requires { number ≤ 255 }
-    ensures { OnOk result (text.new.items ≡ text.old.items ++ each (λ part. each (ring_line number part) 0 32) 1 number) }
+    ensures { OnOk result
+        (text.new.items
+        ≡ text.old.items ++ each (λ part. each (ring_line number part) 0 32) 1 number) }
 {
     for part in 1..number + 1 {
         push_ring(text, number, part)?;
@@ -120,7 +122,8 @@ fn push_bus_line(text: &mut Vec<u8>, number: u32, bit: u32) -> Result<(), AllocE
 fn push_bus_pins(text: &mut Vec<u8>, number: u32, bit: u32) -> Result<(), AllocError>
     requires parts { number ≤ 255 }
     requires bit { bit < 8 }
-    ensures { OnOk result (text.new.items ≡ text.old.items ++ each (λ part. pin_word part (bit + 65)) 1 number) }
+    ensures { OnOk result
+        (text.new.items ≡ text.old.items ++ each (λ part. pin_word part (bit + 65)) 1 number) }
 {
     for part in 1..number + 1 {
         push_pin(text, part, bit + 65)?;

@@ -1,7 +1,7 @@
 // Makes the BSDL text of the device.
 ghost use Rattle.std.specs.Prelude.{◌≡◌, ◌==◌, ◌+◌, ◌/◌, ◌≤◌, ◌<◌, ◌++◌, codes, decimal, if◌then◌else◌, IfOk, OnOk};
 ghost use Rattle.board_gen.specs.BoardTexts.{each};
-ghost use Rattle.board_gen.specs.DeviceText.{attributes_text, bsdl_text, cell_line, cell_text, head_text, map_line, numbers};
+ghost use Rattle.board_gen.specs.DeviceText.{attributes_text, bsdl_text, device_cell_line, cell_text, device_head, map_line, numbers};
 
 use crate::pieces::{push_number, push_numbered};
 use std::alloc::{AllocError, Global};
@@ -24,9 +24,9 @@ pub fn bsdl(alloc: Global) -> Result<Vec<u8>, AllocError>
 }
 
 // Appends the lines before the pin map.
-#[tactic(auto, unfolding(crate::specs::DeviceText::head_text))]
+#[tactic(auto, unfolding(crate::specs::DeviceText::device_head))]
 fn push_head(text: &mut Vec<u8>) -> Result<(), AllocError>
-    ensures { OnOk result (text.new.items ≡ text.old.items ++ head_text) }
+    ensures { OnOk result (text.new.items ≡ text.old.items ++ device_head) }
 {
     text.extend_from_slice(
         b"entity GEN is
@@ -88,7 +88,7 @@ attribute BOUNDARY_REGISTER of GEN : entity is
 
 // Appends the lines of the cells.
 fn push_cells(text: &mut Vec<u8>) -> Result<(), AllocError>
-    ensures { OnOk result (text.new.items ≡ text.old.items ++ each cell_line 0 77) }
+    ensures { OnOk result (text.new.items ≡ text.old.items ++ each device_cell_line 0 77) }
 {
     for cell in 0..CELLS {
         push_cell_line(text, cell)?;
@@ -98,7 +98,7 @@ fn push_cells(text: &mut Vec<u8>) -> Result<(), AllocError>
 
 // Appends the line of a cell.
 fn push_cell_line(text: &mut Vec<u8>, cell: u32) -> Result<(), AllocError>
-    ensures { OnOk result (text.new.items ≡ text.old.items ++ cell_line cell) }
+    ensures { OnOk result (text.new.items ≡ text.old.items ++ device_cell_line cell) }
 {
     push_numbered(text, b"\"", cell)?;
     push_cell(text, cell)?;
@@ -130,7 +130,11 @@ fn push_cell(text: &mut Vec<u8>, cell: u32) -> Result<(), AllocError>
 
 // Appends the cell of an output. There is one control for each eight outputs.
 fn push_output(text: &mut Vec<u8>, index: u32) -> Result<(), AllocError>
-    ensures { OnOk result (text.new.items ≡ text.old.items ++ (codes " (BC_1, Q(" ++ decimal index ++ codes "), output3, X, " ++ decimal (index / 8) ++ codes ", 1, Z)")) }
+    ensures { OnOk result
+        (text.new.items
+        ≡ text.old.items
+        ++ (codes " (BC_1, Q(" ++ decimal index ++ codes "), output3, X, "
+        ++ decimal (index / 8) ++ codes ", 1, Z)")) }
 {
     push_numbered(text, b" (BC_1, Q(", index)?;
     push_numbered(text, b"), output3, X, ", index / 8)?;
@@ -139,7 +143,9 @@ fn push_output(text: &mut Vec<u8>, index: u32) -> Result<(), AllocError>
 
 // Appends the cell of an input.
 fn push_input(text: &mut Vec<u8>, index: u32) -> Result<(), AllocError>
-    ensures { OnOk result (text.new.items ≡ text.old.items ++ (codes " (BC_1, D(" ++ decimal index ++ codes "), input, X)")) }
+    ensures { OnOk result
+        (text.new.items
+        ≡ text.old.items ++ (codes " (BC_1, D(" ++ decimal index ++ codes "), input, X)")) }
 {
     push_numbered(text, b" (BC_1, D(", index)?;
     text.extend_from_slice(b"), input, X)")
@@ -147,7 +153,10 @@ fn push_input(text: &mut Vec<u8>, index: u32) -> Result<(), AllocError>
 
 // Appends the cell of a pin of the bus.
 fn push_bus_cell(text: &mut Vec<u8>, index: u32) -> Result<(), AllocError>
-    ensures { OnOk result (text.new.items ≡ text.old.items ++ (codes " (BC_7, B(" ++ decimal index ++ codes "), bidir, X, 4, 1, Z)")) }
+    ensures { OnOk result
+        (text.new.items
+        ≡ text.old.items
+        ++ (codes " (BC_7, B(" ++ decimal index ++ codes "), bidir, X, 4, 1, Z)")) }
 {
     push_numbered(text, b" (BC_7, B(", index)?;
     text.extend_from_slice(b"), bidir, X, 4, 1, Z)")

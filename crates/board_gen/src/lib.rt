@@ -6,9 +6,9 @@ mod device;
 mod pieces;
 
 ghost use Rattle.std.specs.Prelude.{◌≡◌, ◌≤◌, IfOk};
-ghost use Rattle.board_gen.specs.BoardTexts.{chain_text, net_text};
+ghost use Rattle.board_gen.specs.BoardTexts.{chain_file_text, net_text};
 ghost use Rattle.board_gen.specs.DeviceText.{bsdl_text};
-ghost use Rattle.board_gen.specs.Short.{AreShort};
+ghost use Rattle.board_gen.specs.Short.{AreShortTexts};
 
 use std::alloc::{AllocError, Global};
 
@@ -28,10 +28,10 @@ pub struct Made {
 pub fn make(alloc: Global, number: u32) -> Result<Made, AllocError>
     requires some { 1 ≤ number }
     requires few { number ≤ 255 }
-    ensures chain { IfOk result (λ made. made.chain.items ≡ chain_text number) }
+    ensures chain { IfOk result (λ made. made.chain.items ≡ chain_file_text number) }
     ensures nets { IfOk result (λ made. made.nets.items ≡ net_text number) }
     ensures bsdl { IfOk result (λ made. made.bsdl.items ≡ bsdl_text) }
-    ensures short { IfOk result AreShort }
+    ensures short { IfOk result AreShortTexts }
 {
     let chain = board::chain(alloc, number)?;
     let nets = board::nets(alloc, number)?;

@@ -16,14 +16,25 @@ cons_to (Some x) xs = refl
 
 -- if the parts so far, followed by the parts of the lines from line `i` on, are all parts, the same
 -- is true from line `i + 1` on after the part of line `i`, if it has one, is appended
-pub parts_step : (lines : List ChainLine) (i : ℕ) (line : ChainLine) (devices rest : List RawDevice) (o : Option Part) (parts new all : List Part) → i < length lines → get_or lines i line ≡ line →
-    o ≡ part_of_line line.statement devices → rest ≡ devices_after line.statement devices → new ≡ parts ++ option_to_list o → all ≡ parts ++ chain_parts (drop i lines) devices → all ≡ new ++ chain_parts (drop (i + 1) lines) rest
+pub parts_step : (lines : List ChainLine) (i : ℕ) (line : ChainLine) (devices rest : List RawDevice)
+    (o : Option Part) (parts new all : List Part) → i < length lines → get_or lines i line ≡ line →
+    o ≡ part_of_line line.statement devices → rest ≡ devices_after line.statement devices
+    → new ≡ parts ++ option_to_list o → all ≡ parts ++ chain_parts (drop i lines) devices
+    → all ≡ new ++ chain_parts (drop (i + 1) lines) rest
 parts_step lines i line devices rest o parts new all within read eo er en same =
-    let cut : drop i lines ≡ line ∷ drop (i + 1) lines = drop_more lines i line within ∙ ap (λ (v : ChainLine). v ∷ drop (i + 1) lines) read in
+    let cut : drop i lines
+    ≡ line ∷ drop (i + 1) lines = drop_more lines i line within
+    ∙ ap (λ (v : ChainLine). v ∷ drop (i + 1) lines) read in
     same ∙ ap (λ (v : List ChainLine). parts ++ chain_parts v devices) cut
-    ∙ ap (λ (v : List Part). parts ++ v) (cons_to (part_of_line line.statement devices) (chain_parts (drop (i + 1) lines) (devices_after line.statement devices)))
-    ∙ sym (append_assoc parts (option_to_list (part_of_line line.statement devices)) (chain_parts (drop (i + 1) lines) (devices_after line.statement devices)))
-    ∙ ap (λ (v : Option Part). (parts ++ option_to_list v) ++ chain_parts (drop (i + 1) lines) (devices_after line.statement devices)) (sym eo)
+    ∙ ap (λ (v : List Part). parts ++ v)
+    (cons_to (part_of_line line.statement devices)
+    (chain_parts (drop (i + 1) lines) (devices_after line.statement devices)))
+    ∙ sym
+    (append_assoc parts (option_to_list (part_of_line line.statement devices))
+    (chain_parts (drop (i + 1) lines) (devices_after line.statement devices)))
+    ∙ ap
+    (λ (v : Option Part). (parts ++ option_to_list v)
+    ++ chain_parts (drop (i + 1) lines) (devices_after line.statement devices)) (sym eo)
     ∙ ap (λ (v : List Part). v ++ chain_parts (drop (i + 1) lines) (devices_after line.statement devices)) (sym en)
     ∙ ap (λ (v : List RawDevice). new ++ chain_parts (drop (i + 1) lines) v) (sym er)
 

@@ -5,7 +5,8 @@ use Rattle.board_lines.specs.declared.fault.BoardFault.{BoardFault}
 use Rattle.board_lines.specs.declared.fault.BoardFault.TheVariants.{NoChain, PartTwice, NoEntity, EntityTwice, NoPin, PinTwice, InertInChain, NoSupplyNet, GuardedDriver, TwoAlwaysOn, Limit, NoPullNet, PullTwice, Memory}
 use Rattle.board_lines.specs.Faults.{◌then◌, board_told}
 
-pub told_as : {V : Type 0} (said : Result V BoardFault) (fault : BoardFault) → said ≡ Err fault → IfSome (board_told fault) (λ f. said ≡ Err f)
+pub told_as : {V : Type 0} (said : Result V BoardFault) (fault : BoardFault) → said ≡ Err fault
+    → IfSome (board_told fault) (λ f. said ≡ Err f)
 told_as said NoChain is = is
 told_as said (PartTwice spot) is = is
 told_as said (NoEntity spot) is = is

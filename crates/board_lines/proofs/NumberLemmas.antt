@@ -46,25 +46,34 @@ spot_there list place within =
 
 -- if a place is within the list, a rule that reports the line at this place finds a fault; so if
 -- the rule finds no fault, there is no place
-found_none : (fault : Spot → BoardFault) (list : List Named) (place : Option ℕ) → ((k : ℕ) → place ≡ Some k → k < length list) → option_map fault (option_and_then (spot_at list) place) ≡ None → place ≡ None
+found_none : (fault : Spot → BoardFault) (list : List Named) (place : Option ℕ)
+    → ((k : ℕ) → place ≡ Some k → k < length list)
+    → option_map fault (option_and_then (spot_at list) place) ≡ None → place ≡ None
 found_none fault list None within e = refl
 found_none fault list (Some k) within e =
     let there = spot_there list k (within k refl) in
     let clash : ◌≡◌ {A = Option BoardFault} (Some (fault there.0)) None = sym (ap (option_map fault) there.1) ∙ e in
     absurd cc
 
-within_more : {X : Type 0} (n k : ℕ) (x : X) (xs : List X) (rest : Option ℕ) → (rest ≡ Some k → k < (n + 1) + length xs) → (b : Bool) → cond b (Some n) rest ≡ Some k → k < n + length (x ∷ xs)
+within_more : {X : Type 0} (n k : ℕ) (x : X) (xs : List X) (rest : Option ℕ)
+    → (rest ≡ Some k → k < (n + 1) + length xs) → (b : Bool) → cond b (Some n) rest ≡ Some k
+    → k < n + length (x ∷ xs)
 within_more n k x xs rest more true found =
     let same : n ≡ k = cc in
     omega (arith, same)
 within_more n k x xs rest more false found = omega (arith, more found)
 
 -- a place that a search returns, numbered from `n` on, is within the list
-place_within : (n : ℕ) (entities : List (List ℕ)) (name : List ℕ) (k : ℕ) → position_from (λ e. same_word e name) n entities ≡ Some k → k < n + length entities
+place_within : (n : ℕ) (entities : List (List ℕ)) (name : List ℕ) (k : ℕ)
+    → position_from (λ e. same_word e name) n entities ≡ Some k → k < n + length entities
 place_within n [] name k e = absurd cc
-place_within n (entity ∷ entities) name k e = within_more n k entity entities _ (place_within (n + 1) entities name k) (same_word entity name) e
+place_within n (entity ∷ entities) name k e =
+    within_more n k entity entities _ (place_within (n + 1) entities name k) (same_word entity name)
+    e
 
-unwrapped_within : (entities : List (List ℕ)) (name : List ℕ) (place : Option ℕ) → first_place same_word entities name ≡ place → is_none place ≡ false → unwrap_or place 0 < length entities
+unwrapped_within : (entities : List (List ℕ)) (name : List ℕ) (place : Option ℕ)
+    → first_place same_word entities name ≡ place → is_none place ≡ false
+    → unwrap_or place 0 < length entities
 unwrapped_within entities name None is e = absurd cc
 unwrapped_within entities name (Some k) is e = omega (arith, place_within 0 entities name k is)
 
@@ -84,11 +93,18 @@ position_within n (None ∷ places) k e =
     omega (arith, same)
 position_within n (Some p ∷ places) k e = omega (arith, position_within (n + 1) places k e)
 
-numbers_within : (entities : List (List ℕ)) (names : List (List ℕ)) → none_missing (map (first_place same_word entities) names) → AllByRecursion (λ number. number < length entities) (map (λ place. unwrap_or place 0) (map (first_place same_word entities) names))
+numbers_within : (entities : List (List ℕ)) (names : List (List ℕ))
+    → none_missing (map (first_place same_word entities) names)
+    → AllByRecursion (λ number. number < length entities)
+    (map (λ place. unwrap_or place 0) (map (first_place same_word entities) names))
 numbers_within entities [] all = tt
-numbers_within entities (name ∷ names) all = (unwrapped_within entities name (first_place same_word entities name) refl all.0, numbers_within entities names all.1)
+numbers_within entities (name ∷ names) all = (
+  unwrapped_within entities name (first_place same_word entities name) refl all.0,
+  numbers_within entities names all.1,
+)
 
-pub numbers_of_entities : (lines : List ChainLine) (entities : List Entity) (numbers : List ℕ) → selection lines entities ≡ Ok numbers → All (λ number. number < length entities) numbers
+pub numbers_of_entities : (lines : List ChainLine) (entities : List Entity) (numbers : List ℕ)
+    → selection lines entities ≡ Ok numbers → All (λ number. number < length entities) numbers
 unfolding answer first_fault no_entity
 numbers_of_entities lines entities numbers e =
     let parts : List Named = named Part lines in
@@ -102,12 +118,23 @@ numbers_of_entities lines entities numbers e =
     let after_part = then_second (part_twice parts) entity (then_second (no_chain parts) part none) in
     let value : map (λ place. unwrap_or place 0) places ≡ numbers = unless_value (no_chain parts then part) _ _ e in
     let place_count : length places ≡ length devices = rw (length-map, length-map) refl in
-    let missing = found_none NoEntity devices (position is_none places) (λ k found. omega (arith, place_count, position_within 0 places k (sym (position_from-zero is_none places) ∙ found))) (then_first (no_entity devices places) twice after_part) in
+    let missing = found_none NoEntity devices (position is_none places)
+    (λ k found. omega (
+      arith,
+      place_count,
+      position_within 0 places k (sym (position_from-zero is_none places) ∙ found),
+    ))
+    (then_first (no_entity devices places) twice after_part) in
     let entity_count : length texts ≡ length entities = rw length-map refl in
     subst (λ ns. All (λ number. number < length entities) ns) value
     (subst (λ n. All (λ number. number < n) (map (λ place. unwrap_or place 0) places)) entity_count
-    (All-from_recursion (λ number. number < length texts) _ (numbers_within texts (names_of devices) (no_position 0 places (sym (position_from-zero is_none places) ∙ missing)))))
+    (All-from_recursion (λ number. number < length texts) _
+    (numbers_within texts (names_of devices)
+    (no_position 0 places (sym (position_from-zero is_none places) ∙ missing)))))
 
-pub if_selected : (lines : List ChainLine) (entities : List Entity) (answer : Result (Vec ℕ Global) BoardFault) → Gives board_told (λ numbers. numbers.items) (λ said. selection lines entities ≡ said) answer → IfOk answer (λ numbers. All (λ number. number < length entities) numbers.items)
+pub if_selected : (lines : List ChainLine) (entities : List Entity)
+    (answer : Result (Vec ℕ Global) BoardFault)
+    → Gives board_told (λ numbers. numbers.items) (λ said. selection lines entities ≡ said) answer
+    → IfOk answer (λ numbers. All (λ number. number < length entities) numbers.items)
 if_selected lines entities (Ok numbers) is = numbers_of_entities lines entities numbers.items is
 if_selected lines entities (Err fault) is = tt

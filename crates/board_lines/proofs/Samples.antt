@@ -10,7 +10,7 @@ use Rattle.board_defs.specs.declared.board.PartKind.TheVariants.{Described, Bypa
 use Rattle.board_defs.specs.declared.board.Part.{Part}
 use Rattle.board_defs.specs.declared.board.PinAt.{PinAt}
 use Rattle.board_lines.specs.ChainParts.{pin_places, place_of_pin}
-use Rattle.board_lines.specs.PinRows.{AreRows, bit_of_pin, place_by_part, pins_of}
+use Rattle.board_lines.specs.PinRows.{ArePinRows, bit_of_pin, place_by_part, pins_of_part}
 
 -- a port bit with this pin, or without a pin
 abbrev bit : Option (List ℕ) → PortBit
@@ -35,7 +35,7 @@ abbrev row : List (Option (List ℕ))
 row = Some (codes "T1") ∷ Some (codes "A2") ∷ None ∷ Some (codes "7") ∷ []
 
 -- a described part has the pins of its port bits, and a part in BYPASS has no pins
-pins : map pins_of (Described device ∷ Bypass 4 ∷ []) ≡ row ∷ [] ∷ []
+pins : map pins_of_part (Described device ∷ Bypass 4 ∷ []) ≡ row ∷ [] ∷ []
 pins = refl
 
 -- a port bit without a pin also has a number, and no pin has this number
@@ -53,12 +53,15 @@ first = refl
 
 -- a chain in which U1 and U3 are the same device and share a row, and U2 is in BYPASS
 abbrev parts : List Part
-parts = record { name = codes "U1"; kind = Described device } ∷ record { name = codes "U2"; kind = Bypass 4 } ∷ record { name = codes "U3"; kind = Described device } ∷ []
+parts =
+    record { name = codes "U1"; kind = Described device }
+    ∷ record { name = codes "U2"; kind = Bypass 4 }
+    ∷ record { name = codes "U3"; kind = Described device } ∷ []
 
 abbrev numbers : List ℕ
 numbers = 1 ∷ 0 ∷ 1 ∷ []
 
-rows : AreRows ([] ∷ row ∷ []) numbers parts
+rows : ArePinRows ([] ∷ row ∷ []) numbers parts
 rows = refl
 
 -- the place of a pin, by the number of its part and its own name
@@ -67,12 +70,15 @@ place = place_by_part ([] ∷ row ∷ []) numbers
 
 -- look-ups of a pin of a described part, a pin that this part does not have, a pin of the part in
 -- BYPASS, a pin of no part, and a pin of a part without a row
-places : place (Some 2) (codes "7") ∷ place (Some 2) (codes "9") ∷ place (Some 1) (codes "7") ∷ place None (codes "7") ∷ place (Some 3) (codes "7") ∷ []
+places : place (Some 2) (codes "7") ∷ place (Some 2) (codes "9") ∷ place (Some 1) (codes "7")
+    ∷ place None (codes "7") ∷ place (Some 3) (codes "7") ∷ []
     ≡ Some (record { part = 2; bit = 3 }) ∷ None ∷ None ∷ None ∷ None ∷ []
 places = refl
 
 -- look-ups among the places of all pins: a pin of a described part, a pin that this part does not
 -- have, a pin of the part in BYPASS, and pins of two parts that the chain does not have
-all_places : map (place_of_pin (pin_places parts)) ((codes "U3", codes "7") ∷ (codes "U3", codes "9") ∷ (codes "U2", codes "7") ∷ (codes "RAM", codes "7") ∷ (codes "u3", codes "7") ∷ [])
+all_places : map (place_of_pin (pin_places parts))
+    ((codes "U3", codes "7") ∷ (codes "U3", codes "9") ∷ (codes "U2", codes "7")
+    ∷ (codes "RAM", codes "7") ∷ (codes "u3", codes "7") ∷ [])
     ≡ Some (record { part = 2; bit = 3 }) ∷ None ∷ None ∷ None ∷ None ∷ []
 all_places = refl

@@ -26,23 +26,35 @@ use Rattle.board_lines.proofs.FaultLemmas.{then_none, limit_kept}
 pub record Repeat (n count k : ℕ) : Type 0 where
   pub below : k < n + count
 
-repeat_within : {K : Type 0} (eq : K → K → Bool) (seen : List K) (n : ℕ) (keys : List K) (k : ℕ) → repeat_from eq seen n keys ≡ Some k → Repeat n (length keys) k
+repeat_within : {K : Type 0} (eq : K → K → Bool) (seen : List K) (n : ℕ) (keys : List K) (k : ℕ)
+    → repeat_from eq seen n keys ≡ Some k → Repeat n (length keys) k
 repeat_within eq seen n [] k e = cc e
 repeat_within {K} eq seen n (x ∷ keys) k e = by_test (repeat_within eq (seen ++ x ∷ []) (n + 1) keys k) (list_any (λ s. eq s x) seen) e
   where
-    by_test : (repeat_from eq (seen ++ x ∷ []) (n + 1) keys ≡ Some k → Repeat (n + 1) (length keys) k) → (b : Bool) → cond b (Some n) (repeat_from eq (seen ++ x ∷ []) (n + 1) keys) ≡ Some k → Repeat n (suc (length keys)) k
+    by_test :
+        (repeat_from eq (seen ++ x ∷ []) (n + 1) keys ≡ Some k → Repeat (n + 1) (length keys) k)
+        → (b : Bool) → cond b (Some n) (repeat_from eq (seen ++ x ∷ []) (n + 1) keys) ≡ Some k
+        → Repeat n (suc (length keys)) k
     by_test rest true f = let same : n ≡ k = cc f in record { below = omega (arith, same) }
     by_test rest false f = let r : Repeat (n + 1) (length keys) k = rest f in record { below = omega (arith, r.below) }
 
-no_repeat : {K : Type 0} (eq : K → K → Bool) (seen : List K) (n : ℕ) (keys : List K) → repeat_from eq seen n keys ≡ None → repeated_from eq seen keys ≡ None
+no_repeat : {K : Type 0} (eq : K → K → Bool) (seen : List K) (n : ℕ) (keys : List K)
+    → repeat_from eq seen n keys ≡ None → repeated_from eq seen keys ≡ None
 no_repeat eq seen n [] e = refl
 no_repeat {K} eq seen n (x ∷ keys) e = by_test (no_repeat eq (seen ++ x ∷ []) (n + 1) keys) (list_any (λ s. eq s x) seen) e
   where
-    by_test : (repeat_from eq (seen ++ x ∷ []) (n + 1) keys ≡ None → repeated_from eq (seen ++ x ∷ []) keys ≡ None) → (b : Bool) → cond b (Some n) (repeat_from eq (seen ++ x ∷ []) (n + 1) keys) ≡ None → cond b (Some x) (repeated_from eq (seen ++ x ∷ []) keys) ≡ None
+    by_test :
+        (repeat_from eq (seen ++ x ∷ []) (n + 1) keys ≡ None
+        → repeated_from eq (seen ++ x ∷ []) keys ≡ None) → (b : Bool)
+        → cond b (Some n) (repeat_from eq (seen ++ x ∷ []) (n + 1) keys) ≡ None
+        → cond b (Some x) (repeated_from eq (seen ++ x ∷ []) keys) ≡ None
     by_test rest true f = cc f
     by_test rest false f = rest f
 
-there : (s : Option Named) → option_map PartTwice (option_map (λ (m : Named). let spot : Spot = record { line = m.0; word = 1 } in spot) s) ≡ None → s ≡ None
+there : (s : Option Named)
+    → option_map PartTwice
+    (option_map (λ (m : Named). let spot : Spot = record { line = m.0; word = 1 } in spot) s)
+    ≡ None → s ≡ None
 there None e = refl
 there (Some m) e = cc e
 
@@ -50,7 +62,8 @@ parts_differ : (parts : List Named) → part_twice parts ≡ None → first_repe
 unfolding part_twice
 parts_differ parts e = by_place (first_repeat same_word (names_of parts)) refl e
   where
-    by_place : (o : Option ℕ) → first_repeat same_word (names_of parts) ≡ o → option_map PartTwice (option_and_then (spot_at parts) o) ≡ None → o ≡ None
+    by_place : (o : Option ℕ) → first_repeat same_word (names_of parts) ≡ o
+        → option_map PartTwice (option_and_then (spot_at parts) o) ≡ None → o ≡ None
     by_place None f k = refl
     by_place (Some n) f k =
         let r : Repeat 0 (length (names_of parts)) n = repeat_within same_word [] 0 (names_of parts) n f in
@@ -75,7 +88,9 @@ unless_ok None v w e = (refl, cc e)
 unless_ok (Some f) v w e = cc e
 
 -- if the rules on the chain find no fault, the chain has 1 to 255 parts with different names
-chain_kept : (lines : List ChainLine) (devices : List Named) (places : List (Option ℕ)) (entities : List (List ℕ)) → first_fault (named PartName lines) devices places entities ≡ None → IsChain lines
+chain_kept : (lines : List ChainLine) (devices : List Named) (places : List (Option ℕ))
+    (entities : List (List ℕ)) → first_fault (named PartName lines) devices places entities ≡ None
+    → IsChain lines
 unfolding first_fault
 chain_kept lines devices places entities e =
     let first = then_none _ _ e in
@@ -86,15 +101,26 @@ chain_kept lines devices places entities e =
     record {
       some = some_parts (named PartName lines) first.0;
       most = few_parts (named PartName lines) fourth.1;
-      differ = apart_pairs _ _ (apart_weaker _ _ (λ a b h. other_text a b (sym h)) (names_of (named PartName lines)) (unrepeated_apart same_word (names_of (named PartName lines)) once_));
+      differ =
+          apart_pairs _ _
+          (apart_weaker _ _ (λ a b h. other_text a b (sym h)) (names_of (named PartName lines))
+          (unrepeated_apart same_word (names_of (named PartName lines)) once_));
     }
 
-pub selected_chain : {U : Type 0} (view : U → List ℕ) (lines : List ChainLine) (entities : List Entity) (r : Result U BoardFault) → Gives board_told view (λ said. selection lines entities ≡ said) r → IfOk r (λ v. IsChain lines × (length (view v) ≡ length (named EntityName lines)))
+pub selected_chain : {U : Type 0} (view : U → List ℕ) (lines : List ChainLine)
+    (entities : List Entity) (r : Result U BoardFault)
+    → Gives board_told view (λ said. selection lines entities ≡ said) r
+    → IfOk r (λ v. IsChain lines × (length (view v) ≡ length (named EntityName lines)))
 unfolding answer
 selected_chain view lines entities (Err e) g = tt
 selected_chain view lines entities (Ok v) g =
     let devices = named EntityName lines in
     let places = entity_places devices (entity_names entities) in
-    let ok = unless_ok (first_fault (named PartName lines) devices places (entity_names entities)) (map (λ (place : Option ℕ). unwrap_or place 0) places) (view v) g in
-    let count : length (view v) ≡ length devices = sym (ap length ok.1) ∙ length-map places (λ (place : Option ℕ). unwrap_or place 0) ∙ length-map (names_of devices) (first_place same_word (entity_names entities)) ∙ length-map devices (λ n. n.1) in
+    let ok = unless_ok (first_fault (named PartName lines) devices places (entity_names entities))
+    (map (λ (place : Option ℕ). unwrap_or place 0) places) (view v) g in
+    let count : length (view v)
+    ≡ length devices = sym (ap length ok.1)
+    ∙ length-map places (λ (place : Option ℕ). unwrap_or place 0)
+    ∙ length-map (names_of devices) (first_place same_word (entity_names entities))
+    ∙ length-map devices (λ n. n.1) in
     (chain_kept lines devices places (entity_names entities) ok.0, count)

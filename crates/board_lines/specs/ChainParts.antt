@@ -25,7 +25,8 @@ pub record IsChain (lines : List ChainLine) : Type 0 where
 -- the part of a DEVICE or BYPASS line, or None for any other line; a DEVICE line takes the first of
 -- the devices
 abbrev pub part_of_line : ChainStatement → List RawDevice → Option Part
-part_of_line (Device part entity pack) devices = option_map (λ device. record { name = part; kind = Described device }) (slice_get devices 0)
+part_of_line (Device part entity pack) devices =
+    option_map (λ device. record { name = part; kind = Described device }) (slice_get devices 0)
 part_of_line (BypassLine part bits) devices = Some (record { name = part; kind = Bypass bits })
 part_of_line (InertLine part) devices = None
 part_of_line (SupplyLine net) devices = None
@@ -44,7 +45,9 @@ devices_after (Link part first second) devices = devices
 -- the parts of the DEVICE and BYPASS lines, in order; each DEVICE line takes the next device
 abbrev pub chain_parts : List ChainLine → List RawDevice → List Part
 chain_parts [] devices = []
-chain_parts (line ∷ lines) devices = cons_option (part_of_line line.statement devices) (chain_parts lines (devices_after line.statement devices))
+chain_parts (line ∷ lines) devices =
+    cons_option (part_of_line line.statement devices)
+    (chain_parts lines (devices_after line.statement devices))
 
 -- a pin of a described part, and its place
 abbrev pub PinPlace : Type 0
@@ -78,12 +81,12 @@ abbrev pub place_of_pin : List PinPlace → Pin → Option PinAt
 place_of_pin places pin = first_value same_pin places pin
 
 -- the name of a part, if the part is described
-abbrev pub name_in : List ℕ → PartKind → Option (List ℕ)
-name_in name (Described device) = Some name
-name_in name (Bypass bits) = None
+abbrev pub name_if_described : List ℕ → PartKind → Option (List ℕ)
+name_if_described name (Described device) = Some name
+name_if_described name (Bypass bits) = None
 
 abbrev pub described_name : Part → Option (List ℕ)
-described_name part = name_in part.name part.kind
+described_name part = name_if_described part.name part.kind
 
 -- the names of the described parts
 abbrev pub described_names : List Part → List (List ℕ)

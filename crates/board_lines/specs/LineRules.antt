@@ -15,20 +15,24 @@ use Rattle.board_lines.specs.Selection.{spot_at}
 
 -- the first place of each name of the list among the other names, or None for a name that is not
 -- among them
-abbrev pub places_of : List Named → List (List ℕ) → List (Option ℕ)
-places_of list others = map (first_place same_word others) (names_of list)
+abbrev pub first_places_among : List Named → List (List ℕ) → List (Option ℕ)
+first_places_among list others = map (first_place same_word others) (names_of list)
 
 -- the fault of the first INERT line whose part is in the chain
 unfoldable pub inert_in_chain : List Named → List (List ℕ) → Option BoardFault
-inert_in_chain inerts parts = option_map InertInChain (option_and_then (spot_at inerts) (position is_some (places_of inerts parts)))
+inert_in_chain inerts parts =
+    option_map InertInChain
+    (option_and_then (spot_at inerts) (position is_some (first_places_among inerts parts)))
 
 -- the fault of the first SUPPLY line whose net does not exist
 unfoldable pub no_supply_net : List Named → List (List ℕ) → Option BoardFault
-no_supply_net supplies nets = option_map NoSupplyNet (option_and_then (spot_at supplies) (position is_none (places_of supplies nets)))
+no_supply_net supplies nets =
+    option_map NoSupplyNet
+    (option_and_then (spot_at supplies) (position is_none (first_places_among supplies nets)))
 
 -- the fault of the first PULL line whose net does not exist
 unfoldable pub no_pull_net : List Named → List (List ℕ) → Option BoardFault
-no_pull_net pulls nets = option_map NoPullNet (option_and_then (spot_at pulls) (position is_none (places_of pulls nets)))
+no_pull_net pulls nets = option_map NoPullNet (option_and_then (spot_at pulls) (position is_none (first_places_among pulls nets)))
 
 -- the fault of the first PULL line whose net an earlier PULL line names
 unfoldable pub pull_twice : List Named → Option BoardFault
@@ -58,4 +62,6 @@ pull_of_net pulls name = first_value same_word pulls name
 -- the first fault of the INERT, SUPPLY and PULL lines, by the rules in their order
 unfoldable pub line_fault : List ChainLine → List (List ℕ) → Option BoardFault
 line_fault chain names =
-    inert_in_chain (named InertName chain) (names_of (named PartName chain)) then no_supply_net (named SupplyName chain) names then no_pull_net (named PullName chain) names then pull_twice (named PullName chain)
+    inert_in_chain (named InertName chain) (names_of (named PartName chain))
+    then no_supply_net (named SupplyName chain) names
+    then no_pull_net (named PullName chain) names then pull_twice (named PullName chain)

@@ -53,12 +53,12 @@ pull_of (SupplyLine net) = None
 pull_of (Link part first second) = None
 
 -- the name on the line that has this role, if there is one
-abbrev pub name_of : Naming → ChainStatement → Option (List ℕ)
-name_of Part statement = part_of statement
-name_of Entity statement = entity_of statement
-name_of Inert statement = inert_of statement
-name_of Supply statement = supply_of statement
-name_of Pull statement = pull_of statement
+abbrev pub name_in_role : Naming → ChainStatement → Option (List ℕ)
+name_in_role Part statement = part_of statement
+name_in_role Entity statement = entity_of statement
+name_in_role Inert statement = inert_of statement
+name_in_role Supply statement = supply_of statement
+name_in_role Pull statement = pull_of statement
 
 abbrev pub with_name : ℕ → Option (List ℕ) → List Named → List Named
 with_name line None named = named
@@ -67,7 +67,7 @@ with_name line (Some name) named = (line, name) ∷ named
 -- the names on the lines that have this role, each with the number of its line
 abbrev pub named : Naming → List ChainLine → List Named
 named naming [] = []
-named naming (line ∷ lines) = with_name line.line (name_of naming line.statement) (named naming lines)
+named naming (line ∷ lines) = with_name line.line (name_in_role naming line.statement) (named naming lines)
 
 abbrev pub names_of : List Named → List (List ℕ)
 names_of list = map (λ n. n.1) list

@@ -18,11 +18,11 @@ same_pin a b = same_word a.0 b.0 && same_word a.1 b.1
 abbrev pub NetWord : Type 0
 NetWord = (ℕ × Pin) × Spot
 
-abbrev pub net_of : NetWord → ℕ
-net_of word = word.0.0
+abbrev pub word_net : NetWord → ℕ
+word_net word = word.0.0
 
-abbrev pub pin_of : NetWord → Pin
-pin_of word = word.0.1
+abbrev pub word_pin : NetWord → Pin
+word_pin word = word.0.1
 
 abbrev pub spot_of : NetWord → Spot
 spot_of word = word.1
@@ -36,7 +36,7 @@ lent_word w = ((w.0.0, lent_pin w.0.1), w.1)
 
 -- both words are on lines of the same net and name the same pin
 abbrev pub same_place : NetWord → NetWord → Bool
-same_place a b = (net_of a == net_of b) && same_pin (pin_of a) (pin_of b)
+same_place a b = (word_net a == word_net b) && same_pin (word_pin a) (word_pin b)
 
 -- the name is in the list
 abbrev pub is_among : List (List ℕ) → List ℕ → Bool
@@ -55,21 +55,21 @@ line_words net line n [] = []
 line_words net line n (p ∷ pins) = ((net, (p.part, p.pin)), record { line = line; word = n }) ∷ line_words net line (n + 1) pins
 
 -- the words of all lines that name pins; the first pin of a line is word 3 of the line
-abbrev pub words_of : List (List ℕ) → List NetLine → List NetWord
-words_of names [] = []
-words_of names (line ∷ lines) = line_words (net_number names line.name) line.line 3 line.pins ++ words_of names lines
+abbrev pub words_of_nets : List (List ℕ) → List NetLine → List NetWord
+words_of_nets names [] = []
+words_of_nets names (line ∷ lines) = line_words (net_number names line.name) line.line 3 line.pins ++ words_of_nets names lines
 
 abbrev pub net_words : List NetLine → List NetWord
-net_words lines = words_of (net_names lines) lines
+net_words lines = words_of_nets (net_names lines) lines
 
 -- the words that name pins, without each word that repeats a pin of the same net
 abbrev pub standing_words : List NetLine → List NetWord
 standing_words lines = once same_place (net_words lines)
 
 -- the pins of net `n`
-abbrev pub pins_of_net : List NetWord → ℕ → List Pin
-pins_of_net words n = map pin_of (filter (λ word. net_of word == n) words)
+abbrev pub pins_on_net : List NetWord → ℕ → List Pin
+pins_on_net words n = map word_pin (filter (λ word. word_net word == n) words)
 
 -- both words name the same pin
 abbrev pub have_same_pin : NetWord → NetWord → Bool
-have_same_pin a b = same_pin (pin_of a) (pin_of b)
+have_same_pin a b = same_pin (word_pin a) (word_pin b)

@@ -12,39 +12,42 @@ use Rattle.board_defs.specs.declared.board.PinAt.{PinAt}
 use Rattle.board_files.specs.Names.{same_word}
 
 -- there is a pin, and it has this name
-abbrev pub is_pin : List ℕ → Option (List ℕ) → Bool
-is_pin name None = false
-is_pin name (Some pin) = same_word pin name
+abbrev pub has_pin_named : List ℕ → Option (List ℕ) → Bool
+has_pin_named name None = false
+has_pin_named name (Some pin) = same_word pin name
 
 -- the first port bit whose pin has this name; `pins` has the pin of each port bit, in order
 abbrev pub bit_of_pin : List (Option (List ℕ)) → List ℕ → Option ℕ
-bit_of_pin pins name = position_from (is_pin name) 0 pins
+bit_of_pin pins name = position_from (has_pin_named name) 0 pins
 
 -- the pin of each port bit, if the port bit has a pin
 abbrev pub pins_of_bits : List PortBit → List (Option (List ℕ))
 pins_of_bits bits = map (λ bit. bit.pin) bits
 
 -- the pin of each port bit of a part; a part in BYPASS has no port bits
-abbrev pub pins_of : PartKind → List (Option (List ℕ))
-pins_of (Described device) = pins_of_bits device.bits
-pins_of (Bypass bits) = []
+abbrev pub pins_of_part : PartKind → List (Option (List ℕ))
+pins_of_part (Described device) = pins_of_bits device.bits
+pins_of_part (Bypass bits) = []
 
 -- the row of part `part`; `numbers` has the number of each part's row
 abbrev pub row_at : List (List (Option (List ℕ))) → List ℕ → ℕ → Option (List (Option (List ℕ)))
 row_at rows numbers part = option_and_then (λ number. slice_get rows number) (slice_get numbers part)
 
 -- the row of each part has the pins of the part
-abbrev pub AreRows : List (List (Option (List ℕ))) → List ℕ → List Part → Type 0
-AreRows rows numbers parts = map (λ number. slice_get rows number) numbers ≡ map (λ part. Some (pins_of part.kind)) parts
+abbrev pub ArePinRows : List (List (Option (List ℕ))) → List ℕ → List Part → Type 0
+ArePinRows rows numbers parts = map (λ number. slice_get rows number) numbers ≡ map (λ part. Some (pins_of_part part.kind)) parts
 
 -- the place of the pin, if there is a part and a port bit of the part has the pin
 abbrev pub place_by_part : List (List (Option (List ℕ))) → List ℕ → Option ℕ → List ℕ → Option PinAt
 place_by_part rows numbers None pin = None
-place_by_part rows numbers (Some part) pin = option_map (λ bit. record { part = part; bit = bit }) (option_and_then (λ row. bit_of_pin row pin) (row_at rows numbers part))
+place_by_part rows numbers (Some part) pin =
+    option_map (λ bit. record { part = part; bit = bit })
+    (option_and_then (λ row. bit_of_pin row pin) (row_at rows numbers part))
 
 -- no two parts have the same name, the map has the number of each part by its name, and the row of
 -- each part has its pins
-pub record ArePlaces {S : Type 0} (by_name : IndexMap (Bor (List ℕ)) ℕ S) (rows : List (List (Option (List ℕ)))) (numbers : List ℕ) (parts : List Part) : Type 0 where
+pub record ArePlaces {S : Type 0} (by_name : IndexMap (Bor (List ℕ)) ℕ S)
+    (rows : List (List (Option (List ℕ)))) (numbers : List ℕ) (parts : List Part) : Type 0 where
   pub named : (q : Bor (List ℕ)) → get_by (λ n. same_word q.now n.now) by_name ≡ first_place same_word (map (λ part. part.name) parts) q.now
-  pub pinned : AreRows rows numbers parts
+  pub pinned : ArePinRows rows numbers parts
   pub differ : AllPairs (λ a b. a ≢ b) (map (λ part. part.name) parts)

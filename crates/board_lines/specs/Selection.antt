@@ -45,7 +45,9 @@ chain_limit parts = if nat_lt most_parts (length parts) then Some (Limit (limit_
 
 -- the first fault of the chain, by the rules in their order
 unfoldable pub first_fault : List Named → List Named → List (Option ℕ) → List (List ℕ) → Option BoardFault
-first_fault parts devices places entities = no_chain parts then part_twice parts then no_entity devices places then entity_twice entities then chain_limit parts
+first_fault parts devices places entities =
+    no_chain parts then part_twice parts then no_entity devices places then entity_twice entities
+    then chain_limit parts
 
 abbrev pub entity_names : List Entity → List (List ℕ)
 entity_names entities = map (λ e. e.name) entities
@@ -57,4 +59,5 @@ answer parts devices places entities = unless (first_fault parts devices places 
 -- the number of each DEVICE line's entity, or the first fault
 abbrev pub selection : List ChainLine → List Entity → Result (List ℕ) BoardFault
 selection lines entities =
-    answer (named Part lines) (named EntityName lines) (entity_places (named EntityName lines) (entity_names entities)) (entity_names entities)
+    answer (named Part lines) (named EntityName lines)
+    (entity_places (named EntityName lines) (entity_names entities)) (entity_names entities)

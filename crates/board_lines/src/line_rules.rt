@@ -5,7 +5,7 @@ ghost use Rattle.indexmap.specs.IndexMap.{get_by};
 ghost use Rattle.board_files.specs.Names.{same_word};
 ghost use Rattle.board_lines.specs.Names.{named, names_of};
 ghost use Rattle.board_lines.specs.LineRules.{line_fault};
-ghost use Rattle.board_lines.specs.LineRules.{places_of, inert_in_chain, no_supply_net, no_pull_net, pull_twice, pulls_of, pull_of_line, Pulled, pull_of_net};
+ghost use Rattle.board_lines.specs.LineRules.{first_places_among, inert_in_chain, no_supply_net, no_pull_net, pull_twice, pulls_of, pull_of_line, Pulled, pull_of_net};
 
 use crate::fault::BoardFault;
 use crate::names::{Naming, first_repeat_of, named, names_of, places_among};
@@ -22,7 +22,10 @@ fn places_of(
     others: &[&[u8]],
 ) -> Result<Vec<Option<u32>>, AllocError>
     requires { length others.now < 2 ^ 32 }
-    ensures { IfOk result (λ places. places.items ≡ places_of (map (λ n. (n.0, n.1.now)) named.now) (map (λ n. n.now) others.now)) }
+    ensures { IfOk result
+        (λ places. places.items
+        ≡ first_places_among (map (λ n. (n.0, n.1.now)) named.now)
+        (map (λ n. n.now) others.now)) }
 {
     let names = names_of(alloc, named)?;
     places_among(alloc, &names, others)
@@ -42,7 +45,9 @@ pub fn inert_in_chain(
     parts: &[&[u8]],
 ) -> Result<Option<BoardFault>, AllocError>
     requires { length parts.now < 2 ^ 32 }
-    ensures { IfOk result (λ fault. fault ≡ inert_in_chain (map (λ n. (n.0, n.1.now)) inerts.now) (map (λ n. n.now) parts.now)) }
+    ensures { IfOk result
+        (λ fault. fault
+        ≡ inert_in_chain (map (λ n. (n.0, n.1.now)) inerts.now) (map (λ n. n.now) parts.now)) }
 {
     let places = places_of(alloc, inerts, parts)?;
     match found(&places) {
@@ -59,7 +64,9 @@ pub fn no_supply_net(
     nets: &[&[u8]],
 ) -> Result<Option<BoardFault>, AllocError>
     requires { length nets.now < 2 ^ 32 }
-    ensures { IfOk result (λ fault. fault ≡ no_supply_net (map (λ n. (n.0, n.1.now)) supplies.now) (map (λ n. n.now) nets.now)) }
+    ensures { IfOk result
+        (λ fault. fault
+        ≡ no_supply_net (map (λ n. (n.0, n.1.now)) supplies.now) (map (λ n. n.now) nets.now)) }
 {
     let places = places_of(alloc, supplies, nets)?;
     match missing(&places) {
@@ -76,7 +83,9 @@ pub fn no_pull_net(
     nets: &[&[u8]],
 ) -> Result<Option<BoardFault>, AllocError>
     requires { length nets.now < 2 ^ 32 }
-    ensures { IfOk result (λ fault. fault ≡ no_pull_net (map (λ n. (n.0, n.1.now)) pulls.now) (map (λ n. n.now) nets.now)) }
+    ensures { IfOk result
+        (λ fault. fault
+        ≡ no_pull_net (map (λ n. (n.0, n.1.now)) pulls.now) (map (λ n. n.now) nets.now)) }
 {
     let places = places_of(alloc, pulls, nets)?;
     match missing(&places) {
@@ -128,7 +137,10 @@ pub fn pulls_by_net<'a>(
     alloc: Global,
     pulls: &[(&'a [u8], bool)],
 ) -> Result<IndexMap<&'a [u8], bool>, AllocError>
-    ensures { IfOk result (λ known. (q : Bor (List ℕ)) → get_by (λ n. same_word q.now n.now) known ≡ pull_of_net (map (λ p. (p.0.now, p.1)) pulls.now) q.now) }
+    ensures { IfOk result
+        (λ known. (q : Bor (List ℕ))
+        → get_by (λ n. same_word q.now n.now) known
+        ≡ pull_of_net (map (λ p. (p.0.now, p.1)) pulls.now) q.now) }
 {
     first_values(alloc, pulls)
 }
@@ -177,7 +189,8 @@ pub fn names_in<'a>(
     lines: &'a [ChainLine],
     naming: Naming,
 ) -> Result<Vec<&'a [u8]>, AllocError>
-    ensures names { IfOk result (λ names. map (λ n. n.now) names.items ≡ names_of (named naming lines.now)) }
+    ensures names { IfOk result
+        (λ names. map (λ n. n.now) names.items ≡ names_of (named naming lines.now)) }
     ensures few { IfOk result (λ names. vec_len names ≤ length lines.now) }
 {
     let list = named(alloc, lines, naming)?;

@@ -1,10 +1,10 @@
 // The names on the lines of a chain file.
 ghost use Rattle.std.specs.Prelude.{◌≡◌, ◌<◌, ◌≤◌, ◌^◌, vec_len, List, length, ℕ, map, IfOk, option_map, option_copied, Option};
 ghost use Rattle.std.proofs.Common.{Bor};
-ghost use Rattle.first_places.specs.Places.{first_place, first_repeat, number_in, once};
+ghost use Rattle.first_places.specs.Places.{first_place, first_repeat, place_or_zero, once};
 ghost use Rattle.indexmap.specs.IndexMap.{get_by};
 ghost use Rattle.board_files.specs.Names.{same_word};
-ghost use Rattle.board_lines.specs.Names.{name_of, named, names_of};
+ghost use Rattle.board_lines.specs.Names.{name_in_role, named, names_of};
 
 use board_defs::Name;
 use board_files::{ChainLine, ChainStatement};
@@ -23,7 +23,7 @@ pub enum Naming {
 }
 
 pub fn name_of(statement: &ChainStatement, naming: Naming) -> Option<&Name>
-    ensures { option_copied result ≡ name_of naming statement.now }
+    ensures { option_copied result ≡ name_in_role naming statement.now }
 {
     match (naming, statement) {
         (Naming::Part, ChainStatement::Device { part, .. }) => Some(part),
@@ -42,7 +42,8 @@ pub fn named<'a>(
     lines: &'a [ChainLine],
     naming: Naming,
 ) -> Result<Vec<(u32, &'a [u8])>, AllocError>
-    ensures named { IfOk result (λ list. map (λ n. (n.0, n.1.now)) list.items ≡ named naming lines.now) }
+    ensures named { IfOk result
+        (λ list. map (λ n. (n.0, n.1.now)) list.items ≡ named naming lines.now) }
     ensures few { IfOk result (λ list. vec_len list ≤ length lines.now) }
 {
     let mut list = Vec::new(alloc);
@@ -56,7 +57,8 @@ pub fn named<'a>(
 
 /// Returns the names of the list, without the numbers of their lines.
 pub fn names_of<'a>(alloc: Global, named: &[(u32, &'a [u8])]) -> Result<Vec<&'a [u8]>, AllocError>
-    ensures names { IfOk result (λ names. map (λ n. n.now) names.items ≡ names_of (map (λ n. (n.0, n.1.now)) named.now)) }
+    ensures names { IfOk result
+        (λ names. map (λ n. n.now) names.items ≡ names_of (map (λ n. (n.0, n.1.now)) named.now)) }
     ensures count { IfOk result (λ names. vec_len names ≡ length named.now) }
 {
     let mut names = Vec::new(alloc);
@@ -80,7 +82,10 @@ pub fn first_places_of<'a>(
     names: &[&'a [u8]],
 ) -> Result<IndexMap<&'a [u8], u32>, AllocError>
     requires { length names.now < 2 ^ 32 }
-    ensures { IfOk result (λ places. (q : Bor (List ℕ)) → get_by (λ n. same_word q.now n.now) places ≡ first_place same_word (map (λ n. n.now) names.now) q.now) }
+    ensures { IfOk result
+        (λ places. (q : Bor (List ℕ))
+        → get_by (λ n. same_word q.now n.now) places
+        ≡ first_place same_word (map (λ n. n.now) names.now) q.now) }
 {
     first_places(alloc, names)
 }
@@ -101,7 +106,9 @@ fn places_by(
     names: &[&[u8]],
     known: &IndexMap<&[u8], u32>,
 ) -> Result<Vec<Option<u32>>, AllocError>
-    ensures { IfOk result (λ places. places.items ≡ map (λ name. get_by (λ n. same_word name.now n.now) known.now) names.now) }
+    ensures { IfOk result
+        (λ places. places.items
+        ≡ map (λ name. get_by (λ n. same_word name.now n.now) known.now) names.now) }
 {
     names
         .iter()
@@ -116,7 +123,10 @@ pub fn places_among(
     others: &[&[u8]],
 ) -> Result<Vec<Option<u32>>, AllocError>
     requires { length others.now < 2 ^ 32 }
-    ensures { IfOk result (λ places. places.items ≡ map (first_place same_word (map (λ n. n.now) others.now)) (map (λ n. n.now) names.now)) }
+    ensures { IfOk result
+        (λ places. places.items
+        ≡ map (first_place same_word (map (λ n. n.now) others.now))
+        (map (λ n. n.now) names.now)) }
 {
     // If there are no names to look up, `others` needs no map.
     if names.is_empty() {
@@ -133,9 +143,13 @@ pub fn numbered_names<'a>(
     names: &[&'a [u8]],
 ) -> Result<(Vec<&'a [u8]>, Vec<u32>), AllocError>
     requires { length names.now < 2 ^ 32 }
-    ensures once { IfOk result (λ r. map (λ n. n.now) r.0.items ≡ once same_word (map (λ n. n.now) names.now)) }
+    ensures once { IfOk result
+        (λ r. map (λ n. n.now) r.0.items ≡ once same_word (map (λ n. n.now) names.now)) }
     ensures few { IfOk result (λ r. vec_len r.0 ≤ length names.now) }
-    ensures numbers { IfOk result (λ r. r.1.items ≡ map (number_in same_word (once same_word (map (λ n. n.now) names.now))) (map (λ n. n.now) names.now)) }
+    ensures numbers { IfOk result
+        (λ r. r.1.items
+        ≡ map (place_or_zero same_word (once same_word (map (λ n. n.now) names.now)))
+        (map (λ n. n.now) names.now)) }
 {
     numbered(alloc, names)
 }

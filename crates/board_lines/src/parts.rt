@@ -3,7 +3,7 @@ ghost use Rattle.std.specs.Prelude.{◌≡◌, ◌≤◌, ◌++◌, vec_len, len
 ghost use Rattle.std.specs.Option.{option_to_list};
 ghost use Rattle.std.specs.Vec.Iter.{into_iter_items};
 ghost use Rattle.board_defs.specs.Limits.{IsInstructionLength};
-ghost use Rattle.board_files.specs.ChainLines.{HasLength};
+ghost use Rattle.board_files.specs.ChainLines.{HasBypassLength};
 ghost use Rattle.board_defs.specs.BoardRules.{IsPart};
 ghost use Rattle.board_defs.specs.declared.board.PartKind.TheVariants.{Described as DescribedPart, Bypass as BypassPart};
 ghost use Rattle.board_lines.specs.ChainParts.{part_of_line, devices_after, chain_parts, described_name, described_names};
@@ -14,7 +14,8 @@ use std::alloc::{AllocError, Global};
 use std::vec::IntoIter;
 
 fn described(alloc: Global, name: &Name, device: Device) -> Result<Part, AllocError>
-    ensures part { IfOk result (λ part. part ≡ record { name = name.now; kind = DescribedPart device }) }
+    ensures part { IfOk result
+        (λ part. part ≡ record { name = name.now; kind = DescribedPart device }) }
     ensures kind { IfOk result (λ part. IsPart part.kind) }
 {
     let _ = device.raw();
@@ -26,7 +27,8 @@ fn described(alloc: Global, name: &Name, device: Device) -> Result<Part, AllocEr
 
 fn bypass(alloc: Global, name: &Name, length: u32) -> Result<Part, AllocError>
     requires { IsInstructionLength length }
-    ensures part { IfOk result (λ part. part ≡ record { name = name.now; kind = BypassPart length }) }
+    ensures part { IfOk result
+        (λ part. part ≡ record { name = name.now; kind = BypassPart length }) }
     ensures kind { IfOk result (λ part. IsPart part.kind) }
 {
     Ok(Part {
@@ -41,10 +43,12 @@ fn part_of_line(
     statement: &ChainStatement,
     devices: &mut IntoIter<Device>,
 ) -> Result<Option<Part>, AllocError>
-    requires { HasLength statement.now }
-    ensures part { IfOk result (λ part. part ≡ part_of_line statement.now (into_iter_items devices.old)) }
+    requires { HasBypassLength statement.now }
+    ensures part { IfOk result
+        (λ part. part ≡ part_of_line statement.now (into_iter_items devices.old)) }
     ensures kind { IfOk result (λ part. IfSome part (λ part. IsPart part.kind)) }
-    ensures rest { OnOk result (into_iter_items devices.new ≡ devices_after statement.now (into_iter_items devices.old)) }
+    ensures rest { OnOk result
+        (into_iter_items devices.new ≡ devices_after statement.now (into_iter_items devices.old)) }
 {
     match statement {
         ChainStatement::Device { part, .. } => match devices.next() {
@@ -71,7 +75,7 @@ pub fn chain_parts(
     lines: &[ChainLine],
     devices: Vec<Device>,
 ) -> Result<Vec<Part>, AllocError>
-    requires { All (λ line. HasLength line.statement) lines.now }
+    requires { All (λ line. HasBypassLength line.statement) lines.now }
     ensures parts { IfOk result (λ parts. parts.items ≡ chain_parts lines.now devices.items) }
     ensures kinds { IfOk result (λ parts. All (λ part. IsPart part.kind) parts.items) }
 {
@@ -95,7 +99,8 @@ fn described_name(part: &Part) -> Option<&[u8]>
 
 /// Returns the names of the described parts.
 pub fn described_names<'a>(alloc: Global, parts: &'a [Part]) -> Result<Vec<&'a [u8]>, AllocError>
-    ensures names { IfOk result (λ names. map (λ n. n.now) names.items ≡ described_names parts.now) }
+    ensures names { IfOk result
+        (λ names. map (λ n. n.now) names.items ≡ described_names parts.now) }
     ensures few { IfOk result (λ names. vec_len names ≤ length parts.now) }
 {
     let mut names = Vec::new(alloc);

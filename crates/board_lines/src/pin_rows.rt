@@ -4,7 +4,7 @@ ghost use Rattle.board_defs.specs.Limits.{most_bits};
 ghost use Rattle.std.proofs.Common.{Bor};
 ghost use Rattle.indexmap.specs.IndexMap.{get_by};
 ghost use Rattle.board_files.specs.Names.{same_word};
-ghost use Rattle.board_lines.specs.PinRows.{bit_of_pin, is_pin, pins_of, pins_of_bits};
+ghost use Rattle.board_lines.specs.PinRows.{bit_of_pin, has_pin_named, pins_of_part, pins_of_bits};
 
 use board_defs::{Name, PartKind, PortBit};
 use indexmap::IndexMap;
@@ -18,7 +18,7 @@ const ROWS_COMPARED: usize = 16;
 
 /// Returns the port bits of a part. A part in BYPASS has no port bits.
 pub fn bits_of(kind: &PartKind) -> &[PortBit]
-    ensures pins { pins_of_bits result.now ≡ pins_of kind.now }
+    ensures pins { pins_of_bits result.now ≡ pins_of_part kind.now }
     ensures few { length result.now ≤ most_bits }
 {
     match kind {
@@ -33,7 +33,11 @@ fn put_pin<'a>(
     pin: &'a Option<Name>,
     bit: u32,
 ) -> Result<(), AllocError>
-    ensures { OnOk result ((q : Bor (List ℕ)) → get_by (λ n. same_word q.now n.now) bits.new ≡ (if is_pin q.now pin.now then Some bit else get_by (λ n. same_word q.now n.now) bits.old)) }
+    ensures { OnOk result
+        ((q : Bor (List ℕ))
+        → get_by (λ n. same_word q.now n.now) bits.new
+        ≡ (if has_pin_named q.now pin.now then Some bit
+        else get_by (λ n. same_word q.now n.now) bits.old)) }
 {
     if let Some(name) = pin {
         bits.insert(name.bytes(), bit)?;
@@ -47,7 +51,10 @@ fn bits_by_pin<'a>(
     bits: &'a [PortBit],
 ) -> Result<IndexMap<&'a [u8], u32>, AllocError>
     requires { length bits.now < 2 ^ 32 }
-    ensures { IfOk result (λ by_pin. (q : Bor (List ℕ)) → get_by (λ n. same_word q.now n.now) by_pin ≡ bit_of_pin (pins_of_bits bits.now) q.now) }
+    ensures { IfOk result
+        (λ by_pin. (q : Bor (List ℕ))
+        → get_by (λ n. same_word q.now n.now) by_pin
+        ≡ bit_of_pin (pins_of_bits bits.now) q.now) }
 {
     let mut by_pin = IndexMap::with_capacity(alloc, bits.len())?;
     let mut i = bits.len();
@@ -102,7 +109,9 @@ impl<'a> Model for PinRow<'a> {
 
     ghost view = { λ a. pins_of_bits a.bits.now };
 
-    ghost invariant = { λ a. (q : Bor (List ℕ)) → get_by (λ n. same_word q.now n.now) a.by_pin ≡ bit_of_pin (pins_of_bits a.bits.now) q.now };
+    ghost invariant = { λ a. (q : Bor (List ℕ))
+        → get_by (λ n. same_word q.now n.now) a.by_pin
+        ≡ bit_of_pin (pins_of_bits a.bits.now) q.now };
 }
 
 impl<'a> PinRow<'a> {
@@ -153,8 +162,11 @@ pub fn row_of<'a>(
     bits: &'a [PortBit],
 ) -> Result<usize, AllocError>
     requires { length bits.now < 2 ^ 32 }
-    ensures number { IfOk result (λ number. slice_get rows.new.items number ≡ Some (pins_of_bits bits.now)) }
-    ensures kept { OnOk result ((k : ℕ) (row : List (Option (List ℕ))) → slice_get rows.old.items k ≡ Some row → slice_get rows.new.items k ≡ Some row) }
+    ensures number { IfOk result
+        (λ number. slice_get rows.new.items number ≡ Some (pins_of_bits bits.now)) }
+    ensures kept { OnOk result
+        ((k : ℕ) (row : List (Option (List ℕ))) → slice_get rows.old.items k ≡ Some row
+        → slice_get rows.new.items k ≡ Some row) }
 {
     if let Some(number) = row_among(rows, bits) {
         return Ok(number);

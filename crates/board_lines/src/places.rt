@@ -7,7 +7,7 @@ ghost use Rattle.first_places.specs.Places.{first_place};
 ghost use Rattle.board_files.specs.Names.{same_word};
 ghost use Rattle.board_lines.specs.NetWords.{lent_pin};
 ghost use Rattle.board_lines.specs.ChainParts.{pin_places, place_of_pin};
-ghost use Rattle.board_lines.specs.PinRows.{AreRows, bit_of_pin, place_by_part, row_at};
+ghost use Rattle.board_lines.specs.PinRows.{ArePinRows, bit_of_pin, place_by_part, row_at};
 
 use crate::names::{first_places_of, place_of};
 use crate::pin_rows::{PinRow, bits_of, row_of};
@@ -18,7 +18,8 @@ use std::alloc::{AllocError, Global};
 use std::marker::Model;
 
 fn part_names<'a>(alloc: Global, parts: &'a [Part]) -> Result<Vec<&'a [u8]>, AllocError>
-    ensures { IfOk result (λ names. map (λ n. n.now) names.items ≡ map (λ part. part.name) parts.now) }
+    ensures { IfOk result
+        (λ names. map (λ n. n.now) names.items ≡ map (λ part. part.name) parts.now) }
 {
     let mut names = Vec::with_capacity(alloc, parts.len())?;
     for part in parts {
@@ -33,7 +34,10 @@ fn parts_by_name<'a>(
     parts: &'a [Part],
 ) -> Result<IndexMap<&'a [u8], u32>, AllocError>
     requires { length parts.now < 2 ^ 32 }
-    ensures { IfOk result (λ numbers. (q : Bor (List ℕ)) → get_by (λ n. same_word q.now n.now) numbers ≡ first_place same_word (map (λ part. part.name) parts.now) q.now) }
+    ensures { IfOk result
+        (λ numbers. (q : Bor (List ℕ))
+        → get_by (λ n. same_word q.now n.now) numbers
+        ≡ first_place same_word (map (λ part. part.name) parts.now) q.now) }
 {
     let names = part_names(alloc, parts)?;
     first_places_of(alloc, &names)
@@ -48,7 +52,8 @@ struct PartRows<'a> {
 }
 
 fn rows_of<'a>(alloc: Global, parts: &'a [Part]) -> Result<PartRows<'a>, AllocError>
-    ensures { IfOk result (λ part_rows. AreRows part_rows.rows.items part_rows.numbers.items parts.now) }
+    ensures { IfOk result
+        (λ part_rows. ArePinRows part_rows.rows.items part_rows.numbers.items parts.now) }
 {
     let mut rows = Vec::new(alloc);
     let mut numbers = Vec::with_capacity(alloc, parts.len())?;
@@ -61,7 +66,8 @@ fn rows_of<'a>(alloc: Global, parts: &'a [Part]) -> Result<PartRows<'a>, AllocEr
 
 /// Returns the first port bit of part `part` that has the pin. Looks it up in the part's row.
 fn bit_in(rows: &[PinRow<'_>], numbers: &[usize], part: u32, pin: &[u8]) -> Option<u32>
-    ensures { result ≡ option_and_then (λ row. bit_of_pin row pin.now) (row_at rows.now numbers.now part) }
+    ensures { result
+        ≡ option_and_then (λ row. bit_of_pin row pin.now) (row_at rows.now numbers.now part) }
 {
     match numbers.get(part as usize) {
         Some(number) => match rows.get(*number) {
@@ -80,7 +86,9 @@ fn place_in(
     numbers: &[usize],
     pin: &PinName<'_>,
 ) -> Option<PinAt>
-    ensures { result ≡ place_by_part rows.now numbers.now (get_by (λ n. same_word pin.now.0.now n.now) by_name.now) pin.now.1.now }
+    ensures { result
+        ≡ place_by_part rows.now numbers.now
+        (get_by (λ n. same_word pin.now.0.now n.now) by_name.now) pin.now.1.now }
 {
     match place_of(by_name, pin.0) {
         None => None,
@@ -111,7 +119,8 @@ impl<'a> Model for PinPlaces<'a> {
 
     ghost view = { λ a. a.parts.now };
 
-    ghost invariant = { λ a. ArePlaces a.by_name a.part_rows.rows.items a.part_rows.numbers.items a.parts.now };
+    ghost invariant = { λ a. ArePlaces a.by_name a.part_rows.rows.items a.part_rows.numbers.items
+        a.parts.now };
 }
 
 impl<'a> PinPlaces<'a> {

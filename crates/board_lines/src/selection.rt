@@ -19,10 +19,12 @@ use std::alloc::{AllocError, Global};
 /// are numbered from 0.
 pub fn select(alloc: Global, chain: &ChainFile, entities: &[Entity]) -> Result<Vec<u32>, BoardFault>
     requires { length entities.now < 2 ^ 32 }
-    ensures numbers { Gives board_told (λ numbers. numbers.items) (λ said. selection chain.now entities.now ≡ said) result }
+    ensures numbers { Gives board_told (λ numbers. numbers.items)
+        (λ said. selection chain.now entities.now ≡ said) result }
     ensures chain { IfOk result (λ numbers. IsChain chain.now) }
     ensures count { IfOk result (λ numbers. vec_len numbers ≡ length (named EntityName chain.now)) }
-    ensures within { IfOk result (λ numbers. All (λ number. number < length entities.now) numbers.items) }
+    ensures within { IfOk result
+        (λ numbers. All (λ number. number < length entities.now) numbers.items) }
 {
     entity_numbers(alloc, chain, entities)
 }
@@ -33,7 +35,8 @@ fn entity_numbers(
     entities: &[Entity],
 ) -> Result<Vec<u32>, BoardFault>
     requires { length entities.now < 2 ^ 32 }
-    ensures { Gives board_told (λ numbers. numbers.items) (λ said. selection chain.now entities.now ≡ said) result }
+    ensures { Gives board_told (λ numbers. numbers.items)
+        (λ said. selection chain.now entities.now ≡ said) result }
 {
     let names = entity_names(alloc, entities)?;
     numbers_among(alloc, chain, &names)
@@ -46,7 +49,10 @@ fn numbers_among(
     entities: &[&[u8]],
 ) -> Result<Vec<u32>, BoardFault>
     requires { length entities.now < 2 ^ 32 }
-    ensures { Gives board_told (λ numbers. numbers.items) (λ said. answer (named PartName chain.now) (named EntityName chain.now) (entity_places (named EntityName chain.now) (map (λ n. n.now) entities.now)) (map (λ n. n.now) entities.now) ≡ said) result }
+    ensures { Gives board_told (λ numbers. numbers.items)
+        (λ said. answer (named PartName chain.now) (named EntityName chain.now)
+        (entity_places (named EntityName chain.now) (map (λ n. n.now) entities.now))
+        (map (λ n. n.now) entities.now) ≡ said) result }
 {
     let parts = named(alloc, chain.lines(), Naming::Part)?;
     let devices = named(alloc, chain.lines(), Naming::Entity)?;
@@ -65,7 +71,10 @@ fn answer(
 ) -> Result<Vec<u32>, BoardFault>
     requires parts { length parts.now < 2 ^ 32 }
     requires entities { length entities.now < 2 ^ 32 }
-    ensures { Gives board_told (λ numbers. numbers.items) (λ said. answer (map (λ n. (n.0, n.1.now)) parts.now) (map (λ n. (n.0, n.1.now)) devices.now) places.now (map (λ n. n.now) entities.now) ≡ said) result }
+    ensures { Gives board_told (λ numbers. numbers.items)
+        (λ said. answer (map (λ n. (n.0, n.1.now)) parts.now)
+        (map (λ n. (n.0, n.1.now)) devices.now) places.now (map (λ n. n.now) entities.now)
+        ≡ said) result }
 {
     match first_fault(alloc, parts, devices, places, entities)? {
         Some(fault) => Err(fault),
@@ -80,14 +89,18 @@ fn entity_places(
     entities: &[&[u8]],
 ) -> Result<Vec<Option<u32>>, AllocError>
     requires { length entities.now < 2 ^ 32 }
-    ensures { IfOk result (λ places. places.items ≡ entity_places (map (λ n. (n.0, n.1.now)) devices.now) (map (λ n. n.now) entities.now)) }
+    ensures { IfOk result
+        (λ places. places.items
+        ≡ entity_places (map (λ n. (n.0, n.1.now)) devices.now)
+        (map (λ n. n.now) entities.now)) }
 {
     let names = names_of(alloc, devices)?;
     places_among(alloc, &names, entities)
 }
 
 fn entity_names<'a>(alloc: Global, entities: &'a [Entity]) -> Result<Vec<&'a [u8]>, AllocError>
-    ensures names { IfOk result (λ names. map (λ n. n.now) names.items ≡ entity_names entities.now) }
+    ensures names { IfOk result
+        (λ names. map (λ n. n.now) names.items ≡ entity_names entities.now) }
     ensures count { IfOk result (λ names. vec_len names ≡ length entities.now) }
 {
     let mut names = Vec::new(alloc);
@@ -113,7 +126,10 @@ fn first_fault(
 ) -> Result<Option<BoardFault>, AllocError>
     requires parts { length parts.now < 2 ^ 32 }
     requires entities { length entities.now < 2 ^ 32 }
-    ensures { IfOk result (λ fault. fault ≡ first_fault (map (λ n. (n.0, n.1.now)) parts.now) (map (λ n. (n.0, n.1.now)) devices.now) places.now (map (λ n. n.now) entities.now)) }
+    ensures { IfOk result
+        (λ fault. fault
+        ≡ first_fault (map (λ n. (n.0, n.1.now)) parts.now)
+        (map (λ n. (n.0, n.1.now)) devices.now) places.now (map (λ n. n.now) entities.now)) }
 {
     if let Some(fault) = no_chain(parts) {
         return Ok(Some(fault));

@@ -31,7 +31,9 @@ pub fn net_names<'a>(alloc: Global, lines: &'a [NetLine]) -> Result<NetNames<'a>
     requires { length lines.now < 2 ^ 32 }
     ensures names { IfOk result (λ net. map (λ n. n.now) net.names.items ≡ net_names lines.now) }
     ensures few { IfOk result (λ net. vec_len net.names ≤ length lines.now) }
-    ensures numbers { IfOk result (λ net. net.numbers.items ≡ map (λ line. net_number (net_names lines.now) line.name) lines.now) }
+    ensures numbers { IfOk result
+        (λ net. net.numbers.items
+        ≡ map (λ line. net_number (net_names lines.now) line.name) lines.now) }
 {
     let names = line_names(alloc, lines)?;
     let (different, numbers) = numbered_names(alloc, &names)?;
@@ -58,7 +60,9 @@ fn push_line<'a>(
     pins: &'a [PinWord],
 ) -> Result<(), AllocError>
     requires { length pins.now ≤ 2 ^ 32 - 3 }
-    ensures { OnOk result (map lent_word words.new.items ≡ map lent_word words.old.items ++ line_words net line 3 pins.now) }
+    ensures { OnOk result
+        (map lent_word words.new.items
+        ≡ map lent_word words.old.items ++ line_words net line 3 pins.now) }
 {
     let mut word = 3usize;
     for pin in pins {
@@ -78,7 +82,8 @@ pub fn net_words<'a>(
     numbers: &[u32],
     lines: &'a [NetLine],
 ) -> Result<Vec<NetWord<'a>>, AllocError>
-    requires numbers { numbers.now ≡ map (λ line. net_number (net_names lines.now) line.name) lines.now }
+    requires numbers { numbers.now
+        ≡ map (λ line. net_number (net_names lines.now) line.name) lines.now }
     requires short { All HasFewPins lines.now }
     ensures { IfOk result (λ words. map lent_word words.items ≡ net_words lines.now) }
 {
@@ -93,7 +98,8 @@ pub fn net_words<'a>(
 
 /// Returns the words, without each word that repeats a pin of the same net.
 pub fn once_words<'a>(alloc: Global, words: &[NetWord<'a>]) -> Result<Vec<NetWord<'a>>, AllocError>
-    ensures { IfOk result (λ kept. map lent_word kept.items ≡ once same_place (map lent_word words.now)) }
+    ensures { IfOk result
+        (λ kept. map lent_word kept.items ≡ once same_place (map lent_word words.now)) }
 {
     once_by(alloc, words)
 }

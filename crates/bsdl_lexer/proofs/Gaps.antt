@@ -4,7 +4,7 @@ use Rattle.std.proofs.Common.{◌≡◌, ℕ, suc, ◌+◌, ◌≤◌, List, [],
 use Rattle.std.proofs.lemmas.Bool.Decides.{nat_tests}
 use Rattle.std.specs.List.{list_all}
 use Rattle.std.proofs.lemmas.Bool.{and_parts}
-use Rattle.bsdl_lexer.specs.Forms.{IsGap, nothing, blank, comment, last_comment, is_blank, begins_comment, begins_gap, line_feed, dash}
+use Rattle.bsdl_lexer.specs.Forms.{IsGap, nothing, blank, comment, last_comment, is_bsdl_blank, begins_comment, begins_gap, line_feed, dash}
 use Rattle.bsdl_lexer.specs.inner.Lengths.{gap_len}
 
 abbrev pub stays : ℕ → Bool
@@ -41,10 +41,27 @@ behind_dash more rest h = go h.words h.split h.free
       | inl k ↦ (let z : dash ∷ rest ≡ [] = e ∙ k.0 in cc)
       | inr k ↦ (let z : dash ∷ rest ≡ line_feed ∷ k.0 = e ∙ k.1 in absurd (let y : dash ≡ line_feed = cc in omega arith))
     ]
-    go (w ∷ words) e f = record { words = words; tail = h.tail; split = cc; free = (and_parts (stays w) (list_all stays words) f).1; ends = h.ends }
+    go (w ∷ words) e f =
+        record {
+          words = words;
+          tail = h.tail;
+          split = cc;
+          free =
+              (and_parts (stays w) (list_all stays words) f).1;
+          ends = h.ends;
+        }
 
 longer_rest : (first : ℕ) (more rest : List ℕ) → nat_eq first line_feed ≡ false → CommentRest more rest → CommentRest more (first ∷ rest)
-longer_rest first more rest n h = record { words = first ∷ h.words; tail = h.tail; split = ap (λ xs. first ∷ xs) h.split; free = rw n h.free; ends = h.ends }
+longer_rest first more rest n h =
+    record {
+      words = first
+          ∷ h.words;
+      tail = h.tail;
+      split = ap (λ xs. first ∷ xs) h.split;
+      free = rw n h.free;
+      ends =
+          h.ends;
+    }
 
 line_ends : (first : ℕ) (more rest : List ℕ) → first ≡ line_feed → IsGap more rest → CommentRest more (first ∷ rest)
 line_ends first more rest e h = record {
@@ -55,29 +72,47 @@ line_ends first more rest e h = record {
   ends = inr (rest, ap (λ b. b ∷ rest) e, blank line_feed rest refl h);
 }
 
-front_true : (first : ℕ) (others : List ℕ) → ((b : Bool) → GapOrRest b (drop (gap_len b others) others) (take (gap_len b others) others)) → (b : Bool) → nat_eq first line_feed ≡ b
+front_true : (first : ℕ) (others : List ℕ)
+    → ((b : Bool) → GapOrRest b (drop (gap_len b others) others) (take (gap_len b others) others))
+    → (b : Bool) → nat_eq first line_feed ≡ b
     → CommentRest (drop (gap_len (cond b false true) others) others) (first ∷ take (gap_len (cond b false true) others) others)
 front_true first others each true e = line_ends first _ _ (grind (arith, nat_tests)) (each false)
 front_true first others each false e = longer_rest first _ _ e (each true)
 
-comment_front : (first : ℕ) (others : List ℕ) → begins_comment (first ∷ others) ≡ true → CommentRest (drop (gap_len true others) others) (take (gap_len true others) others)
+comment_front : (first : ℕ) (others : List ℕ) → begins_comment (first ∷ others) ≡ true
+    → CommentRest (drop (gap_len true others) others) (take (gap_len true others) others)
     → IsGap (drop (gap_len true others) others) (first ∷ take (gap_len true others) others)
 comment_front first [] c h = cc
 comment_front first (second ∷ others) c h =
     let dashes : (first ≡ dash) × (second ≡ dash) = both first second c in
-    let P : ℕ → Type 0 = λ b. IsGap (drop (gap_len true (second ∷ others)) (second ∷ others)) (b ∷ take (gap_len true (second ∷ others)) (second ∷ others)) in
+    let P : ℕ
+    → Type 0 = λ b. IsGap (drop (gap_len true (second ∷ others)) (second ∷ others))
+    (b ∷ take (gap_len true (second ∷ others)) (second ∷ others)) in
     subst P (sym dashes.0) (with_dash second others dashes.1 h)
   where
     both : (a b : ℕ) → (nat_eq a dash && nat_eq b dash) ≡ true → (a ≡ dash) × (b ≡ dash)
     both a b e = (grind (arith, nat_tests), grind (arith, nat_tests))
 
-    with_dash : (second : ℕ) (others : List ℕ) → second ≡ dash → CommentRest (drop (gap_len true (second ∷ others)) (second ∷ others)) (take (gap_len true (second ∷ others)) (second ∷ others))
+    with_dash : (second : ℕ) (others : List ℕ) → second ≡ dash
+        → CommentRest (drop (gap_len true (second ∷ others)) (second ∷ others))
+        (take (gap_len true (second ∷ others)) (second ∷ others))
         → IsGap (drop (gap_len true (second ∷ others)) (second ∷ others)) (dash ∷ take (gap_len true (second ∷ others)) (second ∷ others))
-    with_dash second others e h = let Q : ℕ → Type 0 = λ b. CommentRest (drop (gap_len true (b ∷ others)) (b ∷ others)) (take (gap_len true (b ∷ others)) (b ∷ others)) → IsGap (drop (gap_len true (b ∷ others)) (b ∷ others)) (dash ∷ take (gap_len true (b ∷ others)) (b ∷ others)) in
+    with_dash second others e h =
+        let Q : ℕ
+        → Type 0 = λ b. CommentRest (drop (gap_len true (b ∷ others)) (b ∷ others))
+        (take (gap_len true (b ∷ others)) (b ∷ others))
+        → IsGap (drop (gap_len true (b ∷ others)) (b ∷ others))
+        (dash ∷ take (gap_len true (b ∷ others)) (b ∷ others)) in
         subst Q (sym e) (λ k. from_rest _ _ (behind_dash _ _ k)) h
 
-front_false : (first : ℕ) (others : List ℕ) → ((b : Bool) → GapOrRest b (drop (gap_len b others) others) (take (gap_len b others) others)) → (a b : Bool) → is_blank first ≡ a → begins_comment (first ∷ others) ≡ b
-    → IsGap (drop (cond a (suc (gap_len false others)) (cond b (suc (gap_len true others)) 0)) (first ∷ others)) (take (cond a (suc (gap_len false others)) (cond b (suc (gap_len true others)) 0)) (first ∷ others))
+front_false : (first : ℕ) (others : List ℕ)
+    → ((b : Bool) → GapOrRest b (drop (gap_len b others) others) (take (gap_len b others) others))
+    → (a b : Bool) → is_bsdl_blank first ≡ a → begins_comment (first ∷ others) ≡ b
+    → IsGap
+    (drop (cond a (suc (gap_len false others)) (cond b (suc (gap_len true others)) 0))
+    (first ∷ others))
+    (take (cond a (suc (gap_len false others)) (cond b (suc (gap_len true others)) 0))
+    (first ∷ others))
 front_false first others each true b h k = blank first _ h (each false)
 front_false first others each false true h k = comment_front first others k (each true)
 front_false first others each false false h k = nothing
@@ -86,18 +121,22 @@ fronts : (bytes : List ℕ) (b : Bool) → GapOrRest b (drop (gap_len b bytes) b
 fronts [] true = record { words = []; tail = []; split = refl; free = refl; ends = inl (refl, refl) }
 fronts [] false = nothing
 fronts (first ∷ others) true = front_true first others (fronts others) (nat_eq first line_feed) refl
-fronts (first ∷ others) false = front_false first others (fronts others) (is_blank first) (begins_comment (first ∷ others)) refl refl
+fronts (first ∷ others) false = front_false first others (fronts others) (is_bsdl_blank first) (begins_comment (first ∷ others)) refl refl
 
 pub gap_front : (bytes : List ℕ) → IsGap (drop (gap_len false bytes) bytes) (take (gap_len false bytes) bytes)
 gap_front bytes = fronts bytes false
 
 -- if no gap begins behind the gap that is found, in or outside a comment, the same is true with one
 -- more byte of a comment in front
-ends_gap_true : (others : List ℕ) → ((b : Bool) → begins_gap (drop (gap_len b others) others) ≡ false) → (b : Bool) → begins_gap (drop (gap_len (cond b false true) others) others) ≡ false
+ends_gap_true : (others : List ℕ)
+    → ((b : Bool) → begins_gap (drop (gap_len b others) others) ≡ false) → (b : Bool)
+    → begins_gap (drop (gap_len (cond b false true) others) others) ≡ false
 ends_gap_true others each true = each false
 ends_gap_true others each false = each true
 
-ends_gap_false : (first : ℕ) (others : List ℕ) → ((b : Bool) → begins_gap (drop (gap_len b others) others) ≡ false) → (a b : Bool) → is_blank first ≡ a → begins_comment (first ∷ others) ≡ b
+ends_gap_false : (first : ℕ) (others : List ℕ)
+    → ((b : Bool) → begins_gap (drop (gap_len b others) others) ≡ false) → (a b : Bool)
+    → is_bsdl_blank first ≡ a → begins_comment (first ∷ others) ≡ b
     → begins_gap (drop (cond a (suc (gap_len false others)) (cond b (suc (gap_len true others)) 0)) (first ∷ others)) ≡ false
 ends_gap_false first others each true b h k = each false
 ends_gap_false first others each false true h k = each true
@@ -107,7 +146,9 @@ ends_gaps : (bytes : List ℕ) (b : Bool) → begins_gap (drop (gap_len b bytes)
 ends_gaps [] true = refl
 ends_gaps [] false = refl
 ends_gaps (first ∷ others) true = ends_gap_true others (ends_gaps others) (nat_eq first line_feed)
-ends_gaps (first ∷ others) false = ends_gap_false first others (ends_gaps others) (is_blank first) (begins_comment (first ∷ others)) refl refl
+ends_gaps (first ∷ others) false =
+    ends_gap_false first others (ends_gaps others) (is_bsdl_blank first)
+    (begins_comment (first ∷ others)) refl refl
 
 -- no gap begins behind the gap that is found
 pub ends_gap : (bytes : List ℕ) → begins_gap (drop (gap_len false bytes) bytes) ≡ false
@@ -116,10 +157,18 @@ ends_gap bytes = ends_gaps bytes false
 gap_len-le-any : (bytes : List ℕ) (b : Bool) → gap_len b bytes ≤ length bytes
 gap_len-le-any [] true = omega arith
 gap_len-le-any [] false = omega arith
-gap_len-le-any (first ∷ others) true = let k : gap_len (cond (nat_eq first line_feed) false true) others ≤ length others = gap_len-le-any others (cond (nat_eq first line_feed) false true) in omega arith
-gap_len-le-any (first ∷ others) false = cases (is_blank first) (begins_comment (first ∷ others)) (gap_len-le-any others true) (gap_len-le-any others false)
+gap_len-le-any (first ∷ others) true =
+    let k : gap_len (cond (nat_eq first line_feed) false true) others
+    ≤ length others = gap_len-le-any others (cond (nat_eq first line_feed) false true) in
+    omega arith
+gap_len-le-any (first ∷ others) false =
+    cases (is_bsdl_blank first) (begins_comment (first ∷ others)) (gap_len-le-any others true)
+    (gap_len-le-any others false)
   where
-    cases : (a b : Bool) → gap_len true others ≤ length others → gap_len false others ≤ length others → cond a (suc (gap_len false others)) (cond b (suc (gap_len true others)) 0) ≤ length (first ∷ others)
+    cases : (a b : Bool) → gap_len true others ≤ length others
+        → gap_len false others ≤ length others
+        → cond a (suc (gap_len false others)) (cond b (suc (gap_len true others)) 0)
+        ≤ length (first ∷ others)
     cases true b k l = omega arith
     cases false true k l = omega arith
     cases false false k l = omega arith
@@ -130,7 +179,7 @@ gap_len-le bytes = gap_len-le-any bytes false
 -- if no gap begins at the front, the gap that is found there has length 0
 no_gap : (more : List ℕ) → begins_gap more ≡ false → gap_len false more ≡ 0
 no_gap [] e = refl
-no_gap (first ∷ others) e = cases (is_blank first) (begins_comment (first ∷ others)) e
+no_gap (first ∷ others) e = cases (is_bsdl_blank first) (begins_comment (first ∷ others)) e
   where
     cases : (a b : Bool) → (a || b) ≡ false → cond a (suc (gap_len false others)) (cond b (suc (gap_len true others)) 0) ≡ 0
     cases true b e = cc
@@ -141,7 +190,9 @@ through_words : (words tail : List ℕ) → list_all stays words ≡ true → ga
 through_words [] tail h = omega arith
 through_words (w ∷ words) tail h = go (nat_eq w line_feed) h (λ k. through_words words tail k)
   where
-    go : (b : Bool) → (not b && list_all stays words) ≡ true → (list_all stays words ≡ true → gap_len true (words ++ tail) ≡ length words + gap_len true tail)
+    go : (b : Bool) → (not b && list_all stays words) ≡ true
+        → (list_all stays words ≡ true
+        → gap_len true (words ++ tail) ≡ length words + gap_len true tail)
         → suc (gap_len (cond b false true) (words ++ tail)) ≡ length (w ∷ words) + gap_len true tail
     go true h f = cc
     go false h f = let k : gap_len true (words ++ tail) ≡ length words + gap_len true tail = f h in omega arith
@@ -152,8 +203,12 @@ only_gap more _ nothing e = no_gap more e
 only_gap more _ (blank byte gap h k) e = rw h (ap suc (only_gap more gap k e))
 only_gap more _ (comment words gap h k) e =
     let behind : suc (gap_len false (gap ++ more)) ≡ suc (length gap) = only_gap more (line_feed ∷ gap) k e in
-    let through : gap_len true (words ++ line_feed ∷ (gap ++ more)) ≡ length words + suc (gap_len false (gap ++ more)) = through_words words (line_feed ∷ (gap ++ more)) h in
-    let same : gap_len true ((words ++ line_feed ∷ gap) ++ more) ≡ gap_len true (words ++ line_feed ∷ (gap ++ more)) = ap (gap_len true) (append_assoc words (line_feed ∷ gap) more) in
+    let through : gap_len true (words ++ line_feed ∷ (gap ++ more))
+    ≡ length words + suc (gap_len false (gap ++ more)) = through_words words
+    (line_feed ∷ (gap ++ more)) h in
+    let same : gap_len true ((words ++ line_feed ∷ gap) ++ more)
+    ≡ gap_len true (words ++ line_feed ∷ (gap ++ more)) = ap (gap_len true)
+    (append_assoc words (line_feed ∷ gap) more) in
     omega (arith, behind, through, same, length-append words (line_feed ∷ gap))
 only_gap more _ (last_comment words h is) e =
     let through : gap_len true (words ++ more) ≡ length words + gap_len true more = through_words words more h in

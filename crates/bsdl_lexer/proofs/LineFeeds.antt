@@ -7,7 +7,7 @@ use Rattle.std.specs.Char.{is_ascii_alphabetic, is_ascii_digit}
 use Rattle.std.proofs.lemmas.Bool.{and_parts}
 use Rattle.bsdl_lexer.specs.declared.token.TokenKind.{TokenKind}
 use Rattle.bsdl_lexer.specs.declared.token.TokenKind.TheVariants.{Word, Number, Text, Mark}
-use Rattle.bsdl_lexer.specs.Forms.{HasForm, IsDigits, IsSigned, IsFraction, IsExponent, is_word_byte, is_text_byte, is_sign, is_exponent_letter, point, is_mark, quote, line_feed}
+use Rattle.bsdl_lexer.specs.Forms.{HasForm, IsDigits, IsSigned, IsFraction, IsExponent, is_word_byte, is_text_byte, is_sign, is_exponent_letter, point, is_mark_byte, quote, line_feed}
 use Rattle.bsdl_lexer.specs.Tokens.{line_feeds}
 
 pub line_feeds-append : (xs ys : List ℕ) → line_feeds (xs ++ ys) ≡ line_feeds xs + line_feeds ys
@@ -65,7 +65,8 @@ no_line_feeds Number bytes h =
     ∙ (let a : line_feeds h.whole ≡ 0 = digits_none h.whole h.digits in
     let b : line_feeds h.fraction ≡ 0 = fraction_none h.fraction h.after_point in
     let c : line_feeds h.exponent ≡ 0 = exponent_none h.exponent h.after_letter in
-    let d : line_feeds (h.fraction ++ h.exponent) ≡ line_feeds h.fraction + line_feeds h.exponent = line_feeds-append h.fraction h.exponent in
+    let d : line_feeds (h.fraction ++ h.exponent)
+    ≡ line_feeds h.fraction + line_feeds h.exponent = line_feeds-append h.fraction h.exponent in
     omega arith)
 no_line_feeds Text bytes h =
     ap line_feeds h.quoted ∙ line_feeds-cons quote (h.inner ++ quote ∷ []) ∙ (
@@ -74,5 +75,5 @@ no_line_feeds Text bytes h =
     let e : line_feeds (quote ∷ []) ≡ 0 = refl in
     omega arith)
 no_line_feeds Mark [] h = absurd h
-no_line_feeds Mark (x ∷ []) h = none_at is_mark x [] refl h refl
+no_line_feeds Mark (x ∷ []) h = none_at is_mark_byte x [] refl h refl
 no_line_feeds Mark (x ∷ y ∷ xs) h = absurd h

@@ -6,7 +6,7 @@ use Rattle.std.specs.Char.{is_ascii_alphabetic, is_ascii_digit}
 use Rattle.std.proofs.lemmas.Bool.{and_parts}
 use Rattle.bsdl_lexer.specs.declared.token.TokenKind.{TokenKind}
 use Rattle.bsdl_lexer.specs.declared.token.TokenKind.TheVariants.{Word, Number, Text, Mark}
-use Rattle.bsdl_lexer.specs.Forms.{IsWord, IsDigits, IsFraction, IsSigned, IsExponent, IsNumber, IsText, HasForm, is_word_byte, is_text_byte, is_mark, is_exponent_letter, is_sign, begins_comment, quote, point}
+use Rattle.bsdl_lexer.specs.Forms.{IsWord, IsDigits, IsFraction, IsSigned, IsExponent, IsNumber, IsQuoted, HasForm, is_word_byte, is_text_byte, is_mark_byte, is_exponent_letter, is_sign, begins_comment, quote, point}
 use Rattle.bsdl_lexer.specs.inner.Lengths.{with_digits, fraction_len, signed_len, exponent_len, number_len, closed_len, token_at}
 
 -- if all bytes of `xs` pass a test, the longest front of `xs ++ ys` that passes is at least as long
@@ -27,7 +27,9 @@ exactly p (x ∷ xs) y ys h n =
     rw (k.0, exactly p xs y ys k.1 n) (omega arith)
 
 -- the step for one byte
-passes_more : (p : ℕ → Bool) (x : ℕ) (xs : List ℕ) (b : Bool) → p x ≡ b → list_all p (take (prefix_len p xs) xs) ≡ true → list_all p (take (cond b (1 + prefix_len p xs) 0) (x ∷ xs)) ≡ true
+passes_more : (p : ℕ → Bool) (x : ℕ) (xs : List ℕ) (b : Bool) → p x ≡ b
+    → list_all p (take (prefix_len p xs) xs) ≡ true
+    → list_all p (take (cond b (1 + prefix_len p xs) 0) (x ∷ xs)) ≡ true
 passes_more p x xs true e h = let more : 1 + prefix_len p xs ≡ suc (prefix_len p xs) = omega arith in rw more (rw e h)
 passes_more p x xs false e h = refl
 
@@ -46,9 +48,12 @@ same_digits front n some = grind (arith, nat_tests)
 -- `with_digits` is at least `front` plus the number of any digits at the front
 digits_at_least : (front : ℕ) (xs ys : List ℕ) → IsDigits xs → front + length xs ≤ with_digits front (xs ++ ys)
 digits_at_least front [] ys h = absurd h
-digits_at_least front (x ∷ xs) ys h = more_digits front (length (x ∷ xs)) (prefix_len is_ascii_digit ((x ∷ xs) ++ ys)) (omega arith) (at_least is_ascii_digit (x ∷ xs) ys h)
+digits_at_least front (x ∷ xs) ys h =
+    more_digits front (length (x ∷ xs)) (prefix_len is_ascii_digit ((x ∷ xs) ++ ys)) (omega arith)
+    (at_least is_ascii_digit (x ∷ xs) ys h)
 
-digits_exactly : (front : ℕ) (xs : List ℕ) (y : ℕ) (ys : List ℕ) → IsDigits xs → is_ascii_digit y ≡ false → with_digits front (xs ++ y ∷ ys) ≡ front + length xs
+digits_exactly : (front : ℕ) (xs : List ℕ) (y : ℕ) (ys : List ℕ) → IsDigits xs
+    → is_ascii_digit y ≡ false → with_digits front (xs ++ y ∷ ys) ≡ front + length xs
 digits_exactly front [] y ys h n = absurd h
 digits_exactly front (x ∷ xs) y ys h n =
     let e : prefix_len is_ascii_digit ((x ∷ xs) ++ y ∷ ys) ≡ length (x ∷ xs) = exactly is_ascii_digit (x ∷ xs) y ys h n in
@@ -78,20 +83,36 @@ drop-front : (xs ys : List ℕ) → drop (length xs) (xs ++ ys) ≡ ys
 drop-front [] ys = refl
 drop-front (x ∷ xs) ys = drop-front xs ys
 
-behind_fraction : (fraction exponent more : List ℕ) (n : ℕ) → n ≡ length fraction → IsExponent exponent → length (fraction ++ exponent) ≤ n + exponent_len (drop n (fraction ++ (exponent ++ more)))
+behind_fraction : (fraction exponent more : List ℕ) (n : ℕ) → n ≡ length fraction
+    → IsExponent exponent
+    → length (fraction ++ exponent) ≤ n + exponent_len (drop n (fraction ++ (exponent ++ more)))
 behind_fraction fraction exponent more n e x =
-    rw (e, drop-front fraction (exponent ++ more)) (let k : length exponent ≤ exponent_len (exponent ++ more) = exponent_at_least exponent more x in omega (arith, k, length-append fraction exponent))
+    rw (e, drop-front fraction (exponent ++ more))
+    (let k : length exponent
+    ≤ exponent_len (exponent ++ more) = exponent_at_least exponent more x in
+    omega (arith, k, length-append fraction exponent))
 
 rest_at_least : (fraction exponent more : List ℕ) → IsFraction fraction → IsExponent exponent
-    → length (fraction ++ exponent) ≤ fraction_len (fraction ++ (exponent ++ more)) + exponent_len (drop (fraction_len (fraction ++ (exponent ++ more))) (fraction ++ (exponent ++ more)))
+    → length (fraction ++ exponent)
+    ≤ fraction_len (fraction ++ (exponent ++ more)) + exponent_len
+    (drop (fraction_len (fraction ++ (exponent ++ more))) (fraction ++ (exponent ++ more)))
 rest_at_least [] [] more f x = omega arith
-rest_at_least [] (e ∷ exponent) more f x = behind_fraction [] (e ∷ exponent) more (fraction_len (e ∷ (exponent ++ more))) (rw (letter_no_point e x.0) refl) x
-rest_at_least (p ∷ digits) [] more f x = rw f.0 (let k : 1 + length digits ≤ with_digits 1 (digits ++ more) = digits_at_least 1 digits more f.1 in rw (append-nil digits) (omega arith))
+rest_at_least [] (e ∷ exponent) more f x =
+    behind_fraction [] (e ∷ exponent) more (fraction_len (e ∷ (exponent ++ more)))
+    (rw (letter_no_point e x.0) refl) x
+rest_at_least (p ∷ digits) [] more f x =
+    rw f.0
+    (let k : 1 + length digits
+    ≤ with_digits 1 (digits ++ more) = digits_at_least 1 digits more f.1 in
+    rw (append-nil digits) (omega arith))
 rest_at_least (p ∷ digits) (e ∷ exponent) more f x =
     behind_fraction (p ∷ digits) (e ∷ exponent) more (fraction_len ((p ∷ digits) ++ ((e ∷ exponent) ++ more)))
     (rw f.0 (digits_exactly 1 digits e (exponent ++ more) f.1 (letter_no_digit e x.0) ∙ omega arith)) x
 
-number_behind : (whole rest : List ℕ) (n : ℕ) → prefix_len is_ascii_digit (whole ++ rest) ≡ length whole → n ≤ fraction_len rest + exponent_len (drop (fraction_len rest) rest) → length whole + n ≤ number_len (whole ++ rest)
+number_behind : (whole rest : List ℕ) (n : ℕ)
+    → prefix_len is_ascii_digit (whole ++ rest) ≡ length whole
+    → n ≤ fraction_len rest + exponent_len (drop (fraction_len rest) rest)
+    → length whole + n ≤ number_len (whole ++ rest)
 number_behind whole rest n e h = rw (e, drop-front whole rest) (omega arith)
 
 digits_all : (xs : List ℕ) → IsDigits xs → list_all is_ascii_digit xs ≡ true
@@ -103,18 +124,31 @@ point_no_digit p e = rw e refl
 
 parts_at_least : (whole fraction exponent more : List ℕ) → IsDigits whole → IsFraction fraction → IsExponent exponent
     → length whole + length (fraction ++ exponent) ≤ number_len (whole ++ (fraction ++ (exponent ++ more)))
-parts_at_least whole [] [] more d f x = let k : length whole ≤ prefix_len is_ascii_digit (whole ++ more) = at_least is_ascii_digit whole more (digits_all whole d) in omega arith
+parts_at_least whole [] [] more d f x =
+    let k : length whole
+    ≤ prefix_len is_ascii_digit (whole ++ more) = at_least is_ascii_digit whole more
+    (digits_all whole d) in
+    omega arith
 parts_at_least whole [] (e ∷ exponent) more d f x =
-    number_behind whole ((e ∷ exponent) ++ more) (length (e ∷ exponent)) (exactly is_ascii_digit whole e (exponent ++ more) (digits_all whole d) (letter_no_digit e x.0)) (rest_at_least [] (e ∷ exponent) more f x)
+    number_behind whole ((e ∷ exponent) ++ more) (length (e ∷ exponent))
+    (exactly is_ascii_digit whole e (exponent ++ more) (digits_all whole d)
+    (letter_no_digit e x.0)) (rest_at_least [] (e ∷ exponent) more f x)
 parts_at_least whole (p ∷ digits) exponent more d f x =
-    number_behind whole ((p ∷ digits) ++ (exponent ++ more)) (length ((p ∷ digits) ++ exponent)) (exactly is_ascii_digit whole p (digits ++ (exponent ++ more)) (digits_all whole d) (point_no_digit p f.0)) (rest_at_least (p ∷ digits) exponent more f x)
+    number_behind whole ((p ∷ digits) ++ (exponent ++ more)) (length ((p ∷ digits) ++ exponent))
+    (exactly is_ascii_digit whole p (digits ++ (exponent ++ more)) (digits_all whole d)
+    (point_no_digit p f.0)) (rest_at_least (p ∷ digits) exponent more f x)
 
 number_at_least : (xs more : List ℕ) → IsNumber xs → length xs ≤ number_len (xs ++ more)
 number_at_least xs more h =
     let e : xs ++ more ≡ h.whole ++ (h.fraction ++ (h.exponent ++ more)) =
-    ap (λ ys. ys ++ more) h.parts ∙ append_assoc h.whole (h.fraction ++ h.exponent) more ∙ ap (λ ys. h.whole ++ ys) (append_assoc h.fraction h.exponent more) in
-    let len : length xs ≡ length h.whole + length (h.fraction ++ h.exponent) = ap length h.parts ∙ length-append h.whole (h.fraction ++ h.exponent) in
-    let k : length h.whole + length (h.fraction ++ h.exponent) ≤ number_len (h.whole ++ (h.fraction ++ (h.exponent ++ more))) = parts_at_least h.whole h.fraction h.exponent more h.digits h.after_point h.after_letter in
+    ap (λ ys. ys ++ more) h.parts ∙ append_assoc h.whole (h.fraction ++ h.exponent) more
+    ∙ ap (λ ys. h.whole ++ ys) (append_assoc h.fraction h.exponent more) in
+    let len : length xs
+    ≡ length h.whole + length (h.fraction ++ h.exponent) = ap length h.parts
+    ∙ length-append h.whole (h.fraction ++ h.exponent) in
+    let k : length h.whole + length (h.fraction ++ h.exponent)
+    ≤ number_len (h.whole ++ (h.fraction ++ (h.exponent ++ more))) = parts_at_least h.whole
+    h.fraction h.exponent more h.digits h.after_point h.after_letter in
     let P : List ℕ → Type 0 = λ ys. length xs ≤ number_len ys in
     subst P (sym e) (omega arith)
 
@@ -123,7 +157,7 @@ letter_no_digit_quote : (b : ℕ) → is_ascii_digit b ≡ true → is_ascii_alp
 letter_no_digit_quote b h = grind (arith, nat_tests)
 
 -- a mark is neither a letter nor a digit nor a quote
-mark_kinds : (b : ℕ) → is_mark b ≡ true → (is_ascii_alphabetic b ≡ false) × (is_ascii_digit b ≡ false) × (nat_eq b quote ≡ false)
+mark_kinds : (b : ℕ) → is_mark_byte b ≡ true → (is_ascii_alphabetic b ≡ false) × (is_ascii_digit b ≡ false) × (nat_eq b quote ≡ false)
 mark_kinds b h = (grind (arith, nat_tests), grind (arith, nat_tests), grind (arith, nat_tests))
 
 -- `token_at` finds a token of this kind at the front, and it has at least `n` bytes
@@ -132,7 +166,8 @@ pub record IsWithin (left : List ℕ) (kind : TokenKind) (n : ℕ) : Type 0 wher
   pub found : token_at left ≡ Some (kind, len)
   pub longer : n ≤ len
 
-word_within : (first : ℕ) (others more : List ℕ) → begins_comment (first ∷ (others ++ more)) ≡ false → IsWord (first ∷ others) → IsWithin (first ∷ (others ++ more)) Word (length (first ∷ others))
+word_within : (first : ℕ) (others more : List ℕ) → begins_comment (first ∷ (others ++ more)) ≡ false
+    → IsWord (first ∷ others) → IsWithin (first ∷ (others ++ more)) Word (length (first ∷ others))
 word_within first others more n h = record {
   len = suc (prefix_len is_word_byte (others ++ more));
   found = rw (n, h.0);
@@ -146,7 +181,9 @@ number_first first others h = starts h.whole h.parts h.digits
     starts [] e d = absurd d
     starts (x ∷ xs) e d = let same : first ≡ x = cc in rw same (and_parts (is_ascii_digit x) (list_all is_ascii_digit xs) d).0
 
-number_within : (first : ℕ) (others more : List ℕ) → begins_comment (first ∷ (others ++ more)) ≡ false → IsNumber (first ∷ others) → IsWithin (first ∷ (others ++ more)) Number (length (first ∷ others))
+number_within : (first : ℕ) (others more : List ℕ)
+    → begins_comment (first ∷ (others ++ more)) ≡ false → IsNumber (first ∷ others)
+    → IsWithin (first ∷ (others ++ more)) Number (length (first ∷ others))
 number_within first others more n h =
     let digit : is_ascii_digit first ≡ true = number_first first others h in
     record {
@@ -155,7 +192,8 @@ number_within first others more n h =
       longer = number_at_least (first ∷ others) more h;
     }
 
-mark_within : (first : ℕ) (more : List ℕ) → begins_comment (first ∷ more) ≡ false → IsTrue (is_mark first) → IsWithin (first ∷ more) Mark 1
+mark_within : (first : ℕ) (more : List ℕ) → begins_comment (first ∷ more) ≡ false
+    → IsTrue (is_mark_byte first) → IsWithin (first ∷ more) Mark 1
 mark_within first more n h =
     let k = mark_kinds first h in
     record { len = 1; found = rw (n, h, k.0, k.1, k.2); longer = omega arith }
@@ -164,7 +202,8 @@ get_behind : (inner more : List ℕ) (byte : ℕ) → slice_get (inner ++ byte �
 get_behind [] more byte = refl
 get_behind (x ∷ inner) more byte = get_behind inner more byte
 
-text_within : (first : ℕ) (others more : List ℕ) → IsText (first ∷ others) → IsWithin (first ∷ (others ++ more)) Text (length (first ∷ others))
+text_within : (first : ℕ) (others more : List ℕ) → IsQuoted (first ∷ others)
+    → IsWithin (first ∷ (others ++ more)) Text (length (first ∷ others))
 text_within first others more h =
     let is_quote : first ≡ quote = cc h.quoted in
     let rest : others ≡ h.inner ++ quote ∷ [] = cc h.quoted in
@@ -177,7 +216,10 @@ text_within first others more h =
       longer = omega arith;
     }
   where
-    not_comment : (ys : List ℕ) → closed_len (slice_get ys (prefix_len is_text_byte ys)) (prefix_len is_text_byte ys) ≡ Some (Text, suc (suc (length h.inner))) → token_at (quote ∷ ys) ≡ Some (Text, suc (suc (length h.inner)))
+    not_comment : (ys : List ℕ)
+        → closed_len (slice_get ys (prefix_len is_text_byte ys)) (prefix_len is_text_byte ys)
+        ≡ Some (Text, suc (suc (length h.inner)))
+        → token_at (quote ∷ ys) ≡ Some (Text, suc (suc (length h.inner)))
     not_comment [] e = e
     not_comment (y ∷ ys) e = e
 
@@ -192,7 +234,8 @@ no_empty Number h = empty h.whole h.parts h.digits
 no_empty Text h = cc h.quoted
 no_empty Mark h = h
 
-pub within : (kind : TokenKind) (word more : List ℕ) → HasForm kind word → begins_comment (word ++ more) ≡ false → IsWithin (word ++ more) kind (length word)
+pub within : (kind : TokenKind) (word more : List ℕ) → HasForm kind word
+    → begins_comment (word ++ more) ≡ false → IsWithin (word ++ more) kind (length word)
 within kind [] more h n = absurd (no_empty kind h)
 within Word (first ∷ others) more h n = word_within first others more n h
 within Number (first ∷ others) more h n = number_within first others more n h

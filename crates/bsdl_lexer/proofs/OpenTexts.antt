@@ -61,11 +61,28 @@ open_front [] h = record { inner = []; more = []; parts = refl; allowed = refl; 
 open_front (x ∷ xs) h = go (is_text_byte x) refl (open_front xs)
   where
     longer : is_text_byte x ≡ true → Open xs → Open (x ∷ xs)
-    longer e k = record { inner = x ∷ k.inner; more = k.more; parts = ap (λ ys. x ∷ ys) k.parts; allowed = rw e k.allowed; is_open = k.is_open }
+    longer e k =
+        record {
+          inner = x
+              ∷ k.inner;
+          more = k.more;
+          parts = ap (λ ys. x ∷ ys) k.parts;
+          allowed = rw e k.allowed;
+          is_open = k.is_open;
+        }
 
     go : (b : Bool) → is_text_byte x ≡ b → ((byte_behind xs ≡ Some quote → ⊥) → Open xs) → Open (x ∷ xs)
     go true e front = longer e (front (λ k. h (behind_first x xs e ∙ k)))
-    go false e front = record { inner = []; more = x ∷ xs; parts = refl; allowed = refl; is_open = line_end x e (λ same. h (behind_none x xs e ∙ ap Some same)) }
+    go false e front =
+        record {
+          inner = [];
+          more = x
+              ∷ xs;
+          parts = refl;
+          allowed = refl;
+          is_open = line_end x e
+              (λ same. h (behind_none x xs e ∙ ap Some same));
+        }
 
 none_behind : byte_behind [] ≡ Some quote → ⊥
 unfolding byte_behind
@@ -73,8 +90,14 @@ none_behind e = cc
 
 never_closed : (inner more : List ℕ) → IsTrue (list_all is_text_byte inner) → EndsOpen more → byte_behind (inner ++ more) ≡ Some quote → ⊥
 never_closed [] [] a o e = none_behind e
-never_closed [] (y ∷ ys) (a) (inl o) e = let k : byte_behind (y ∷ ys) ≡ Some y = behind_none y ys (rw o refl) in let same : quote ≡ line_feed = cc in absurd (omega arith)
-never_closed [] (y ∷ ys) (a) (inr o) e = let k : byte_behind (y ∷ ys) ≡ Some y = behind_none y ys (rw o refl) in let same : quote ≡ carriage_return = cc in absurd (omega arith)
+never_closed [] (y ∷ ys) (a) (inl o) e =
+    let k : byte_behind (y ∷ ys) ≡ Some y = behind_none y ys (rw o refl) in
+    let same : quote ≡ line_feed = cc in
+    absurd (omega arith)
+never_closed [] (y ∷ ys) (a) (inr o) e =
+    let k : byte_behind (y ∷ ys) ≡ Some y = behind_none y ys (rw o refl) in
+    let same : quote ≡ carriage_return = cc in
+    absurd (omega arith)
 never_closed (x ∷ inner) more a o e =
     let k = and_parts (is_text_byte x) (list_all is_text_byte inner) a in
     never_closed inner more k.1 o (sym (behind_first x (inner ++ more) k.0) ∙ e)
@@ -92,7 +115,11 @@ begins_open others e =
 
 -- no token begins at an open string
 pub open_no_token : (rest : List ℕ) → BeginsOpenText rest → token_at rest ≡ None
-open_no_token rest h = rw h.parts (quote_at (h.inner ++ h.more) ∙ not_closed (byte_behind (h.inner ++ h.more)) (prefix_len is_text_byte (h.inner ++ h.more)) (never_closed h.inner h.more h.allowed h.is_open))
+open_no_token rest h =
+    rw h.parts
+    (quote_at (h.inner ++ h.more)
+    ∙ not_closed (byte_behind (h.inner ++ h.more)) (prefix_len is_text_byte (h.inner ++ h.more))
+    (never_closed h.inner h.more h.allowed h.is_open))
 
 quote_no_gap : (others : List ℕ) → begins_gap (quote ∷ others) ≡ false
 quote_no_gap [] = refl

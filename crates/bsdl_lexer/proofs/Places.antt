@@ -10,8 +10,8 @@ use Rattle.std.specs.Char.{is_ascii_alphabetic, is_ascii_digit}
 use Rattle.bsdl_lexer.specs.declared.token.Token.{Token}
 use Rattle.bsdl_lexer.specs.declared.token.TokenKind.{TokenKind}
 use Rattle.bsdl_lexer.specs.declared.token.TokenKind.TheVariants.{Word, Number, Text, Mark}
-use Rattle.bsdl_lexer.specs.Forms.{HasForm, IsGap, is_blank, is_mark, begins_comment, begins_gap, quote}
-use Rattle.bsdl_lexer.specs.Tokens.{line_of, Separates, IsToken}
+use Rattle.bsdl_lexer.specs.Forms.{HasForm, IsGap, is_bsdl_blank, is_mark_byte, begins_comment, begins_gap, quote}
+use Rattle.bsdl_lexer.specs.Tokens.{line_of_place, Separates, IsToken}
 use Rattle.bsdl_lexer.specs.inner.Lengths.{gap_len, token_at}
 use Rattle.bsdl_lexer.specs.inner.Steps.{token_of}
 use Rattle.bsdl_lexer.proofs.Longest.{IsWithin, within, no_empty, number_first}
@@ -36,29 +36,34 @@ separates_found text from le =
     record {
       order = omega arith;
       within = omega (arith, gap_len-le left, length-drop from text);
-      gap = subst (λ xs. IsGap (drop (from + n) text) xs) (sym (range_from text from n)) (subst (λ xs. IsGap xs (take n left)) (sym (drop-sum from n text)) (gap_front left));
+      gap =
+          subst (λ xs. IsGap (drop (from + n) text) xs) (sym (range_from text from n))
+          (subst (λ xs. IsGap xs (take n left)) (sym (drop-sum from n text)) (gap_front left));
     }
 
 -- if a gap leads from `from` to `to`, and no gap begins at `to`, `gap_len` finds this gap
-pub separates_to : (text : List ℕ) (from to : ℕ) → Separates text from to → begins_gap (drop to text) ≡ false → from + gap_len false (drop from text) ≡ to
+pub separates_to : (text : List ℕ) (from to : ℕ) → Separates text from to
+    → begins_gap (drop to text) ≡ false → from + gap_len false (drop from text) ≡ to
 separates_to text from to h none =
     let split : drop from text ≡ slice_range text from to ++ drop to text = drop_split text from to h.order in
-    let len : gap_len false (drop from text) ≡ length (slice_range text from to) = ap (gap_len false) split ∙ only_gap (drop to text) (slice_range text from to) h.gap none in
+    let len : gap_len false (drop from text)
+    ≡ length (slice_range text from to) = ap (gap_len false) split
+    ∙ only_gap (drop to text) (slice_range text from to) h.gap none in
     let long : length (slice_range text from to) ≡ to - from = length-range text from to h.within in
     omega (arith, h.order, len, long)
 
 -- a letter is not a blank
-letter_no_blank : (b : ℕ) → is_ascii_alphabetic b ≡ true → is_blank b ≡ false
+letter_no_blank : (b : ℕ) → is_ascii_alphabetic b ≡ true → is_bsdl_blank b ≡ false
 letter_no_blank b h = grind (arith, nat_tests)
 
-digit_no_blank : (b : ℕ) → is_ascii_digit b ≡ true → is_blank b ≡ false
+digit_no_blank : (b : ℕ) → is_ascii_digit b ≡ true → is_bsdl_blank b ≡ false
 digit_no_blank b h = grind (arith, nat_tests)
 
-mark_no_blank : (b : ℕ) → is_mark b ≡ true → is_blank b ≡ false
+mark_no_blank : (b : ℕ) → is_mark_byte b ≡ true → is_bsdl_blank b ≡ false
 mark_no_blank b h = grind (arith, nat_tests)
 
 -- the first byte of a token is not a blank
-first_no_blank : (kind : TokenKind) (first : ℕ) (others : List ℕ) → HasForm kind (first ∷ others) → is_blank first ≡ false
+first_no_blank : (kind : TokenKind) (first : ℕ) (others : List ℕ) → HasForm kind (first ∷ others) → is_bsdl_blank first ≡ false
 first_no_blank Word first others h = letter_no_blank first h.0
 first_no_blank Number first others h = digit_no_blank first (number_first first others h)
 first_no_blank Text first others h = let same : first ≡ quote = cc h.quoted in rw same refl
@@ -73,36 +78,52 @@ no_gap kind (suc n) (first ∷ others) h c = rw (first_no_blank kind first (take
 
 -- if a range has the form of a token, the token that `token_at` finds at its start is at least as
 -- long
-pub range_within : (text : List ℕ) (start to : ℕ) (kind : TokenKind) → start ≤ to → to ≤ length text → HasForm kind (slice_range text start to) → begins_comment (drop start text) ≡ false → IsWithin (drop start text) kind (to - start)
+pub range_within : (text : List ℕ) (start to : ℕ) (kind : TokenKind) → start ≤ to → to ≤ length text
+    → HasForm kind (slice_range text start to) → begins_comment (drop start text) ≡ false
+    → IsWithin (drop start text) kind (to - start)
 range_within text start to kind order le form plain =
     let word : List ℕ = slice_range text start to in
     let split : drop start text ≡ word ++ drop to text = drop_split text start to order in
-    let h : IsWithin (word ++ drop to text) kind (length word) = within kind word (drop to text) form (subst (λ xs. begins_comment xs ≡ false) split plain) in
-    subst (λ n. IsWithin (drop start text) kind n) (length-range text start to le) (subst (λ xs. IsWithin xs kind (length word)) (sym split) h)
+    let h : IsWithin (word ++ drop to text) kind (length word) = within kind word (drop to text)
+    form (subst (λ xs. begins_comment xs ≡ false) split plain) in
+    subst (λ n. IsWithin (drop start text) kind n) (length-range text start to le)
+    (subst (λ xs. IsWithin xs kind (length word)) (sym split) h)
 
 pub some_bytes : (text : List ℕ) (start to : ℕ) (kind : TokenKind) → HasForm kind (slice_range text start to) → start < to
 some_bytes text start to kind form = go (cases_lt start to)
   where
     go : (start < to) ⊎ (to ≤ start) → start < to
     go (inl h) = h
-    go (inr h) = let e : to - start ≡ 0 = omega arith in absurd (no_empty kind (subst (λ n. HasForm kind (take n (drop start text))) e form))
+    go (inr h) =
+        let e : to - start ≡ 0 = omega arith in
+        absurd (no_empty kind (subst (λ n. HasForm kind (take n (drop start text))) e form))
 
 -- `token_at` finds each token of a text at the token's start
-pub token_is_found : (text : List ℕ) (token : Token) → IsToken text token → token_at (drop token.start text) ≡ some_token token.kind (token.«end» - token.start)
+pub token_is_found : (text : List ℕ) (token : Token) → IsToken text token
+    → token_at (drop token.start text) ≡ some_token token.kind (token.«end» - token.start)
 token_is_found text token h =
     let some : token.start < token.«end» = some_bytes text token.start token.«end» token.kind h.form in
-    let w : IsWithin (drop token.start text) token.kind (token.«end» - token.start) = range_within text token.start token.«end» token.kind (omega arith) h.within h.form h.no_comment in
+    let w : IsWithin (drop token.start text) token.kind (token.«end» - token.start) = range_within
+    text token.start token.«end» token.kind (omega arith) h.within h.form h.no_comment in
     let f : IsFront (drop token.start text) token.kind w.len = found_front (drop token.start text) token.kind w.len w.found in
     let fits : token.start + w.len ≤ length text = omega (arith, f.within, length-drop token.start text, h.within) in
     let same : w.len ≡ token.«end» - token.start = exact (cases_lt token.«end» (token.start + w.len)) fits f.form w.longer some in
     w.found ∙ ap (some_token token.kind) same
   where
-    exact : {len : ℕ} → (token.«end» < token.start + len) ⊎ (token.start + len ≤ token.«end») → token.start + len ≤ length text → HasForm token.kind (take len (drop token.start text)) → token.«end» - token.start ≤ len → token.start < token.«end» → len ≡ token.«end» - token.start
-    exact {len} (inl longer) fits form ge some = absurd (h.longest token.kind (token.start + len) longer fits (subst (HasForm token.kind) (sym (range_from text token.start len)) form))
+    exact : {len : ℕ} → (token.«end» < token.start + len) ⊎ (token.start + len ≤ token.«end»)
+        → token.start + len ≤ length text → HasForm token.kind (take len (drop token.start text))
+        → token.«end» - token.start ≤ len → token.start < token.«end»
+        → len ≡ token.«end» - token.start
+    exact {len} (inl longer) fits form ge some =
+        absurd
+        (h.longest token.kind (token.start + len) longer fits
+        (subst (HasForm token.kind) (sym (range_from text token.start len)) form))
     exact {len} (inr le) fits form ge some = omega arith
 
 -- each token that `token_at` finds is a token of the text
-pub found_is_token : (text : List ℕ) (start line : ℕ) (kind : TokenKind) (len : ℕ) → start ≤ length text → token_at (drop start text) ≡ some_token kind len → line ≡ line_of text start → IsToken text (token_of start line (kind, len))
+pub found_is_token : (text : List ℕ) (start line : ℕ) (kind : TokenKind) (len : ℕ)
+    → start ≤ length text → token_at (drop start text) ≡ some_token kind len
+    → line ≡ line_of_place text start → IsToken text (token_of start line (kind, len))
 found_is_token text start line kind len le e l =
     let f : IsFront (drop start text) kind len = found_front (drop start text) kind len e in
     record {

@@ -18,9 +18,18 @@ ends x = none_of_three (x == 34) (x == 10) (x == 13)
 -- if none of the bytes ends the string, all of them belong to it
 pub no_end : (xs : List ℕ) → Nowhere (Passes (is_byte3 34 10 13) xs) 0 (length xs) → prefix_len is_text_byte xs ≡ length xs
 no_end xs nowhere =
-    prefix_len_is is_text_byte xs (length xs) 0 (omega arith) (λ k within. ends (get_or xs k 0) ∙ not_from_false (is_byte3 34 10 13 (get_or xs k 0)) (false_from_ne_true (is_byte3 34 10 13 (get_or xs k 0)) (nowhere k (omega arith) within))) (λ within. absurd (omega arith))
+    prefix_len_is is_text_byte xs (length xs) 0 (omega arith)
+    (λ k within. ends (get_or xs k 0)
+    ∙ not_from_false (is_byte3 34 10 13 (get_or xs k 0))
+    (false_from_ne_true (is_byte3 34 10 13 (get_or xs k 0))
+    (nowhere k (omega arith) within))) (λ within. absurd (omega arith))
 
 -- if byte `k` is the first that ends the string, the `k` bytes before it belong to the string
-pub first_end : (xs : List ℕ) (k : ℕ) → NoneBefore (Passes (is_byte3 34 10 13) xs) 0 (length xs) k → Passes (is_byte3 34 10 13) xs k → prefix_len is_text_byte xs ≡ k
+pub first_end : (xs : List ℕ) (k : ℕ) → NoneBefore (Passes (is_byte3 34 10 13) xs) 0 (length xs) k
+    → Passes (is_byte3 34 10 13) xs k → prefix_len is_text_byte xs ≡ k
 first_end xs k before passes =
-    prefix_len_is is_text_byte xs k 0 (omega (arith, before.high)) (λ j within. ends (get_or xs j 0) ∙ not_from_false (is_byte3 34 10 13 (get_or xs j 0)) (false_from_ne_true (is_byte3 34 10 13 (get_or xs j 0)) (before.before j (omega arith) within))) (λ within. ends (get_or xs k 0) ∙ ap not passes)
+    prefix_len_is is_text_byte xs k 0 (omega (arith, before.high))
+    (λ j within. ends (get_or xs j 0)
+    ∙ not_from_false (is_byte3 34 10 13 (get_or xs j 0))
+    (false_from_ne_true (is_byte3 34 10 13 (get_or xs j 0))
+    (before.before j (omega arith) within))) (λ within. ends (get_or xs k 0) ∙ ap not passes)

@@ -6,7 +6,7 @@ use Rattle.bsdl_lexer.specs.declared.token.TokenKind.{TokenKind}
 use Rattle.bsdl_lexer.specs.declared.token.LexFault.{LexFault}
 use Rattle.bsdl_lexer.specs.declared.token.LexFault.TheVariants.{Byte, OpenString, TooMany, Memory}
 use Rattle.bsdl_lexer.specs.Forms.{HasForm, begins_comment, begins_gap, is_text_byte, line_feed, carriage_return, quote}
-use Rattle.bsdl_lexer.specs.Tokens.{line_of, Stand, AreTokens, token_limit}
+use Rattle.bsdl_lexer.specs.Tokens.{line_of_place, Stand, AreTokens, token_limit}
 
 -- the first `len` bytes have the form of a token, and no comment begins here
 pub record BeginsToken (rest : List ℕ) : Type 0 where
@@ -43,25 +43,27 @@ pub record BeginsNothing (rest : List ℕ) : Type 0 where
 pub record StopsAt (text : List ℕ) (tokens : List Token) (place line : ℕ) : Type 0 where
   pub before : Stand text 0 tokens place
   pub limit : length tokens ≤ token_limit
-  pub line_is : line ≡ line_of text place
+  pub line_is : line ≡ line_of_place text place
 
 -- the text has a bad place behind the tokens and a gap, and the fault says what is wrong there and
 -- on which line
-abbrev pub IsFault : List ℕ → List Token → LexFault → Type 0
-IsFault text tokens (Byte line) = (place : ℕ) × StopsAt text tokens place line × BeginsNothing (drop place text)
-IsFault text tokens (OpenString line) = (place : ℕ) × StopsAt text tokens place line × BeginsOpenText (drop place text)
-IsFault text tokens (TooMany line) = (place : ℕ) × StopsAt text tokens place line × BeginsToken (drop place text) × (length tokens ≡ token_limit)
-IsFault text tokens (Memory error) = ⊥
+abbrev pub IsLexerFault : List ℕ → List Token → LexFault → Type 0
+IsLexerFault text tokens (Byte line) = (place : ℕ) × StopsAt text tokens place line × BeginsNothing (drop place text)
+IsLexerFault text tokens (OpenString line) = (place : ℕ) × StopsAt text tokens place line × BeginsOpenText (drop place text)
+IsLexerFault text tokens (TooMany line) =
+    (place : ℕ) × StopsAt text tokens place line × BeginsToken (drop place text)
+    × (length tokens ≡ token_limit)
+IsLexerFault text tokens (Memory error) = ⊥
 
-abbrev pub IsAnswer : List ℕ → List Token → Result (Unit {0}) LexFault → Type 0
-IsAnswer text tokens (Ok done) = AreTokens text tokens
-IsAnswer text tokens (Err fault) = IsFault text tokens fault
+abbrev pub IsLexAnswer : List ℕ → List Token → Result (Unit {0}) LexFault → Type 0
+IsLexAnswer text tokens (Ok done) = AreTokens text tokens
+IsLexAnswer text tokens (Err fault) = IsLexerFault text tokens fault
 
 -- the text has an answer that begins with these tokens
 pub record AreFirst (text : List ℕ) (tokens : List Token) : Type 0 where
   pub answer : Result (Unit {0}) LexFault
   pub more : List Token
-  pub whole : IsAnswer text (tokens ++ more) answer
+  pub whole : IsLexAnswer text (tokens ++ more) answer
 
 -- the fault, or None if memory ran out
 abbrev pub lex_told : LexFault → Option LexFault

@@ -23,8 +23,8 @@ abbrev pub point : ℕ
 point = 46
 
 -- the byte is a space, a tab, or a byte from 10 to 13
-abbrev pub is_blank : ℕ → Bool
-is_blank byte = byte == 32 || is_in_range 9 13 byte
+abbrev pub is_bsdl_blank : ℕ → Bool
+is_bsdl_blank byte = byte == 32 || is_in_range 9 13 byte
 
 -- the byte is a letter, a digit or `_`
 abbrev pub is_word_byte : ℕ → Bool
@@ -44,8 +44,8 @@ abbrev pub is_text_byte : ℕ → Bool
 is_text_byte byte = not (byte == quote || (byte == line_feed || byte == carriage_return))
 
 -- the byte is from 33 to 126, and is not a letter, a digit or a quote
-abbrev pub is_mark : ℕ → Bool
-is_mark byte = is_ascii_graphic byte && not (is_ascii_alphanumeric byte || byte == quote)
+abbrev pub is_mark_byte : ℕ → Bool
+is_mark_byte byte = is_ascii_graphic byte && not (is_ascii_alphanumeric byte || byte == quote)
 
 -- the bytes are a letter, followed by letters, digits and `_`
 abbrev pub IsWord : List ℕ → Type 0
@@ -83,7 +83,7 @@ pub record IsNumber (bytes : List ℕ) : Type 0 where
   pub after_letter : IsExponent exponent
 
 -- the bytes are a quote, bytes that a string may have, and a second quote
-pub record IsText (bytes : List ℕ) : Type 0 where
+pub record IsQuoted (bytes : List ℕ) : Type 0 where
   pub inner : List ℕ
   pub quoted : bytes ≡ quote ∷ (inner ++ quote ∷ [])
   pub allowed : IsTrue (list_all is_text_byte inner)
@@ -91,14 +91,14 @@ pub record IsText (bytes : List ℕ) : Type 0 where
 -- there is one byte, and it is a mark
 abbrev pub IsMark : List ℕ → Type 0
 IsMark [] = ⊥
-IsMark (byte ∷ []) = IsTrue (is_mark byte)
+IsMark (byte ∷ []) = IsTrue (is_mark_byte byte)
 IsMark (byte ∷ next ∷ others) = ⊥
 
 -- the bytes have the form of a token of this kind
 abbrev pub HasForm : TokenKind → List ℕ → Type 0
 HasForm Word = IsWord
 HasForm Number = IsNumber
-HasForm Text = IsText
+HasForm Text = IsQuoted
 HasForm Mark = IsMark
 
 -- the first two bytes are dashes, which begin a comment
@@ -110,12 +110,13 @@ begins_comment (first ∷ second ∷ others) = first == dash && second == dash
 -- a blank or a comment begins at the front
 abbrev pub begins_gap : List ℕ → Bool
 begins_gap [] = false
-begins_gap (first ∷ others) = is_blank first || begins_comment (first ∷ others)
+begins_gap (first ∷ others) = is_bsdl_blank first || begins_comment (first ∷ others)
 
 -- Blanks and whole comments in front of the bytes `more`. A comment ends with its line or with the
 -- text.
 pub data IsGap (more : List ℕ) : List ℕ → Type 0 where
   nothing : IsGap more []
-  blank : (byte : ℕ) (gap : List ℕ) → IsTrue (is_blank byte) → IsGap more gap → IsGap more (byte ∷ gap)
-  comment : (words gap : List ℕ) → IsTrue (list_all (λ byte. not (byte == line_feed)) words) → IsGap more (line_feed ∷ gap) → IsGap more (dash ∷ dash ∷ (words ++ line_feed ∷ gap))
+  blank : (byte : ℕ) (gap : List ℕ) → IsTrue (is_bsdl_blank byte) → IsGap more gap → IsGap more (byte ∷ gap)
+  comment : (words gap : List ℕ) → IsTrue (list_all (λ byte. not (byte == line_feed)) words)
+      → IsGap more (line_feed ∷ gap) → IsGap more (dash ∷ dash ∷ (words ++ line_feed ∷ gap))
   last_comment : (words : List ℕ) → IsTrue (list_all (λ byte. not (byte == line_feed)) words) → more ≡ [] → IsGap more (dash ∷ dash ∷ words)

@@ -10,8 +10,8 @@ abbrev pub line_feeds : List ℕ → ℕ
 line_feeds bytes = count_by (λ byte. byte == line_feed) bytes
 
 -- the line of a place, counted from 1
-abbrev pub line_of : List ℕ → ℕ → ℕ
-line_of text place = 1 + line_feeds (take place text)
+abbrev pub line_of_place : List ℕ → ℕ → ℕ
+line_of_place text place = 1 + line_feeds (take place text)
 
 -- the bytes between the two places are blanks and whole comments
 pub record Separates (text : List ℕ) (from to : ℕ) : Type 0 where
@@ -26,7 +26,7 @@ pub record IsToken (text : List ℕ) (token : Token) : Type 0 where
   pub form : HasForm token.kind (slice_range text token.start token.end)
   pub longest : (kind : TokenKind) (to : ℕ) → token.end < to → to ≤ length text → HasForm kind (slice_range text token.start to) → ⊥
   pub no_comment : begins_comment (drop token.start text) ≡ false
-  pub line : token.line ≡ line_of text token.start
+  pub line : token.line ≡ line_of_place text token.start
 
 -- From place `from` to place `to`, the text consists of these tokens, with optional gaps before,
 -- between and after them.

@@ -2,7 +2,7 @@
 ghost use Rattle.std.specs.Prelude.{◌≡◌, ◌+◌, ◌≤◌, ◌<◌, ◌^◌, length, take, drop, slice_get, MatchOption, IfSome, false};
 ghost use Rattle.std.specs.List.{prefix_len};
 ghost use Rattle.std.specs.Char.{is_ascii_digit};
-ghost use Rattle.bsdl_lexer.specs.Forms.{is_blank, is_word_byte, is_text_byte, is_mark, is_exponent_letter, is_sign, begins_comment};
+ghost use Rattle.bsdl_lexer.specs.Forms.{is_bsdl_blank, is_word_byte, is_text_byte, is_mark_byte, is_exponent_letter, is_sign, begins_comment};
 ghost use Rattle.bsdl_lexer.specs.Tokens.{line_feeds};
 ghost use Rattle.bsdl_lexer.specs.inner.Lengths.{with_digits, fraction_len, signed_len, exponent_len, number_len, closed_len, token_at, gap_len};
 
@@ -10,7 +10,7 @@ use crate::token::TokenKind;
 use memchr::memchr3;
 
 fn is_blank_byte(byte: u8) -> bool
-    ensures { result ≡ is_blank byte }
+    ensures { result ≡ is_bsdl_blank byte }
 {
     matches!(byte, b' ' | 9..=13)
 }
@@ -22,7 +22,7 @@ fn is_in_word(byte: u8) -> bool
 }
 
 fn is_mark_byte(byte: u8) -> bool
-    ensures { result ≡ is_mark byte }
+    ensures { result ≡ is_mark_byte byte }
 {
     byte.is_ascii_graphic() && !(byte.is_ascii_alphanumeric() || byte == b'"')
 }
@@ -143,7 +143,9 @@ fn number_length(bytes: &[u8]) -> usize
 /// Returns the kind and the length of a string token, whose bytes after the first quote these are.
 /// Returns None if the string is not closed.
 fn closed_text(bytes: &[u8]) -> Option<(TokenKind, usize)>
-    ensures value { result ≡ closed_len (slice_get bytes.now (prefix_len is_text_byte bytes.now)) (prefix_len is_text_byte bytes.now) }
+    ensures value { result
+        ≡ closed_len (slice_get bytes.now (prefix_len is_text_byte bytes.now))
+        (prefix_len is_text_byte bytes.now) }
     ensures within { IfSome result (λ found. found.1 ≤ 1 + length bytes.now) }
 {
     let inner = text_len(bytes);
@@ -181,7 +183,9 @@ pub(crate) fn token_found(bytes: &[u8]) -> Option<(TokenKind, usize)>
 /// Returns None if the gap does not continue with the first byte. Otherwise returns whether the
 /// next byte is inside a comment.
 fn gap_step(in_comment: bool, bytes: &[u8]) -> Option<bool>
-    ensures { MatchOption result (gap_len in_comment bytes.now ≡ 0) (λ next. (0 < length bytes.now) × (gap_len in_comment bytes.now ≡ 1 + gap_len next (drop 1 bytes.now))) }
+    ensures { MatchOption result (gap_len in_comment bytes.now ≡ 0)
+        (λ next. (0 < length bytes.now)
+        × (gap_len in_comment bytes.now ≡ 1 + gap_len next (drop 1 bytes.now))) }
 {
     match bytes {
         [] => None,

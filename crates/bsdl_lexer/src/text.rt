@@ -3,7 +3,7 @@ ghost use Rattle.std.specs.Prelude.{◌≡◌, ◌≤◌, ◌<◌, ◌^◌, ◌+
 ghost use Rattle.bsdl_lexer.specs.declared.token.Token.{Token};
 ghost use Rattle.bsdl_lexer.specs.declared.token.LexFault.{LexFault};
 ghost use Rattle.answers.specs.Gives.{Gives};
-ghost use Rattle.bsdl_lexer.specs.Answer.{IsAnswer, AreFirst, lex_told};
+ghost use Rattle.bsdl_lexer.specs.Answer.{IsLexAnswer, AreFirst, lex_told};
 ghost use Rattle.bsdl_lexer.specs.inner.Steps.{bad_byte, step_at, step};
 
 use crate::lengths::{gap_at, token_found};
@@ -78,7 +78,7 @@ fn add(out: &mut Vec<Token>, token: Token) -> Result<(), LexFault>
 fn add_tokens(bytes: &[u8], out: &mut Vec<Token>) -> Result<(), LexFault>
     requires short { length bytes.now < 2 ^ 32 }
     requires empty { out.old.items ≡ [] }
-    ensures answer { Gives lex_told (λ done. done) (IsAnswer bytes.now out.new.items) result }
+    ensures answer { Gives lex_told (λ done. done) (IsLexAnswer bytes.now out.new.items) result }
     ensures first { AreFirst bytes.now out.new.items }
 {
     let mut place = 0usize;
@@ -103,9 +103,11 @@ pub fn lex(bytes: &[u8], out: &mut Vec<Token>) -> Result<(), LexFault>
     requires empty { out.old.items ≡ [] }
     // On Ok, `out` has all tokens. Otherwise `out` has the tokens before the first bad place, and
     // the fault has the kind of the bad place and the line of this place.
-    ensures answer { Gives lex_told (λ done. done) (IsAnswer bytes.now out.new.items) result }
+    ensures answer { Gives lex_told (λ done. done) (IsLexAnswer bytes.now out.new.items) result }
     // The definition allows no other answer.
-    ensures only { Gives lex_told (λ done. done) (λ answer. (tokens : List Token) (other : Result (Unit {0}) LexFault) → IsAnswer bytes.now tokens other → (tokens ≡ out.new.items) × (other ≡ answer)) result }
+    ensures only { Gives lex_told (λ done. done)
+        (λ answer. (tokens : List Token) (other : Result (Unit {0}) LexFault)
+        → IsLexAnswer bytes.now tokens other → (tokens ≡ out.new.items) × (other ≡ answer)) result }
     ensures first { AreFirst bytes.now out.new.items }
 {
     add_tokens(bytes, out)

@@ -16,9 +16,9 @@ use Rattle.bsdl_parser.specs.declared.draft.AttrForm.TheVariants as forms
 use Rattle.bsdl_parser.specs.Lexeme.{Lexeme}
 use Rattle.grammars.specs.Values.{some_if}
 use Rattle.bsdl_parser.specs.Places.{Phrase}
-use Rattle.bsdl_parser.specs.Bsdl.{used, plain_value, port_value, clock_value, number_value, text_value, value_of, attribute_of, attribute_name, attribute, listed, Items, no_items, item_of, item, file}
+use Rattle.bsdl_parser.specs.Bsdl.{used, plain_value, port_value, clock_value, number_value, text_value, value_of, attribute_of, attribute_name, attribute, listed, Items, no_items, item_after, item, file}
 use Rattle.bsdl_parser.specs.Answer.{Derives}
-use Rattle.bsdl_parser.specs.Entity.{is_among, port_attributes, number_attributes, text_attributes, HasKind, HaveKinds}
+use Rattle.bsdl_parser.specs.Entity.{is_number_among, port_attributes, number_attributes, text_attributes, HasKind, HaveKinds}
 
 -- `Fact` is true of each value that the phrase derives
 abbrev Yields : {A : Type 0} → Phrase A → (A → Type 0) → Type 0
@@ -27,10 +27,10 @@ Yields g Fact = (n : ℕ) → Keeps (λ token. 0) g n (λ m a. Fact a)
 -- attributes with this number have values of this form
 abbrev FitsForm : ℕ → AttrForm → Type 0
 FitsForm number forms.Plain = number ≡ attribute_number attributes.PinMap
-FitsForm number forms.Port = IsTrue (is_among port_attributes number)
-FitsForm number forms.Clock = IsTrue (is_among port_attributes number)
-FitsForm number forms.Number = IsTrue (is_among number_attributes number)
-FitsForm number forms.Text = IsTrue (is_among text_attributes number)
+FitsForm number forms.Port = IsTrue (is_number_among port_attributes number)
+FitsForm number forms.Clock = IsTrue (is_number_among port_attributes number)
+FitsForm number forms.Number = IsTrue (is_number_among number_attributes number)
+FitsForm number forms.Text = IsTrue (is_number_among text_attributes number)
 
 abbrev FitsKnown : Option (Attribute × AttrForm) → Type 0
 FitsKnown None = Unit {0}
@@ -64,20 +64,37 @@ used_fits name =
 -- each value of this form has the right kind for each number whose attributes have this form
 value_kind : (form : AttrForm) → Yields (value_of form) (λ value. (number : ℕ) → FitsForm number form → HasKind number value)
 unfolding plain_value port_value clock_value number_value text_value
-value_kind forms.Plain n = keeps_in_turn keeps_nothing (λ _ _ _. keeps_in_turn keeps_nothing (λ _ _ _. keeps_in_turn keeps_nothing (λ _ _ _. keeps_done (λ number h. h))))
-value_kind forms.Port n = keeps_in_turn keeps_nothing (λ _ _ _. keeps_in_turn keeps_nothing (λ _ _ _. keeps_in_turn keeps_nothing (λ _ _ _. keeps_done (λ number h. h))))
+value_kind forms.Plain n =
+    keeps_in_turn keeps_nothing
+    (λ _ _ _. keeps_in_turn keeps_nothing
+    (λ _ _ _. keeps_in_turn keeps_nothing (λ _ _ _. keeps_done (λ number h. h))))
+value_kind forms.Port n =
+    keeps_in_turn keeps_nothing
+    (λ _ _ _. keeps_in_turn keeps_nothing
+    (λ _ _ _. keeps_in_turn keeps_nothing (λ _ _ _. keeps_done (λ number h. h))))
 value_kind forms.Clock n =
-    keeps_in_turn keeps_nothing (λ _ _ _. keeps_in_turn keeps_nothing (λ _ _ _. keeps_in_turn keeps_nothing (λ _ _ _. keeps_in_turn keeps_nothing (λ _ _ _.
-    keeps_in_turn keeps_nothing (λ _ _ _. keeps_in_turn keeps_nothing (λ _ _ _. keeps_in_turn keeps_nothing (λ _ _ _. keeps_done (λ number h. h))))))))
-value_kind forms.Number n = keeps_in_turn keeps_nothing (λ _ _ _. keeps_in_turn keeps_nothing (λ _ _ _. keeps_in_turn keeps_nothing (λ _ _ _. keeps_done (λ number h. h))))
+    keeps_in_turn keeps_nothing
+    (λ _ _ _. keeps_in_turn keeps_nothing
+    (λ _ _ _. keeps_in_turn keeps_nothing (λ _ _ _. keeps_in_turn keeps_nothing (λ _ _ _.
+    keeps_in_turn keeps_nothing
+    (λ _ _ _. keeps_in_turn keeps_nothing
+    (λ _ _ _. keeps_in_turn keeps_nothing (λ _ _ _. keeps_done (λ number h. h))))))))
+value_kind forms.Number n =
+    keeps_in_turn keeps_nothing
+    (λ _ _ _. keeps_in_turn keeps_nothing
+    (λ _ _ _. keeps_in_turn keeps_nothing (λ _ _ _. keeps_done (λ number h. h))))
 value_kind forms.Text n = keeps_in_turn keeps_nothing (λ _ _ _. keeps_in_turn keeps_nothing (λ _ _ _. keeps_done (λ number h. h)))
 
 abbrev AttrKind : Attr → Type 0
 AttrKind attr = HasKind attr.number attr.value
 
-attribute_of_kind : (known : Option (Attribute × AttrForm)) → FitsKnown known → Yields (attribute_of known) (λ one. All AttrKind (listed one))
+attribute_of_kind : (known : Option (Attribute × AttrForm)) → FitsKnown known
+    → Yields (attribute_of known) (λ one. All AttrKind (listed one))
 attribute_of_kind None fits n = keeps_in_turn keeps_nothing (λ _ _ _. keeps_done (All-nil AttrKind))
-attribute_of_kind (Some known) fits n = keeps_in_turn (value_kind known.1 n) (λ value m h. keeps_done (All-cons AttrKind _ [] (h (attribute_number known.0) fits) (All-nil AttrKind)))
+attribute_of_kind (Some known) fits n =
+    keeps_in_turn (value_kind known.1 n)
+    (λ value m h. keeps_done
+    (All-cons AttrKind _ [] (h (attribute_number known.0) fits) (All-nil AttrKind)))
 
 attribute_kind : Yields attribute (λ one. All AttrKind (listed one))
 unfolding attribute
@@ -89,16 +106,22 @@ attribute_kind n = keeps_in_turn (name_fits n) (λ known m fits. attribute_of_ki
 abbrev ItemKinds : Items → Type 0
 ItemKinds items = All AttrKind items.attributes
 
-item_of_kind : (before : Items) → ItemKinds before → (word : ItemWord) → (n : ℕ) → Keeps (λ token. 0) (item_of before word) n (BehindTurn (λ m items. ItemKinds items) (λ m items. ItemKinds items))
-unfolding item_of
+item_of_kind : (before : Items) → ItemKinds before → (word : ItemWord) → (n : ℕ)
+    → Keeps (λ token. 0) (item_after before word) n
+    (BehindTurn (λ m items. ItemKinds items) (λ m items. ItemKinds items))
+unfolding item_after
 item_of_kind before h words.Generic n = keeps_in_turn keeps_nothing (λ _ _ _. keeps_done h)
 item_of_kind before h words.Port n = keeps_in_turn keeps_nothing (λ _ _ _. keeps_done h)
 item_of_kind before h words.Use n = keeps_in_turn keeps_nothing (λ _ _ _. keeps_done h)
 item_of_kind before h words.Constant n = keeps_in_turn keeps_nothing (λ _ _ _. keeps_done h)
-item_of_kind before h words.Attribute n = keeps_in_turn (attribute_kind n) (λ one m k. keeps_done (All-append AttrKind before.attributes (listed one) h k))
+item_of_kind before h words.Attribute n =
+    keeps_in_turn (attribute_kind n)
+    (λ one m k. keeps_done (All-append AttrKind before.attributes (listed one) h k))
 item_of_kind before h words.End n = keeps_done h
 
-item_kind : (before : Items) (n : ℕ) → ItemKinds before → Keeps (λ token. 0) (item before) n (BehindTurn (λ m items. ItemKinds items) (λ m items. ItemKinds items))
+item_kind : (before : Items) (n : ℕ) → ItemKinds before
+    → Keeps (λ token. 0) (item before) n
+    (BehindTurn (λ m items. ItemKinds items) (λ m items. ItemKinds items))
 unfolding item
 item_kind before n h = keeps_in_turn keeps_nothing (λ word m _. item_of_kind before h word m)
 
@@ -106,7 +129,9 @@ file_kinds : Yields file HaveKinds
 unfolding file
 file_kinds n =
     keeps_in_turn keeps_nothing (λ _ _ _. keeps_in_turn keeps_nothing (λ name _ _. keeps_in_turn keeps_nothing (λ _ m _.
-    keeps_in_turn (keeps_turns item_kind no_items m (All-nil AttrKind)) (λ items _ h. keeps_in_turn keeps_nothing (λ _ _ _. keeps_in_turn keeps_nothing (λ _ _ _. keeps_done h))))))
+    keeps_in_turn (keeps_turns item_kind no_items m (All-nil AttrKind))
+    (λ items _ h. keeps_in_turn keeps_nothing
+    (λ _ _ _. keeps_in_turn keeps_nothing (λ _ _ _. keeps_done h))))))
 
 -- in every entity that the grammar derives, each attribute has the kind of value that its number requires
 pub have_kinds : (tokens : List Lexeme) (entity : Entity) → Derives tokens entity → HaveKinds entity

@@ -5,8 +5,8 @@ use Rattle.bsdl_parser.specs.declared.draft.ItemWord.{ItemWord}
 use Rattle.bsdl_parser.specs.declared.draft.ItemWord.TheVariants as words
 use Rattle.bsdl_parser.specs.declared.draft.AttrForm.{AttrForm}
 use Rattle.bsdl_parser.specs.declared.draft.AttrForm.TheVariants as forms
-use Rattle.grammars.specs.Grammar.{production_of, reader_of}
-use Rattle.bsdl_parser.specs.Bsdl.{string_piece, fallback, generic, port_name, range, range_of, group, port_group, ports, used_package, constant, of_class, plain_value, port_value, clock_value, number_value, text_value, value_of, skipped_token, attribute_of, attribute, Items, item_of, item, close_of, file}
+use Rattle.grammars.specs.Grammar.{production_of, reader_of_grammar}
+use Rattle.bsdl_parser.specs.Bsdl.{string_piece, fallback, generic, port_name, range, range_of, group, port_group, ports, used_package, constant, of_class, plain_value, port_value, clock_value, number_value, text_value, value_of, skipped_token, attribute_of, attribute, Items, item_after, item, close_of, file}
 use Rattle.grammars.proofs.Exact.{Decides}
 use Rattle.grammars.proofs.Grammars.{TakesToken, EachTurnTakes, decides_grammar}
 
@@ -78,8 +78,8 @@ attribute_takes : EachTurnTakes attribute
 unfolding attribute
 attribute_takes = ((tt, λ name. tt), attribute_of_takes)
 
-item_of_takes : (before : Items) (first : ItemWord) → EachTurnTakes (item_of before first)
-unfolding item_of
+item_of_takes : (before : Items) (first : ItemWord) → EachTurnTakes (item_after before first)
+unfolding item_after
 item_of_takes before words.Generic = (generic_takes, λ text. tt)
 item_of_takes before words.Port = (ports_takes, λ all. tt)
 item_of_takes before words.Use = (used_package_takes, λ name. tt)
@@ -101,5 +101,5 @@ file_takes = (tt, λ _. (tt, λ name. (tt, λ _. (item_takes, λ items. (tt, λ 
 
 -- if the file's reader finds a value, it is the value of the file; if the reader refuses the
 -- tokens, they derive no entity
-pub decides_file : Decides (production_of file) (reader_of file)
+pub decides_file : Decides (production_of file) (reader_of_grammar file)
 decides_file = decides_grammar file file_takes

@@ -26,8 +26,8 @@ use Rattle.bsdl_parser.specs.declared.draft.AttrForm.{AttrForm}
 use Rattle.bsdl_parser.specs.declared.draft.AttrForm.TheVariants as forms
 use Rattle.bsdl_parser.specs.Lexeme.{Lexeme, lexeme_of, lexemes}
 use Rattle.grammars.specs.Values.{some_if}
-use Rattle.bsdl_parser.specs.Places.{Phrase, is_word, is_text, any_word, any_text, contents}
-use Rattle.bsdl_parser.specs.Bsdl.{string_piece, string, fallback, generic, port_name, ports_of, group, port_group, ports, used_package, constant, of_class, plain_value, port_value, clock_value, number_value, text_value, value_of, attribute_of, attribute, listed, Items, no_items, item_of, item_begin, item, file}
+use Rattle.bsdl_parser.specs.Places.{Phrase, is_word_token, is_text, any_word, any_text, contents}
+use Rattle.bsdl_parser.specs.Bsdl.{string_piece, string, fallback, generic, port_name, ports_of, group, port_group, ports, used_package, constant, of_class, plain_value, port_value, clock_value, number_value, text_value, value_of, attribute_of, attribute, listed, Items, no_items, item_after, item_begin, item, file}
 use Rattle.bsdl_parser.specs.Answer.{Derives}
 use Rattle.bsdl_parser.specs.Entity.{HasShortText, IsSmall}
 
@@ -57,7 +57,11 @@ some_value true v a e = cc
 some_value false v a e = cc
 
 word_cost : Covers any_word cost
-word_cost n = keeps_place (λ token name e. let same : token.spelled ≡ name = some_value (is_word token.kind) token.spelled name e in subst (λ xs. n + cost xs ≤ n + weight token) same (omega arith))
+word_cost n =
+    keeps_place
+    (λ token name e. let same : token.spelled
+    ≡ name = some_value (is_word_token token.kind) token.spelled name e in
+    subst (λ xs. n + cost xs ≤ n + weight token) same (omega arith))
 
 contents_short : (spelled : List ℕ) → length (contents spelled) ≤ length spelled
 contents_short spelled = omega (arith, length-take (length spelled - 1 - 1) (drop 1 spelled), length-drop 1 spelled)
@@ -71,9 +75,13 @@ text_cost n = keeps_place (λ token text e. (
 
 -- the cost of the items that a turn adds is at most the total weight of the tokens of the turn
 abbrev AddsTo : {A : Type 0} → (List A → Phrase (Turn (List A) (List A))) → (List A → ℕ) → Type 0
-AddsTo {A} turn cost_of = (base : ℕ) (before : List A) (n : ℕ) → base + cost_of before ≤ n → Keeps weight (turn before) n (BehindTurn (λ m xs. base + cost_of xs ≤ m) (λ m xs. base + cost_of xs ≤ m))
+AddsTo {A} turn cost_of =
+    (base : ℕ) (before : List A) (n : ℕ) → base + cost_of before ≤ n
+    → Keeps weight (turn before) n
+    (BehindTurn (λ m xs. base + cost_of xs ≤ m) (λ m xs. base + cost_of xs ≤ m))
 
-turn_done : {A : Type 0} (goes_on : Bool) (xs : List A) (Fact : ℕ → List A → Type 0) (n : ℕ) → Fact n xs → BehindTurn Fact Fact n (turn_of goes_on xs)
+turn_done : {A : Type 0} (goes_on : Bool) (xs : List A) (Fact : ℕ → List A → Type 0) (n : ℕ)
+    → Fact n xs → BehindTurn Fact Fact n (turn_of goes_on xs)
 turn_done true xs Fact n h = h
 turn_done false xs Fact n h = h
 
@@ -95,50 +103,74 @@ fallback_cost true n = keeps_in_turn keeps_more (λ _ m k. keeps_in_turn (string
 
 generic_cost : Covers generic option_cost
 unfolding generic
-generic_cost n = keeps_in_turn keeps_more (λ _ a ha. keeps_in_turn keeps_more (λ _ b hb. keeps_in_turn keeps_more (λ _ c hc. keeps_in_turn keeps_more (λ _ d hd.
-    keeps_in_turn keeps_more (λ given e he. keeps_in_turn (fallback_cost given e) (λ text f hf. keeps_in_turn keeps_more (λ _ g hg. keeps_done (omega arith))))))))
+generic_cost n = keeps_in_turn keeps_more
+    (λ _ a ha. keeps_in_turn keeps_more
+    (λ _ b hb. keeps_in_turn keeps_more (λ _ c hc. keeps_in_turn keeps_more (λ _ d hd.
+    keeps_in_turn keeps_more
+    (λ given e he. keeps_in_turn (fallback_cost given e)
+    (λ text f hf. keeps_in_turn keeps_more (λ _ g hg. keeps_done (omega arith))))))))
 
 name_cost : AddsTo port_name (total cost)
 unfolding port_name
 name_cost base before n h = keeps_in_turn (word_cost n) (λ name m k. keeps_in_turn keeps_more (λ goes_on m' k'.
-    keeps_done (turn_done goes_on (before ++ name ∷ []) (λ m xs. base + total cost xs ≤ m) m' (omega (arith, total-append cost before (name ∷ []))))))
+    keeps_done
+    (turn_done goes_on (before ++ name ∷ []) (λ m xs. base + total cost xs ≤ m) m'
+    (omega (arith, total-append cost before (name ∷ []))))))
 
 abbrev port_cost : Port → ℕ
 port_cost port = cost port.name
 
-ports_of_cost : (names : List (List ℕ)) (direction : Mode) (bounds : Option Range) → total port_cost (ports_of names direction bounds) ≡ total cost names
+ports_of_cost : (names : List (List ℕ)) (direction : Mode) (bounds : Option Range)
+    → total port_cost (ports_of names direction bounds) ≡ total cost names
 ports_of_cost [] direction bounds = refl
 ports_of_cost (name ∷ names) direction bounds = ap (λ n. cost name + n) (ports_of_cost names direction bounds)
 
 group_cost : Covers group (total port_cost)
 unfolding group
-group_cost n = keeps_in_turn (keeps_turns (name_cost n) [] n (omega arith)) (λ names a ha. keeps_in_turn keeps_more (λ direction b hb. keeps_in_turn keeps_more (λ is_vector c hc.
+group_cost n = keeps_in_turn (keeps_turns (name_cost n) [] n (omega arith))
+    (λ names a ha. keeps_in_turn keeps_more
+    (λ direction b hb. keeps_in_turn keeps_more (λ is_vector c hc.
     keeps_in_turn keeps_more (λ bounds d hd. keeps_done (omega (arith, ports_of_cost names direction bounds))))))
 
 port_group_cost : AddsTo port_group (total port_cost)
 unfolding port_group
 port_group_cost base before n h = keeps_in_turn (group_cost n) (λ added m k. keeps_in_turn keeps_more (λ goes_on m' k'.
-    keeps_done (turn_done goes_on (before ++ added) (λ m xs. base + total port_cost xs ≤ m) m' (omega (arith, total-append port_cost before added)))))
+    keeps_done
+    (turn_done goes_on (before ++ added) (λ m xs. base + total port_cost xs ≤ m) m'
+    (omega (arith, total-append port_cost before added)))))
 
 ports_cost : Covers ports (total port_cost)
 unfolding ports
-ports_cost n = keeps_in_turn keeps_more (λ _ a ha. keeps_in_turn (keeps_turns (port_group_cost a) [] a (omega arith)) (λ all b hb. keeps_in_turn keeps_more (λ _ c hc. keeps_done (omega arith))))
+ports_cost n =
+    keeps_in_turn keeps_more
+    (λ _ a ha. keeps_in_turn (keeps_turns (port_group_cost a) [] a (omega arith))
+    (λ all b hb. keeps_in_turn keeps_more (λ _ c hc. keeps_done (omega arith))))
 
 used_cost : Covers used_package cost
 unfolding used_package
-used_cost n = keeps_in_turn (word_cost n) (λ name a ha. keeps_in_turn keeps_more (λ _ b hb. keeps_in_turn keeps_more (λ _ c hc. keeps_in_turn keeps_more (λ _ d hd. keeps_done (omega arith)))))
+used_cost n =
+    keeps_in_turn (word_cost n)
+    (λ name a ha. keeps_in_turn keeps_more
+    (λ _ b hb. keeps_in_turn keeps_more
+    (λ _ c hc. keeps_in_turn keeps_more (λ _ d hd. keeps_done (omega arith)))))
 
 abbrev constant_cost : Constant → ℕ
 constant_cost one = cost one.name + length one.text
 
 constant_covers : Covers constant constant_cost
 unfolding constant
-constant_covers n = keeps_in_turn (word_cost n) (λ name a ha. keeps_in_turn keeps_more (λ _ b hb. keeps_in_turn keeps_more (λ _ c hc. keeps_in_turn keeps_more (λ _ d hd. keeps_in_turn keeps_more (λ _ e he.
+constant_covers n = keeps_in_turn (word_cost n)
+    (λ name a ha. keeps_in_turn keeps_more
+    (λ _ b hb. keeps_in_turn keeps_more
+    (λ _ c hc. keeps_in_turn keeps_more (λ _ d hd. keeps_in_turn keeps_more (λ _ e he.
     keeps_in_turn (string_cost _ e) (λ text f hf. keeps_done (omega arith)))))))
 
 class_cost : (class : List ℕ) → Covers (of_class class) length
 unfolding of_class
-class_cost class n = keeps_in_turn keeps_more (λ _ a ha. keeps_in_turn (word_cost a) (λ word b hb. keeps_in_turn keeps_more (λ _ c hc. keeps_in_turn keeps_more (λ _ d hd. keeps_in_turn keeps_more (λ _ e he.
+class_cost class n = keeps_in_turn keeps_more
+    (λ _ a ha. keeps_in_turn (word_cost a)
+    (λ word b hb. keeps_in_turn keeps_more
+    (λ _ c hc. keeps_in_turn keeps_more (λ _ d hd. keeps_in_turn keeps_more (λ _ e he.
     keeps_done (omega (arith, length-cost word)))))))
 
 abbrev value_cost : AttrValue → ℕ
@@ -149,18 +181,32 @@ value_cost (values.Text text) = length text
 
 value_covers : (form : AttrForm) → Covers (value_of form) value_cost
 unfolding plain_value port_value clock_value number_value text_value
-value_covers forms.Plain n = keeps_in_turn keeps_more (λ _ a ha. keeps_in_turn keeps_more (λ _ b hb. keeps_in_turn keeps_more (λ _ c hc. keeps_done (omega arith))))
-value_covers forms.Port n = keeps_in_turn (class_cost _ n) (λ port a ha. keeps_in_turn keeps_more (λ _ b hb. keeps_in_turn keeps_more (λ _ c hc. keeps_done (omega arith))))
-value_covers forms.Clock n = keeps_in_turn (class_cost _ n) (λ port a ha. keeps_in_turn keeps_more (λ _ b hb. keeps_in_turn keeps_more (λ _ c hc. keeps_in_turn keeps_more (λ _ d hd.
-    keeps_in_turn keeps_more (λ _ e he. keeps_in_turn keeps_more (λ _ f hf. keeps_in_turn keeps_more (λ _ g hg. keeps_done (omega arith))))))))
-value_covers forms.Number n = keeps_in_turn keeps_more (λ _ a ha. keeps_in_turn keeps_more (λ number b hb. keeps_in_turn keeps_more (λ _ c hc. keeps_done (omega arith))))
+value_covers forms.Plain n =
+    keeps_in_turn keeps_more
+    (λ _ a ha. keeps_in_turn keeps_more
+    (λ _ b hb. keeps_in_turn keeps_more (λ _ c hc. keeps_done (omega arith))))
+value_covers forms.Port n =
+    keeps_in_turn (class_cost _ n)
+    (λ port a ha. keeps_in_turn keeps_more
+    (λ _ b hb. keeps_in_turn keeps_more (λ _ c hc. keeps_done (omega arith))))
+value_covers forms.Clock n = keeps_in_turn (class_cost _ n)
+    (λ port a ha. keeps_in_turn keeps_more
+    (λ _ b hb. keeps_in_turn keeps_more (λ _ c hc. keeps_in_turn keeps_more (λ _ d hd.
+    keeps_in_turn keeps_more
+    (λ _ e he. keeps_in_turn keeps_more
+    (λ _ f hf. keeps_in_turn keeps_more (λ _ g hg. keeps_done (omega arith))))))))
+value_covers forms.Number n =
+    keeps_in_turn keeps_more
+    (λ _ a ha. keeps_in_turn keeps_more
+    (λ number b hb. keeps_in_turn keeps_more (λ _ c hc. keeps_done (omega arith))))
 value_covers forms.Text n = keeps_in_turn keeps_more (λ _ a ha. keeps_in_turn (string_cost _ a) (λ text b hb. keeps_done (omega arith)))
 
 -- the cost of an attribute: 1 for its first word, and the cost of its value
 abbrev attr_cost : Attr → ℕ
 attr_cost attr = 1 + value_cost attr.value
 
-attribute_of_cost : (known : Option (Attribute × AttrForm)) (n : ℕ) → Keeps weight (attribute_of known) n (λ m one. n + total attr_cost (listed one) ≤ m + 1)
+attribute_of_cost : (known : Option (Attribute × AttrForm)) (n : ℕ)
+    → Keeps weight (attribute_of known) n (λ m one. n + total attr_cost (listed one) ≤ m + 1)
 attribute_of_cost None n = keeps_in_turn keeps_more (λ _ a ha. keeps_done (omega arith))
 attribute_of_cost (Some known) n = keeps_in_turn (value_covers known.1 n) (λ value a ha. keeps_done (omega arith))
 
@@ -168,11 +214,21 @@ attribute_cost : (n : ℕ) → Keeps weight attribute n (λ m one. n + total att
 unfolding attribute
 attribute_cost n = keeps_in_turn keeps_more (λ known a ha. weaker a known ha)
   where
-    weaker : (a : ℕ) (known : Option (Attribute × AttrForm)) → n ≤ a → Keeps weight (attribute_of known) a (λ m one. n + total attr_cost (listed one) ≤ m + 1)
-    weaker a known ha = record { kept = λ tokens one whole. let k : a + total attr_cost (listed one) ≤ a + total weight tokens + 1 = (attribute_of_cost known a).kept tokens one whole in omega arith }
+    weaker : (a : ℕ) (known : Option (Attribute × AttrForm)) → n ≤ a
+        → Keeps weight (attribute_of known) a (λ m one. n + total attr_cost (listed one) ≤ m + 1)
+    weaker a known ha =
+        record {
+          kept = λ tokens one whole. let k : a + total attr_cost (listed one)
+              ≤ a + total weight tokens + 1 = (attribute_of_cost known a).kept tokens one whole in
+              omega arith;
+        }
 
 abbrev items_cost : Items → ℕ
-items_cost items = option_cost items.fallback + (total port_cost items.ports + (total cost items.uses + (total constant_cost items.constants + total attr_cost items.attributes)))
+items_cost items =
+    option_cost items.fallback +
+    (total port_cost items.ports +
+    (total cost items.uses +
+    (total constant_cost items.constants + total attr_cost items.attributes)))
 
 begin_cost : (before : Items) → Covers (item_begin before) (λ word. 1)
 begin_cost before n = keeps_place (λ token word e. let some : 0 < weight token = cost_some token.spelled in omega arith)
@@ -180,26 +236,42 @@ begin_cost before n = keeps_place (λ token word e. let some : 0 < weight token 
 abbrev Within : ℕ → ℕ → Items → Type 0
 Within base n items = base + items_cost items ≤ n
 
-item_of_cost : (base : ℕ) (before : Items) (word : ItemWord) (n : ℕ) → base + items_cost before + 1 ≤ n → Keeps weight (item_of before word) n (BehindTurn (Within base) (Within base))
-unfolding item_of
+item_of_cost : (base : ℕ) (before : Items) (word : ItemWord) (n : ℕ)
+    → base + items_cost before + 1 ≤ n
+    → Keeps weight (item_after before word) n (BehindTurn (Within base) (Within base))
+unfolding item_after
 item_of_cost base before words.Generic n h = keeps_in_turn (generic_cost n) (λ text a ha. keeps_done (omega arith))
 item_of_cost base before words.Port n h = keeps_in_turn (ports_cost n) (λ all a ha. keeps_done (omega arith))
-item_of_cost base before words.Use n h = keeps_in_turn (used_cost n) (λ name a ha. keeps_done (omega (arith, total-append cost before.uses (name ∷ []))))
-item_of_cost base before words.Constant n h = keeps_in_turn (constant_covers n) (λ one a ha. keeps_done (omega (arith, total-append constant_cost before.constants (one ∷ []))))
-item_of_cost base before words.Attribute n h = keeps_in_turn (attribute_cost n) (λ one a ha. keeps_done (omega (arith, total-append attr_cost before.attributes (listed one))))
+item_of_cost base before words.Use n h =
+    keeps_in_turn (used_cost n)
+    (λ name a ha. keeps_done (omega (arith, total-append cost before.uses (name ∷ []))))
+item_of_cost base before words.Constant n h =
+    keeps_in_turn (constant_covers n)
+    (λ one a ha. keeps_done (omega (arith, total-append constant_cost before.constants (one ∷ []))))
+item_of_cost base before words.Attribute n h =
+    keeps_in_turn (attribute_cost n)
+    (λ one a ha. keeps_done (omega (arith, total-append attr_cost before.attributes (listed one))))
 item_of_cost base before words.End n h = keeps_done (omega arith)
 
-item_cost : (base : ℕ) (before : Items) (n : ℕ) → Within base n before → Keeps weight (item before) n (BehindTurn (Within base) (Within base))
+item_cost : (base : ℕ) (before : Items) (n : ℕ) → Within base n before
+    → Keeps weight (item before) n (BehindTurn (Within base) (Within base))
 unfolding item
 item_cost base before n h = keeps_in_turn (begin_cost before n) (λ word a ha. item_of_cost base before word a (omega arith))
 
 abbrev entity_cost : Entity → ℕ
-entity_cost entity = cost entity.name + (option_cost entity.fallback + (total port_cost entity.ports + (total cost entity.uses + (total constant_cost entity.constants + total attr_cost entity.attributes))))
+entity_cost entity =
+    cost entity.name +
+    (option_cost entity.fallback +
+    (total port_cost entity.ports +
+    (total cost entity.uses +
+    (total constant_cost entity.constants + total attr_cost entity.attributes))))
 
 file_cost : Covers file entity_cost
 unfolding file
 file_cost n = keeps_in_turn keeps_more (λ _ a ha. keeps_in_turn (word_cost a) (λ name b hb. keeps_in_turn keeps_more (λ _ c hc.
-    keeps_in_turn (keeps_turns (item_cost c) no_items c (omega arith)) (λ items d hd. keeps_in_turn keeps_more (λ _ e he. keeps_in_turn keeps_more (λ _ f hf. keeps_done (omega arith)))))))
+    keeps_in_turn (keeps_turns (item_cost c) no_items c (omega arith))
+    (λ items d hd. keeps_in_turn keeps_more
+    (λ _ e he. keeps_in_turn keeps_more (λ _ f hf. keeps_done (omega arith)))))))
 
 -- if each item costs at least 1, a list has no more items than its items cost together
 some_each : {X : Type 0} (f : X → ℕ) → ((x : X) → 0 < f x) → (xs : List X) → length xs ≤ total f xs
@@ -224,23 +296,55 @@ small : (entity : Entity) → entity_cost entity < 2 ^ 32 → IsSmall entity
 small entity h = record {
   name = let k : length entity.name ≤ cost entity.name = length-cost entity.name in omega arith;
   fallback = option_short entity.fallback (omega arith);
-  ports = let k : length entity.ports ≤ total port_cost entity.ports = some_each port_cost (λ port. cost_some port.name) entity.ports in omega arith;
-  port_names = All-weaker (λ (port : Port). port_cost port < 2 ^ 32) (λ (port : Port). length port.name < 2 ^ 32) (λ port k. let l : length port.name ≤ cost port.name = length-cost port.name in omega arith) entity.ports (each_below port_cost (2 ^ 32) entity.ports (omega arith));
+  ports =
+      let k : length entity.ports
+      ≤ total port_cost entity.ports = some_each port_cost (λ port. cost_some port.name)
+      entity.ports in
+      omega arith;
+  port_names =
+      All-weaker (λ (port : Port). port_cost port < 2 ^ 32)
+      (λ (port : Port). length port.name < 2 ^ 32)
+      (λ port k. let l : length port.name ≤ cost port.name = length-cost port.name in omega arith)
+      entity.ports (each_below port_cost (2 ^ 32) entity.ports (omega arith));
   uses = let k : length entity.uses ≤ total cost entity.uses = some_each cost cost_some entity.uses in omega arith;
-  used_names = All-weaker (λ (name : List ℕ). cost name < 2 ^ 32) (λ (name : List ℕ). length name < 2 ^ 32) (λ name k. let l : length name ≤ cost name = length-cost name in omega arith) entity.uses (each_below cost (2 ^ 32) entity.uses (omega arith));
-  constants = let k : length entity.constants ≤ total constant_cost entity.constants = some_each constant_cost (λ one. let l : 0 < cost one.name = cost_some one.name in omega arith) entity.constants in omega arith;
-  constant_names = All-weaker (λ (one : Constant). constant_cost one < 2 ^ 32) (λ (one : Constant). length one.name < 2 ^ 32) (λ one k. let l : length one.name ≤ cost one.name = length-cost one.name in omega arith) entity.constants (each_below constant_cost (2 ^ 32) entity.constants (omega arith));
-  constant_texts = All-weaker (λ (one : Constant). constant_cost one < 2 ^ 32) (λ (one : Constant). length one.text < 2 ^ 32) (λ one k. omega arith) entity.constants (each_below constant_cost (2 ^ 32) entity.constants (omega arith));
-  attributes = let k : length entity.attributes ≤ total attr_cost entity.attributes = some_each attr_cost (λ one. omega arith) entity.attributes in omega arith;
-  attribute_texts = All-weaker (λ (one : Attr). attr_cost one < 2 ^ 32) (λ (one : Attr). HasShortText one.value) (λ one k. value_short one.value (omega arith)) entity.attributes (each_below attr_cost (2 ^ 32) entity.attributes (omega arith));
+  used_names =
+      All-weaker (λ (name : List ℕ). cost name < 2 ^ 32) (λ (name : List ℕ). length name < 2 ^ 32)
+      (λ name k. let l : length name ≤ cost name = length-cost name in omega arith) entity.uses
+      (each_below cost (2 ^ 32) entity.uses (omega arith));
+  constants =
+      let k : length entity.constants
+      ≤ total constant_cost entity.constants = some_each constant_cost
+      (λ one. let l : 0 < cost one.name = cost_some one.name in omega arith) entity.constants in
+      omega arith;
+  constant_names =
+      All-weaker (λ (one : Constant). constant_cost one < 2 ^ 32)
+      (λ (one : Constant). length one.name < 2 ^ 32)
+      (λ one k. let l : length one.name ≤ cost one.name = length-cost one.name in omega arith)
+      entity.constants (each_below constant_cost (2 ^ 32) entity.constants (omega arith));
+  constant_texts =
+      All-weaker (λ (one : Constant). constant_cost one < 2 ^ 32)
+      (λ (one : Constant). length one.text < 2 ^ 32) (λ one k. omega arith) entity.constants
+      (each_below constant_cost (2 ^ 32) entity.constants (omega arith));
+  attributes =
+      let k : length entity.attributes
+      ≤ total attr_cost entity.attributes = some_each attr_cost (λ one. omega arith)
+      entity.attributes in
+      omega arith;
+  attribute_texts =
+      All-weaker (λ (one : Attr). attr_cost one < 2 ^ 32) (λ (one : Attr). HasShortText one.value)
+      (λ one k. value_short one.value (omega arith)) entity.attributes
+      (each_below attr_cost (2 ^ 32) entity.attributes (omega arith));
 }
 
 -- the weight of a token of a text is the number of bytes of the token
 token_weight : (text : List ℕ) (token : Token) → IsToken text token → weight (lexeme_of text token) ≡ token.«end» - token.start
 token_weight text token h =
     let some : token.start < token.«end» = some_bytes text token.start token.«end» token.kind h.form in
-    let long : length (slice_range text token.start token.«end») ≡ token.«end» - token.start = length-range text token.start token.«end» h.within in
-    let spelled : length (map to_ascii_uppercase (slice_range text token.start token.«end»)) ≡ token.«end» - token.start = length-map (slice_range text token.start token.«end») to_ascii_uppercase ∙ long in
+    let long : length (slice_range text token.start token.«end»)
+    ≡ token.«end» - token.start = length-range text token.start token.«end» h.within in
+    let spelled : length (map to_ascii_uppercase (slice_range text token.start token.«end»))
+    ≡ token.«end» - token.start = length-map (slice_range text token.start token.«end»)
+    to_ascii_uppercase ∙ long in
     exact (map to_ascii_uppercase (slice_range text token.start token.«end»)) spelled (omega arith)
   where
     exact : (xs : List ℕ) → length xs ≡ token.«end» - token.start → 0 < token.«end» - token.start → cost xs ≡ token.«end» - token.start
@@ -249,7 +353,8 @@ token_weight text token h =
 
 -- if tokens stand in order from byte `from` to byte `to` of a text, the total of their weights is
 -- at most `to - from`
-tokens_weight : (text : List ℕ) (tokens : List Token) (from to : ℕ) → Stand text from tokens to → from + total weight (lexemes text tokens) ≤ to
+tokens_weight : (text : List ℕ) (tokens : List Token) (from to : ℕ) → Stand text from tokens to
+    → from + total weight (lexemes text tokens) ≤ to
 tokens_weight text [] from to h = let order : from ≤ to = h.order in omega arith
 tokens_weight text (token ∷ tokens) from to h =
     let order : from ≤ token.start = h.0.order in
@@ -259,8 +364,11 @@ tokens_weight text (token ∷ tokens) from to h =
     omega arith
 
 -- if a text has fewer than 2^32 bytes, and its tokens derive an entity, the entity is small
-pub is_small : (text : List ℕ) (tokens : List Token) (entity : Entity) → length text < 2 ^ 32 → AreTokens text tokens → Derives (lexemes text tokens) entity → IsSmall entity
+pub is_small : (text : List ℕ) (tokens : List Token) (entity : Entity) → length text < 2 ^ 32
+    → AreTokens text tokens → Derives (lexemes text tokens) entity → IsSmall entity
 is_small text tokens entity short h derives =
-    let covers : 0 + entity_cost entity ≤ 0 + total weight (lexemes text tokens) = (file_cost 0).kept (lexemes text tokens) entity derives in
+    let covers : 0 + entity_cost entity
+    ≤ 0 + total weight (lexemes text tokens) = (file_cost 0).kept (lexemes text tokens) entity
+    derives in
     let fits : 0 + total weight (lexemes text tokens) ≤ length text = tokens_weight text tokens 0 (length text) h.whole in
     small entity (omega arith)

@@ -47,15 +47,15 @@ pub record IsUnfinished (tokens : List Lexeme) : Type 0 where
 abbrev pub last_line : List ℕ → ℕ
 last_line text = 1 + count_by (λ byte. byte == 10) (take (length text - 1) text)
 
-abbrev pub IsFault : List ℕ → List Lexeme → ParseFault → Type 0
-IsFault text tokens (Expected line) =
+abbrev pub IsParserFault : List ℕ → List Lexeme → ParseFault → Type 0
+IsParserFault text tokens (Expected line) =
     StraysAt tokens line (λ before token. StartsPackage before token → ⊥) ⊎ (IsUnfinished tokens × (line ≡ last_line text))
-IsFault text tokens (Package line) = StraysAt tokens line StartsPackage
-IsFault text tokens (Memory error) = ⊥
+IsParserFault text tokens (Package line) = StraysAt tokens line StartsPackage
+IsParserFault text tokens (Memory error) = ⊥
 
-abbrev pub IsAnswer : List ℕ → List Lexeme → Result Entity ParseFault → Type 0
-IsAnswer text tokens (Ok entity) = Derives tokens entity
-IsAnswer text tokens (Err fault) = IsFault text tokens fault
+abbrev pub IsParseAnswer : List ℕ → List Lexeme → Result Entity ParseFault → Type 0
+IsParseAnswer text tokens (Ok entity) = Derives tokens entity
+IsParseAnswer text tokens (Err fault) = IsParserFault text tokens fault
 
 -- the fault, or None if memory ran out
 abbrev pub parse_told : ParseFault → Option ParseFault

@@ -20,7 +20,7 @@ use Rattle.bsdl_parser.specs.declared.draft.AttrForm.{AttrForm}
 use Rattle.bsdl_parser.specs.declared.draft.AttrForm.TheVariants as forms
 use Rattle.grammars.specs.Values.{some_if}
 use Rattle.bsdl_parser.specs.AttributeNumbers.{attribute_number}
-use Rattle.bsdl_parser.specs.Places.{Phrase, is_word, keyword, mark, either_word, either_mark, any_word, any_number, any_text, integer, mode, other_than, word_or_mark}
+use Rattle.bsdl_parser.specs.Places.{Phrase, is_word_token, keyword, mark, either_word, either_mark, any_word, any_number, any_text, integer, mode, other_than, word_or_mark}
 
 -- string = text { "&" text }, followed by the mark `close`
 unfoldable pub string_piece : List ℕ → List ℕ → Phrase (Turn (List ℕ) (List ℕ))
@@ -259,40 +259,40 @@ item_word before word =
     some_if (bytes_eq word (codes "END") && (before.has_generic && before.has_port)) words.End
 
 abbrev pub item_begin : Items → Phrase ItemWord
-item_begin before = place (λ token. if is_word token.kind then item_word before token.spelled else None)
+item_begin before = place (λ token. if is_word_token token.kind then item_word before token.spelled else None)
 
 -- the rest of an item after its first word, or the end of the items
-unfoldable pub item_of : Items → ItemWord → Phrase (Turn Items Items)
-item_of before words.Generic = do
+unfoldable pub item_after : Items → ItemWord → Phrase (Turn Items Items)
+item_after before words.Generic = do
   text ← generic
   done (again (record before { has_generic = true; fallback = text }))
-item_of before words.Port = do
+item_after before words.Port = do
   all ← ports
   done (again (record before { has_port = true; ports = all }))
-item_of before words.Use = do
+item_after before words.Use = do
   name ← used_package
   done (again (record before { uses = before.uses ++ name ∷ [] }))
-item_of before words.Constant = do
+item_after before words.Constant = do
   one ← constant
   done (again (record before { constants = before.constants ++ one ∷ [] }))
-item_of before words.Attribute = do
+item_after before words.Attribute = do
   one ← attribute
   done (again (record before { attributes = before.attributes ++ listed one }))
-item_of before words.End = done (last before)
+item_after before words.End = done (last before)
 
 -- item = generic | port | use | constant | attribute
 unfoldable pub item : Items → Phrase (Turn Items Items)
 item before = do
   first ← item_begin before
-  item_of before first
+  item_after before first
 
 -- [ word ] ";", after its first token
 abbrev pub close_of : Bool → Phrase (Unit {0})
 close_of true = mark (codes ";")
 close_of false = done tt
 
-abbrev pub entity_of : List ℕ → Items → Entity
-entity_of name items = record {
+abbrev pub entity_from_items : List ℕ → Items → Entity
+entity_from_items name items = record {
   name = name;
   fallback = items.fallback;
   ports = items.ports;
@@ -310,4 +310,4 @@ file = do
   items ← turns item no_items
   named ← word_or_mark (codes ";")
   _ ← close_of named
-  done (entity_of name items)
+  done (entity_from_items name items)

@@ -10,8 +10,8 @@ use Rattle.bsdl_parser.specs.declared.entity.Entity.{Entity}
 use Rattle.bsdl_parser.specs.AttributeNumbers.{attribute_number}
 
 -- the number is that of one of the attributes
-abbrev pub is_among : List Attribute → ℕ → Bool
-is_among attributes number = list_any (λ attribute. attribute_number attribute == number) attributes
+abbrev pub is_number_among : List Attribute → ℕ → Bool
+is_number_among attributes number = list_any (λ attribute. attribute_number attribute == number) attributes
 
 -- the attributes whose values are ports
 abbrev pub port_attributes : List Attribute
@@ -23,14 +23,16 @@ number_attributes = InstructionLength ∷ BoundaryLength ∷ []
 
 -- the attributes whose values are strings
 abbrev pub text_attributes : List Attribute
-text_attributes = InstructionOpcode ∷ InstructionCapture ∷ BoundaryRegister ∷ IdcodeRegister ∷ CompliancePatterns ∷ ComponentConformance ∷ []
+text_attributes =
+    InstructionOpcode ∷ InstructionCapture ∷ BoundaryRegister ∷ IdcodeRegister ∷ CompliancePatterns
+    ∷ ComponentConformance ∷ []
 
 -- an attribute with this number may have a value of this kind
 abbrev pub HasKind : ℕ → AttrValue → Type 0
 HasKind number values.Plain = number ≡ attribute_number PinMap
-HasKind number (values.Port port) = IsTrue (is_among port_attributes number)
-HasKind number (values.Number value) = IsTrue (is_among number_attributes number)
-HasKind number (values.Text text) = IsTrue (is_among text_attributes number)
+HasKind number (values.Port port) = IsTrue (is_number_among port_attributes number)
+HasKind number (values.Number value) = IsTrue (is_number_among number_attributes number)
+HasKind number (values.Text text) = IsTrue (is_number_among text_attributes number)
 
 -- each attribute has a number from 1 to 14, and its value has the kind that this number requires
 abbrev pub HaveKinds : Entity → Type 0

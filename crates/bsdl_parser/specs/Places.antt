@@ -14,13 +14,13 @@ use Rattle.bsdl_parser.specs.Lexeme.{Lexeme}
 abbrev pub Phrase : Type 0 → Type 1
 Phrase A = Grammar Lexeme A
 
-abbrev pub is_word : TokenKind → Bool
-is_word kinds.Word = true
-is_word _ = false
+abbrev pub is_word_token : TokenKind → Bool
+is_word_token kinds.Word = true
+is_word_token _ = false
 
-abbrev pub is_number : TokenKind → Bool
-is_number kinds.Number = true
-is_number _ = false
+abbrev pub is_number_token : TokenKind → Bool
+is_number_token kinds.Number = true
+is_number_token _ = false
 
 abbrev pub is_text : TokenKind → Bool
 is_text kinds.Text = true
@@ -31,7 +31,7 @@ is_mark kinds.Mark = true
 is_mark _ = false
 
 abbrev pub is_the_word : List ℕ → Lexeme → Bool
-is_the_word name token = is_word token.kind && bytes_eq token.spelled name
+is_the_word name token = is_word_token token.kind && bytes_eq token.spelled name
 
 abbrev pub is_the_mark : List ℕ → Lexeme → Bool
 is_the_mark name token = is_mark token.kind && bytes_eq token.spelled name
@@ -53,10 +53,10 @@ abbrev pub either_mark : List ℕ → List ℕ → Phrase Bool
 either_mark first second = place (λ token. if is_the_mark first token then Some true else some_if (is_the_mark second token) false)
 
 abbrev pub any_word : Phrase (List ℕ)
-any_word = place (λ token. some_if (is_word token.kind) token.spelled)
+any_word = place (λ token. some_if (is_word_token token.kind) token.spelled)
 
 abbrev pub any_number : Phrase (Unit {0})
-any_number = place (λ token. some_if (is_number token.kind) tt)
+any_number = place (λ token. some_if (is_number_token token.kind) tt)
 
 -- the bytes between the quotes of a string token
 abbrev pub contents : List ℕ → List ℕ
@@ -67,7 +67,7 @@ any_text = place (λ token. some_if (is_text token.kind) (contents token.spelled
 
 -- a number of 1 to 9 digits without a point or an exponent
 abbrev pub integer : Phrase ℕ
-integer = place (λ token. some_if (is_number token.kind && is_integer token.spelled) (digits_value token.spelled))
+integer = place (λ token. some_if (is_number_token token.kind && is_integer token.spelled) (digits_value token.spelled))
 
 -- "in" | "out" | "inout" | "buffer" | "linkage"
 abbrev pub mode_of : List ℕ → Option Mode
@@ -79,7 +79,7 @@ mode_of word =
     some_if (bytes_eq word (codes "LINKAGE")) Linkage
 
 abbrev pub mode : Phrase Mode
-mode = place (λ token. if is_word token.kind then mode_of token.spelled else None)
+mode = place (λ token. if is_word_token token.kind then mode_of token.spelled else None)
 
 -- any token, with the value false if it is the mark `name`
 abbrev pub other_than : List ℕ → Phrase Bool
@@ -87,4 +87,4 @@ other_than name = place (λ token. Some (if is_the_mark name token then false el
 
 -- a word or the mark `name`; the value is true for a word
 abbrev pub word_or_mark : List ℕ → Phrase Bool
-word_or_mark name = place (λ token. if is_word token.kind then Some true else some_if (is_the_mark name token) false)
+word_or_mark name = place (λ token. if is_word_token token.kind then Some true else some_if (is_the_mark name token) false)

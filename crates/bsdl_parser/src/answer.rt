@@ -2,14 +2,14 @@
 ghost use Rattle.std.specs.Prelude.{◌≡◌, ◌<◌, ◌^◌, length, count_by, ◌==◌, Result, IfOk};
 ghost use Rattle.bsdl_lexer.specs.Tokens.{AreTokens};
 ghost use Rattle.answers.specs.Gives.{Gives};
-ghost use Rattle.grammars.specs.Grammar.{reader_of};
+ghost use Rattle.grammars.specs.Grammar.{reader_of_grammar};
 ghost use Rattle.bsdl_parser.specs.declared.entity.Entity.{Entity};
 ghost use Rattle.bsdl_parser.specs.declared.fault.ParseFault.{ParseFault};
 ghost use Rattle.bsdl_parser.specs.Lexeme.{lexemes};
 ghost use Rattle.bsdl_parser.specs.Bsdl.{file};
 ghost use Rattle.bsdl_parser.specs.Entity.{HaveKinds, IsSmall};
-ghost use Rattle.bsdl_parser.specs.inner.Judged.{fault_at, judged};
-ghost use Rattle.bsdl_parser.specs.Answer.{IsAnswer, last_line, parse_told};
+ghost use Rattle.bsdl_parser.specs.inner.Judged.{fault_on_line, judged};
+ghost use Rattle.bsdl_parser.specs.Answer.{IsParseAnswer, last_line, parse_told};
 
 use crate::cursor::Cursor;
 use crate::entity::Entity;
@@ -36,7 +36,7 @@ fn last_line_of(text: &[u8]) -> u32
 }
 
 fn fault(starts_package: bool, line: u32) -> ParseFault
-    ensures { result ≡ fault_at starts_package line }
+    ensures { result ≡ fault_on_line starts_package line }
 {
     if starts_package {
         ParseFault::Package(line)
@@ -47,7 +47,9 @@ fn fault(starts_package: bool, line: u32) -> ParseFault
 
 fn judge(alloc: Global, text: &[u8], tokens: &[Token]) -> Result<Entity, ParseFault>
     requires { length text.now < 2 ^ 32 }
-    ensures { Gives parse_told (λ entity. entity) (λ said. judged text.now (lexemes text.now tokens.now) (reader_of file (lexemes text.now tokens.now)) ≡ said) result }
+    ensures { Gives parse_told (λ entity. entity)
+        (λ said. judged text.now (lexemes text.now tokens.now)
+        (reader_of_grammar file (lexemes text.now tokens.now)) ≡ said) result }
 {
     let mut cursor = Cursor::new(alloc, text, tokens);
     match cursor.file() {
@@ -74,9 +76,12 @@ pub fn parse(alloc: Global, bytes: &[u8], tokens: &[Token]) -> Result<Entity, Pa
     requires tokens { AreTokens bytes.now tokens.now }
     // On Ok, the tokens derive the entity. Otherwise the fault belongs to the first token that does
     // not fit, or to the missing rest of a file.
-    ensures answer { Gives parse_told (λ entity. entity) (IsAnswer bytes.now (lexemes bytes.now tokens.now)) result }
+    ensures answer { Gives parse_told (λ entity. entity)
+        (IsParseAnswer bytes.now (lexemes bytes.now tokens.now)) result }
     // The definition allows no other answer.
-    ensures only { Gives parse_told (λ entity. entity) (λ answer. (other : Result Entity ParseFault) → IsAnswer bytes.now (lexemes bytes.now tokens.now) other → other ≡ answer) result }
+    ensures only { Gives parse_told (λ entity. entity)
+        (λ answer. (other : Result Entity ParseFault)
+        → IsParseAnswer bytes.now (lexemes bytes.now tokens.now) other → other ≡ answer) result }
 
     // Every returned entity has values of the right kinds, and is small.
     ensures kinds { IfOk result HaveKinds }

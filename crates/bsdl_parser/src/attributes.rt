@@ -2,7 +2,7 @@
 ghost use Rattle.std.specs.Prelude.{◌≡◌, map};
 ghost use Rattle.std.specs.Char.{to_ascii_uppercase};
 ghost use Rattle.grammars.specs.Turn.{turn_of};
-ghost use Rattle.grammars.specs.Grammar.{turns, reader_of};
+ghost use Rattle.grammars.specs.Grammar.{turns, reader_of_grammar};
 ghost use Rattle.bsdl_parser.specs.inner.Reading.{ReadsTokens};
 ghost use Rattle.bsdl_parser.specs.Bsdl.{used, of_class, plain_value, port_value, clock_value, number_value, text_value, value_of, skipped_token, attribute_name, attribute};
 
@@ -52,7 +52,8 @@ fn used_attribute(name: &[u8]) -> Option<(Attribute, AttrForm)>
 
 impl<'a> Cursor<'a> {
     fn attribute_name(&mut self) -> Result<Option<(Attribute, AttrForm)>, Stop>
-        ensures { ReadsTokens (reader_of attribute_name) self.old self.new result (λ known. known) }
+        ensures { ReadsTokens (reader_of_grammar attribute_name) self.old self.new result
+            (λ known. known) }
     {
         let name = self.word_bytes()?;
         Ok(used_attribute(name))
@@ -61,7 +62,8 @@ impl<'a> Cursor<'a> {
     /// Reads `of`, a word, `:`, the word `class` and `is`. Returns the word after `of`.
     #[tactic(auto, unfolding(crate::specs::Bsdl::of_class))]
     fn of_class(&mut self, class: &[u8]) -> Result<&'a [u8], Stop>
-        ensures { ReadsTokens (reader_of (of_class class.now)) self.old self.new result (λ word. map to_ascii_uppercase word.now) }
+        ensures { ReadsTokens (reader_of_grammar (of_class class.now)) self.old self.new result
+            (λ word. map to_ascii_uppercase word.now) }
     {
         self.keyword(b"OF")?;
         let word = self.word_bytes()?;
@@ -73,7 +75,8 @@ impl<'a> Cursor<'a> {
 
     #[tactic(auto, unfolding(crate::specs::Bsdl::plain_value))]
     fn plain_value(&mut self) -> Result<AttrValue, Stop>
-        ensures { ReadsTokens (reader_of plain_value) self.old self.new result (λ value. value) }
+        ensures { ReadsTokens (reader_of_grammar plain_value) self.old self.new result
+            (λ value. value) }
     {
         self.of_class(b"ENTITY")?;
         self.keyword(b"PHYSICAL_PIN_MAP")?;
@@ -83,7 +86,8 @@ impl<'a> Cursor<'a> {
 
     #[tactic(auto, unfolding(crate::specs::Bsdl::port_value))]
     fn port_value(&mut self) -> Result<AttrValue, Stop>
-        ensures { ReadsTokens (reader_of port_value) self.old self.new result (λ value. value) }
+        ensures { ReadsTokens (reader_of_grammar port_value) self.old self.new result
+            (λ value. value) }
     {
         let port = self.of_class(b"SIGNAL")?;
         self.keyword(b"TRUE")?;
@@ -93,7 +97,8 @@ impl<'a> Cursor<'a> {
 
     #[tactic(auto, unfolding(crate::specs::Bsdl::clock_value))]
     fn clock_value(&mut self) -> Result<AttrValue, Stop>
-        ensures { ReadsTokens (reader_of clock_value) self.old self.new result (λ value. value) }
+        ensures { ReadsTokens (reader_of_grammar clock_value) self.old self.new result
+            (λ value. value) }
     {
         let port = self.of_class(b"SIGNAL")?;
         self.mark(b"(")?;
@@ -107,7 +112,8 @@ impl<'a> Cursor<'a> {
 
     #[tactic(auto, unfolding(crate::specs::Bsdl::number_value))]
     fn number_value(&mut self) -> Result<AttrValue, Stop>
-        ensures { ReadsTokens (reader_of number_value) self.old self.new result (λ value. value) }
+        ensures { ReadsTokens (reader_of_grammar number_value) self.old self.new result
+            (λ value. value) }
     {
         self.of_class(b"ENTITY")?;
         let number = self.integer()?;
@@ -117,7 +123,8 @@ impl<'a> Cursor<'a> {
 
     #[tactic(auto, unfolding(crate::specs::Bsdl::text_value))]
     fn text_value(&mut self) -> Result<AttrValue, Stop>
-        ensures { ReadsTokens (reader_of text_value) self.old self.new result (λ value. value) }
+        ensures { ReadsTokens (reader_of_grammar text_value) self.old self.new result
+            (λ value. value) }
     {
         self.of_class(b"ENTITY")?;
         let text = self.string(b";")?;
@@ -125,7 +132,8 @@ impl<'a> Cursor<'a> {
     }
 
     fn value(&mut self, form: AttrForm) -> Result<AttrValue, Stop>
-        ensures { ReadsTokens (reader_of (value_of form)) self.old self.new result (λ value. value) }
+        ensures { ReadsTokens (reader_of_grammar (value_of form)) self.old self.new result
+            (λ value. value) }
     {
         match form {
             AttrForm::Plain => self.plain_value(),
@@ -139,7 +147,8 @@ impl<'a> Cursor<'a> {
     /// Skips one token. Returns false if the token is the final `;`.
     #[tactic(auto, unfolding(crate::specs::Bsdl::skipped_token))]
     fn skipped_token(&mut self) -> Result<bool, Stop>
-        ensures { ReadsTokens (reader_of (skipped_token tt)) self.old self.new result (λ more. turn_of more tt) }
+        ensures { ReadsTokens (reader_of_grammar (skipped_token tt)) self.old self.new result
+            (λ more. turn_of more tt) }
     {
         let more = self.other_than(b";")?;
         Ok(more)
@@ -147,7 +156,8 @@ impl<'a> Cursor<'a> {
 
     /// Skips all tokens up to and including the next `;`.
     fn skipped(&mut self) -> Result<(), Stop>
-        ensures { ReadsTokens (reader_of (turns skipped_token tt)) self.old self.new result (λ x. x) }
+        ensures { ReadsTokens (reader_of_grammar (turns skipped_token tt)) self.old self.new result
+            (λ x. x) }
     {
         'tokens: while self.skipped_token()? {}
         Ok(())
@@ -156,7 +166,8 @@ impl<'a> Cursor<'a> {
     /// Reads an attribute item after its first word. If the attribute is not used, skips the item and returns None.
     #[tactic(auto, unfolding(crate::specs::Bsdl::attribute))]
     pub(crate) fn attribute_item(&mut self) -> Result<Option<Attr>, Stop>
-        ensures { ReadsTokens (reader_of attribute) self.old self.new result (λ attribute. attribute) }
+        ensures { ReadsTokens (reader_of_grammar attribute) self.old self.new result
+            (λ attribute. attribute) }
     {
         match self.attribute_name()? {
             Some((attribute, form)) => {

@@ -1,7 +1,7 @@
 //! A cursor that reads the tokens of a text in order.
 ghost use Rattle.std.specs.Prelude.{◌≡◌, map, length};
 ghost use Rattle.std.specs.Char.{to_ascii_uppercase};
-ghost use Rattle.grammars.specs.Grammar.{reader_of};
+ghost use Rattle.grammars.specs.Grammar.{reader_of_grammar};
 ghost use Rattle.bsdl_parser.specs.Lexeme.{bytes_of, lexeme_of, lexemes};
 ghost use Rattle.bsdl_parser.specs.Places as places;
 ghost use Rattle.bsdl_parser.specs.inner.Reading.{ReadsTokens};
@@ -49,13 +49,13 @@ pub(crate) fn bytes_at<'t>(text: &'t [u8], token: &Token) -> &'t [u8]
 }
 
 pub(crate) fn is_word(kind: TokenKind) -> bool
-    ensures { result ≡ places.is_word kind }
+    ensures { result ≡ places.is_word_token kind }
 {
     matches!(kind, TokenKind::Word)
 }
 
 fn is_number(kind: TokenKind) -> bool
-    ensures { result ≡ places.is_number kind }
+    ensures { result ≡ places.is_number_token kind }
 {
     matches!(kind, TokenKind::Number)
 }
@@ -86,7 +86,8 @@ fn is_the_mark(text: &[u8], token: &Token, name: &[u8]) -> bool
 
 /// Returns the bytes between the quotes of a string token.
 fn unquoted(bytes: &[u8]) -> &[u8]
-    ensures { map to_ascii_uppercase result.now ≡ places.contents (map to_ascii_uppercase bytes.now) }
+    ensures { map to_ascii_uppercase result.now
+        ≡ places.contents (map to_ascii_uppercase bytes.now) }
 {
     match bytes {
         [_, inner @ .., _] => inner,
@@ -150,7 +151,8 @@ impl<'a> Cursor<'a> {
 
     /// Reads the word `name`. The case of letters does not matter.
     pub(crate) fn keyword(&mut self, name: &[u8]) -> Result<(), Stop>
-        ensures { ReadsTokens (reader_of (places.keyword name.now)) self.old self.new result (λ x. x) }
+        ensures { ReadsTokens (reader_of_grammar (places.keyword name.now)) self.old self.new result
+            (λ x. x) }
     {
         match self.rest {
             [token, rest @ ..] if is_the_word(self.text, token, name) => {
@@ -163,7 +165,8 @@ impl<'a> Cursor<'a> {
 
     /// Reads the mark `name`.
     pub(crate) fn mark(&mut self, name: &[u8]) -> Result<(), Stop>
-        ensures { ReadsTokens (reader_of (places.mark name.now)) self.old self.new result (λ x. x) }
+        ensures { ReadsTokens (reader_of_grammar (places.mark name.now)) self.old self.new result
+            (λ x. x) }
     {
         match self.rest {
             [token, rest @ ..] if is_the_mark(self.text, token, name) => {
@@ -176,7 +179,8 @@ impl<'a> Cursor<'a> {
 
     /// Reads one of two words. Returns whether it was the first.
     pub(crate) fn either_word(&mut self, first: &[u8], second: &[u8]) -> Result<bool, Stop>
-        ensures { ReadsTokens (reader_of (places.either_word first.now second.now)) self.old self.new result (λ x. x) }
+        ensures { ReadsTokens (reader_of_grammar (places.either_word first.now second.now)) self.old
+            self.new result (λ x. x) }
     {
         match self.rest {
             [token, rest @ ..] if is_the_word(self.text, token, first) => {
@@ -193,7 +197,8 @@ impl<'a> Cursor<'a> {
 
     /// Reads one of two marks. Returns whether it was the first.
     pub(crate) fn either_mark(&mut self, first: &[u8], second: &[u8]) -> Result<bool, Stop>
-        ensures { ReadsTokens (reader_of (places.either_mark first.now second.now)) self.old self.new result (λ x. x) }
+        ensures { ReadsTokens (reader_of_grammar (places.either_mark first.now second.now)) self.old
+            self.new result (λ x. x) }
     {
         match self.rest {
             [token, rest @ ..] if is_the_mark(self.text, token, first) => {
@@ -210,7 +215,8 @@ impl<'a> Cursor<'a> {
 
     /// Reads a word or the mark `name`. Returns whether it was a word.
     pub(crate) fn word_or_mark(&mut self, name: &[u8]) -> Result<bool, Stop>
-        ensures { ReadsTokens (reader_of (places.word_or_mark name.now)) self.old self.new result (λ x. x) }
+        ensures { ReadsTokens (reader_of_grammar (places.word_or_mark name.now)) self.old self.new
+            result (λ x. x) }
     {
         match self.rest {
             [token, rest @ ..] if is_word(token.kind) => {
@@ -227,7 +233,8 @@ impl<'a> Cursor<'a> {
 
     /// Reads any token. Returns false if the token was the mark `name`.
     pub(crate) fn other_than(&mut self, name: &[u8]) -> Result<bool, Stop>
-        ensures { ReadsTokens (reader_of (places.other_than name.now)) self.old self.new result (λ x. x) }
+        ensures { ReadsTokens (reader_of_grammar (places.other_than name.now)) self.old self.new
+            result (λ x. x) }
     {
         match self.rest {
             [] => Err(Stop::Stray),
@@ -239,7 +246,8 @@ impl<'a> Cursor<'a> {
     }
 
     pub(crate) fn number(&mut self) -> Result<(), Stop>
-        ensures { ReadsTokens (reader_of places.any_number) self.old self.new result (λ x. x) }
+        ensures { ReadsTokens (reader_of_grammar places.any_number) self.old self.new result
+            (λ x. x) }
     {
         match self.rest {
             [token, rest @ ..] if is_number(token.kind) => {
@@ -252,7 +260,7 @@ impl<'a> Cursor<'a> {
 
     /// Reads a number of 1 to 9 digits, without a point or an exponent.
     pub(crate) fn integer(&mut self) -> Result<u32, Stop>
-        ensures { ReadsTokens (reader_of places.integer) self.old self.new result (λ x. x) }
+        ensures { ReadsTokens (reader_of_grammar places.integer) self.old self.new result (λ x. x) }
     {
         match self.rest {
             [token, rest @ ..] if is_number(token.kind) => {
@@ -266,7 +274,8 @@ impl<'a> Cursor<'a> {
 
     /// Reads any word. Returns its bytes unchanged.
     pub(crate) fn word_bytes(&mut self) -> Result<&'a [u8], Stop>
-        ensures { ReadsTokens (reader_of places.any_word) self.old self.new result (λ bytes. map to_ascii_uppercase bytes.now) }
+        ensures { ReadsTokens (reader_of_grammar places.any_word) self.old self.new result
+            (λ bytes. map to_ascii_uppercase bytes.now) }
     {
         match self.rest {
             [token, rest @ ..] if is_word(token.kind) => {
@@ -279,7 +288,8 @@ impl<'a> Cursor<'a> {
 
     /// Reads any word. Returns it in upper case.
     pub(crate) fn word(&mut self) -> Result<Name, Stop>
-        ensures { ReadsTokens (reader_of places.any_word) self.old self.new result (λ name. name) }
+        ensures { ReadsTokens (reader_of_grammar places.any_word) self.old self.new result
+            (λ name. name) }
     {
         let bytes = self.word_bytes()?;
         Ok(Name::in_upper_case(self.alloc, bytes)?)
@@ -287,7 +297,8 @@ impl<'a> Cursor<'a> {
 
     /// Reads any string token. Returns the bytes between its quotes unchanged.
     pub(crate) fn text_bytes(&mut self) -> Result<&'a [u8], Stop>
-        ensures { ReadsTokens (reader_of places.any_text) self.old self.new result (λ bytes. map to_ascii_uppercase bytes.now) }
+        ensures { ReadsTokens (reader_of_grammar places.any_text) self.old self.new result
+            (λ bytes. map to_ascii_uppercase bytes.now) }
     {
         match self.rest {
             [token, rest @ ..] if is_text(token.kind) => {
@@ -300,7 +311,8 @@ impl<'a> Cursor<'a> {
 
     /// Reads the mode of a port.
     pub(crate) fn mode(&mut self) -> Result<Mode, Stop>
-        ensures { ReadsTokens (reader_of places.mode) self.old self.new result (λ mode. mode) }
+        ensures { ReadsTokens (reader_of_grammar places.mode) self.old self.new result
+            (λ mode. mode) }
     {
         match self.rest {
             [token, rest @ ..] if is_word(token.kind) => {

@@ -1,8 +1,8 @@
 //! Reads a whole file.
 ghost use Rattle.std.specs.Prelude.{◌≡◌};
-ghost use Rattle.grammars.specs.Grammar.{reader_of};
+ghost use Rattle.grammars.specs.Grammar.{reader_of_grammar};
 ghost use Rattle.bsdl_parser.specs.inner.Reading.{ReadsTokens};
-ghost use Rattle.bsdl_parser.specs.Bsdl.{file, close_of, entity_of};
+ghost use Rattle.bsdl_parser.specs.Bsdl.{file, close_of, entity_from_items};
 ghost use Rattle.bsdl_parser.specs.inner.Views.{items_of};
 
 use crate::cursor::Cursor;
@@ -12,7 +12,7 @@ use crate::stop::Stop;
 use board_defs::{Items, Name};
 
 fn entity_from(name: Name, draft: Draft) -> Entity
-    ensures { result ≡ entity_of name (items_of draft) }
+    ensures { result ≡ entity_from_items name (items_of draft) }
 {
     let Draft {
         has_generic: _,
@@ -35,7 +35,8 @@ fn entity_from(name: Name, draft: Draft) -> Entity
 
 impl<'a> Cursor<'a> {
     fn close(&mut self, is_named: bool) -> Result<(), Stop>
-        ensures { ReadsTokens (reader_of (close_of is_named)) self.old self.new result (λ x. x) }
+        ensures { ReadsTokens (reader_of_grammar (close_of is_named)) self.old self.new result
+            (λ x. x) }
     {
         if is_named { self.mark(b";") } else { Ok(()) }
     }
@@ -43,7 +44,7 @@ impl<'a> Cursor<'a> {
     /// Reads a file from the front of the tokens. Returns its entity.
     #[tactic(auto, unfolding(crate::specs::Bsdl::file))]
     pub(crate) fn file(&mut self) -> Result<Entity, Stop>
-        ensures { ReadsTokens (reader_of file) self.old self.new result (λ entity. entity) }
+        ensures { ReadsTokens (reader_of_grammar file) self.old self.new result (λ entity. entity) }
     {
         self.keyword(b"ENTITY")?;
         let name = self.word()?;

@@ -2,7 +2,7 @@
 ghost use Rattle.std.specs.Prelude.{◌≡◌, map};
 ghost use Rattle.std.specs.Char.{to_ascii_uppercase};
 ghost use Rattle.grammars.specs.Turn.{turn_of};
-ghost use Rattle.grammars.specs.Grammar.{turns, reader_of};
+ghost use Rattle.grammars.specs.Grammar.{turns, reader_of_grammar};
 ghost use Rattle.bsdl_parser.specs.inner.Reading.{ReadsTokens};
 ghost use Rattle.bsdl_parser.specs.Bsdl.{fallback, generic, used_package, constant, item_word, item_begin, item, no_items};
 ghost use Rattle.bsdl_parser.specs.inner.Views.{items_of};
@@ -45,7 +45,8 @@ fn begun(word: &[u8], draft: &Draft) -> Option<ItemWord>
 
 impl<'a> Cursor<'a> {
     fn fallback_if(&mut self, is_given: bool) -> Result<Option<Name>, Stop>
-        ensures { ReadsTokens (reader_of (fallback is_given)) self.old self.new result (λ name. name) }
+        ensures { ReadsTokens (reader_of_grammar (fallback is_given)) self.old self.new result
+            (λ name. name) }
     {
         if is_given {
             self.mark(b"=")?;
@@ -58,7 +59,7 @@ impl<'a> Cursor<'a> {
     /// Reads a generic item after its first word. Returns the default of PHYSICAL_PIN_MAP, if there is one.
     #[tactic(auto, unfolding(crate::specs::Bsdl::generic))]
     fn generic_item(&mut self) -> Result<Option<Name>, Stop>
-        ensures { ReadsTokens (reader_of generic) self.old self.new result (λ name. name) }
+        ensures { ReadsTokens (reader_of_grammar generic) self.old self.new result (λ name. name) }
     {
         self.mark(b"(")?;
         self.keyword(b"PHYSICAL_PIN_MAP")?;
@@ -73,7 +74,8 @@ impl<'a> Cursor<'a> {
     /// Reads a use item after its first word. Returns the name of the package.
     #[tactic(auto, unfolding(crate::specs::Bsdl::used_package))]
     fn use_item(&mut self) -> Result<Name, Stop>
-        ensures { ReadsTokens (reader_of used_package) self.old self.new result (λ name. name) }
+        ensures { ReadsTokens (reader_of_grammar used_package) self.old self.new result
+            (λ name. name) }
     {
         let name = self.word()?;
         self.mark(b".")?;
@@ -85,7 +87,8 @@ impl<'a> Cursor<'a> {
     /// Reads a constant item after its first word.
     #[tactic(auto, unfolding(crate::specs::Bsdl::constant))]
     fn constant_item(&mut self) -> Result<Constant, Stop>
-        ensures { ReadsTokens (reader_of constant) self.old self.new result (λ constant. constant) }
+        ensures { ReadsTokens (reader_of_grammar constant) self.old self.new result
+            (λ constant. constant) }
     {
         let name = self.word()?;
         self.mark(b":")?;
@@ -97,7 +100,8 @@ impl<'a> Cursor<'a> {
     }
 
     fn item_begin(&mut self, draft: &Draft) -> Result<ItemWord, Stop>
-        ensures { ReadsTokens (reader_of (item_begin (items_of draft.now))) self.old self.new result (λ word. word) }
+        ensures { ReadsTokens (reader_of_grammar (item_begin (items_of draft.now))) self.old
+            self.new result (λ word. word) }
     {
         match self.rest {
             [token, rest @ ..] if is_word(token.kind) => {
@@ -111,9 +115,10 @@ impl<'a> Cursor<'a> {
 
     /// Reads one item and adds it to `draft`. Returns false if it reads the word `end` instead of
     /// an item.
-    #[tactic(auto, unfolding(crate::specs::Bsdl::item, crate::specs::Bsdl::item_of))]
+    #[tactic(auto, unfolding(crate::specs::Bsdl::item, crate::specs::Bsdl::item_after))]
     fn item(&mut self, draft: &mut Draft) -> Result<bool, Stop>
-        ensures { ReadsTokens (reader_of (item (items_of draft.old))) self.old self.new result (λ more. turn_of more (items_of draft.new)) }
+        ensures { ReadsTokens (reader_of_grammar (item (items_of draft.old))) self.old self.new
+            result (λ more. turn_of more (items_of draft.new)) }
     {
         match self.item_begin(draft)? {
             ItemWord::Generic => {
@@ -138,7 +143,8 @@ impl<'a> Cursor<'a> {
 
     /// Reads the items up to and including the word `end`.
     pub(crate) fn items(&mut self) -> Result<Draft, Stop>
-        ensures { ReadsTokens (reader_of (turns item no_items)) self.old self.new result (λ draft. items_of draft) }
+        ensures { ReadsTokens (reader_of_grammar (turns item no_items)) self.old self.new result
+            (λ draft. items_of draft) }
     {
         let mut draft = Draft {
             has_generic: false,

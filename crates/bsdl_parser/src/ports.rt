@@ -1,7 +1,7 @@
 //! Reads the port item, which consists of groups of ports.
 ghost use Rattle.std.specs.Prelude.{◌≡◌, ◌++◌, [], OnOk};
 ghost use Rattle.grammars.specs.Turn.{turn_of};
-ghost use Rattle.grammars.specs.Grammar.{turns, reader_of};
+ghost use Rattle.grammars.specs.Grammar.{turns, reader_of_grammar};
 ghost use Rattle.bsdl_parser.specs.inner.Reading.{ReadsTokens};
 ghost use Rattle.bsdl_parser.specs.Bsdl.{port_name, range, range_of, ports_of, port_group, ports};
 
@@ -30,7 +30,8 @@ impl<'a> Cursor<'a> {
     /// Reads one name and adds it to `names`. Returns whether another name follows.
     #[tactic(auto, unfolding(crate::specs::Bsdl::port_name))]
     fn port_name(&mut self, names: &mut Vec<Name>) -> Result<bool, Stop>
-        ensures { ReadsTokens (reader_of (port_name names.old.items)) self.old self.new result (λ more. turn_of more names.new.items) }
+        ensures { ReadsTokens (reader_of_grammar (port_name names.old.items)) self.old self.new
+            result (λ more. turn_of more names.new.items) }
     {
         let name = self.word()?;
         names.push(name)?;
@@ -38,7 +39,8 @@ impl<'a> Cursor<'a> {
     }
 
     fn port_names(&mut self) -> Result<Vec<Name>, Stop>
-        ensures { ReadsTokens (reader_of (turns port_name [])) self.old self.new result (λ names. names.items) }
+        ensures { ReadsTokens (reader_of_grammar (turns port_name [])) self.old self.new result
+            (λ names. names.items) }
     {
         let mut names = Vec::new(self.allocator());
         while self.port_name(&mut names)? {}
@@ -47,7 +49,7 @@ impl<'a> Cursor<'a> {
 
     #[tactic(auto, unfolding(crate::specs::Bsdl::range))]
     fn range(&mut self) -> Result<Range, Stop>
-        ensures { ReadsTokens (reader_of range) self.old self.new result (λ range. range) }
+        ensures { ReadsTokens (reader_of_grammar range) self.old self.new result (λ range. range) }
     {
         self.mark(b"(")?;
         let left = self.integer()?;
@@ -58,7 +60,8 @@ impl<'a> Cursor<'a> {
     }
 
     fn range_if(&mut self, is_vector: bool) -> Result<Option<Range>, Stop>
-        ensures { ReadsTokens (reader_of (range_of is_vector)) self.old self.new result (λ range. range) }
+        ensures { ReadsTokens (reader_of_grammar (range_of is_vector)) self.old self.new result
+            (λ range. range) }
     {
         if is_vector {
             Ok(Some(self.range()?))
@@ -70,7 +73,8 @@ impl<'a> Cursor<'a> {
     /// Reads one group and adds its ports to `ports`. Returns whether another group follows.
     #[tactic(auto, unfolding(crate::specs::Bsdl::port_group, crate::specs::Bsdl::group))]
     fn port_group(&mut self, ports: &mut Vec<Port>) -> Result<bool, Stop>
-        ensures { ReadsTokens (reader_of (port_group ports.old.items)) self.old self.new result (λ more. turn_of more ports.new.items) }
+        ensures { ReadsTokens (reader_of_grammar (port_group ports.old.items)) self.old self.new
+            result (λ more. turn_of more ports.new.items) }
     {
         let names = self.port_names()?;
         let mode = self.mode()?;
@@ -81,7 +85,8 @@ impl<'a> Cursor<'a> {
     }
 
     fn port_groups(&mut self) -> Result<Vec<Port>, Stop>
-        ensures { ReadsTokens (reader_of (turns port_group [])) self.old self.new result (λ ports. ports.items) }
+        ensures { ReadsTokens (reader_of_grammar (turns port_group [])) self.old self.new result
+            (λ ports. ports.items) }
     {
         let mut ports = Vec::new(self.allocator());
         while self.port_group(&mut ports)? {}
@@ -91,7 +96,8 @@ impl<'a> Cursor<'a> {
     /// Reads a port item after its first word. Returns its ports.
     #[tactic(auto, unfolding(crate::specs::Bsdl::ports))]
     pub(crate) fn port_item(&mut self) -> Result<Vec<Port>, Stop>
-        ensures { ReadsTokens (reader_of ports) self.old self.new result (λ ports. ports.items) }
+        ensures { ReadsTokens (reader_of_grammar ports) self.old self.new result
+            (λ ports. ports.items) }
     {
         self.mark(b"(")?;
         let ports = self.port_groups()?;

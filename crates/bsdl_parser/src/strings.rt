@@ -2,7 +2,7 @@
 ghost use Rattle.std.specs.Prelude.{◌≡◌, map};
 ghost use Rattle.std.specs.Char.{to_ascii_uppercase};
 ghost use Rattle.grammars.specs.Turn.{turn_of};
-ghost use Rattle.grammars.specs.Grammar.{reader_of};
+ghost use Rattle.grammars.specs.Grammar.{reader_of_grammar};
 ghost use Rattle.bsdl_parser.specs.inner.Reading.{ReadsTokens};
 ghost use Rattle.bsdl_parser.specs.Bsdl.{string_piece, string};
 
@@ -22,7 +22,10 @@ impl<'a> Cursor<'a> {
     /// Reads one string token and appends its bytes to `content`. Returns whether another string token follows.
     #[tactic(auto, unfolding(crate::specs::Bsdl::string_piece))]
     fn piece(&mut self, close: &[u8], content: &mut Vec<u8>) -> Result<bool, Stop>
-        ensures { ReadsTokens (reader_of (string_piece close.now (map to_ascii_uppercase content.old.items))) self.old self.new result (λ joined. turn_of joined (map to_ascii_uppercase content.new.items)) }
+        ensures { ReadsTokens
+            (reader_of_grammar (string_piece close.now (map to_ascii_uppercase content.old.items)))
+            self.old self.new result
+            (λ joined. turn_of joined (map to_ascii_uppercase content.new.items)) }
     {
         let text = self.text_bytes()?;
         content.extend_from_slice(text)?;
@@ -31,7 +34,8 @@ impl<'a> Cursor<'a> {
 
     /// Reads a string and the mark `close` after it. Returns the string in upper case.
     pub(crate) fn string(&mut self, close: &[u8]) -> Result<Name, Stop>
-        ensures { ReadsTokens (reader_of (string close.now)) self.old self.new result (λ name. name) }
+        ensures { ReadsTokens (reader_of_grammar (string close.now)) self.old self.new result
+            (λ name. name) }
     {
         let mut content = Vec::new(self.allocator());
         while self.piece(close, &mut content)? {}

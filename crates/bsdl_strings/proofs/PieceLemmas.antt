@@ -4,51 +4,62 @@ use Rattle.std.proofs.Common.{suc, ◌≡◌, ℕ, ◌+◌, ◌≤◌, Bool, tru
 use Rattle.std.specs.List.{take_while}
 use Rattle.std.proofs.lemmas.List.Sums.{take_while-cons}
 use Rattle.std.proofs.lemmas.Bool.Decides.{nat_tests}
-use Rattle.bsdl_strings.specs.Pieces.{is_blank, is_word_byte, starts_word, starts_blank, is_end, longer, pieces}
+use Rattle.bsdl_strings.specs.Pieces.{is_string_blank, is_word_byte, starts_word, starts_blank, is_end, longer, pieces}
 
 -- the list without the longest front whose items all pass the test
 pub dropped : (ℕ → Bool) → List ℕ → List ℕ
 dropped p [] = []
 dropped p (x ∷ xs) = cond (p x) (dropped p xs) (x ∷ xs)
 
-dropped_step : (p : ℕ → Bool) (x : ℕ) (xs ys : List ℕ) (b : Bool) → drop (length ys) xs ≡ dropped p xs → drop (length (cond b (x ∷ ys) [])) (x ∷ xs) ≡ cond b (dropped p xs) (x ∷ xs)
+dropped_step : (p : ℕ → Bool) (x : ℕ) (xs ys : List ℕ) (b : Bool)
+    → drop (length ys) xs ≡ dropped p xs
+    → drop (length (cond b (x ∷ ys) [])) (x ∷ xs) ≡ cond b (dropped p xs) (x ∷ xs)
 dropped_step p x xs ys true e = e
 dropped_step p x xs ys false e = refl
 
 pub drop_while : (p : ℕ → Bool) (xs : List ℕ) → drop (length (take_while p xs)) xs ≡ dropped p xs
 unfolding dropped
 drop_while p [] = refl
-drop_while p (x ∷ xs) = ap (λ ys. drop (length ys) (x ∷ xs)) (take_while-cons p x xs) ∙ dropped_step p x xs (take_while p xs) (p x) (drop_while p xs)
+drop_while p (x ∷ xs) =
+    ap (λ ys. drop (length ys) (x ∷ xs)) (take_while-cons p x xs)
+    ∙ dropped_step p x xs (take_while p xs) (p x) (drop_while p xs)
 
-taken : (p : ℕ → Bool) (x : ℕ) (xs ys : List ℕ) (b : Bool) → take (length ys) xs ≡ ys → take (length (cond b (x ∷ ys) [])) (x ∷ xs) ≡ cond b (x ∷ ys) []
+taken : (p : ℕ → Bool) (x : ℕ) (xs ys : List ℕ) (b : Bool) → take (length ys) xs ≡ ys
+    → take (length (cond b (x ∷ ys) [])) (x ∷ xs) ≡ cond b (x ∷ ys) []
 taken p x xs ys true e = ap (λ zs. x ∷ zs) e
 taken p x xs ys false e = refl
 
 pub take_whole : (p : ℕ → Bool) (xs : List ℕ) → take (length (take_while p xs)) xs ≡ take_while p xs
 take_whole p [] = refl
-take_whole p (x ∷ xs) = ap (λ ys. take (length ys) (x ∷ xs)) (take_while-cons p x xs) ∙ taken p x xs (take_while p xs) (p x) (take_whole p xs) ∙ sym (take_while-cons p x xs)
+take_whole p (x ∷ xs) =
+    ap (λ ys. take (length ys) (x ∷ xs)) (take_while-cons p x xs)
+    ∙ taken p x xs (take_while p xs) (p x) (take_whole p xs) ∙ sym (take_while-cons p x xs)
 
-pieces_blank : (x : ℕ) (xs : List ℕ) (b : Bool) → is_blank x ≡ b → pieces (dropped is_blank xs) ≡ pieces xs → pieces (cond b (dropped is_blank xs) (x ∷ xs)) ≡ pieces (x ∷ xs)
+pieces_blank : (x : ℕ) (xs : List ℕ) (b : Bool) → is_string_blank x ≡ b
+    → pieces (dropped is_string_blank xs) ≡ pieces xs
+    → pieces (cond b (dropped is_string_blank xs) (x ∷ xs)) ≡ pieces (x ∷ xs)
 unfolding pieces
 pieces_blank x xs true is e = e ∙ rw is refl
 pieces_blank x xs false is e = refl
 
-pub pieces_dropped : (xs : List ℕ) → pieces (dropped is_blank xs) ≡ pieces xs
+pub pieces_dropped : (xs : List ℕ) → pieces (dropped is_string_blank xs) ≡ pieces xs
 unfolding dropped
 pieces_dropped [] = refl
-pieces_dropped (x ∷ xs) = pieces_blank x xs (is_blank x) refl (pieces_dropped xs)
+pieces_dropped (x ∷ xs) = pieces_blank x xs (is_string_blank x) refl (pieces_dropped xs)
 
-no_blank : (x : ℕ) (xs : List ℕ) (b : Bool) → is_blank x ≡ b → starts_blank (dropped is_blank xs) ≡ false → starts_blank (cond b (dropped is_blank xs) (x ∷ xs)) ≡ false
+no_blank : (x : ℕ) (xs : List ℕ) (b : Bool) → is_string_blank x ≡ b
+    → starts_blank (dropped is_string_blank xs) ≡ false
+    → starts_blank (cond b (dropped is_string_blank xs) (x ∷ xs)) ≡ false
 no_blank x xs true is e = e
 no_blank x xs false is e = is
 
-pub starts_dropped : (xs : List ℕ) → starts_blank (dropped is_blank xs) ≡ false
+pub starts_dropped : (xs : List ℕ) → starts_blank (dropped is_string_blank xs) ≡ false
 unfolding dropped
 starts_dropped [] = refl
-starts_dropped (x ∷ xs) = no_blank x xs (is_blank x) refl (starts_dropped xs)
+starts_dropped (x ∷ xs) = no_blank x xs (is_string_blank x) refl (starts_dropped xs)
 
 -- a byte of a word is not a blank
-pub word_is_no_blank : (x : ℕ) → is_word_byte x ≡ true → is_blank x ≡ false
+pub word_is_no_blank : (x : ℕ) → is_word_byte x ≡ true → is_string_blank x ≡ false
 word_is_no_blank x h = grind (arith, nat_tests)
 
 pieces_joined : (x : ℕ) (xs : List ℕ) → is_word_byte x ≡ true → starts_word xs ≡ true → pieces (x ∷ xs) ≡ longer x (pieces xs)
@@ -87,7 +98,8 @@ word_is_some (x ∷ xs) e = ap is_end (taken_more x xs e)
 
 -- the step for one byte: the bounds on the number of pieces hold with one more byte
 sized : (b w : Bool) (x n : ℕ) (ps : List (List ℕ)) → (1 ≤ length ps) × (length ps ≤ n + 1)
-    → (1 ≤ length (if b then ps else if w then longer x ps else (x ∷ []) ∷ ps)) × (length (if b then ps else if w then longer x ps else (x ∷ []) ∷ ps) ≤ suc n + 1)
+    → (1 ≤ length (if b then ps else if w then longer x ps else (x ∷ []) ∷ ps))
+    × (length (if b then ps else if w then longer x ps else (x ∷ []) ∷ ps) ≤ suc n + 1)
 sized true w x n ps h = (h.0, omega (arith, h.1))
 sized false true x n [] h = absurd (omega (arith, h.0))
 sized false true x n (p ∷ ps) h = (omega arith, omega (arith, h.1))
@@ -97,4 +109,4 @@ sized false false x n ps h = (omega arith, omega (arith, h.1))
 pub length_pieces : (xs : List ℕ) → (1 ≤ length (pieces xs)) × (length (pieces xs) ≤ length xs + 1)
 unfolding pieces
 length_pieces [] = (omega arith, omega arith)
-length_pieces (x ∷ xs) = sized (is_blank x) (is_word_byte x && starts_word xs) x (length xs) (pieces xs) (length_pieces xs)
+length_pieces (x ∷ xs) = sized (is_string_blank x) (is_word_byte x && starts_word xs) x (length xs) (pieces xs) (length_pieces xs)

@@ -7,9 +7,9 @@ use Rattle.bsdl_strings.specs.declared.fault.StringFault.TheVariants as faults
 
 -- the fault if reading stopped after `entries` whole entries: the number of the next entry, or lack
 -- of memory
-abbrev pub fault_of : Stop → ℕ → StringFault
-fault_of (stops.Memory error) entries = faults.Memory error
-fault_of (stops.At rest) entries = faults.At (entries + 1)
+abbrev pub stop_fault : Stop → ℕ → StringFault
+stop_fault (stops.Memory error) entries = faults.Memory error
+stop_fault (stops.At rest) entries = faults.At (entries + 1)
 
 -- either `P` is true of the number in the fault, or memory ran out
 abbrev pub NamesEntry : (ℕ → Type 0) → StringFault → Type 0

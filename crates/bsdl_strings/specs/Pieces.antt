@@ -4,8 +4,8 @@ use Rattle.std.specs.Prelude.{ℕ, ◌==◌, List, [], ◌∷◌, Bool, true, fa
 use Rattle.std.specs.Char.{is_ascii_alphanumeric}
 
 -- the byte is a space or a tab
-abbrev pub is_blank : ℕ → Bool
-is_blank byte = (byte == 32) || (byte == 9)
+abbrev pub is_string_blank : ℕ → Bool
+is_string_blank byte = (byte == 32) || (byte == 9)
 
 -- the byte is a letter, a digit or `_`
 abbrev pub is_word_byte : ℕ → Bool
@@ -19,7 +19,7 @@ starts_word (byte ∷ bytes) = is_word_byte byte
 -- the first byte is a blank
 abbrev pub starts_blank : List ℕ → Bool
 starts_blank [] = false
-starts_blank (byte ∷ bytes) = is_blank byte
+starts_blank (byte ∷ bytes) = is_string_blank byte
 
 -- the pieces after `byte` is put in front of the first piece; if there are no pieces, `byte` is the
 -- only piece
@@ -36,6 +36,6 @@ is_end (byte ∷ bytes) = false
 unfoldable pub pieces : List ℕ → List (List ℕ)
 pieces [] = [] ∷ []
 pieces (byte ∷ bytes) =
-    if is_blank byte then pieces bytes else
+    if is_string_blank byte then pieces bytes else
     if is_word_byte byte && starts_word bytes then longer byte (pieces bytes) else
     (byte ∷ []) ∷ pieces bytes

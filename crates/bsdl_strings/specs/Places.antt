@@ -33,10 +33,10 @@ abbrev pub colon : ℕ
 colon = 58
 
 -- the piece is this single byte
-abbrev pub is_mark : ℕ → List ℕ → Bool
-is_mark byte [] = false
-is_mark byte (first ∷ []) = first == byte
-is_mark byte (first ∷ second ∷ bytes) = false
+abbrev pub is_mark_piece : ℕ → List ℕ → Bool
+is_mark_piece byte [] = false
+is_mark_piece byte (first ∷ []) = first == byte
+is_mark_piece byte (first ∷ second ∷ bytes) = false
 
 -- the first byte is a letter
 abbrev pub starts_with_letter : List ℕ → Bool
@@ -48,8 +48,8 @@ abbrev pub is_pin : List ℕ → Bool
 is_pin piece = nat_lt 0 (length piece) && list_all is_word_byte piece
 
 -- the piece is a letter, followed by letters, digits and `_`
-abbrev pub is_word : List ℕ → Bool
-is_word piece = starts_with_letter piece && list_all is_word_byte piece
+abbrev pub is_word_piece : List ℕ → Bool
+is_word_piece piece = starts_with_letter piece && list_all is_word_byte piece
 
 -- the byte is the character 0, 1 or X
 abbrev pub is_symbol : ℕ → Bool
@@ -60,8 +60,8 @@ abbrev pub symbol_of : ℕ → Symbol
 symbol_of byte = if byte == 48 then Zero else if byte == 49 then One else Any
 
 -- the piece is one or more of 0, 1 and X
-abbrev pub is_code : List ℕ → Bool
-is_code piece = nat_lt 0 (length piece) && list_all is_symbol piece
+abbrev pub is_code_piece : List ℕ → Bool
+is_code_piece piece = nat_lt 0 (length piece) && list_all is_symbol piece
 
 -- The code that the characters spell. The rightmost character is the symbol nearest TDO, which is
 -- the first symbol of the code.
@@ -93,19 +93,19 @@ Part A = Grammar (List ℕ) A
 
 -- the mark `byte`
 abbrev pub mark : ℕ → Part (Unit {0})
-mark byte = place (λ piece. some_if (is_mark byte piece) tt)
+mark byte = place (λ piece. some_if (is_mark_piece byte piece) tt)
 
 -- one of two marks; the value is true for the first
 abbrev pub either_mark : ℕ → ℕ → Part Bool
-either_mark first second = place (λ piece. if is_mark first piece then Some true else some_if (is_mark second piece) false)
+either_mark first second = place (λ piece. if is_mark_piece first piece then Some true else some_if (is_mark_piece second piece) false)
 
 -- a comma or the end of the string; the value is true for a comma
 abbrev pub comma_or_end : Part Bool
-comma_or_end = place (λ piece. if is_mark comma piece then Some true else some_if (is_end piece) false)
+comma_or_end = place (λ piece. if is_mark_piece comma piece then Some true else some_if (is_end piece) false)
 
 -- a word, in upper case
 abbrev pub word : Part (List ℕ)
-word = place (λ piece. some_if (is_word piece) (upper piece))
+word = place (λ piece. some_if (is_word_piece piece) (upper piece))
 
 -- a pin, in upper case
 abbrev pub pin : Part (List ℕ)
@@ -113,11 +113,11 @@ pin = place (λ piece. some_if (is_pin piece) (upper piece))
 
 -- a pin, or an opening parenthesis, whose value is None
 abbrev pub pin_or_open : Part (Option (List ℕ))
-pin_or_open = place (λ piece. if is_mark open_mark piece then Some None else some_if (is_pin piece) (Some (upper piece)))
+pin_or_open = place (λ piece. if is_mark_piece open_mark piece then Some None else some_if (is_pin piece) (Some (upper piece)))
 
 -- a word, or `*`, whose value is None
 abbrev pub word_or_star : Part (Option (List ℕ))
-word_or_star = place (λ piece. if is_mark star piece then Some None else some_if (is_word piece) (Some (upper piece)))
+word_or_star = place (λ piece. if is_mark_piece star piece then Some None else some_if (is_word_piece piece) (Some (upper piece)))
 
 -- an index: a number of 1 to 9 digits
 abbrev pub index : Part ℕ
@@ -125,15 +125,18 @@ index = place (λ piece. some_if (is_integer piece) (digits_value piece))
 
 -- a code, whose first symbol is nearest TDO
 abbrev pub code : Part (List Symbol)
-code = place (λ piece. some_if (is_code piece) (code_of piece))
+code = place (λ piece. some_if (is_code_piece piece) (code_of piece))
 
 -- safe = 0 | 1 | X
-abbrev pub safe_value : Part Symbol
-safe_value = place (λ piece. if is_mark 48 piece then Some Zero else if is_mark 49 piece then Some One else some_if (bytes_eq (upper piece) (codes "X")) Any)
+abbrev pub safe_symbol : Part Symbol
+safe_symbol =
+    place
+    (λ piece. if is_mark_piece 48 piece then Some Zero else if is_mark_piece 49 piece then Some One
+    else some_if (bytes_eq (upper piece) (codes "X")) Any)
 
 -- value = 0 | 1; the result is true for 1
-abbrev pub bit_value : Part Bool
-bit_value = either_mark 49 48
+abbrev pub bit_mark : Part Bool
+bit_mark = either_mark 49 48
 
 -- function = INPUT | OUTPUT2 | OUTPUT3 | CONTROL | CONTROLR | INTERNAL | CLOCK | BIDIR | OBSERVE_ONLY
 abbrev pub role : Part Role
@@ -146,7 +149,10 @@ result_word = place (λ piece. some_if (is_result (upper piece)) tt)
 -- The mark after the port name of a compliance bit. The value is None if an index follows, Some true if another bit follows, and
 -- Some false if the list ends.
 abbrev pub after_bit : Part (Option Bool)
-after_bit = place (λ piece. if is_mark open_mark piece then Some None else if is_mark comma piece then Some (Some true) else some_if (is_mark close_mark piece) (Some false))
+after_bit =
+    place
+    (λ piece. if is_mark_piece open_mark piece then Some None else if is_mark_piece comma piece
+    then Some (Some true) else some_if (is_mark_piece close_mark piece) (Some false))
 
 -- the end of the string
 abbrev pub the_end : Part (Unit {0})

@@ -16,7 +16,7 @@ use Rattle.bsdl_strings.specs.declared.values.PortWord.TheVariants.{Star, Plain,
 use Rattle.bsdl_strings.specs.declared.values.Entry.{Entry}
 use Rattle.bsdl_strings.specs.declared.values.Compliance.{Compliance}
 use Rattle.bsdl_strings.specs.Pieces.{pieces}
-use Rattle.bsdl_strings.specs.Places.{Part, mark, either_mark, comma_or_end, word, pin, pin_or_open, word_or_star, after_bit, the_end, index, code, safe_value, bit_value, role, result_word, open_mark, close_mark, comma, colon, is_symbol, is_code, code_of}
+use Rattle.bsdl_strings.specs.Places.{Part, mark, either_mark, comma_or_end, word, pin, pin_or_open, word_or_star, after_bit, the_end, index, code, safe_symbol, bit_mark, role, result_word, open_mark, close_mark, comma, colon, is_symbol, is_code_piece, code_of}
 
 -- a comma or a closing parenthesis
 abbrev pub comma_or_close : Part Bool
@@ -24,9 +24,9 @@ comma_or_close = either_mark comma close_mark
 
 -- The pins of a map entry after the first piece of its pins. If this piece is a pin, nothing more
 -- is read. If it is "(", the rest is pin { "," pin } ")".
-abbrev pub pins_of : Option (List ℕ) → Part (List (List ℕ))
-pins_of (Some name) = done (name ∷ [])
-pins_of None = list_of pin comma_or_close
+abbrev pub entry_pins : Option (List ℕ) → Part (List (List ℕ))
+entry_pins (Some name) = done (name ∷ [])
+entry_pins None = list_of pin comma_or_close
 
 -- map = word ":" pin | word ":" "(" pin { "," pin } ")"
 unfoldable pub map_entry : Part MapEntry
@@ -34,7 +34,7 @@ map_entry = do
   port ← word
   _ ← mark colon
   first ← pin_or_open
-  pins ← pins_of first
+  pins ← entry_pins first
   done (record { port = port; pins = pins })
 
 -- op = word "(" code { "," code } ")"
@@ -56,11 +56,11 @@ indexed name true = do
   done (Index name i)
 
 -- The rest of a place after `*` or the port name.
-abbrev pub place_of : Option (List ℕ) → Part PortWord
-place_of None = do
+abbrev pub rest_of_place : Option (List ℕ) → Part PortWord
+rest_of_place None = do
   _ ← mark comma
   done Star
-place_of (Some name) = do
+rest_of_place (Some name) = do
   opens ← either_mark open_mark comma
   indexed name opens
 
@@ -68,7 +68,7 @@ place_of (Some name) = do
 unfoldable pub port_place : Part PortWord
 port_place = do
   first ← word_or_star
-  place_of first
+  rest_of_place first
 
 -- The rest of a control after its first mark. After "," the rest is index "," value "," result ")".
 -- After ")" nothing more is read.
@@ -77,7 +77,7 @@ control_of false = done None
 control_of true = do
   cell ← index
   _ ← mark comma
-  disable ← bit_value
+  disable ← bit_mark
   _ ← mark comma
   _ ← result_word
   _ ← mark close_mark
@@ -105,7 +105,7 @@ entry = do
   port ← port_place
   role ← role
   _ ← mark comma
-  safe ← safe_value
+  safe ← safe_symbol
   ctl ← control
   done (record { num = num; port = port; role = role; safe = safe; ctl = ctl })
 
@@ -193,7 +193,7 @@ IsNoBoundary text = IsNoListOf entry text
 
 -- pattern = code, without any other characters: one or more of 0, 1 and X
 abbrev pub IsPattern : List ℕ → List Symbol → Type 0
-IsPattern text value = IsTrue (is_code text) × (value ≡ code_of text)
+IsPattern text value = IsTrue (is_code_piece text) × (value ≡ code_of text)
 
 -- The string is not a pattern. `number` is the place of the first character that is not 0, 1 or X, counted from 1, or 1 for an empty
 -- string.

@@ -1,7 +1,7 @@
 //! Reads compliance strings, which have port bits in one parenthesis and patterns in another.
 ghost use Rattle.std.specs.Prelude.{◌<◌, [], IfOk, IfErr};
 ghost use Rattle.grammars.specs.inner.Reader.{found};
-ghost use Rattle.grammars.specs.Grammar.{reader_of};
+ghost use Rattle.grammars.specs.Grammar.{reader_of_grammar};
 ghost use Rattle.bsdl_strings.specs.Pieces.{pieces};
 ghost use Rattle.bsdl_strings.specs.inner.Reading.{ReadsPieces};
 ghost use Rattle.bsdl_strings.specs.Faults.{NamesEntry};
@@ -21,7 +21,8 @@ fn bit_from(
     next: Option<bool>,
     text: &[u8],
 ) -> Result<((PortWord, bool), &[u8]), Stop<'_>>
-    ensures { ReadsPieces (λ x. found x.0 (pieces x.1.now)) result (reader_of (bit_behind name next) (pieces text.now)) }
+    ensures { ReadsPieces (λ x. found x.0 (pieces x.1.now)) result
+        (reader_of_grammar (bit_behind name next) (pieces text.now)) }
 {
     match next {
         Some(more) => Ok(((PortWord::Plain(name), more), text)),
@@ -37,7 +38,8 @@ fn bit_from(
 /// Reads a compliance bit and the mark behind it. Returns the bit, and whether another bit follows.
 #[tactic(auto, unfolding(crate::specs::Strings::bit))]
 fn bit(alloc: Global, text: &[u8]) -> Result<((PortWord, bool), &[u8]), Stop<'_>>
-    ensures { ReadsPieces (λ x. found x.0 (pieces x.1.now)) result (reader_of any_bit (pieces text.now)) }
+    ensures { ReadsPieces (λ x. found x.0 (pieces x.1.now)) result
+        (reader_of_grammar any_bit (pieces text.now)) }
 {
     let (name, rest) = word(alloc, text)?;
     let (next, rest) = mark_after_bit(rest)?;
@@ -46,7 +48,8 @@ fn bit(alloc: Global, text: &[u8]) -> Result<((PortWord, bool), &[u8]), Stop<'_>
 
 /// Reads bits up to and including the closing parenthesis.
 fn bits(alloc: Global, text: &[u8]) -> Result<(Items<PortWord>, &[u8]), Stop<'_>>
-    ensures { ReadsPieces (λ x. found x.0 (pieces x.1.now)) result (reader_of any_bits (pieces text.now)) }
+    ensures { ReadsPieces (λ x. found x.0 (pieces x.1.now)) result
+        (reader_of_grammar any_bits (pieces text.now)) }
 {
     let mut bits = Vec::new(alloc);
     let mut rest = text;
@@ -62,7 +65,8 @@ fn bits(alloc: Global, text: &[u8]) -> Result<(Items<PortWord>, &[u8]), Stop<'_>
 
 #[tactic(auto, unfolding(crate::specs::Strings::first_parenthesis))]
 fn first_parenthesis(alloc: Global, text: &[u8]) -> Result<(Items<PortWord>, &[u8]), Stop<'_>>
-    ensures { ReadsPieces (λ x. found x.0 (pieces x.1.now)) result (reader_of the_first (pieces text.now)) }
+    ensures { ReadsPieces (λ x. found x.0 (pieces x.1.now)) result
+        (reader_of_grammar the_first (pieces text.now)) }
 {
     let rest = mark(text, b'(')?;
     bits(alloc, rest)
@@ -70,7 +74,8 @@ fn first_parenthesis(alloc: Global, text: &[u8]) -> Result<(Items<PortWord>, &[u
 
 #[tactic(auto, unfolding(crate::specs::Strings::second_parenthesis))]
 fn second_parenthesis(alloc: Global, text: &[u8]) -> Result<Items<Code>, Stop<'_>>
-    ensures { ReadsPieces (λ x. found x []) result (reader_of the_second (pieces text.now)) }
+    ensures { ReadsPieces (λ x. found x []) result
+        (reader_of_grammar the_second (pieces text.now)) }
 {
     let rest = mark(text, b'(')?;
     let (patterns, rest) = codes(alloc, rest)?;

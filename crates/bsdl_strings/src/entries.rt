@@ -1,12 +1,12 @@
 //! Reads the entries of pin maps, opcode strings and boundary registers.
 ghost use Rattle.std.specs.Prelude.{◌≡◌, [], ◌∷◌, IfOk};
 ghost use Rattle.grammars.specs.inner.Reader.{found};
-ghost use Rattle.grammars.specs.Grammar.{reader_of};
+ghost use Rattle.grammars.specs.Grammar.{reader_of_grammar};
 ghost use Rattle.grammars.specs.Lists.{list_of};
 ghost use Rattle.bsdl_strings.specs.Pieces.{pieces};
 ghost use Rattle.bsdl_strings.specs.inner.Reading.{ReadsPieces};
 ghost use Rattle.bsdl_strings.specs.Places.{pin as any_pin, code as any_code};
-ghost use Rattle.bsdl_strings.specs.Strings.{comma_or_close, pins_of, map_entry as any_map_entry, opcode as any_opcode, indexed as index_after, place_of, port_place as any_port_place, control_of, control as any_control, cell as any_cell, entry as any_entry};
+ghost use Rattle.bsdl_strings.specs.Strings.{comma_or_close, entry_pins, map_entry as any_map_entry, opcode as any_opcode, indexed as index_after, rest_of_place, port_place as any_port_place, control_of, control as any_control, cell as any_cell, entry as any_entry};
 
 use crate::places::{
     code, either_mark, index, mark, pin, pin_or_group, result_of_disabling, role, safe, word,
@@ -19,7 +19,8 @@ use std::alloc::{AllocError, Global};
 
 /// Reads pins up to and including the closing parenthesis.
 fn pins(alloc: Global, text: &[u8]) -> Result<(Items<Name>, &[u8]), Stop<'_>>
-    ensures { ReadsPieces (λ x. found x.0 (pieces x.1.now)) result (reader_of (list_of any_pin comma_or_close) (pieces text.now)) }
+    ensures { ReadsPieces (λ x. found x.0 (pieces x.1.now)) result
+        (reader_of_grammar (list_of any_pin comma_or_close) (pieces text.now)) }
 {
     let mut pins = Vec::new(alloc);
     let mut rest = text;
@@ -36,7 +37,8 @@ fn pins(alloc: Global, text: &[u8]) -> Result<(Items<Name>, &[u8]), Stop<'_>>
 
 /// Reads codes up to and including the closing parenthesis.
 pub(crate) fn codes(alloc: Global, text: &[u8]) -> Result<(Items<Code>, &[u8]), Stop<'_>>
-    ensures { ReadsPieces (λ x. found x.0 (pieces x.1.now)) result (reader_of (list_of any_code comma_or_close) (pieces text.now)) }
+    ensures { ReadsPieces (λ x. found x.0 (pieces x.1.now)) result
+        (reader_of_grammar (list_of any_code comma_or_close) (pieces text.now)) }
 {
     let mut codes = Vec::new(alloc);
     let mut rest = text;
@@ -53,7 +55,8 @@ pub(crate) fn codes(alloc: Global, text: &[u8]) -> Result<(Items<Code>, &[u8]), 
 
 #[tactic(auto, unfolding(crate::specs::Strings::map_entry))]
 pub(crate) fn map_entry(alloc: Global, text: &[u8]) -> Result<(MapEntry, &[u8]), Stop<'_>>
-    ensures { ReadsPieces (λ x. found x.0 (pieces x.1.now)) result (reader_of any_map_entry (pieces text.now)) }
+    ensures { ReadsPieces (λ x. found x.0 (pieces x.1.now)) result
+        (reader_of_grammar any_map_entry (pieces text.now)) }
 {
     let (port, rest) = word(alloc, text)?;
     let rest = mark(rest, b':')?;
@@ -68,7 +71,8 @@ fn pins_from(
     first: Option<Name>,
     text: &[u8],
 ) -> Result<(Items<Name>, &[u8]), Stop<'_>>
-    ensures { ReadsPieces (λ x. found x.0 (pieces x.1.now)) result (reader_of (pins_of first) (pieces text.now)) }
+    ensures { ReadsPieces (λ x. found x.0 (pieces x.1.now)) result
+        (reader_of_grammar (entry_pins first) (pieces text.now)) }
 {
     match first {
         Some(pin) => Ok((one_pin(alloc, pin)?, text)),
@@ -86,7 +90,8 @@ fn one_pin(alloc: Global, pin: Name) -> Result<Items<Name>, AllocError>
 
 #[tactic(auto, unfolding(crate::specs::Strings::opcode))]
 pub(crate) fn opcode(alloc: Global, text: &[u8]) -> Result<(Opcode, &[u8]), Stop<'_>>
-    ensures { ReadsPieces (λ x. found x.0 (pieces x.1.now)) result (reader_of any_opcode (pieces text.now)) }
+    ensures { ReadsPieces (λ x. found x.0 (pieces x.1.now)) result
+        (reader_of_grammar any_opcode (pieces text.now)) }
 {
     let (name, rest) = word(alloc, text)?;
     let rest = mark(rest, b'(')?;
@@ -97,7 +102,8 @@ pub(crate) fn opcode(alloc: Global, text: &[u8]) -> Result<(Opcode, &[u8]), Stop
 /// Reads the rest of a place after its port name and the mark behind the name. `opens` says whether
 /// this mark is an opening parenthesis.
 fn indexed(name: Name, opens: bool, text: &[u8]) -> Result<(PortWord, &[u8]), Stop<'_>>
-    ensures { ReadsPieces (λ x. found x.0 (pieces x.1.now)) result (reader_of (index_after name opens) (pieces text.now)) }
+    ensures { ReadsPieces (λ x. found x.0 (pieces x.1.now)) result
+        (reader_of_grammar (index_after name opens) (pieces text.now)) }
 {
     if opens {
         let (i, rest) = index(text)?;
@@ -110,7 +116,8 @@ fn indexed(name: Name, opens: bool, text: &[u8]) -> Result<(PortWord, &[u8]), St
 }
 
 fn place_from(first: Option<Name>, text: &[u8]) -> Result<(PortWord, &[u8]), Stop<'_>>
-    ensures { ReadsPieces (λ x. found x.0 (pieces x.1.now)) result (reader_of (place_of first) (pieces text.now)) }
+    ensures { ReadsPieces (λ x. found x.0 (pieces x.1.now)) result
+        (reader_of_grammar (rest_of_place first) (pieces text.now)) }
 {
     match first {
         None => Ok((PortWord::Star, mark(text, b',')?)),
@@ -124,14 +131,16 @@ fn place_from(first: Option<Name>, text: &[u8]) -> Result<(PortWord, &[u8]), Sto
 /// Reads the place of an entry and the comma after it.
 #[tactic(auto, unfolding(crate::specs::Strings::port_place))]
 fn port_place(alloc: Global, text: &[u8]) -> Result<(PortWord, &[u8]), Stop<'_>>
-    ensures { ReadsPieces (λ x. found x.0 (pieces x.1.now)) result (reader_of any_port_place (pieces text.now)) }
+    ensures { ReadsPieces (λ x. found x.0 (pieces x.1.now)) result
+        (reader_of_grammar any_port_place (pieces text.now)) }
 {
     let (first, rest) = word_unless_star(alloc, text)?;
     place_from(first, rest)
 }
 
 fn control_from(comes: bool, text: &[u8]) -> Result<(Option<Control>, &[u8]), Stop<'_>>
-    ensures { ReadsPieces (λ x. found x.0 (pieces x.1.now)) result (reader_of (control_of comes) (pieces text.now)) }
+    ensures { ReadsPieces (λ x. found x.0 (pieces x.1.now)) result
+        (reader_of_grammar (control_of comes) (pieces text.now)) }
 {
     if comes {
         let (cell, rest) = index(text)?;
@@ -150,7 +159,8 @@ fn control_from(comes: bool, text: &[u8]) -> Result<(Option<Control>, &[u8]), St
 /// Returns the control, if there is one.
 #[tactic(auto, unfolding(crate::specs::Strings::control))]
 fn control(text: &[u8]) -> Result<(Option<Control>, &[u8]), Stop<'_>>
-    ensures { ReadsPieces (λ x. found x.0 (pieces x.1.now)) result (reader_of any_control (pieces text.now)) }
+    ensures { ReadsPieces (λ x. found x.0 (pieces x.1.now)) result
+        (reader_of_grammar any_control (pieces text.now)) }
 {
     let (comes, rest) = either_mark(text, b',', b')')?;
     control_from(comes, rest)
@@ -160,7 +170,8 @@ fn control(text: &[u8]) -> Result<(Option<Control>, &[u8]), Stop<'_>>
 /// number.
 #[tactic(auto, unfolding(crate::specs::Strings::cell))]
 fn cell(text: &[u8]) -> Result<(u32, &[u8]), Stop<'_>>
-    ensures { ReadsPieces (λ x. found x.0 (pieces x.1.now)) result (reader_of any_cell (pieces text.now)) }
+    ensures { ReadsPieces (λ x. found x.0 (pieces x.1.now)) result
+        (reader_of_grammar any_cell (pieces text.now)) }
 {
     let (num, rest) = index(text)?;
     let rest = mark(rest, b'(')?;
@@ -171,7 +182,8 @@ fn cell(text: &[u8]) -> Result<(u32, &[u8]), Stop<'_>>
 
 #[tactic(auto, unfolding(crate::specs::Strings::entry))]
 pub(crate) fn entry(alloc: Global, text: &[u8]) -> Result<(Entry, &[u8]), Stop<'_>>
-    ensures { ReadsPieces (λ x. found x.0 (pieces x.1.now)) result (reader_of any_entry (pieces text.now)) }
+    ensures { ReadsPieces (λ x. found x.0 (pieces x.1.now)) result
+        (reader_of_grammar any_entry (pieces text.now)) }
 {
     let (num, rest) = cell(text)?;
     let (port, rest) = port_place(alloc, rest)?;

@@ -1,10 +1,10 @@
 //! Reads the pieces of an inner string one at a time.
 ghost use Rattle.std.specs.Prelude.{◌≡◌, [], ◌∷◌, length, MatchOption, IfSome, true, false, ◌≤◌};
 ghost use Rattle.std.specs.List.{take_while};
-ghost use Rattle.bsdl_strings.specs.Pieces.{is_blank, is_word_byte, starts_word, starts_blank, is_end, pieces};
+ghost use Rattle.bsdl_strings.specs.Pieces.{is_string_blank, is_word_byte, starts_word, starts_blank, is_end, pieces};
 
 fn is_space(byte: u8) -> bool
-    ensures { result ≡ is_blank byte }
+    ensures { result ≡ is_string_blank byte }
 {
     byte == b' ' || byte == b'\t'
 }
@@ -16,7 +16,7 @@ pub(crate) fn joins_word(byte: u8) -> bool
 }
 
 fn blanks(text: &[u8]) -> usize
-    ensures count { result ≡ length (take_while is_blank text.now) }
+    ensures count { result ≡ length (take_while is_string_blank text.now) }
     ensures within { result ≤ length text.now }
 {
     text.iter().take_while(|byte| is_space(**byte)).count()
@@ -50,7 +50,8 @@ fn word_piece(text: &[u8]) -> (&[u8], &[u8])
 /// is left.
 #[tactic(auto, unfolding(crate::specs::Pieces::pieces))]
 pub(crate) fn next_piece(text: &[u8]) -> Option<(&[u8], &[u8])>
-    ensures pieces { MatchOption result (pieces text.now ≡ [] ∷ []) (λ x. pieces text.now ≡ x.0.now ∷ pieces x.1.now) }
+    ensures pieces { MatchOption result (pieces text.now ≡ [] ∷ [])
+        (λ x. pieces text.now ≡ x.0.now ∷ pieces x.1.now) }
     ensures some { IfSome result (λ x. is_end x.0.now ≡ false) }
 {
     let text = past_blanks(text);

@@ -2,12 +2,12 @@
 ghost use Rattle.std.specs.Prelude.{◌≡◌, ◌-◌, ◌*◌, ◌<◌, ◌≤◌, ◌^◌, [], length, IfOk};
 ghost use Rattle.std.specs.List.{list_all, take_while};
 ghost use Rattle.grammars.specs.inner.Reader.{found};
-ghost use Rattle.grammars.specs.Grammar.{reader_of};
+ghost use Rattle.grammars.specs.Grammar.{reader_of_grammar};
 ghost use Rattle.grammars.specs.Values.{upper};
 ghost use Rattle.bsdl_strings.specs.Pieces.{is_word_byte, pieces};
 ghost use Rattle.bsdl_strings.specs.inner.Reading.{ReadsPieces, more_of};
-ghost use Rattle.bsdl_strings.specs.Places.{is_pin, is_code, is_symbol, symbol_of, code_of, role_of, is_result, comma_or_end, word_or_star, pin_or_open, safe_value, result_word, after_bit, the_end};
-ghost use Rattle.bsdl_strings.specs.Places.{is_mark as is_the_mark, is_word as is_any_word, mark as the_mark, either_mark as either_of_marks, word as any_word, pin as any_pin, index as any_index, code as any_code, role as any_role};
+ghost use Rattle.bsdl_strings.specs.Places.{is_pin, is_code_piece, is_symbol, symbol_of, code_of, role_of, is_result, comma_or_end, word_or_star, pin_or_open, safe_symbol, result_word, after_bit, the_end};
+ghost use Rattle.bsdl_strings.specs.Places.{is_mark_piece as is_the_mark, is_word_piece as is_any_word, mark as the_mark, either_mark as either_of_marks, word as any_word, pin as any_pin, index as any_index, code as any_code, role as any_role};
 
 use crate::pieces::{after_mark, joins_word, next_piece};
 use crate::stop::Stop;
@@ -76,7 +76,7 @@ pub(crate) fn leading_symbols(text: &[u8]) -> usize
 }
 
 pub(crate) fn spells_code(piece: &[u8]) -> bool
-    ensures { result ≡ is_code piece.now }
+    ensures { result ≡ is_code_piece piece.now }
 {
     !piece.is_empty() && are_symbols(piece)
 }
@@ -109,7 +109,8 @@ fn short_code_from(alloc: Global, piece: &[u8]) -> Result<Code, AllocError>
 
 /// Reads the mark `byte`. Returns the text after it.
 pub(crate) fn mark(text: &[u8], byte: u8) -> Result<&[u8], Stop<'_>>
-    ensures { ReadsPieces (λ rest. found tt (pieces rest.now)) result (reader_of (the_mark byte) (pieces text.now)) }
+    ensures { ReadsPieces (λ rest. found tt (pieces rest.now)) result
+        (reader_of_grammar (the_mark byte) (pieces text.now)) }
 {
     if let Some(rest) = after_mark(text, byte) {
         return Ok(rest);
@@ -122,7 +123,8 @@ pub(crate) fn mark(text: &[u8], byte: u8) -> Result<&[u8], Stop<'_>>
 
 /// Reads one of two marks. Returns whether it was the first.
 pub(crate) fn either_mark(text: &[u8], first: u8, second: u8) -> Result<(bool, &[u8]), Stop<'_>>
-    ensures { ReadsPieces (λ x. found x.0 (pieces x.1.now)) result (reader_of (either_of_marks first second) (pieces text.now)) }
+    ensures { ReadsPieces (λ x. found x.0 (pieces x.1.now)) result
+        (reader_of_grammar (either_of_marks first second) (pieces text.now)) }
 {
     if let Some(rest) = after_mark(text, first) {
         return Ok((true, rest));
@@ -136,7 +138,8 @@ pub(crate) fn either_mark(text: &[u8], first: u8, second: u8) -> Result<(bool, &
 
 /// Reads a word, which is a letter followed by letters, digits and `_`. Returns it in upper case.
 pub(crate) fn word(alloc: Global, text: &[u8]) -> Result<(Name, &[u8]), Stop<'_>>
-    ensures { ReadsPieces (λ x. found x.0 (pieces x.1.now)) result (reader_of any_word (pieces text.now)) }
+    ensures { ReadsPieces (λ x. found x.0 (pieces x.1.now)) result
+        (reader_of_grammar any_word (pieces text.now)) }
 {
     match next_piece(text) {
         Some((piece, rest)) if is_word(piece) => Ok((Name::in_upper_case(alloc, piece)?, rest)),
@@ -146,7 +149,8 @@ pub(crate) fn word(alloc: Global, text: &[u8]) -> Result<(Name, &[u8]), Stop<'_>
 
 /// Like `word`, but returns the letters unchanged, and so allocates nothing.
 pub(crate) fn word_as_written(text: &[u8]) -> Result<(&[u8], &[u8]), Stop<'_>>
-    ensures { ReadsPieces (λ x. found (upper x.0.now) (pieces x.1.now)) result (reader_of any_word (pieces text.now)) }
+    ensures { ReadsPieces (λ x. found (upper x.0.now) (pieces x.1.now)) result
+        (reader_of_grammar any_word (pieces text.now)) }
 {
     match next_piece(text) {
         Some((piece, rest)) if is_word(piece) => Ok((piece, rest)),
@@ -156,7 +160,8 @@ pub(crate) fn word_as_written(text: &[u8]) -> Result<(&[u8], &[u8]), Stop<'_>>
 
 /// Reads a pin, which is one or more letters, digits and `_`. Returns it in upper case.
 pub(crate) fn pin(alloc: Global, text: &[u8]) -> Result<(Name, &[u8]), Stop<'_>>
-    ensures { ReadsPieces (λ x. found x.0 (pieces x.1.now)) result (reader_of any_pin (pieces text.now)) }
+    ensures { ReadsPieces (λ x. found x.0 (pieces x.1.now)) result
+        (reader_of_grammar any_pin (pieces text.now)) }
 {
     match next_piece(text) {
         Some((piece, rest)) if names_pin(piece) => Ok((Name::in_upper_case(alloc, piece)?, rest)),
@@ -166,7 +171,8 @@ pub(crate) fn pin(alloc: Global, text: &[u8]) -> Result<(Name, &[u8]), Stop<'_>>
 
 /// Reads a number of 1 to 9 digits.
 pub(crate) fn index(text: &[u8]) -> Result<(u32, &[u8]), Stop<'_>>
-    ensures { ReadsPieces (λ x. found x.0 (pieces x.1.now)) result (reader_of any_index (pieces text.now)) }
+    ensures { ReadsPieces (λ x. found x.0 (pieces x.1.now)) result
+        (reader_of_grammar any_index (pieces text.now)) }
 {
     match next_piece(text) {
         Some((piece, rest)) if is_short_number(piece) => Ok((decimal_of(piece), rest)),
@@ -176,7 +182,8 @@ pub(crate) fn index(text: &[u8]) -> Result<(u32, &[u8]), Stop<'_>>
 
 /// Reads a code, which is one or more of 0, 1 and X.
 pub(crate) fn code(alloc: Global, text: &[u8]) -> Result<(Code, &[u8]), Stop<'_>>
-    ensures { ReadsPieces (λ x. found x.0 (pieces x.1.now)) result (reader_of any_code (pieces text.now)) }
+    ensures { ReadsPieces (λ x. found x.0 (pieces x.1.now)) result
+        (reader_of_grammar any_code (pieces text.now)) }
 {
     match next_piece(text) {
         Some((piece, rest)) if spells_code(piece) => Ok((short_code_from(alloc, piece)?, rest)),
@@ -186,7 +193,8 @@ pub(crate) fn code(alloc: Global, text: &[u8]) -> Result<(Code, &[u8]), Stop<'_>
 
 /// Reads a comma or the end of the string. Returns the text after the comma, or None at the end.
 pub(crate) fn comma(text: &[u8]) -> Result<Option<&[u8]>, Stop<'_>>
-    ensures { ReadsPieces (λ x. more_of x) result (reader_of comma_or_end (pieces text.now)) }
+    ensures { ReadsPieces (λ x. more_of x) result
+        (reader_of_grammar comma_or_end (pieces text.now)) }
 {
     match next_piece(text) {
         None => Ok(None),
@@ -197,7 +205,8 @@ pub(crate) fn comma(text: &[u8]) -> Result<Option<&[u8]>, Stop<'_>>
 
 /// Reads a pin or an opening parenthesis. Returns None for the parenthesis.
 pub(crate) fn pin_or_group(alloc: Global, text: &[u8]) -> Result<(Option<Name>, &[u8]), Stop<'_>>
-    ensures { ReadsPieces (λ x. found x.0 (pieces x.1.now)) result (reader_of pin_or_open (pieces text.now)) }
+    ensures { ReadsPieces (λ x. found x.0 (pieces x.1.now)) result
+        (reader_of_grammar pin_or_open (pieces text.now)) }
 {
     match next_piece(text) {
         Some((piece, rest)) if is_mark(piece, b'(') => Ok((None, rest)),
@@ -214,7 +223,8 @@ pub(crate) fn word_unless_star(
     alloc: Global,
     text: &[u8],
 ) -> Result<(Option<Name>, &[u8]), Stop<'_>>
-    ensures { ReadsPieces (λ x. found x.0 (pieces x.1.now)) result (reader_of word_or_star (pieces text.now)) }
+    ensures { ReadsPieces (λ x. found x.0 (pieces x.1.now)) result
+        (reader_of_grammar word_or_star (pieces text.now)) }
 {
     match next_piece(text) {
         Some((piece, rest)) if is_mark(piece, b'*') => Ok((None, rest)),
@@ -228,7 +238,8 @@ pub(crate) fn word_unless_star(
 
 /// Reads a safe value: 0, 1 or X.
 pub(crate) fn safe(text: &[u8]) -> Result<(Symbol, &[u8]), Stop<'_>>
-    ensures { ReadsPieces (λ x. found x.0 (pieces x.1.now)) result (reader_of safe_value (pieces text.now)) }
+    ensures { ReadsPieces (λ x. found x.0 (pieces x.1.now)) result
+        (reader_of_grammar safe_symbol (pieces text.now)) }
 {
     match next_piece(text) {
         Some((piece, rest)) if is_mark(piece, b'0') => Ok((Symbol::Zero, rest)),
@@ -266,7 +277,8 @@ fn role_named(piece: &[u8]) -> Option<Role>
 
 /// Reads the function of a cell.
 pub(crate) fn role(text: &[u8]) -> Result<(Role, &[u8]), Stop<'_>>
-    ensures { ReadsPieces (λ x. found x.0 (pieces x.1.now)) result (reader_of any_role (pieces text.now)) }
+    ensures { ReadsPieces (λ x. found x.0 (pieces x.1.now)) result
+        (reader_of_grammar any_role (pieces text.now)) }
 {
     match next_piece(text) {
         None => Err(Stop::At(text)),
@@ -291,7 +303,8 @@ fn names_result(piece: &[u8]) -> bool
 /// Reads a disable result, which is the state of a disabled driver. In all states that the grammar
 /// allows, the driver does not drive.
 pub(crate) fn result_of_disabling(text: &[u8]) -> Result<&[u8], Stop<'_>>
-    ensures { ReadsPieces (λ rest. found tt (pieces rest.now)) result (reader_of result_word (pieces text.now)) }
+    ensures { ReadsPieces (λ rest. found tt (pieces rest.now)) result
+        (reader_of_grammar result_word (pieces text.now)) }
 {
     match next_piece(text) {
         Some((piece, rest)) if names_result(piece) => Ok(rest),
@@ -302,7 +315,8 @@ pub(crate) fn result_of_disabling(text: &[u8]) -> Result<&[u8], Stop<'_>>
 /// Reads the mark behind the port name of a compliance bit. Returns None if an index follows.
 /// Otherwise returns whether another bit follows.
 pub(crate) fn mark_after_bit(text: &[u8]) -> Result<(Option<bool>, &[u8]), Stop<'_>>
-    ensures { ReadsPieces (λ x. found x.0 (pieces x.1.now)) result (reader_of after_bit (pieces text.now)) }
+    ensures { ReadsPieces (λ x. found x.0 (pieces x.1.now)) result
+        (reader_of_grammar after_bit (pieces text.now)) }
 {
     match next_piece(text) {
         Some((piece, rest)) if is_mark(piece, b'(') => Ok((None, rest)),
@@ -314,7 +328,7 @@ pub(crate) fn mark_after_bit(text: &[u8]) -> Result<(Option<bool>, &[u8]), Stop<
 
 /// Checks that no piece is left.
 pub(crate) fn end(text: &[u8]) -> Result<(), Stop<'_>>
-    ensures { ReadsPieces (λ x. found tt []) result (reader_of the_end (pieces text.now)) }
+    ensures { ReadsPieces (λ x. found tt []) result (reader_of_grammar the_end (pieces text.now)) }
 {
     match next_piece(text) {
         None => Ok(()),

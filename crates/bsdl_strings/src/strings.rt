@@ -1,6 +1,6 @@
 //! Reads lists of entries, and patterns.
 ghost use Rattle.std.specs.Prelude.{◌≡◌, ◌<◌, ◌^◌, length, IfOk, IfErr};
-ghost use Rattle.bsdl_strings.specs.Faults.{fault_of, NamesEntry};
+ghost use Rattle.bsdl_strings.specs.Faults.{stop_fault, NamesEntry};
 ghost use Rattle.bsdl_strings.specs.Strings.{IsPinMap, IsNoPinMap, AreOpcodes, AreNoOpcodes, IsBoundary, IsNoBoundary, IsPattern, IsNoPattern};
 
 use crate::entries::{entry, map_entry, opcode};
@@ -14,7 +14,7 @@ use std::alloc::Global;
 /// Returns the fault of a list if reading stopped after `entries` whole entries.
 pub(crate) fn fault(stop: Stop<'_>, entries: usize) -> StringFault
     requires { entries < 2 ^ 31 }
-    ensures { result ≡ fault_of stop.entry entries }
+    ensures { result ≡ stop_fault stop.entry entries }
 {
     match stop {
         Stop::Memory(error) => StringFault::Memory(error),

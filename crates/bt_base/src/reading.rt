@@ -33,7 +33,8 @@ impl<R: Read> Read for Watched<R> {
 
     fn read(&mut self, buf: &mut [u8]) -> io::Result<usize>
         ensures bound { ReadsAtMost result buf.new }
-        ensures bytes { ReadConsumes (R.remaining self.old.from) (R.remaining self.new.from) result buf.new }
+        ensures bytes { ReadConsumes (R.remaining self.old.from) (R.remaining self.new.from) result
+            buf.new }
         ensures failed { self.new.failed ≡ (self.old.failed || is_err result) }
     {
         let answer = self.from.read(buf);
@@ -53,7 +54,8 @@ pub(crate) fn read_all<R: Read>(
     cap: u32,
 ) -> Result<(), FetchFault>
     requires { into.old.items ≡ [] }
-    ensures whole { OnOk result (IfSome (R.remaining from.old.from) (λ left. into.new.items ≡ left)) }
+    ensures whole { OnOk result
+        (IfSome (R.remaining from.old.from) (λ left. into.new.items ≡ left)) }
     ensures short { OnOk result (length into.new.items ≤ cap) }
     ensures cut { IsErrOf result FetchFault.TooLong → length into.new.items ≡ cap + 1 }
     ensures too_long { IsErrOf result FetchFault.TooLong
@@ -79,7 +81,9 @@ fn read_some<R: Read>(
 ) -> Result<usize, FetchFault>
     requires { 0 < most }
     ensures within { IfOk result (λ n. n ≤ most) }
-    ensures next { IfOk result (λ n. GivesNext (R.remaining from.old.from) (R.remaining from.new.from) into.old.items into.new.items n) }
+    ensures next { IfOk result
+        (λ n. GivesNext (R.remaining from.old.from) (R.remaining from.new.from) into.old.items
+        into.new.items n) }
     ensures failed { from.new.failed ≡ (from.old.failed || is_failed result) }
     ensures not_too_long { IsErrOf result FetchFault.TooLong → ⊥ }
 {

@@ -21,7 +21,8 @@ impl<W> Flushed<W> {
 
 impl<W: io::Write> Flushed<W> {
     fn write(&mut self, piece: &[u8]) -> io::Result<()>
-        ensures bytes { OnOk result (Appends (W.contents self.old.to) (W.contents self.new.to) piece.now) }
+        ensures bytes { OnOk result
+            (Appends (W.contents self.old.to) (W.contents self.new.to) piece.now) }
         ensures flushed { self.new.flushed ≡ false }
     {
         self.flushed = false;

@@ -37,7 +37,9 @@ digit_or : (j a b : ℕ) → digit_in j (bit_or a b) ≡ bit_or (digit_in j a) (
 digit_or j a b = ap (λ x. x % 2 ^ 4) (or_shr a b (4 * j)) ∙ or_mod (a / 2 ^ (4 * j)) (b / 2 ^ (4 * j)) 4
 
 -- if a test finds that all 16 digits of a word are equal to `digit`, digit `j` is equal to it
-pub same_digit : (word digit : ℕ) → agree_below (λ j. digit_in j word == digit) (λ _. true) 16 ≡ true → (j : ℕ) → j < 16 → digit_in j word ≡ digit
+pub same_digit : (word digit : ℕ)
+    → agree_below (λ j. digit_in j word == digit) (λ _. true) 16 ≡ true → (j : ℕ) → j < 16
+    → digit_in j word ≡ digit
 same_digit word digit tests j row = eqb-true _ _ (agree_below_at (λ j. digit_in j word == digit) (λ _. true) 16 j tests row)
 
 -- the mask with bit `k` of each digit set
@@ -62,10 +64,13 @@ rest_digit (suc (suc (suc (suc k)))) j few = absurd (omega arith)
 
 -- if bit `k` of the digit `e` is `bit`, masking bit `k` out of the digit `d` and bringing in bit
 -- `k` of `e` sets bit `k` of `d` to `bit`
-merged : (d e k : ℕ) (bit : Bool) → k < 4 → d < 16 → bit_at e k ≡ bit_value bit → bit_or (bit_and d (15 - 2 ^ k)) (bit_and e (2 ^ k)) ≡ with_bit d k bit
+merged : (d e k : ℕ) (bit : Bool) → k < 4 → d < 16 → bit_at e k ≡ bit_value bit
+    → bit_or (bit_and d (15 - 2 ^ k)) (bit_and e (2 ^ k)) ≡ with_bit d k bit
 merged d e k bit few small is =
     let parts : bit_and (15 - 2 ^ k) d + bit_and (2 ^ k) d ≡ d = and-not 4 (2 ^ k) d (pow_below k 4 few) small in
-    let kept : bit_and d (15 - 2 ^ k) ≡ d - d / 2 ^ k % 2 * 2 ^ k = omega (arith, parts, and_comm d (15 - 2 ^ k), and_comm d (2 ^ k), and_pow d k) in
+    let kept : bit_and d (15 - 2 ^ k)
+    ≡ d - d / 2 ^ k % 2 * 2 ^ k = omega
+    (arith, parts, and_comm d (15 - 2 ^ k), and_comm d (2 ^ k), and_pow d k) in
     let taken : bit_and e (2 ^ k) ≡ bit_value bit * 2 ^ k = and_pow e k ∙ ap (λ b. b * 2 ^ k) is in
     let rest = bit_and d (15 - 2 ^ k) in
     let cleared : bit_and rest (2 ^ k) ≡ 0 = and-not_self d 15 (2 ^ k) (2 ^ k) refl (omega (arith, pow_below k 4 few)) refl in
@@ -77,12 +82,15 @@ merged d e k bit few small is =
 -- if bit `k` of each digit of a word is replaced by the column's bit, digit `j` of the word gets
 -- the column's bit for row `j`
 pub digit_with_column : (word column k j : ℕ) → k < 4 → j < 16 →
-    digit_in j (bit_or (bit_and word (2 ^ 64 - 1 - mask k)) (bit_and (column * 2 ^ k % 2 ^ 64) (mask k))) ≡ with_bit (digit_in j word) k (digit_bit column (4 * j))
+    digit_in j
+    (bit_or (bit_and word (2 ^ 64 - 1 - mask k)) (bit_and (column * 2 ^ k % 2 ^ 64) (mask k)))
+    ≡ with_bit (digit_in j word) k (digit_bit column (4 * j))
 digit_with_column word column k j few row =
     let d = digit_in j word in
     let e = digit_in j (column * 2 ^ k % 2 ^ 64) in
     let bit : bit_at e k ≡ bit_value (digit_bit column (4 * j)) =
-    field_bit (column * 2 ^ k % 2 ^ 64) (4 * j) 4 k few ∙ shifted_bit column k (4 * j) (omega arith) ∙ sym (bit_value-test (bit_at column (4 * j)) (bit_at-lt column (4 * j))) in
+    field_bit (column * 2 ^ k % 2 ^ 64) (4 * j) 4 k few ∙ shifted_bit column k (4 * j) (omega arith)
+    ∙ sym (bit_value-test (bit_at column (4 * j)) (bit_at-lt column (4 * j))) in
     digit_or j (bit_and word (2 ^ 64 - 1 - mask k)) (bit_and (column * 2 ^ k % 2 ^ 64) (mask k))
     ∙ (λ i. bit_or (digit_and j word (2 ^ 64 - 1 - mask k) i) (digit_and j (column * 2 ^ k % 2 ^ 64) (mask k) i))
     ∙ (λ i. bit_or (bit_and d (rest_digit k j few row i)) (bit_and e (mask_digit k j few row i)))
@@ -121,7 +129,8 @@ abbrev joined : ℕ → ℕ → ℕ → ℕ → ℕ
 joined a b c d = bit_or (bit_or a (b * 2 ^ 16 % 2 ^ 64)) (bit_or c (d * 2 ^ 16 % 2 ^ 64) * 2 ^ 32 % 2 ^ 64)
 
 -- the joined word is the sum of the four numbers, each shifted to its place
-joined_is : (a b c d : ℕ) → a < 2 ^ 16 → b < 2 ^ 16 → c < 2 ^ 16 → d < 2 ^ 16 → joined a b c d ≡ (d * 2 ^ 16 + c) * 2 ^ 32 + (b * 2 ^ 16 + a)
+joined_is : (a b c d : ℕ) → a < 2 ^ 16 → b < 2 ^ 16 → c < 2 ^ 16 → d < 2 ^ 16
+    → joined a b c d ≡ (d * 2 ^ 16 + c) * 2 ^ 32 + (b * 2 ^ 16 + a)
 joined_is a b c d p q r s =
     (λ i. bit_or (side_by_side 16 a b p (omega arith) i) (side_by_side 16 c d r (omega arith) i * 2 ^ 32 % 2 ^ 64))
     ∙ side_by_side 32 (b * 2 ^ 16 + a) (d * 2 ^ 16 + c) (omega arith) (omega arith)
@@ -132,14 +141,24 @@ spread_word n = joined (part n) (part (n / 2 ^ 4)) (part (n / 2 ^ 8)) (part (n /
 
 -- the spread word is the sum of its four quarters, each shifted to its place
 spread_word-is : (n : ℕ) → spread_word n ≡ (part (n / 2 ^ 12) * 2 ^ 16 + part (n / 2 ^ 8)) * 2 ^ 32 + (part (n / 2 ^ 4) * 2 ^ 16 + part n)
-spread_word-is n = joined_is (part n) (part (n / 2 ^ 4)) (part (n / 2 ^ 8)) (part (n / 2 ^ 12)) (part-lt n) (part-lt (n / 2 ^ 4)) (part-lt (n / 2 ^ 8)) (part-lt (n / 2 ^ 12))
+spread_word-is n =
+    joined_is (part n) (part (n / 2 ^ 4)) (part (n / 2 ^ 8)) (part (n / 2 ^ 12)) (part-lt n)
+    (part-lt (n / 2 ^ 4)) (part-lt (n / 2 ^ 8)) (part-lt (n / 2 ^ 12))
 
 -- quarter `q` of the spread word is digit `q` of the number, spread
 quarter : (n q : ℕ) → q < 4 → spread_word n / 2 ^ (16 * q) % 2 ^ 16 ≡ part (n / 2 ^ (4 * q))
 quarter n zero few = omega (arith, spread_word-is n, part-lt n) ∙ ap part (sym (div-one n))
 quarter n (suc zero) few = omega (arith, spread_word-is n, part-lt n, part-lt (n / 2 ^ 4))
 quarter n (suc (suc zero)) few = omega (arith, spread_word-is n, part-lt n, part-lt (n / 2 ^ 4), part-lt (n / 2 ^ 8))
-quarter n (suc (suc (suc zero))) few = omega (arith, spread_word-is n, part-lt n, part-lt (n / 2 ^ 4), part-lt (n / 2 ^ 8), part-lt (n / 2 ^ 12))
+quarter n (suc (suc (suc zero))) few =
+    omega (
+      arith,
+      spread_word-is n,
+      part-lt n,
+      part-lt (n / 2 ^ 4),
+      part-lt (n / 2 ^ 8),
+      part-lt (n / 2 ^ 12),
+    )
 quarter n (suc (suc (suc (suc q)))) few = absurd (omega arith)
 
 -- the lowest bit of digit `j` of the spread word is bit `j` of the number

@@ -9,7 +9,7 @@ use Rattle.std.proofs.lemmas.List.Elements.{All-nil, All-cons, All-head, All-tai
 use Rattle.bt_bits.specs.Hex.{digit_count}
 use Rattle.bt_bits.specs.Rows.{AreDigitsOf}
 use Rattle.bt_bits.proofs.HexLemmas.{take_four}
-use Rattle.bt_bits.specs.Digits.{bit_value, digit_value, digits_of, digit_bit, bits_of, row_bits}
+use Rattle.bt_bits.specs.Digits.{bit_value, digit_value, digits_of, digit_bit, bits_of, digit_row}
 use Rattle.bt_bits.specs.inner.Digits.{with_bit}
 
 pub bit_value-le : (bit : Bool) → bit_value bit ≤ 1
@@ -22,19 +22,31 @@ is_one false n is = ap (λ m. eqb m 1) is
 
 digit_bit-0 : (a b c d : Bool) → digit_bit (digit_value a b c d) 0 ≡ a
 digit_bit-0 a b c d =
-    let is : digit_value a b c d / 2 ^ 0 % 2 ≡ bit_value a = omega (arith, bit_value-le a, bit_value-le b, bit_value-le c, bit_value-le d) in is_one a _ is
+    let is : digit_value a b c d / 2 ^ 0 % 2
+    ≡ bit_value a = omega
+    (arith, bit_value-le a, bit_value-le b, bit_value-le c, bit_value-le d) in
+    is_one a _ is
 
 digit_bit-1 : (a b c d : Bool) → digit_bit (digit_value a b c d) 1 ≡ b
 digit_bit-1 a b c d =
-    let is : digit_value a b c d / 2 ^ 1 % 2 ≡ bit_value b = omega (arith, bit_value-le a, bit_value-le b, bit_value-le c, bit_value-le d) in is_one b _ is
+    let is : digit_value a b c d / 2 ^ 1 % 2
+    ≡ bit_value b = omega
+    (arith, bit_value-le a, bit_value-le b, bit_value-le c, bit_value-le d) in
+    is_one b _ is
 
 digit_bit-2 : (a b c d : Bool) → digit_bit (digit_value a b c d) 2 ≡ c
 digit_bit-2 a b c d =
-    let is : digit_value a b c d / 2 ^ 2 % 2 ≡ bit_value c = omega (arith, bit_value-le a, bit_value-le b, bit_value-le c, bit_value-le d) in is_one c _ is
+    let is : digit_value a b c d / 2 ^ 2 % 2
+    ≡ bit_value c = omega
+    (arith, bit_value-le a, bit_value-le b, bit_value-le c, bit_value-le d) in
+    is_one c _ is
 
 digit_bit-3 : (a b c d : Bool) → digit_bit (digit_value a b c d) 3 ≡ d
 digit_bit-3 a b c d =
-    let is : digit_value a b c d / 2 ^ 3 % 2 ≡ bit_value d = omega (arith, bit_value-le a, bit_value-le b, bit_value-le c, bit_value-le d) in is_one d _ is
+    let is : digit_value a b c d / 2 ^ 3 % 2
+    ≡ bit_value d = omega
+    (arith, bit_value-le a, bit_value-le b, bit_value-le c, bit_value-le d) in
+    is_one d _ is
 
 with_bit-0 : (a b c d bit : Bool) → with_bit (digit_value a b c d) 0 bit ≡ digit_value bit b c d
 with_bit-0 a b c d bit = omega (arith, bit_value-le a, bit_value-le b, bit_value-le c, bit_value-le d)
@@ -65,7 +77,9 @@ digits_of-below (a ∷ b ∷ []) =
 digits_of-below (a ∷ b ∷ c ∷ []) =
     All-cons (λ x. x < 16) _ [] (omega (arith, bit_value-le a, bit_value-le b, bit_value-le c)) (All-nil (λ x. x < 16))
 digits_of-below (a ∷ b ∷ c ∷ d ∷ bits) =
-    All-cons (λ x. x < 16) _ (digits_of bits) (omega (arith, bit_value-le a, bit_value-le b, bit_value-le c, bit_value-le d)) (digits_of-below bits)
+    All-cons (λ x. x < 16) _ (digits_of bits)
+    (omega (arith, bit_value-le a, bit_value-le b, bit_value-le c, bit_value-le d))
+    (digits_of-below bits)
 
 some_of : (a b c d : Bool) → not (digit_value a b c d == 0) ≡ a || b || c || d
 some_of true true true true = refl
@@ -103,23 +117,35 @@ any_digit (a ∷ b ∷ c ∷ d ∷ bits) =
     ∙ ap (λ rest. (a || b || c || d) || rest) (any_digit bits) ∙ or_rest a b c d (list_any (λ bit. bit) bits)
 
 -- the bits of the digits of a list of bits, cut to the length of the list, are the list
-pub row_bits-digits_of : (bits : List Bool) → row_bits (length bits) (digits_of bits) ≡ bits
-unfolding row_bits
+pub row_bits-digits_of : (bits : List Bool) → digit_row (length bits) (digits_of bits) ≡ bits
+unfolding digit_row
 row_bits-digits_of [] = refl
 row_bits-digits_of (a ∷ []) = ap (λ x. x ∷ []) (digit_bit-0 a false false false)
-row_bits-digits_of (a ∷ b ∷ []) = ap (λ x. x ∷ digit_bit (digit_value a b false false) 1 ∷ []) (digit_bit-0 a b false false) ∙ ap (λ x. a ∷ x ∷ []) (digit_bit-1 a b false false)
-row_bits-digits_of (a ∷ b ∷ c ∷ []) = ap (λ x. x ∷ digit_bit (digit_value a b c false) 1 ∷ digit_bit (digit_value a b c false) 2 ∷ []) (digit_bit-0 a b c false) ∙ ap (λ x. a ∷ x ∷ digit_bit (digit_value a b c false) 2 ∷ []) (digit_bit-1 a b c false) ∙ ap (λ x. a ∷ b ∷ x ∷ []) (digit_bit-2 a b c false)
+row_bits-digits_of (a ∷ b ∷ []) =
+    ap (λ x. x ∷ digit_bit (digit_value a b false false) 1 ∷ []) (digit_bit-0 a b false false)
+    ∙ ap (λ x. a ∷ x ∷ []) (digit_bit-1 a b false false)
+row_bits-digits_of (a ∷ b ∷ c ∷ []) =
+    ap (λ x. x ∷ digit_bit (digit_value a b c false) 1 ∷ digit_bit (digit_value a b c false) 2 ∷ [])
+    (digit_bit-0 a b c false)
+    ∙ ap (λ x. a ∷ x ∷ digit_bit (digit_value a b c false) 2 ∷ []) (digit_bit-1 a b c false)
+    ∙ ap (λ x. a ∷ b ∷ x ∷ []) (digit_bit-2 a b c false)
 row_bits-digits_of (a ∷ b ∷ c ∷ d ∷ bits) =
     let next : length (a ∷ b ∷ c ∷ d ∷ bits) ≡ suc (suc (suc (suc (length bits)))) = omega arith in
     ap (λ n. take n (bits_of (digits_of (a ∷ b ∷ c ∷ d ∷ bits)))) next
-    ∙ ap (λ x. x ∷ digit_bit (digit_value a b c d) 1 ∷ digit_bit (digit_value a b c d) 2 ∷ digit_bit (digit_value a b c d) 3 ∷ take (length bits) (bits_of (digits_of bits))) (digit_bit-0 a b c d)
-    ∙ ap (λ x. a ∷ x ∷ digit_bit (digit_value a b c d) 2 ∷ digit_bit (digit_value a b c d) 3 ∷ take (length bits) (bits_of (digits_of bits))) (digit_bit-1 a b c d)
+    ∙ ap
+    (λ x. x ∷ digit_bit (digit_value a b c d) 1 ∷ digit_bit (digit_value a b c d) 2
+    ∷ digit_bit (digit_value a b c d) 3 ∷ take (length bits) (bits_of (digits_of bits)))
+    (digit_bit-0 a b c d)
+    ∙ ap
+    (λ x. a ∷ x ∷ digit_bit (digit_value a b c d) 2 ∷ digit_bit (digit_value a b c d) 3
+    ∷ take (length bits) (bits_of (digits_of bits))) (digit_bit-1 a b c d)
     ∙ ap (λ x. a ∷ b ∷ x ∷ digit_bit (digit_value a b c d) 3 ∷ take (length bits) (bits_of (digits_of bits))) (digit_bit-2 a b c d)
     ∙ ap (λ x. a ∷ b ∷ c ∷ x ∷ take (length bits) (bits_of (digits_of bits))) (digit_bit-3 a b c d)
     ∙ ap (λ t. a ∷ b ∷ c ∷ d ∷ t) (row_bits-digits_of bits)
 
 -- bit `i` of a list is bit `i % 4` of digit `i / 4` of the list's digits
-pub digits_of-get : (bits : List Bool) (i : ℕ) → i < length bits → digit_bit (get_or (digits_of bits) (i / 4) 0) (i % 4) ≡ get_or bits i false
+pub digits_of-get : (bits : List Bool) (i : ℕ) → i < length bits
+    → digit_bit (get_or (digits_of bits) (i / 4) 0) (i % 4) ≡ get_or bits i false
 digits_of-get [] i within = absurd (omega arith)
 digits_of-get (a ∷ []) zero within = digit_bit-0 a false false false
 digits_of-get (a ∷ []) (suc i) within = absurd (omega arith)
@@ -141,7 +167,9 @@ digits_of-get (a ∷ b ∷ c ∷ d ∷ bits) (suc (suc (suc (suc i)))) within =
     ∙ ap (λ k. digit_bit (get_or (digits_of bits) (i / 4) 0) k) bit ∙ digits_of-get bits i (omega arith)
 
 -- changing bit `i` of a list changes bit `i % 4` of digit `i / 4`, and no other digit
-pub digits_of-set : (bits : List Bool) (i : ℕ) (bit : Bool) → i < length bits → set (digits_of bits) (i / 4) (with_bit (get_or (digits_of bits) (i / 4) 0) (i % 4) bit) ≡ digits_of (set bits i bit)
+pub digits_of-set : (bits : List Bool) (i : ℕ) (bit : Bool) → i < length bits
+    → set (digits_of bits) (i / 4) (with_bit (get_or (digits_of bits) (i / 4) 0) (i % 4) bit)
+    ≡ digits_of (set bits i bit)
 digits_of-set [] i bit within = absurd (omega arith)
 digits_of-set (a ∷ []) zero bit within = ap (λ x. x ∷ []) (with_bit-0 a false false false bit)
 digits_of-set (a ∷ []) (suc i) bit within = absurd (omega arith)
@@ -159,7 +187,10 @@ digits_of-set (a ∷ b ∷ c ∷ d ∷ bits) (suc (suc (suc zero))) bit within =
 digits_of-set (a ∷ b ∷ c ∷ d ∷ bits) (suc (suc (suc (suc i)))) bit within =
     let place : suc (suc (suc (suc i))) / 4 ≡ suc (i / 4) = omega arith in
     let at : suc (suc (suc (suc i))) % 4 ≡ i % 4 = omega arith in
-    ap (λ p. set (digits_of (a ∷ b ∷ c ∷ d ∷ bits)) p (with_bit (get_or (digits_of (a ∷ b ∷ c ∷ d ∷ bits)) p 0) (suc (suc (suc (suc i))) % 4) bit)) place
+    ap
+    (λ p. set (digits_of (a ∷ b ∷ c ∷ d ∷ bits)) p
+    (with_bit (get_or (digits_of (a ∷ b ∷ c ∷ d ∷ bits)) p 0) (suc (suc (suc (suc i))) % 4)
+    bit)) place
     ∙ ap (λ k. digit_value a b c d ∷ set (digits_of bits) (i / 4) (with_bit (get_or (digits_of bits) (i / 4) 0) k bit)) at
     ∙ ap (λ t. digit_value a b c d ∷ t) (digits_of-set bits i bit (omega arith))
 
@@ -175,7 +206,8 @@ digits_of-zeros (suc (suc (suc (suc len)))) =
 
 -- if the value of bit `k` of a digit is subtracted and the value of the new bit is added, the
 -- result is the digit with bit `k` replaced
-pub with_bit-sum : (digit k from : ℕ) (bit : Bool) → k < 4 → digit < 256 → from ≡ bit_value bit → digit - bit_and digit (1 * 2 ^ k % 256) + from * 2 ^ k % 256 ≡ with_bit digit k bit
+pub with_bit-sum : (digit k from : ℕ) (bit : Bool) → k < 4 → digit < 256 → from ≡ bit_value bit
+    → digit - bit_and digit (1 * 2 ^ k % 256) + from * 2 ^ k % 256 ≡ with_bit digit k bit
 with_bit-sum digit zero from bit few fits is = omega (arith, and_pow digit 0, bit_value-le bit)
 with_bit-sum digit (suc zero) from bit few fits is = omega (arith, and_pow digit 1, bit_value-le bit)
 with_bit-sum digit (suc (suc zero)) from bit few fits is = omega (arith, and_pow digit 2, bit_value-le bit)
@@ -200,16 +232,25 @@ digits_of-append k (a ∷ b ∷ c ∷ d ∷ low) high whole =
 
 -- if the first `k` digits are right for the first `4 * k` bits, and digit `k` is set to the digit
 -- of the next four bits, the first `k + 1` digits are right
-pub filled_values-more : (bits : List Bool) (digits : List ℕ) (k d : ℕ) → k < length digits → 4 * k + 3 < length bits → take k digits ≡ digits_of (take (4 * k) bits) → d ≡ digit_value (get_or bits (4 * k) false) (get_or bits (4 * k + 1) false) (get_or bits (4 * k + 2) false) (get_or bits (4 * k + 3) false) → take (k + 1) (set digits k d) ≡ digits_of (take (4 * (k + 1)) bits)
+pub filled_values-more : (bits : List Bool) (digits : List ℕ) (k d : ℕ) → k < length digits
+    → 4 * k + 3 < length bits → take k digits ≡ digits_of (take (4 * k) bits)
+    → d
+    ≡ digit_value (get_or bits (4 * k) false) (get_or bits (4 * k + 1) false)
+    (get_or bits (4 * k + 2) false) (get_or bits (4 * k + 3) false)
+    → take (k + 1) (set digits k d) ≡ digits_of (take (4 * (k + 1)) bits)
 filled_values-more bits digits k d place within so_far is_d =
     let next : 4 * (k + 1) ≡ 4 * k + 4 = omega arith in
     let whole : length (take (4 * k) bits) ≡ 4 * k = length-take-le (4 * k) bits (omega arith) in
     take_more_set digits k d place ∙ ap (λ t. t ++ d ∷ []) so_far ∙ ap (λ x. digits_of (take (4 * k) bits) ++ x ∷ []) is_d
-    ∙ sym (ap (λ n. digits_of (take n bits)) next ∙ ap digits_of (take_four bits (4 * k) within) ∙ digits_of-append k (take (4 * k) bits) _ whole)
+    ∙ sym
+    (ap (λ n. digits_of (take n bits)) next ∙ ap digits_of (take_four bits (4 * k) within)
+    ∙ digits_of-append k (take (4 * k) bits) _ whole)
 
 -- if all digits but the last are right, and the last digit is set to the digit of the bits that are
 -- left, all digits are right
-pub filled_values-top : (bits : List Bool) (digits : List ℕ) (w top : ℕ) → length digits ≡ w + 1 → 4 * w ≤ length bits → take w digits ≡ digits_of (take (4 * w) bits) → top ∷ [] ≡ digits_of (drop (4 * w) bits) → set digits w top ≡ digits_of bits
+pub filled_values-top : (bits : List Bool) (digits : List ℕ) (w top : ℕ) → length digits ≡ w + 1
+    → 4 * w ≤ length bits → take w digits ≡ digits_of (take (4 * w) bits)
+    → top ∷ [] ≡ digits_of (drop (4 * w) bits) → set digits w top ≡ digits_of bits
 filled_values-top bits digits w top sized few so_far is_top =
     let whole : length (take (4 * w) bits) ≡ 4 * w = length-take-le (4 * w) bits few in
     sym (take_all (w + 1) (set digits w top) (omega (arith, length-set {A = ℕ}))) ∙ take_more_set digits w top (omega arith)
@@ -227,7 +268,8 @@ bits_of-append (x ∷ low) high =
 
 -- if `len` is not a multiple of 4, the bits from `len` on are the bits of the last digit from bit
 -- `len % 4` on
-pub drop-bits_of : (digits : List ℕ) (len : ℕ) → length digits ≡ digit_count len → 0 < len % 4 → drop len (bits_of digits) ≡ drop (len % 4) (bits_of (get_or digits (len / 4) 0 ∷ []))
+pub drop-bits_of : (digits : List ℕ) (len : ℕ) → length digits ≡ digit_count len → 0 < len % 4
+    → drop len (bits_of digits) ≡ drop (len % 4) (bits_of (get_or digits (len / 4) 0 ∷ []))
 drop-bits_of [] len sized some = absurd (omega arith)
 drop-bits_of (x ∷ []) zero sized some = absurd (omega arith)
 drop-bits_of (x ∷ []) (suc zero) sized some = refl
@@ -242,7 +284,9 @@ drop-bits_of (x ∷ y ∷ ys) (suc (suc (suc (suc len)))) sized some =
     let place : suc (suc (suc (suc len))) / 4 ≡ suc (len / 4) = omega arith in
     let at : suc (suc (suc (suc len))) % 4 ≡ len % 4 = omega arith in
     drop-bits_of (y ∷ ys) len (omega arith) (omega arith)
-    ∙ sym (ap (λ p. drop (suc (suc (suc (suc len))) % 4) (bits_of (get_or (x ∷ y ∷ ys) p 0 ∷ []))) place ∙ ap (λ k. drop k (bits_of (get_or (y ∷ ys) (len / 4) 0 ∷ []))) at)
+    ∙ sym
+    (ap (λ p. drop (suc (suc (suc (suc len))) % 4) (bits_of (get_or (x ∷ y ∷ ys) p 0 ∷ [])))
+    place ∙ ap (λ k. drop k (bits_of (get_or (y ∷ ys) (len / 4) 0 ∷ []))) at)
 
 pub drop-bits_of-whole : (digits : List ℕ) (len : ℕ) → length digits ≡ digit_count len → len % 4 ≡ 0 → drop len (bits_of digits) ≡ []
 drop-bits_of-whole digits len sized whole =
@@ -256,7 +300,13 @@ bit_value-test (suc (suc n)) small = absurd (omega arith)
 
 digit_value-bits : (x : ℕ) → x < 16 → digit_value (digit_bit x 0) (digit_bit x 1) (digit_bit x 2) (digit_bit x 3) ≡ x
 digit_value-bits x small =
-    omega (arith, bit_value-test (x / 2 ^ 0 % 2) (omega arith), bit_value-test (x / 2 ^ 1 % 2) (omega arith), bit_value-test (x / 2 ^ 2 % 2) (omega arith), bit_value-test (x / 2 ^ 3 % 2) (omega arith))
+    omega (
+      arith,
+      bit_value-test (x / 2 ^ 0 % 2) (omega arith),
+      bit_value-test (x / 2 ^ 1 % 2) (omega arith),
+      bit_value-test (x / 2 ^ 2 % 2) (omega arith),
+      bit_value-test (x / 2 ^ 3 % 2) (omega arith),
+    )
 
 first_zero : (bit : Bool) (bits : List Bool) → list_all not (bit ∷ bits) ≡ true → bit ≡ false
 first_zero false bits zeros = refl
@@ -268,24 +318,38 @@ other_zeros true bits zeros = absurd (false≢true zeros)
 
 -- if the bits of digits from `len` on are all 0, the digits are the digits of their first `len`
 -- bits
-pub kept_digits : (digits : List ℕ) (len : ℕ) → All (λ x. x < 16) digits → length digits ≡ digit_count len → list_all not (drop len (bits_of digits)) ≡ true → digits ≡ digits_of (row_bits len digits)
-unfolding row_bits
+pub kept_digits : (digits : List ℕ) (len : ℕ) → All (λ x. x < 16) digits
+    → length digits ≡ digit_count len → list_all not (drop len (bits_of digits)) ≡ true
+    → digits ≡ digits_of (digit_row len digits)
+unfolding digit_row
 kept_digits [] zero below sized zeros = refl
 kept_digits [] (suc len) below sized zeros = absurd (omega arith)
 kept_digits (x ∷ []) zero below sized zeros = absurd (omega arith)
 kept_digits (x ∷ []) (suc zero) below sized zeros =
     let b = digit_bit x 1 in
     let rest = other_zeros (digit_bit x 1) (digit_bit x 2 ∷ digit_bit x 3 ∷ []) zeros in
-    sym (ap (λ v. v ∷ []) (ap (λ t. digit_value (digit_bit x 0) t false false) (sym (first_zero (digit_bit x 1) (digit_bit x 2 ∷ digit_bit x 3 ∷ []) zeros))
+    sym
+    (ap (λ v. v ∷ [])
+    (ap (λ t. digit_value (digit_bit x 0) t false false)
+    (sym (first_zero (digit_bit x 1) (digit_bit x 2 ∷ digit_bit x 3 ∷ []) zeros))
     ∙ ap (λ t. digit_value (digit_bit x 0) (digit_bit x 1) t false) (sym (first_zero (digit_bit x 2) (digit_bit x 3 ∷ []) rest))
-    ∙ ap (λ t. digit_value (digit_bit x 0) (digit_bit x 1) (digit_bit x 2) t) (sym (first_zero (digit_bit x 3) [] (other_zeros (digit_bit x 2) (digit_bit x 3 ∷ []) rest)))
+    ∙ ap (λ t. digit_value (digit_bit x 0) (digit_bit x 1) (digit_bit x 2) t)
+    (sym (first_zero (digit_bit x 3) [] (other_zeros (digit_bit x 2) (digit_bit x 3 ∷ []) rest)))
     ∙ digit_value-bits x (All-head (λ x. x < 16) x [] below)))
 kept_digits (x ∷ []) (suc (suc zero)) below sized zeros =
-    sym (ap (λ v. v ∷ []) (ap (λ t. digit_value (digit_bit x 0) (digit_bit x 1) t false) (sym (first_zero (digit_bit x 2) (digit_bit x 3 ∷ []) zeros))
-    ∙ ap (λ t. digit_value (digit_bit x 0) (digit_bit x 1) (digit_bit x 2) t) (sym (first_zero (digit_bit x 3) [] (other_zeros (digit_bit x 2) (digit_bit x 3 ∷ []) zeros)))
+    sym
+    (ap (λ v. v ∷ [])
+    (ap (λ t. digit_value (digit_bit x 0) (digit_bit x 1) t false)
+    (sym (first_zero (digit_bit x 2) (digit_bit x 3 ∷ []) zeros))
+    ∙ ap (λ t. digit_value (digit_bit x 0) (digit_bit x 1) (digit_bit x 2) t)
+    (sym
+    (first_zero (digit_bit x 3) [] (other_zeros (digit_bit x 2) (digit_bit x 3 ∷ []) zeros)))
     ∙ digit_value-bits x (All-head (λ x. x < 16) x [] below)))
 kept_digits (x ∷ []) (suc (suc (suc zero))) below sized zeros =
-    sym (ap (λ v. v ∷ []) (ap (λ t. digit_value (digit_bit x 0) (digit_bit x 1) (digit_bit x 2) t) (sym (first_zero (digit_bit x 3) [] zeros))
+    sym
+    (ap (λ v. v ∷ [])
+    (ap (λ t. digit_value (digit_bit x 0) (digit_bit x 1) (digit_bit x 2) t)
+    (sym (first_zero (digit_bit x 3) [] zeros))
     ∙ digit_value-bits x (All-head (λ x. x < 16) x [] below)))
 kept_digits (x ∷ y ∷ ys) zero below sized zeros = absurd (omega arith)
 kept_digits (x ∷ y ∷ ys) (suc zero) below sized zeros = absurd (omega arith)
@@ -296,11 +360,12 @@ kept_digits (x ∷ xs) (suc (suc (suc (suc len)))) below sized zeros =
     ∙ sym (ap (λ v. v ∷ digits_of (take len (bits_of xs))) (digit_value-bits x (All-head (λ x. x < 16) x xs below)))
 
 -- if the digits are the digits of a list of `len` bits, their first `len` bits are this list
-pub row_bits-is : (bits : List Bool) (len : ℕ) (digits : List ℕ) → length bits ≡ len → digits ≡ digits_of bits → row_bits len digits ≡ bits
+pub row_bits-is : (bits : List Bool) (len : ℕ) (digits : List ℕ) → length bits ≡ len → digits ≡ digits_of bits → digit_row len digits ≡ bits
 row_bits-is bits len digits sized is =
-    sym (ap (λ n. row_bits n digits) sized) ∙ ap (row_bits (length bits)) is ∙ row_bits-digits_of bits
+    sym (ap (λ n. digit_row n digits) sized) ∙ ap (digit_row (length bits)) is ∙ row_bits-digits_of bits
 
-pub digits_of-row : (bits : List Bool) (len : ℕ) (digits : List ℕ) → length bits ≡ len → digits ≡ digits_of bits → AreDigitsOf (row_bits len digits) len digits
+pub digits_of-row : (bits : List Bool) (len : ℕ) (digits : List ℕ) → length bits ≡ len
+    → digits ≡ digits_of bits → AreDigitsOf (digit_row len digits) len digits
 digits_of-row bits len digits sized is = record {
   count = ap length (row_bits-is bits len digits sized is) ∙ sized;
   values = is ∙ ap digits_of (sym (row_bits-is bits len digits sized is));
@@ -308,7 +373,8 @@ digits_of-row bits len digits sized is = record {
 
 -- if the digits are the digits of `seen`, and `seen` is equal to `bits`, they are the digits of
 -- `bits`
-pub seen_digits : (seen bits : List Bool) (len : ℕ) (digits : List ℕ) → AreDigitsOf seen len digits → seen ≡ bits → AreDigitsOf bits len digits
+pub seen_digits : (seen bits : List Bool) (len : ℕ) (digits : List ℕ) → AreDigitsOf seen len digits
+    → seen ≡ bits → AreDigitsOf bits len digits
 seen_digits seen bits len digits are is = record {
   count = ap length (sym is) ∙ are.count;
   values = are.values ∙ ap digits_of is;

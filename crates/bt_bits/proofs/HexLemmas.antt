@@ -12,7 +12,11 @@ length-hex_text (a ∷ b ∷ c ∷ d ∷ bits) =
     length-append (hex_text bits) (hex_digit a b c d ∷ []) ∙ omega (arith, length-hex_text bits)
 
 -- the first `i + 4` bits are the first `i` bits followed by the next four
-pub take_four : (bits : List Bool) (i : ℕ) → i + 3 < length bits → take (i + 4) bits ≡ take i bits ++ get_or bits i false ∷ get_or bits (i + 1) false ∷ get_or bits (i + 2) false ∷ get_or bits (i + 3) false ∷ []
+pub take_four : (bits : List Bool) (i : ℕ) → i + 3 < length bits
+    → take (i + 4) bits
+    ≡ take i bits
+    ++ get_or bits i false ∷ get_or bits (i + 1) false ∷ get_or bits (i + 2) false
+    ∷ get_or bits (i + 3) false ∷ []
 take_four bits i within = grind (arith, take_more {X = Bool}, append_assoc {A = Bool})
 
 joined_bits-none : (bits : Option (List Bool)) → joined_bits bits None ≡ None
@@ -26,6 +30,7 @@ text_bits-none (c ∷ cs) zero within bad = ap (joined_bits (text_bits cs)) bad 
 text_bits-none (c ∷ cs) (suc i) within bad = ap (λ o. joined_bits o (digit_bits c)) (text_bits-none cs i (omega arith) bad)
 
 -- if a field has as many digits as `len` bits need, it has the bits of its text, cut to `len` bits
-pub field_bits-sized : (len : ℕ) (text : List ℕ) → length text ≡ digit_count len → field_bits len text ≡ option_and_then (cut_to len) (text_bits text)
+pub field_bits-sized : (len : ℕ) (text : List ℕ) → length text ≡ digit_count len
+    → field_bits len text ≡ option_and_then (cut_to len) (text_bits text)
 field_bits-sized len text sized =
     ap (λ b. cond b (option_and_then (cut_to len) (text_bits text)) None) (eq-eqb (length text) (digit_count len) sized)

@@ -1,6 +1,6 @@
 -- Samples of rows that are kept side by side, with values computed by hand.
 use Rattle.std.proofs.Common.{◌≡◌, true, false, [], ◌∷◌, get_or, refl, ap, arith}
-use Rattle.bt_bits.specs.Digits.{row_bits}
+use Rattle.bt_bits.specs.Digits.{digit_row}
 use Rattle.bt_bits.specs.Stacks.{AreStacked, Stack, column_bit, digit_in, stacked}
 
 -- Two words. The first has the digits 2, 5 and A for rows 0, 1 and 2, and the second has the digits
@@ -13,23 +13,25 @@ digits : digit_in 0 2642 ∷ digit_in 1 2642 ∷ digit_in 2 2642 ∷ digit_in 3 
 digits = refl
 
 first : stacked rows 0 ≡ false ∷ true ∷ false ∷ false ∷ true ∷ false ∷ []
-unfolding row_bits
+unfolding digit_row
 first = refl
 
 second : stacked rows 1 ≡ true ∷ false ∷ true ∷ false ∷ true ∷ true ∷ []
-unfolding row_bits
+unfolding digit_row
 second = refl
 
 third : stacked rows 2 ≡ false ∷ true ∷ false ∷ true ∷ false ∷ false ∷ []
-unfolding row_bits
+unfolding digit_row
 third = refl
 
 -- in the word 4354, which is 1102 in hexadecimal, only digits 2 and 3 have their lowest bit set
-column : column_bit (record { word = 4354 }) 0 ∷ column_bit (record { word = 4354 }) 1 ∷ column_bit (record { word = 4354 }) 2 ∷ column_bit (record { word = 4354 }) 3 ∷ [] ≡ false ∷ false ∷ true ∷ true ∷ []
+column : column_bit (record { word = 4354 }) 0 ∷ column_bit (record { word = 4354 }) 1
+    ∷ column_bit (record { word = 4354 }) 2 ∷ column_bit (record { word = 4354 }) 3 ∷ []
+    ≡ false ∷ false ∷ true ∷ true ∷ []
 column = refl
 
 -- if rows have six bits, bits 2 and 3 of a digit in the second word are past the end, so a row may
 -- not have the digit 4 there
 none_past_the_end : AreStacked 6 (2642 ∷ 52 ∷ []) → ⊥
-unfolding row_bits
+unfolding digit_row
 none_past_the_end are = let four : 4 ≡ 0 = ap (λ digits. get_or digits 1 0) (are 0 (omega arith)).values in absurd (omega (arith, four))

@@ -4,7 +4,7 @@ use Rattle.std.specs.Prelude.{All, ◌==◌, map}
 use Rattle.std.proofs.lemmas.Bool.{agree_below, agree_below_at}
 use Rattle.std.proofs.lemmas.List.{length-map}
 use Rattle.std.proofs.lemmas.List.Elements.{All-head, All-tail}
-use Rattle.bt_bits.specs.Digits.{digits_of, row_bits}
+use Rattle.bt_bits.specs.Digits.{digits_of, digit_row}
 use Rattle.bt_bits.specs.Hex.{digit_count}
 use Rattle.bt_bits.specs.Stacks.{AreStacked, digit_in}
 use Rattle.bt_bits.specs.inner.Digits.{with_bit}
@@ -15,11 +15,19 @@ use Rattle.bt_bits.proofs.DigitLemmas.{digits_of-row, digits_of-set, length-digi
 pub length-words : (len : ℕ) (words : List ℕ) → AreStacked len words → length words ≡ digit_count len
 length-words len words are =
     let first = are 0 (omega arith) in
-    omega (arith, length-map words (digit_in 0), ap length first.values, length-digits_of (row_bits len (map (digit_in 0) words)), first.count)
+    omega (
+      arith,
+      length-map words (digit_in 0),
+      ap length first.values,
+      length-digits_of (digit_row len (map (digit_in 0) words)),
+      first.count,
+    )
 
 -- if, for each `j` below 16, the digits `j` of the words are the digits of a list of `len` bits,
 -- the words hold rows of `len` bits
-pub stacked_by : (len : ℕ) (words : List ℕ) (rows : ℕ → List Bool) → ((j : ℕ) → j < 16 → length (rows j) ≡ len) → ((j : ℕ) → j < 16 → map (digit_in j) words ≡ digits_of (rows j)) → AreStacked len words
+pub stacked_by : (len : ℕ) (words : List ℕ) (rows : ℕ → List Bool)
+    → ((j : ℕ) → j < 16 → length (rows j) ≡ len)
+    → ((j : ℕ) → j < 16 → map (digit_in j) words ≡ digits_of (rows j)) → AreStacked len words
 stacked_by len words rows sized are j less = digits_of-row (rows j) len (map (digit_in j) words) (sized j less) (are j less)
 
 -- changing the word at a place changes the digit of each row at this place, and no other digit
@@ -36,9 +44,11 @@ map_get f (w ∷ words) (suc place) within = map_get f words place (omega arith)
 -- if bit `i % 4` of digit `j` of word `i / 4` is set to `bit`, the digits of row `j` are the digits
 -- of the row with bit `i` set to `bit`
 pub set_digits : (len i : ℕ) (words : List ℕ) (word j : ℕ) (bit : Bool) → AreStacked len words → i < len → j < 16 →
-    digit_in j word ≡ with_bit (digit_in j (get_or words (i / 4) 0)) (i % 4) bit → map (digit_in j) (set words (i / 4) word) ≡ digits_of (set (row_bits len (map (digit_in j) words)) i bit)
+    digit_in j word ≡ with_bit (digit_in j (get_or words (i / 4) 0)) (i % 4) bit
+    → map (digit_in j) (set words (i / 4) word)
+    ≡ digits_of (set (digit_row len (map (digit_in j) words)) i bit)
 set_digits len i words word j bit are within less is =
-    let row = row_bits len (map (digit_in j) words) in
+    let row = digit_row len (map (digit_in j) words) in
     let mine = are j less in
     let place : i / 4 < length words = omega (arith, length-words len words are) in
     map_set (digit_in j) words (i / 4) word
@@ -47,20 +57,26 @@ set_digits len i words word j bit are within less is =
     ∙ digits_of-set row i bit (omega (arith, mine.count))
 
 pub set_row : (len i : ℕ) (words : List ℕ) (word j : ℕ) (bit : Bool) → AreStacked len words → i < len → j < 16 →
-    digit_in j word ≡ with_bit (digit_in j (get_or words (i / 4) 0)) (i % 4) bit → row_bits len (map (digit_in j) (set words (i / 4) word)) ≡ set (row_bits len (map (digit_in j) words)) i bit
+    digit_in j word ≡ with_bit (digit_in j (get_or words (i / 4) 0)) (i % 4) bit
+    → digit_row len (map (digit_in j) (set words (i / 4) word))
+    ≡ set (digit_row len (map (digit_in j) words)) i bit
 set_row len i words word j bit are within less is =
-    let row = row_bits len (map (digit_in j) words) in
+    let row = digit_row len (map (digit_in j) words) in
     row_bits-is (set row i bit) len _ (length-set row i bit ∙ (are j less).count) (set_digits len i words word j bit are within less is)
 
 -- if a digit is multiplied by the word in which each digit is 1, each digit of the product is this
 -- digit; the proof tests all cases
 digit_in-each : (digit j : ℕ) → digit < 16 → j < 16 → digit_in j (digit * 1229782938247303441) ≡ digit
 digit_in-each digit j small less =
-    same_digit (digit * 1229782938247303441) digit (agree_below_at (λ d. agree_below (λ i. digit_in i (d * 1229782938247303441) == d) (λ _. true) 16) (λ _. true) 16 digit refl small) j less
+    same_digit (digit * 1229782938247303441) digit
+    (agree_below_at
+    (λ d. agree_below (λ i. digit_in i (d * 1229782938247303441) == d) (λ _. true) 16)
+    (λ _. true) 16 digit refl small) j less
 
 -- if each digit of a row is multiplied by the word in which each digit is 1, the digits `j` of the
 -- resulting words are the digits of the row, for each row `j`
-pub digits_each : (digits : List ℕ) (j : ℕ) → All (λ x. x < 16) digits → j < 16 → map (digit_in j) (map (λ x. x * 1229782938247303441) digits) ≡ digits
+pub digits_each : (digits : List ℕ) (j : ℕ) → All (λ x. x < 16) digits → j < 16
+    → map (digit_in j) (map (λ x. x * 1229782938247303441) digits) ≡ digits
 digits_each [] j small less = refl
 digits_each (x ∷ xs) j small less =
     ap (λ d. d ∷ map (digit_in j) (map (λ x. x * 1229782938247303441) xs)) (digit_in-each x j (All-head (λ x. x < 16) x xs small) less)

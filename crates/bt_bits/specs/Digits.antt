@@ -29,5 +29,5 @@ bits_of [] = []
 bits_of (x ∷ xs) = digit_bit x 0 ∷ digit_bit x 1 ∷ digit_bit x 2 ∷ digit_bit x 3 ∷ bits_of xs
 
 -- the first `len` bits of a list of digits
-unfoldable pub row_bits : ℕ → List ℕ → List Bool
-row_bits len digits = take len (bits_of digits)
+unfoldable pub digit_row : ℕ → List ℕ → List Bool
+digit_row len digits = take len (bits_of digits)

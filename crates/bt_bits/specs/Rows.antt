@@ -10,7 +10,9 @@ pub record BitRow : Type 0 where
   pub room : ℕ
 
 abbrev pub row_code : Coded BitRow
-row_code = code_by (List Bool × ℕ) (coded× (coded_list coded_bool) coded_ℕ) (λ r. (r.bits, r.room)) (λ p. record { bits = p.0; room = p.1 }) (λ _. refl)
+row_code =
+    code_by (List Bool × ℕ) (coded× (coded_list coded_bool) coded_ℕ) (λ r. (r.bits, r.room))
+    (λ p. record { bits = p.0; room = p.1 }) (λ _. refl)
 
 -- the list has `len` bits, and `digits` are its digits
 pub record AreDigitsOf (bits : List Bool) (len : ℕ) (digits : List ℕ) : Type 0 where

@@ -3,8 +3,8 @@ ghost use Rattle.std.specs.Prelude.{◌≡◌, ◌+◌, ◌-◌, ◌*◌, ◌/�
 ghost use Rattle.std.specs.Bool.{OnTrue, OnFalse};
 ghost use Rattle.std.specs.List.{list_all, list_any};
 ghost use Rattle.bt_bits.specs.Hex.{digit_count, digit_bits, text_bits, field_bits};
-ghost use Rattle.bt_bits.specs.Digits.{bits_of, digit_bit, digit_value, digits_of, row_bits};
-ghost use Rattle.bt_bits.specs.inner.Digits.{AreRead, IsValueOf, digit_char, digits_text, with_bit};
+ghost use Rattle.bt_bits.specs.Digits.{bits_of, digit_bit, digit_value, digits_of, digit_row};
+ghost use Rattle.bt_bits.specs.inner.Digits.{AreDigitsFrom, IsValueOf, digit_char, digits_text, with_bit};
 ghost use Rattle.bt_bits.specs.Rows.{AreDigitsOf};
 
 use crate::Line;
@@ -165,7 +165,7 @@ fn value_of(c: u8) -> u8
 // are digits. The loop does not stop at a byte that is not a digit, so that it has only one exit.
 fn fill_digits(text: &[u8], digits: &mut [u8]) -> bool
     requires { length digits.old ≡ length text.now }
-    ensures { AreRead text.now 0 digits.new result }
+    ensures { AreDigitsFrom text.now 0 digits.new result }
 {
     let count = digits.len();
     let mut most = 0;
@@ -205,8 +205,9 @@ fn is_cut(digits: &[u8], len: usize) -> bool
 pub fn fill_field(text: &[u8], len: usize, digits: &mut [u8]) -> bool
     requires text { length text.now ≡ digit_count len }
     requires places { length digits.old ≡ digit_count len }
-    ensures bits { MatchBool result (field_bits len text.now ≡ Some (row_bits len digits.new)) (field_bits len text.now ≡ None) }
-    ensures kept { OnTrue result (AreDigitsOf (row_bits len digits.new) len digits.new) }
+    ensures bits { MatchBool result (field_bits len text.now ≡ Some (digit_row len digits.new))
+        (field_bits len text.now ≡ None) }
+    ensures kept { OnTrue result (AreDigitsOf (digit_row len digits.new) len digits.new) }
 {
     fill_digits(text, digits) && is_cut(digits, len)
 }
@@ -217,9 +218,11 @@ pub fn read_field(text: &[u8], len: usize, digits: &mut Vec<u8>) -> bool
     requires few { len < 2 ^ 63 }
     requires digits { length text.now ≡ digit_count len }
     requires room { length text.now ≤ vec_capacity digits.old }
-    ensures bits { MatchBool result (field_bits len text.now ≡ Some (row_bits len digits.new.items)) (field_bits len text.now ≡ None) }
+    ensures bits { MatchBool result
+        (field_bits len text.now ≡ Some (digit_row len digits.new.items))
+        (field_bits len text.now ≡ None) }
     ensures refused { OnFalse result (digits.new.items ≡ digits_of (replicate len false)) }
-    ensures kept { AreDigitsOf (row_bits len digits.new.items) len digits.new.items }
+    ensures kept { AreDigitsOf (digit_row len digits.new.items) len digits.new.items }
     ensures capacity { vec_capacity digits.old ≤ vec_capacity digits.new }
 {
     make_zeros(len, digits);

@@ -1,6 +1,6 @@
 ghost use Rattle.std.specs.Prelude.{◌≡◌, ◌≢◌, ◌↔◌, ◌+◌, ◌<◌, ◌≤◌, [], ◌++◌, false, length, take, drop, replicate, slice_get, slice_set, Some, None, IfOk, OnOk, OnErr, IsErrOf};
 ghost use Rattle.std.specs.List.{list_any};
-ghost use Rattle.bt_bits.specs.Digits.{digits_of, row_bits};
+ghost use Rattle.bt_bits.specs.Digits.{digits_of, digit_row};
 ghost use Rattle.bt_bits.specs.Hex.{hex_text, digit_count, field_bits};
 ghost use Rattle.bt_bits.specs.Rows.{AreDigitsOf};
 ghost use Rattle.bt_bits.specs.Stacks.{stacked};
@@ -38,7 +38,7 @@ pub struct Row {
 
 impl Model for Row {
     ghost use Rattle.std.specs.Prelude.{◌≤◌, ◌<◌, ◌^◌, vec_capacity};
-    ghost use Rattle.bt_bits.specs.Digits.{row_bits};
+    ghost use Rattle.bt_bits.specs.Digits.{digit_row};
     ghost use Rattle.bt_bits.specs.Hex.{digit_count};
     ghost use Rattle.bt_bits.specs.Rows.{AreDigitsOf, BitRow, row_code};
 
@@ -46,9 +46,10 @@ impl Model for Row {
 
     ghost coded = { row_code };
 
-    ghost view = { λ a. record { bits = row_bits a.len a.digits.items; room = a.room } };
+    ghost view = { λ a. record { bits = digit_row a.len a.digits.items; room = a.room } };
 
-    ghost invariant = { λ a. AreDigitsOf (row_bits a.len a.digits.items) a.len a.digits.items × (a.len ≤ a.room) × (digit_count a.room ≤ vec_capacity a.digits) × (a.room < 2 ^ 32) };
+    ghost invariant = { λ a. AreDigitsOf (digit_row a.len a.digits.items) a.len a.digits.items
+        × (a.len ≤ a.room) × (digit_count a.room ≤ vec_capacity a.digits) × (a.room < 2 ^ 32) };
 }
 
 impl Row {
@@ -193,8 +194,8 @@ impl Row {
 /// first four bits. On an error, the digits are unspecified.
 pub fn read_digits(text: &[u8], len: u32, digits: &mut [u8]) -> Result<(), HexFault>
     requires { length digits.old ≡ digit_count len }
-    ensures ok { OnOk result (field_bits len text.now ≡ Some (row_bits len digits.new)) }
-    ensures kept { OnOk result (AreDigitsOf (row_bits len digits.new) len digits.new) }
+    ensures ok { OnOk result (field_bits len text.now ≡ Some (digit_row len digits.new)) }
+    ensures kept { OnOk result (AreDigitsOf (digit_row len digits.new) len digits.new) }
     ensures length { IsErrOf result HexFault.Length ↔ (length text.now ≢ digit_count len) }
     ensures digit { IsErrOf result HexFault.Digit
         ↔ ((length text.now ≡ digit_count len) × (field_bits len text.now ≡ None)) }

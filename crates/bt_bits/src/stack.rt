@@ -97,7 +97,8 @@ fn spread_digits(digits: &[u8], words: &mut Vec<u64>)
 #[inline]
 fn with_column(word: u64, k: u32, column: Column) -> u64
     requires { k < 4 }
-    ensures { (j : ℕ) → j < 16 → digit_in j result ≡ with_bit (digit_in j word) k (column_bit column j) }
+    ensures { (j : ℕ) → j < 16
+        → digit_in j result ≡ with_bit (digit_in j word) k (column_bit column j) }
 {
     let mask = LOWEST << k;
     (word & !mask) | ((column.word << k) & mask)
@@ -124,7 +125,8 @@ impl Model for RowStack {
 
     ghost view = { λ a. record { words = a.words.items; len = a.len; room = a.room } };
 
-    ghost invariant = { λ a. AreStacked a.len a.words.items × (a.len ≤ a.room) × (digit_count a.room ≤ vec_capacity a.words) × (a.room < 2 ^ 32) };
+    ghost invariant = { λ a. AreStacked a.len a.words.items × (a.len ≤ a.room)
+        × (digit_count a.room ≤ vec_capacity a.words) × (a.room < 2 ^ 32) };
 }
 
 impl RowStack {
@@ -182,7 +184,8 @@ impl RowStack {
     /// Sets place `i` of every row to that row's bit in the column. Does nothing if `i` is past the end.
     #[inline]
     pub fn set(&mut self, i: u32, column: Column)
-        ensures rows { (j : ℕ) → j < 16 → stacked self.new j ≡ slice_set (stacked self.old j) i (column_bit column j) }
+        ensures rows { (j : ℕ) → j < 16
+            → stacked self.new j ≡ slice_set (stacked self.old j) i (column_bit column j) }
         ensures room { self.new.room ≡ self.old.room }
     {
         if i < self.len {

@@ -14,7 +14,7 @@ use Rattle.btest_core.specs.DevicesRead.{IsDeviceText}
 use Rattle.btest_core.specs.BoardRead.{AreChainLengths, IsBoardRead}
 use Rattle.btest_core.specs.IdentsRead.{AreIdents}
 use Rattle.command_line.specs.declared.command.Command.TheVariants.{Chain, Ident, Device, Cover, Svf, Walk, Make, Diagnose, Groups, Batch}
-use Rattle.command_line.specs.Words.{Text, Command, command_of, names_of}
+use Rattle.command_line.specs.Words.{Text, Command, command_of, names_in_command}
 use Rattle.btest_cli.specs.declared.status.Status.{Status}
 use Rattle.btest_cli.specs.declared.status.Status.TheVariants.{Done, Refused, NoMemory}
 use Rattle.btest_cli.specs.Texts.{Held, Wanted, Reading, Read, TooLong, known_reading, IsRead, IsReadUpTo, Asks, AsksFor, wanted_of}
@@ -30,7 +30,8 @@ use Rattle.commands.specs.Worth.{IsWorthFor}
 -- the outcome is the text for a value that satisfies `IsFound`, or the line for a fault that satisfies it
 abbrev pub IsSaid : {A F : Type 0} → (A → Text) → (F → Text) → (Result A F → Type 0) → Result Text Text → Type 0
 IsSaid {A} {F} text_of line_of IsFound outcome =
-    ((value : A) × IsFound (Ok value) × (outcome ≡ Ok (text_of value))) ⊎ ((fault : F) × IsFound (Err fault) × (outcome ≡ Err (line_of fault)))
+    ((value : A) × IsFound (Ok value) × (outcome ≡ Ok (text_of value)))
+    ⊎ ((fault : F) × IsFound (Err fault) × (outcome ≡ Err (line_of fault)))
 
 -- `outcome` is the outcome of a request whose texts have these names: the text to write, or the line for the first fault
 abbrev pub IsGiven : Names → Request → Result Text Text → Type 0
@@ -40,14 +41,24 @@ IsGiven names (Device bsdl) outcome = IsSaid device_text (input_fault_line names
 IsGiven names (Cover texts) outcome = IsSaid cover_text (input_fault_line names) (IsBoardOf texts) outcome
 IsGiven names (Svf texts) outcome = IsSaid board_text (input_fault_line names) (IsBoardOf texts) outcome
 IsGiven names (Walk texts) outcome = IsSaid board_walk_text (input_fault_line names) (IsBoardOf texts) outcome
-IsGiven names (Make parts) outcome = IsSaid summary_text (input_fault_line names) (IsBoardRead (made.chain_text parts) (made.net_text parts) (bsdl_text ∷ [])) outcome
-IsGiven names (Diagnose workers log board) outcome = IsSaid diagnosis_text (text_fault_line names) (IsJudgedOf diagnosing (record { log = log; board = board })) outcome
-IsGiven names (Groups log board) outcome = IsSaid grouping_text (text_fault_line names) (IsJudgedOf grouping (record { log = log; board = board })) outcome
-IsGiven names (Batch workers log board) outcome = IsSaid verdicts_text (text_fault_line names) (IsJudgedOf judging_each (record { log = log; board = board })) outcome
+IsGiven names (Make parts) outcome =
+    IsSaid summary_text (input_fault_line names)
+    (IsBoardRead (made.chain_file_text parts) (made.net_text parts) (bsdl_text ∷ [])) outcome
+IsGiven names (Diagnose workers log board) outcome =
+    IsSaid diagnosis_text (text_fault_line names)
+    (IsJudgedOf diagnosing (record { log = log; board = board })) outcome
+IsGiven names (Groups log board) outcome =
+    IsSaid grouping_text (text_fault_line names)
+    (IsJudgedOf grouping (record { log = log; board = board })) outcome
+IsGiven names (Batch workers log board) outcome =
+    IsSaid verdicts_text (text_fault_line names)
+    (IsJudgedOf judging_each (record { log = log; board = board })) outcome
 
 -- `outcome` is the outcome of a command for the texts that were read. A text that is too long is the first fault.
 abbrev pub IsOutcome : Command → Reading → Result Text Text → Type 0
-IsOutcome command (Read texts) outcome = (request : Request) × (request_of command texts ≡ Some request) × IsGiven (roles_of command) request outcome
+IsOutcome command (Read texts) outcome =
+    (request : Request) × (request_of command texts ≡ Some request)
+    × IsGiven (roles_of command) request outcome
 IsOutcome command (TooLong wanted) outcome = outcome ≡ Err (long_line wanted.name wanted.limit)
 
 -- The run read the texts of a command, and asked for each text once and in order. `request` is the command with these texts.
@@ -55,7 +66,7 @@ pub record IsReadAs (held : Held) (command : Command) (asked asked' : List Text)
   pub texts : List Text
   pub read : IsRead held (wanted_of command) (Read texts)
   pub made : request_of command texts ≡ Some request
-  pub asks : Asks asked asked' (names_of command)
+  pub asks : Asks asked asked' (names_in_command command)
 
 -- the run read the texts, the sink took the text that they give, and `IsWorthFor` holds for this text
 pub record IsDone (held : Held) (command : Command) (asked asked' : List Text) (old new : Shown) : Type 0 where
@@ -104,7 +115,7 @@ pub record IsNotRead (held : Held) (command : Command) (before now : Text → �
 
 -- for some `count`, the run asked for the first `count` names of the command, each once and in order
 abbrev pub AsksSome : Command → List Text → List Text → Type 0
-AsksSome command asked asked' = (count : ℕ) × Asks asked asked' (take count (names_of command))
+AsksSome command asked asked' = (count : ℕ) × Asks asked asked' (take count (names_in_command command))
 
 -- if the words are in the grammar, P holds for their command
 abbrev pub ForCommand : List (String Global) → (Command → Type 0) → Type 0
@@ -120,4 +131,6 @@ Settles rose (Err line) status = (status ≡ Refused) ⊎ (status ≡ NoMemory)
 -- determines the status.
 abbrev pub IsComplete : Held → Command → Type 0 → Type 0 → Status → Type 0
 IsComplete held command store_rose out_rose status =
-    (reading : Reading) → known_reading held (wanted_of command) ≡ Some reading → (store_rose → ⊥) → (outcome : Result Text Text) × IsOutcome command reading outcome × Settles out_rose outcome status
+    (reading : Reading) → known_reading held (wanted_of command) ≡ Some reading → (store_rose → ⊥)
+    → (outcome : Result Text Text) × IsOutcome command reading outcome
+    × Settles out_rose outcome status

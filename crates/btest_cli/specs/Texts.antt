@@ -1,7 +1,7 @@
 -- The texts that a command reads.
 use Rattle.std.specs.Prelude.{◌≡◌, ℕ, ◌<◌, List, [], ◌∷◌, ◌++◌, length, map, Option, Some, None, nat_lt, if◌then◌else◌}
 use Rattle.command_line.specs.declared.command.Command.TheVariants.{Diagnose, Groups, Batch}
-use Rattle.command_line.specs.Words.{Text, Command, board_names, names_of}
+use Rattle.command_line.specs.Words.{Text, Command, board_names, names_in_command}
 
 -- a text to read: its name, and the most bytes that it may have
 pub record Wanted : Type 0 where
@@ -13,15 +13,15 @@ abbrev pub text_called : Text → Wanted
 text_called name = record { name = name; limit = 4194304 }
 
 -- a response log or a batch of logs with this name
-abbrev pub log_called : Text → Wanted
-log_called name = record { name = name; limit = 67108864 }
+abbrev pub wanted_log : Text → Wanted
+wanted_log name = record { name = name; limit = 67108864 }
 
 -- the texts that a command reads, in order
 abbrev pub wanted_of : Command → List Wanted
-wanted_of (Diagnose workers log names) = log_called log ∷ map text_called (board_names names)
-wanted_of (Groups log names) = log_called log ∷ map text_called (board_names names)
-wanted_of (Batch workers log names) = log_called log ∷ map text_called (board_names names)
-wanted_of command = map text_called (names_of command)
+wanted_of (Diagnose workers log names) = wanted_log log ∷ map text_called (board_names names)
+wanted_of (Groups log names) = wanted_log log ∷ map text_called (board_names names)
+wanted_of (Batch workers log names) = wanted_log log ∷ map text_called (board_names names)
+wanted_of command = map text_called (names_in_command command)
 
 abbrev pub names_in : List Wanted → List Text
 names_in texts = map (λ text. text.name) texts

@@ -59,7 +59,8 @@ pub fn put_unread<N: Sink>(failure: &Unread, notes: &mut N) -> Result<(), PutFau
 
 /// Writes the line for a text that was not written whole. `names` has the names of the texts that the command read.
 pub fn put_unput<N: Sink>(names: Names, failure: &Unput, notes: &mut N) -> Result<(), PutFault>
-    ensures { Puts (N.shown notes.old) (N.shown notes.new) (unput_line (names_view names.entry) failure.now) result }
+    ensures { Puts (N.shown notes.old) (N.shown notes.new)
+        (unput_line (names_view names.entry) failure.now) result }
 {
     match failure {
         Unput::Input(fault) => put_input_fault(names, fault, notes),

@@ -1,7 +1,7 @@
 // Reads the texts of a command, each as the kind of text that the command needs there.
 ghost use Rattle.std.specs.Prelude.{◌∷◌, map};
 ghost use Rattle.command_line.specs.Words.{board_names, chain_names};
-ghost use Rattle.btest_cli.specs.Texts.{log_called, text_called, wanted_of};
+ghost use Rattle.btest_cli.specs.Texts.{wanted_log, text_called, wanted_of};
 ghost use Rattle.btest_cli.specs.inner.Reads.{OfBoard, OfChain, OfLog, OfRequest, Reads};
 
 use crate::failure::Unread;
@@ -19,7 +19,9 @@ pub fn read_request<'a, S: Store>(
     command: &NamedCommand<'a>,
     store: &mut S,
 ) -> Result<Request, Unread<'a>>
-    ensures { Reads (OfRequest command.now) (wanted_of command.now) (S.held store.old) (S.held store.new) (S.faults store.old) (S.faults store.new) (S.asked store.old) (S.asked store.new) result }
+    ensures { Reads (OfRequest command.now) (wanted_of command.now) (S.held store.old)
+        (S.held store.new) (S.faults store.old) (S.faults store.new) (S.asked store.old)
+        (S.asked store.new) result }
 {
     match command {
         Command::Chain(names) => read_chain(alloc, names, store).map(Command::Chain),
@@ -66,7 +68,9 @@ fn read_chain<'a, S: Store>(
     names: &ChainNames<'a>,
     store: &mut S,
 ) -> Result<ChainTexts, Unread<'a>>
-    ensures { Reads OfChain (map text_called (chain_names names.now)) (S.held store.old) (S.held store.new) (S.faults store.old) (S.faults store.new) (S.asked store.old) (S.asked store.new) result }
+    ensures { Reads OfChain (map text_called (chain_names names.now)) (S.held store.old)
+        (S.held store.new) (S.faults store.old) (S.faults store.new) (S.asked store.old)
+        (S.asked store.new) result }
 {
     let chain = match read_file(alloc, &names.chain, store) {
         Ok(chain) => chain,
@@ -84,7 +88,9 @@ fn read_board<'a, S: Store>(
     names: &BoardNames<'a>,
     store: &mut S,
 ) -> Result<BoardTexts, Unread<'a>>
-    ensures { Reads OfBoard (map text_called (board_names names.now)) (S.held store.old) (S.held store.new) (S.faults store.old) (S.faults store.new) (S.asked store.old) (S.asked store.new) result }
+    ensures { Reads OfBoard (map text_called (board_names names.now)) (S.held store.old)
+        (S.held store.new) (S.faults store.old) (S.faults store.new) (S.asked store.old)
+        (S.asked store.new) result }
 {
     let chain = match read_file(alloc, &names.chain, store) {
         Ok(chain) => chain,
@@ -107,7 +113,9 @@ fn read_logs<'a, S: Store>(
     names: &BoardNames<'a>,
     store: &mut S,
 ) -> Result<LogTexts, Unread<'a>>
-    ensures { Reads OfLog (log_called log.now ∷ map text_called (board_names names.now)) (S.held store.old) (S.held store.new) (S.faults store.old) (S.faults store.new) (S.asked store.old) (S.asked store.new) result }
+    ensures { Reads OfLog (wanted_log log.now ∷ map text_called (board_names names.now))
+        (S.held store.old) (S.held store.new) (S.faults store.old) (S.faults store.new)
+        (S.asked store.old) (S.asked store.new) result }
 {
     let log = match read_log(alloc, log, store) {
         Ok(log) => log,

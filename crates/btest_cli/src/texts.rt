@@ -1,6 +1,6 @@
 // Reads texts from a store.
 ghost use Rattle.std.specs.Prelude.{◌≡◌, [], ◌∷◌, map};
-ghost use Rattle.btest_cli.specs.Texts.{log_called, text_called};
+ghost use Rattle.btest_cli.specs.Texts.{wanted_log, text_called};
 ghost use Rattle.btest_cli.specs.inner.Failures.{wanted_view};
 ghost use Rattle.btest_cli.specs.inner.Reads.{AreAll, IsOne, Reads};
 
@@ -35,7 +35,7 @@ fn text_called<'a>(name: &'a str) -> Wanted<'a>
 
 // Returns the response log or batch of logs with this name, as a text to read.
 fn log_called<'a>(name: &'a str) -> Wanted<'a>
-    ensures { wanted_view result ≡ log_called name.entry.now }
+    ensures { wanted_view result ≡ wanted_log name.entry.now }
 {
     Wanted {
         name,
@@ -49,7 +49,8 @@ fn read_wanted<'a, S: Store>(
     wanted: Wanted<'a>,
     store: &mut S,
 ) -> Result<ShortText, Unread<'a>>
-    ensures { Reads IsOne (wanted_view wanted.entry ∷ []) (S.held store.old) (S.held store.new) (S.faults store.old) (S.faults store.new) (S.asked store.old) (S.asked store.new) result }
+    ensures { Reads IsOne (wanted_view wanted.entry ∷ []) (S.held store.old) (S.held store.new)
+        (S.faults store.old) (S.faults store.new) (S.asked store.old) (S.asked store.new) result }
 {
     let mut text = Vec::new(alloc);
     match store.fetch(wanted.name, &mut text, wanted.limit) {
@@ -66,7 +67,8 @@ fn read_text<'a, S: Store>(
     name: &'a str,
     store: &mut S,
 ) -> Result<ShortText, Unread<'a>>
-    ensures { Reads IsOne (text_called name.entry.now ∷ []) (S.held store.old) (S.held store.new) (S.faults store.old) (S.faults store.new) (S.asked store.old) (S.asked store.new) result }
+    ensures { Reads IsOne (text_called name.entry.now ∷ []) (S.held store.old) (S.held store.new)
+        (S.faults store.old) (S.faults store.new) (S.asked store.old) (S.asked store.new) result }
 {
     read_wanted(alloc, text_called(name), store)
 }
@@ -77,7 +79,8 @@ pub fn read_file<'a, S: Store>(
     name: &FileName<'a>,
     store: &mut S,
 ) -> Result<ShortText, Unread<'a>>
-    ensures { Reads IsOne (text_called name.now ∷ []) (S.held store.old) (S.held store.new) (S.faults store.old) (S.faults store.new) (S.asked store.old) (S.asked store.new) result }
+    ensures { Reads IsOne (text_called name.now ∷ []) (S.held store.old) (S.held store.new)
+        (S.faults store.old) (S.faults store.new) (S.asked store.old) (S.asked store.new) result }
 {
     read_text(alloc, name.as_str(), store)
 }
@@ -88,7 +91,8 @@ pub fn read_log<'a, S: Store>(
     name: &FileName<'a>,
     store: &mut S,
 ) -> Result<ShortText, Unread<'a>>
-    ensures { Reads IsOne (log_called name.now ∷ []) (S.held store.old) (S.held store.new) (S.faults store.old) (S.faults store.new) (S.asked store.old) (S.asked store.new) result }
+    ensures { Reads IsOne (wanted_log name.now ∷ []) (S.held store.old) (S.held store.new)
+        (S.faults store.old) (S.faults store.new) (S.asked store.old) (S.asked store.new) result }
 {
     read_wanted(alloc, log_called(name.as_str()), store)
 }
@@ -99,7 +103,8 @@ pub fn read_texts<'a, S: Store>(
     names: &BsdlNames<'a>,
     store: &mut S,
 ) -> Result<ShortTexts, Unread<'a>>
-    ensures { Reads AreAll (map text_called names.now) (S.held store.old) (S.held store.new) (S.faults store.old) (S.faults store.new) (S.asked store.old) (S.asked store.new) result }
+    ensures { Reads AreAll (map text_called names.now) (S.held store.old) (S.held store.new)
+        (S.faults store.old) (S.faults store.new) (S.asked store.old) (S.asked store.new) result }
 {
     let names = names.as_slice();
     let mut texts = Vec::new(alloc);

@@ -1,7 +1,7 @@
 // The top call of the program.
 ghost use Rattle.std.specs.Prelude.{◌≡◌, ◌≢◌, ◌⊎◌, map, None, string_bytes};
 ghost use Rattle.bt_base.specs.Counts.{Rose};
-ghost use Rattle.command_line.specs.Words.{command_of, names_of};
+ghost use Rattle.command_line.specs.Words.{command_of, names_in_command};
 ghost use Rattle.btest_cli.specs.inner.RunOf.{IsRunOf};
 ghost use Rattle.refusal_lines.specs.NamesView.{names_view};
 ghost use Rattle.refusal_lines.specs.Refusals.{Names as Roles, usage_line, write_line, memory_line};
@@ -38,36 +38,55 @@ pub fn run<R: Threads + Sync, S: Store, K: Sink, N: Sink, G: Gate>(
 ) -> Status
     // Usage: the words are not in the grammar. Such words always give Usage unless memory runs out, and `run` fetches no text for them.
     ensures usage { result ≡ Status.Usage → command_of (map string_bytes words.now) ≡ None }
-    ensures words { command_of (map string_bytes words.now) ≡ None → (result ≡ Status.Usage) ⊎ (result ≡ Status.NoMemory) }
+    ensures words { command_of (map string_bytes words.now) ≡ None
+        → (result ≡ Status.Usage) ⊎ (result ≡ Status.NoMemory) }
     ensures not_fetched { command_of (map string_bytes words.now) ≡ None → store.new ≡ store.old }
-    ensures usage_noted { result ≡ Status.Usage → TookOrCut (N.shown notes.old) (N.shown notes.new) usage_line }
+    ensures usage_noted { result ≡ Status.Usage
+        → TookOrCut (N.shown notes.old) (N.shown notes.new) usage_line }
 
     // Done: `run` asked for each text once and read it. `out` took exactly the text that these texts give, and `IsWorthFor` holds for it.
-    ensures done { result ≡ Status.Done → ForCommand words.now (λ c. IsDone (S.held store.old) c (S.asked store.old) (S.asked store.new) (K.shown out.old) (K.shown out.new)) }
+    ensures done { result ≡ Status.Done
+        → ForCommand words.now
+        (λ c. IsDone (S.held store.old) c (S.asked store.old) (S.asked store.new)
+        (K.shown out.old) (K.shown out.new)) }
     ensures silent { result ≡ Status.Done → N.shown notes.new ≡ N.shown notes.old }
 
     // Refused: the texts that `run` read have a first fault, and `notes` took the line of that fault. `run` asked for no text after a text
     // that is too long.
-    ensures refused { result ≡ Status.Refused → ForCommand words.now (λ c. IsRefused (S.held store.old) c (S.asked store.old) (S.asked store.new) (N.shown notes.old) (N.shown notes.new)) }
+    ensures refused { result ≡ Status.Refused
+        → ForCommand words.now
+        (λ c. IsRefused (S.held store.old) c (S.asked store.old) (S.asked store.new)
+        (N.shown notes.old) (N.shown notes.new)) }
 
     // ReadFault: reading some text failed, so its fault count rose. All texts before it were read, and no later text was asked for. `notes`
     // took the line for the failing text.
-    ensures read { result ≡ Status.ReadFault → ForCommand words.now (λ c. IsNotRead (S.held store.old) c (S.faults store.old) (S.faults store.new) (S.asked store.old) (S.asked store.new) (N.shown notes.old) (N.shown notes.new)) }
+    ensures read { result ≡ Status.ReadFault
+        → ForCommand words.now
+        (λ c. IsNotRead (S.held store.old) c (S.faults store.old) (S.faults store.new)
+        (S.asked store.old) (S.asked store.new) (N.shown notes.old) (N.shown notes.new)) }
 
     // WriteFault: the fault count of `out` rose, and `out` took some first bytes of the text.
-    ensures write { result ≡ Status.WriteFault → Rose (K.shown out.old).faults (K.shown out.new).faults }
-    ensures cut { result ≡ Status.WriteFault → ForCommand words.now (λ c. IsCutShort (S.held store.old) c (S.asked store.old) (S.asked store.new) (K.shown out.old) (K.shown out.new)) }
-    ensures write_noted { result ≡ Status.WriteFault → TookOrCut (N.shown notes.old) (N.shown notes.new) write_line }
+    ensures write { result ≡ Status.WriteFault
+        → Rose (K.shown out.old).faults (K.shown out.new).faults }
+    ensures cut { result ≡ Status.WriteFault
+        → ForCommand words.now
+        (λ c. IsCutShort (S.held store.old) c (S.asked store.old) (S.asked store.new)
+        (K.shown out.old) (K.shown out.new)) }
+    ensures write_noted { result ≡ Status.WriteFault
+        → TookOrCut (N.shown notes.old) (N.shown notes.new) write_line }
 
     // At every status but Done and WriteFault, `run` wrote nothing to `out`. This is also true if memory ran out.
-    ensures untouched { result ≢ Status.Done → result ≢ Status.WriteFault → K.shown out.new ≡ K.shown out.old }
-    ensures memory_noted { result ≡ Status.NoMemory → TookOrCut (N.shown notes.old) (N.shown notes.new) memory_line }
-    ensures memory_asks { result ≡ Status.NoMemory → ForCommand words.now (λ c. AsksSome c (S.asked store.old) (S.asked store.new)) }
+    ensures untouched { result ≢ Status.Done → result ≢ Status.WriteFault
+        → K.shown out.new ≡ K.shown out.old }
+    ensures memory_noted { result ≡ Status.NoMemory
+        → TookOrCut (N.shown notes.old) (N.shown notes.new) memory_line }
+    ensures memory_asks { result ≡ Status.NoMemory
+        → ForCommand words.now (λ c. AsksSome c (S.asked store.old) (S.asked store.new)) }
 
     // If no fault count rose, the texts determine the status, unless memory ran out. For a command that reads no text, this is true of
     // every store.
     ensures complete { ForCommand words.now (λ c. IsComplete (S.held store.old) c
-        (SomeRose (S.faults store.old) (S.faults store.new) (names_of c)) (Rose (K.shown out.old).faults (K.shown out.new).faults) result) }
+        (SomeRose (S.faults store.old) (S.faults store.new) (names_in_command c)) (Rose (K.shown out.old).faults (K.shown out.new).faults) result) }
 {
     inputs_have_one_answer();
     inputs_keep_rules();
@@ -167,7 +186,8 @@ fn answer<R: Threads + Sync, K: Sink, G: Gate>(
     gate: &G,
     out: &mut K,
 ) -> Result<(), Unput>
-    ensures { (names : Roles) → IsAnswered names request (K.shown out.old) (K.shown out.new) result }
+    ensures { (names : Roles)
+        → IsAnswered names request (K.shown out.old) (K.shown out.new) result }
 {
     match request {
         Command::Chain(texts) => chain(alloc, &texts, out),

@@ -10,7 +10,9 @@ behind front (Err fault) = Err fault
 
 -- each answer for the items `rest`, with the values of `front` in front, is an answer for all items
 abbrev pub Completes : {A B : Type 0} → (A → Result B InputFault → Type 0) → List A → List A → List B → Type 0
-Completes {A} {B} IsOf all rest front = (answer : Result (List B) InputFault) → EachOf IsOf rest answer → EachOf IsOf all (behind front answer)
+Completes {A} {B} IsOf all rest front =
+    (answer : Result (List B) InputFault) → EachOf IsOf rest answer
+    → EachOf IsOf all (behind front answer)
 
 behind_none : {B : Type 0} (answer : Result (List B) InputFault) → behind [] answer ≡ answer
 behind_none (Ok values) = refl
@@ -19,20 +21,29 @@ behind_none (Err fault) = refl
 pub completes_all : {A B : Type 0} (IsOf : A → Result B InputFault → Type 0) (all : List A) → Completes IsOf all all []
 completes_all IsOf all answer are = subst (EachOf IsOf all) (sym (behind_none answer)) are
 
-behind_one : {B : Type 0} (front : List B) (value : B) (answer : Result (List B) InputFault) → behind front (behind (value ∷ []) answer) ≡ behind (front ++ value ∷ []) answer
+behind_one : {B : Type 0} (front : List B) (value : B) (answer : Result (List B) InputFault)
+    → behind front (behind (value ∷ []) answer) ≡ behind (front ++ value ∷ []) answer
 behind_one front value (Ok values) = ap Ok (sym (append_assoc front (value ∷ []) values))
 behind_one front value (Err fault) = refl
 
-more_of : {A B : Type 0} (IsOf : A → Result B InputFault → Type 0) (item : A) (rest : List A) (value : B) → IsOf item (Ok value) → (answer : Result (List B) InputFault) → EachOf IsOf rest answer → EachOf IsOf (item ∷ rest) (behind (value ∷ []) answer)
+more_of : {A B : Type 0} (IsOf : A → Result B InputFault → Type 0) (item : A) (rest : List A)
+    (value : B) → IsOf item (Ok value) → (answer : Result (List B) InputFault)
+    → EachOf IsOf rest answer → EachOf IsOf (item ∷ rest) (behind (value ∷ []) answer)
 more_of IsOf item rest value is (Ok values) are = inl (value, is, inl (values, are, refl))
 more_of IsOf item rest value is (Err fault) are = inl (value, is, inr (fault, are, refl))
 
-pub completes_more : {A B : Type 0} (IsOf : A → Result B InputFault → Type 0) (all : List A) (item : A) (rest : List A) (front : List B) (value : B) → Completes IsOf all (item ∷ rest) front → IsOf item (Ok value) → Completes IsOf all rest (front ++ value ∷ [])
+pub completes_more : {A B : Type 0} (IsOf : A → Result B InputFault → Type 0) (all : List A)
+    (item : A) (rest : List A) (front : List B) (value : B) → Completes IsOf all (item ∷ rest) front
+    → IsOf item (Ok value) → Completes IsOf all rest (front ++ value ∷ [])
 completes_more IsOf all item rest front value completes is answer are =
-    subst (EachOf IsOf all) (behind_one front value answer) (completes (behind (value ∷ []) answer) (more_of IsOf item rest value is answer are))
+    subst (EachOf IsOf all) (behind_one front value answer)
+    (completes (behind (value ∷ []) answer) (more_of IsOf item rest value is answer are))
 
-pub completes_fault : {A B : Type 0} (IsOf : A → Result B InputFault → Type 0) (all : List A) (item : A) (rest : List A) (front : List B) (fault : InputFault) → Completes IsOf all (item ∷ rest) front → IsOf item (Err fault) → EachOf IsOf all (Err fault)
+pub completes_fault : {A B : Type 0} (IsOf : A → Result B InputFault → Type 0) (all : List A)
+    (item : A) (rest : List A) (front : List B) (fault : InputFault)
+    → Completes IsOf all (item ∷ rest) front → IsOf item (Err fault) → EachOf IsOf all (Err fault)
 completes_fault IsOf all item rest front fault completes is = completes (Err fault) (inr (fault, is, refl))
 
-pub completes_end : {A B : Type 0} (IsOf : A → Result B InputFault → Type 0) (all : List A) (front : List B) → Completes IsOf all [] front → EachOf IsOf all (Ok front)
+pub completes_end : {A B : Type 0} (IsOf : A → Result B InputFault → Type 0) (all : List A)
+    (front : List B) → Completes IsOf all [] front → EachOf IsOf all (Ok front)
 completes_end IsOf all front completes = subst (λ values. EachOf IsOf all (Ok values)) (append-nil front) (completes (Ok []) refl)

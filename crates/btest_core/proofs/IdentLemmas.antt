@@ -19,7 +19,8 @@ use Rattle.btest_core.specs.IdentsRead.{Ident, first_bypass}
 abbrev AreDescribed : List ChainLine → Type 0
 AreDescribed lines = first_bypass lines ≡ None → length (named EntityName lines) ≡ length (named PartName lines)
 
-described_more : (n : ℕ) (statement : ChainStatement) (lines : List ChainLine) → AreDescribed lines → AreDescribed (record { line = n; statement = statement } ∷ lines)
+described_more : (n : ℕ) (statement : ChainStatement) (lines : List ChainLine) → AreDescribed lines
+    → AreDescribed (record { line = n; statement = statement } ∷ lines)
 described_more n (Device part entity pack) lines others none = omega (arith, others none)
 described_more n (Bypass part bits) lines others none = absurd cc
 described_more n (Inert part) lines others none = others none
@@ -35,7 +36,9 @@ abbrev pub idents_of : List RawDevice → List Ident
 idents_of devices = map (λ device. device.idcode) devices
 
 -- if the lines of a selected chain have no BYPASS line, there are 1 to 255 patterns
-pub count_idents : (lines : List ChainLine) (devices : List RawDevice) → IsChain lines → length devices ≡ length (named EntityName lines) → first_bypass lines ≡ None → (0 < length (idents_of devices)) × (length (idents_of devices) ≤ most_parts)
+pub count_idents : (lines : List ChainLine) (devices : List RawDevice) → IsChain lines
+    → length devices ≡ length (named EntityName lines) → first_bypass lines ≡ None
+    → (0 < length (idents_of devices)) × (length (idents_of devices) ≤ most_parts)
 count_idents lines devices chain number none =
     let same : length (idents_of devices) ≡ length devices = length-map devices (λ (device : RawDevice). device.idcode) in
     let parts = described lines none in

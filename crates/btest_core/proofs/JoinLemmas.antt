@@ -12,7 +12,7 @@ use Rattle.series_parts.specs.declared.joining.Joined.{Joined}
 use Rattle.btest_core.specs.inner.Kept.{Kept}
 use Rattle.series_parts.specs.Nets.{Word}
 use Rattle.series_parts.proofs.FileLemmas.{same_lengths}
-use Rattle.series_parts.specs.Joining.{joined_line, joined_net, renaming, joined_chain, joined_nets, joined_files, unless}
+use Rattle.series_parts.specs.Joining.{joined_line, joined_net, renaming, joined_chain, joined_nets, joined_files, unless_missing}
 
 -- the lines with the new names of nets
 abbrev renamed : (Word → Word) → List ChainLine → List ChainLine
@@ -21,7 +21,10 @@ renamed rename lines = map (joined_line rename) lines
 abbrev at : ℕ → ChainStatement → ChainLine
 at n statement = record { line = n; statement = statement }
 
-parts_more : (rename : Word → Word) (n : ℕ) (statement : ChainStatement) (lines : List ChainLine) → named PartName (renamed rename lines) ≡ named PartName lines → named PartName (renamed rename (at n statement ∷ lines)) ≡ named PartName (at n statement ∷ lines)
+parts_more : (rename : Word → Word) (n : ℕ) (statement : ChainStatement) (lines : List ChainLine)
+    → named PartName (renamed rename lines) ≡ named PartName lines
+    → named PartName (renamed rename (at n statement ∷ lines))
+    ≡ named PartName (at n statement ∷ lines)
 parts_more rename n (Device part entity pack) lines same = ap (λ names. (n, part) ∷ names) same
 parts_more rename n (Bypass part bits) lines same = ap (λ names. (n, part) ∷ names) same
 parts_more rename n (Inert part) lines same = same
@@ -33,7 +36,10 @@ same_parts : (rename : Word → Word) (lines : List ChainLine) → named PartNam
 same_parts rename [] = refl
 same_parts rename (line ∷ lines) = parts_more rename line.line line.statement lines (same_parts rename lines)
 
-entities_more : (rename : Word → Word) (n : ℕ) (statement : ChainStatement) (lines : List ChainLine) → named EntityName (renamed rename lines) ≡ named EntityName lines → named EntityName (renamed rename (at n statement ∷ lines)) ≡ named EntityName (at n statement ∷ lines)
+entities_more : (rename : Word → Word) (n : ℕ) (statement : ChainStatement) (lines : List ChainLine)
+    → named EntityName (renamed rename lines) ≡ named EntityName lines
+    → named EntityName (renamed rename (at n statement ∷ lines))
+    ≡ named EntityName (at n statement ∷ lines)
 entities_more rename n (Device part entity pack) lines same = ap (λ names. (n, entity) ∷ names) same
 entities_more rename n (Bypass part bits) lines same = same
 entities_more rename n (Inert part) lines same = same
@@ -52,7 +58,8 @@ same_chain lines others same chain = record {
   differ = rw same chain.differ;
 }
 
-kept_joined : (chain : List ChainLine) (nets : List NetLine) → Kept chain nets (record { chain = joined_chain chain nets; nets = joined_nets chain nets })
+kept_joined : (chain : List ChainLine) (nets : List NetLine)
+    → Kept chain nets (record { chain = joined_chain chain nets; nets = joined_nets chain nets })
 kept_joined chain nets =
     record {
       is_chain = same_chain chain (renamed (renaming chain nets) chain) (same_parts (renaming chain nets) chain);
@@ -60,7 +67,9 @@ kept_joined chain nets =
       entities = same_entities (renaming chain nets) chain;
     }
 
-kept_unless : (chain : List ChainLine) (nets : List NetLine) (missing : Option Spot) (whole joined : Joined) → Kept chain nets whole → unless missing whole ≡ Ok joined → Kept chain nets joined
+kept_unless : (chain : List ChainLine) (nets : List NetLine) (missing : Option Spot)
+    (whole joined : Joined) → Kept chain nets whole → unless_missing missing whole ≡ Ok joined
+    → Kept chain nets joined
 kept_unless chain nets None whole joined kept is =
     let same : whole ≡ joined = cc in
     subst (Kept chain nets) same kept

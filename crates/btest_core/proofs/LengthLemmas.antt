@@ -22,17 +22,23 @@ in_bounds : (kind : PartKind) → IsPart kind → InBounds (instruction_length k
 in_bounds (Described device) is = (is.ir_least, is.ir_most)
 in_bounds (Bypass n) is = is
 
-each_length : (parts : List Part) → AllByRecursion (λ part. IsPart part.kind) parts → AllByRecursion InBounds (map (λ part. instruction_length part.kind) parts)
+each_length : (parts : List Part) → AllByRecursion (λ part. IsPart part.kind) parts
+    → AllByRecursion InBounds (map (λ part. instruction_length part.kind) parts)
 each_length [] all = tt
 each_length (part ∷ parts) all = (in_bounds part.kind all.0, each_length parts all.1)
 
 -- if the parts have the names on the lines of a selected chain and keep the rules of a part, there
 -- are 1 to 255 instruction lengths, each of 2 to 255 bits
-pub lengths_in_bounds : (lines : List ChainLine) (parts : List Part) → IsChain lines → map (λ part. part.name) parts ≡ names_of (named PartName lines) → All (λ part. IsPart part.kind) parts → AreLengths (map (λ part. instruction_length part.kind) parts)
+pub lengths_in_bounds : (lines : List ChainLine) (parts : List Part) → IsChain lines
+    → map (λ part. part.name) parts ≡ names_of (named PartName lines)
+    → All (λ part. IsPart part.kind) parts
+    → AreLengths (map (λ part. instruction_length part.kind) parts)
 lengths_in_bounds lines parts chain names kinds =
-    let lengths : length (map (λ (part : Part). instruction_length part.kind) parts) ≡ length parts = length-map parts (λ (part : Part). instruction_length part.kind) in
+    let lengths : length (map (λ (part : Part). instruction_length part.kind) parts)
+    ≡ length parts = length-map parts (λ (part : Part). instruction_length part.kind) in
     let named_parts : length (map (λ (part : Part). part.name) parts) ≡ length parts = length-map parts (λ (part : Part). part.name) in
-    let named_lines : length (names_of (named PartName lines)) ≡ length (named PartName lines) = length-map (named PartName lines) (λ (n : Named). n.1) in
+    let named_lines : length (names_of (named PartName lines))
+    ≡ length (named PartName lines) = length-map (named PartName lines) (λ (n : Named). n.1) in
     let same : length (map (λ (part : Part). part.name) parts) ≡ length (names_of (named PartName lines)) = ap length names in
     record {
       some = omega (arith, lengths, named_parts, named_lines, same, chain.some);

@@ -10,7 +10,7 @@ use Rattle.board_defs.specs.DeviceRules.{IsDevice}
 use Rattle.board_files.specs.declared.fault.LineFault.{LineFault}
 use Rattle.board_files.specs.declared.chain_file.ChainLine.{ChainLine}
 use Rattle.board_files.specs.declared.net_file.NetLine.{NetLine}
-use Rattle.board_files.specs.ChainLines.{HasLength, chain_lines}
+use Rattle.board_files.specs.ChainLines.{HasBypassLength, chain_lines}
 use Rattle.board_files.specs.NetLines.{net_lines}
 use Rattle.board_build.specs.BoardRules.{board_of}
 use Rattle.board_lines.specs.ChainParts.{IsChain}
@@ -24,10 +24,10 @@ use Rattle.series_parts.specs.declared.joining.Joined.{Joined}
 use Rattle.series_parts.specs.Joining.{joined_files}
 use Rattle.btest_core.specs.declared.fault.InputFault.{InputFault}
 use Rattle.btest_core.specs.declared.fault.InputFault.TheVariants.{Chain, Nets}
-use Rattle.btest_core.specs.Answers.{Follows, Is, EachOf}
+use Rattle.btest_core.specs.Answers.{IsAnswerOfSteps, Is, EachOf}
 use Rattle.btest_core.specs.InputFaults.{in_file, in_link, in_board}
 use Rattle.btest_core.specs.TextsRead.{IsEntityOf, AreEntities}
-use Rattle.btest_core.specs.DevicesRead.{Chosen, chosen, IsDeviceIn, IsDeviceOf, IsDeviceText, AreSelected, AreDevices}
+use Rattle.btest_core.specs.DevicesRead.{Chosen, chosen_texts, IsDeviceIn, IsDeviceOf, IsDeviceText, AreSelected, AreDevices}
 use Rattle.btest_core.specs.BoardRead.{IsJoinedBoard, IsFilesBoard, Denotes}
 use Rattle.btest_core.specs.IdentsRead.{Ident, first_bypass, idents_unless, AreFileIdents, AreIdents}
 use Rattle.btest_core.proofs.ChoiceLemmas.{count_chosen}
@@ -47,31 +47,41 @@ SelectChains = (lines : List ChainLine) (entities : List Entity) (numbers : List
 
 -- the selection returns a number for each DEVICE line
 abbrev pub SelectEach : Type 0
-SelectEach = (lines : List ChainLine) (entities : List Entity) (numbers : List ℕ) → selection lines entities ≡ Ok numbers → length numbers ≡ length (named EntityName lines)
+SelectEach =
+    (lines : List ChainLine) (entities : List Entity) (numbers : List ℕ)
+    → selection lines entities ≡ Ok numbers → length numbers ≡ length (named EntityName lines)
 
 -- the lengths on the BYPASS lines of a chain file are in range
 abbrev pub HaveLengths : Type 0
-HaveLengths = (text : List ℕ) (lines : List ChainLine) → chain_lines text ≡ Ok lines → AllByRecursion (λ line. HasLength line.statement) lines
+HaveLengths =
+    (text : List ℕ) (lines : List ChainLine) → chain_lines text ≡ Ok lines
+    → AllByRecursion (λ line. HasBypassLength line.statement) lines
 
 -- the board that files and devices denote keeps the rules of a board
 abbrev pub BoardsKeep : Type 0
 BoardsKeep = (chain : List ChainLine) (nets : List NetLine) (devices : List RawDevice) (board : RawBoard)
-    → IsChain chain → AllByRecursion (λ line. HasLength line.statement) chain → AllByRecursion IsDevice devices → length devices ≡ length (named EntityName chain)
+    → IsChain chain → AllByRecursion (λ line. HasBypassLength line.statement) chain
+    → AllByRecursion IsDevice devices → length devices ≡ length (named EntityName chain)
     → board_of chain nets devices ≡ Ok board → IsBoard board
 
 -- if the answer of two steps is a value, the first step also returned a value, and the next step
 -- returned the answer for it
-follows_ok : {A B : Type 0} (first : Result A InputFault → Type 0) (next : A → Result B InputFault → Type 0) (value : B) → Follows first next (Ok value) → (found : A) × first (Ok found) × next found (Ok value)
+follows_ok : {A B : Type 0} (first : Result A InputFault → Type 0)
+    (next : A → Result B InputFault → Type 0) (value : B) → IsAnswerOfSteps first next (Ok value)
+    → (found : A) × first (Ok found) × next found (Ok value)
 follows_ok first next value (inl (found, is, answers)) = (found, is, answers)
 follows_ok first next value (inr (fault, is, answers)) = absurd cc
 
 -- if `in_file` returns a value, reading the file returned the same value
-in_file_ok : {A : Type 0} (of_file : LineFault → InputFault) (answer : Result A LineFault) (value : A) → ◌≡◌ {A = Result A InputFault} (Ok value) (in_file of_file answer) → answer ≡ Ok value
+in_file_ok : {A : Type 0} (of_file : LineFault → InputFault) (answer : Result A LineFault)
+    (value : A) → ◌≡◌ {A = Result A InputFault} (Ok value) (in_file of_file answer)
+    → answer ≡ Ok value
 in_file_ok of_file (Ok v) value same = cc
 in_file_ok of_file (Err fault) value same = absurd cc
 
 -- if `in_link` returns joined files, joining returned the same files
-in_link_ok : (answer : Result Joined LinkFault) (value : Joined) → ◌≡◌ {A = Result Joined InputFault} (Ok value) (in_link answer) → answer ≡ Ok value
+in_link_ok : (answer : Result Joined LinkFault) (value : Joined)
+    → ◌≡◌ {A = Result Joined InputFault} (Ok value) (in_link answer) → answer ≡ Ok value
 in_link_ok (Ok v) value same = cc
 in_link_ok (Err fault) value same = absurd cc
 
@@ -86,12 +96,16 @@ record AreKept (count : ℕ) (devices : List RawDevice) : Type 0 where
   each : AllByRecursion IsDevice devices
   number : length devices ≡ count
 
-chosen_keep : SoundKeep → (entities : List Entity) (choices : List Chosen) (devices : List RawDevice) → EachOf (IsDeviceOf entities) choices (Ok devices) → AreKept (length choices) devices
+chosen_keep : SoundKeep
+    → (entities : List Entity) (choices : List Chosen) (devices : List RawDevice)
+    → EachOf (IsDeviceOf entities) choices (Ok devices) → AreKept (length choices) devices
 chosen_keep sound entities [] devices are =
     let same = same_ok devices [] are in
     subst (AreKept 0) (sym same) (record { each = tt; number = refl })
 chosen_keep sound entities (choice ∷ choices) devices are =
-    let first = follows_ok (IsDeviceOf entities choice) (λ device. Follows (EachOf (IsDeviceOf entities) choices) (λ rest. Is (Ok (device ∷ rest)))) devices are in
+    let first = follows_ok (IsDeviceOf entities choice)
+    (λ device. IsAnswerOfSteps (EachOf (IsDeviceOf entities) choices)
+    (λ rest. Is (Ok (device ∷ rest)))) devices are in
     let others = follows_ok (EachOf (IsDeviceOf entities) choices) (λ rest. Is (Ok (first.0 ∷ rest))) devices first.2 in
     let keep = chosen_keep sound entities choices others.0 others.1 in
     let same = same_ok devices (first.0 ∷ others.0) others.2 in
@@ -106,33 +120,47 @@ record IsKeptChain (lines : List ChainLine) (devices : List RawDevice) : Type 0 
   chain : IsChain lines
   kept : AreKept (length (named EntityName lines)) devices
 
-selected_keep : SoundKeep → SelectChains → SelectEach → (lines : List ChainLine) (entities : List Entity) (devices : List RawDevice) → AreSelected lines entities (Ok devices) → IsKeptChain lines devices
+selected_keep : SoundKeep → SelectChains → SelectEach
+    → (lines : List ChainLine) (entities : List Entity) (devices : List RawDevice)
+    → AreSelected lines entities (Ok devices) → IsKeptChain lines devices
 selected_keep sound chains counts lines entities devices are =
-    let step = follows_ok (Is (in_board (selection lines entities))) (λ numbers. EachOf (IsDeviceOf entities) (chosen lines numbers)) devices are in
+    let step = follows_ok (Is (in_board (selection lines entities)))
+    (λ numbers. EachOf (IsDeviceOf entities) (chosen_texts lines numbers)) devices are in
     let numbers = selected (selection lines entities) step.0 step.1 in
-    let keep = chosen_keep sound entities (chosen lines step.0) devices step.2 in
+    let keep = chosen_keep sound entities (chosen_texts lines step.0) devices step.2 in
     record {
       chain = chains lines entities step.0 numbers;
       kept = subst (λ (n : ℕ). AreKept n devices) (count_chosen lines step.0 (counts lines entities step.0 numbers)) keep;
     }
 
-devices_keep : SoundKeep → SelectChains → SelectEach → (lines : List ChainLine) (texts : List (List ℕ)) (devices : List RawDevice) → AreDevices lines texts (Ok devices) → IsKeptChain lines devices
+devices_keep : SoundKeep → SelectChains → SelectEach
+    → (lines : List ChainLine) (texts : List (List ℕ)) (devices : List RawDevice)
+    → AreDevices lines texts (Ok devices) → IsKeptChain lines devices
 devices_keep sound chains counts lines texts devices are =
     let step = follows_ok (AreEntities texts) (AreSelected lines) devices are in
     selected_keep sound chains counts lines step.0 devices step.2
 
 -- if the chain and its devices keep their rules and the joined files denote a board, the board
 -- keeps the rules of a board
-board_keeps_joined : BoardsKeep → (lines : List ChainLine) (nets : List NetLine) (devices : List RawDevice) (board : RawBoard) → AllByRecursion (λ line. HasLength line.statement) lines → IsKeptChain lines devices → IsJoinedBoard lines nets devices (Ok board) → IsBoard board
+board_keeps_joined : BoardsKeep
+    → (lines : List ChainLine) (nets : List NetLine) (devices : List RawDevice) (board : RawBoard)
+    → AllByRecursion (λ line. HasBypassLength line.statement) lines → IsKeptChain lines devices
+    → IsJoinedBoard lines nets devices (Ok board) → IsBoard board
 board_keeps_joined boards lines nets devices board lengths keep is =
-    let step = follows_ok (Is (in_link (joined_files lines nets))) (λ joined. Is (in_board (board_of joined.chain joined.nets devices))) board is in
+    let step = follows_ok (Is (in_link (joined_files lines nets)))
+    (λ joined. Is (in_board (board_of joined.chain joined.nets devices))) board is in
     let joins = kept lines nets step.0 (in_link_ok (joined_files lines nets) step.0 step.1) in
-    boards step.0.chain step.0.nets devices board (joins.is_chain keep.chain) (joins.lengths lengths) keep.kept.each (keep.kept.number ∙ sym (ap length joins.entities))
+    boards step.0.chain step.0.nets devices board (joins.is_chain keep.chain)
+    (joins.lengths lengths) keep.kept.each (keep.kept.number ∙ sym (ap length joins.entities))
     (selected (board_of step.0.chain step.0.nets devices) board step.2)
 
-pub board_keeps : SoundKeep → SelectChains → SelectEach → HaveLengths → BoardsKeep → (chain nets : List ℕ) (texts : List (List ℕ)) (board : RawBoard) → Denotes chain nets texts board → IsBoard board
+pub board_keeps : SoundKeep → SelectChains → SelectEach → HaveLengths → BoardsKeep
+    → (chain nets : List ℕ) (texts : List (List ℕ)) (board : RawBoard)
+    → Denotes chain nets texts board → IsBoard board
 board_keeps sound chains counts lengths boards chain nets texts board is =
-    let of_chain = follows_ok (Is (in_file Chain (chain_lines chain))) (λ lines. Follows (Is (in_file Nets (net_lines nets))) (λ net_lines. IsFilesBoard lines net_lines texts)) board is in
+    let of_chain = follows_ok (Is (in_file Chain (chain_lines chain)))
+    (λ lines. IsAnswerOfSteps (Is (in_file Nets (net_lines nets)))
+    (λ net_lines. IsFilesBoard lines net_lines texts)) board is in
     let of_nets = follows_ok (Is (in_file Nets (net_lines nets))) (λ net_lines. IsFilesBoard of_chain.0 net_lines texts) board of_chain.2 in
     let of_texts = follows_ok (AreDevices of_chain.0 texts) (IsJoinedBoard of_chain.0 of_nets.0) board of_nets.2 in
     board_keeps_joined boards of_chain.0 of_nets.0 of_texts.0 board
@@ -144,7 +172,9 @@ record ArePatternsOf (bypass : Option ℕ) (devices : List RawDevice) (idents : 
   none : bypass ≡ None
   are : idents ≡ idents_of devices
 
-idents_ok : (bypass : Option ℕ) (devices : List RawDevice) (idents : List Ident) → ◌≡◌ {A = Result (List Ident) InputFault} (Ok idents) (idents_unless bypass devices) → ArePatternsOf bypass devices idents
+idents_ok : (bypass : Option ℕ) (devices : List RawDevice) (idents : List Ident)
+    → ◌≡◌ {A = Result (List Ident) InputFault} (Ok idents) (idents_unless bypass devices)
+    → ArePatternsOf bypass devices idents
 idents_ok None devices idents same = record { none = refl; are = same_ok idents (idents_of devices) same }
 idents_ok (Some line) devices idents same = absurd cc
 
@@ -152,10 +182,14 @@ idents_ok (Some line) devices idents same = absurd cc
 abbrev AreWhole : List Ident → Type 0
 AreWhole idents = (0 < length idents) × (length idents ≤ most_parts) × All IsWhole idents
 
-pub idents_keep : SoundKeep → SelectChains → SelectEach → (chain : List ℕ) (texts : List (List ℕ)) (idents : List Ident) → AreIdents chain texts (Ok idents) → (0 < length idents) × (length idents ≤ most_parts) × All IsWhole idents
+pub idents_keep : SoundKeep → SelectChains → SelectEach
+    → (chain : List ℕ) (texts : List (List ℕ)) (idents : List Ident)
+    → AreIdents chain texts (Ok idents)
+    → (0 < length idents) × (length idents ≤ most_parts) × All IsWhole idents
 idents_keep sound chains counts chain texts idents are =
     let of_chain = follows_ok (Is (in_file Chain (chain_lines chain))) (λ lines. AreFileIdents lines texts) idents are in
-    let of_texts = follows_ok (AreDevices of_chain.0 texts) (λ devices. Is (idents_unless (first_bypass of_chain.0) devices)) idents of_chain.2 in
+    let of_texts = follows_ok (AreDevices of_chain.0 texts)
+    (λ devices. Is (idents_unless (first_bypass of_chain.0) devices)) idents of_chain.2 in
     let keep = devices_keep sound chains counts of_chain.0 texts of_texts.0 of_texts.1 in
     let patterns = idents_ok (first_bypass of_chain.0) of_texts.0 idents of_texts.2 in
     let count = count_idents of_chain.0 of_texts.0 keep.chain keep.kept.number patterns.none in

@@ -18,12 +18,18 @@ numbered n texts = enumerate_from n (bytes_of texts)
 abbrev pub CompletesTexts : List (Vec ℕ Global) → List (ℕ × List ℕ) → List Entity → Type 0
 CompletesTexts texts rest front = Completes IsEntityOfText (numbered 0 texts) rest front
 
-pub texts_left : (texts : List (Vec ℕ Global)) (n : ℕ) (front : List Entity) (text : Vec ℕ Global) (bytes : List ℕ) → n < length texts → text ≡ slice_index_or texts n text → bytes ≡ text.items → CompletesTexts texts (numbered n (drop n texts)) front → CompletesTexts texts ((n, bytes) ∷ numbered (n + 1) (drop (n + 1) texts)) front
+pub texts_left : (texts : List (Vec ℕ Global)) (n : ℕ) (front : List Entity) (text : Vec ℕ Global)
+    (bytes : List ℕ) → n < length texts → text ≡ slice_index_or texts n text → bytes ≡ text.items
+    → CompletesTexts texts (numbered n (drop n texts)) front
+    → CompletesTexts texts ((n, bytes) ∷ numbered (n + 1) (drop (n + 1) texts)) front
 texts_left texts n front text bytes within at is completes =
     let here : slice_index_or texts n text ≡ text = sym at in
     let split : numbered n (drop n texts) ≡ (n, bytes) ∷ numbered (n + 1) (drop (n + 1) texts) =
-    at_drop_more (numbered n) texts n text within ∙ ap (λ v. (n, v.items) ∷ numbered (n + 1) (drop (n + 1) texts)) here ∙ ap (λ b. (n, b) ∷ numbered (n + 1) (drop (n + 1) texts)) (sym is) in
+    at_drop_more (numbered n) texts n text within
+    ∙ ap (λ v. (n, v.items) ∷ numbered (n + 1) (drop (n + 1) texts)) here
+    ∙ ap (λ b. (n, b) ∷ numbered (n + 1) (drop (n + 1) texts)) (sym is) in
     subst (λ rest. CompletesTexts texts rest front) split completes
 
-pub no_texts_left : (texts : List (Vec ℕ Global)) (n : ℕ) (front : List Entity) → length texts ≤ n → CompletesTexts texts (numbered n (drop n texts)) front → CompletesTexts texts [] front
+pub no_texts_left : (texts : List (Vec ℕ Global)) (n : ℕ) (front : List Entity) → length texts ≤ n
+    → CompletesTexts texts (numbered n (drop n texts)) front → CompletesTexts texts [] front
 no_texts_left texts n front past completes = subst (λ rest. CompletesTexts texts (numbered n rest) front) (drop_all n texts past) completes

@@ -5,8 +5,9 @@ use Rattle.btest_core.specs.declared.fault.InputFault.TheVariants.{Memory}
 
 -- the answer of two steps: the answer of the next step for the first step's value, or the first
 -- step's fault
-abbrev pub Follows : {A B : Type 0} → (Result A InputFault → Type 0) → (A → Result B InputFault → Type 0) → Result B InputFault → Type 0
-Follows {A} first next answer =
+abbrev pub IsAnswerOfSteps : {A B : Type 0} → (Result A InputFault → Type 0)
+    → (A → Result B InputFault → Type 0) → Result B InputFault → Type 0
+IsAnswerOfSteps {A} first next answer =
     ((value : A) × first (Ok value) × next value answer) ⊎ ((fault : InputFault) × first (Err fault) × (answer ≡ Err fault))
 
 -- the answer is `this`
@@ -17,7 +18,9 @@ Is this answer = answer ≡ this
 -- that has a fault
 abbrev pub EachOf : {A B : Type 0} → (A → Result B InputFault → Type 0) → List A → Result (List B) InputFault → Type 0
 EachOf IsOf [] answer = Is (Ok []) answer
-EachOf IsOf (item ∷ items) answer = Follows (IsOf item) (λ value. Follows (EachOf IsOf items) (λ values. Is (Ok (value ∷ values)))) answer
+EachOf IsOf (item ∷ items) answer =
+    IsAnswerOfSteps (IsOf item)
+    (λ value. IsAnswerOfSteps (EachOf IsOf items) (λ values. Is (Ok (value ∷ values)))) answer
 
 -- the fault, or None if memory ran out, since no definition speaks of memory
 abbrev pub input_told : InputFault → Option InputFault

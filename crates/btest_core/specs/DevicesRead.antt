@@ -7,10 +7,10 @@ use Rattle.board_files.specs.declared.chain_file.ChainStatement.{ChainStatement}
 use Rattle.board_files.specs.declared.chain_file.ChainStatement.TheVariants.{Device as DeviceLine, Bypass, Inert, Supply, Pull, Link as LinkLine}
 use Rattle.board_lines.specs.Selection.{selection}
 use Rattle.bsdl_parser.specs.declared.entity.Entity.{Entity}
-use Rattle.device_check.specs.SoundDevice.{IsSound, IsFirst}
+use Rattle.device_check.specs.SoundDevice.{IsSound, IsFirstFailure}
 use Rattle.btest_core.specs.declared.fault.InputFault.{InputFault}
 use Rattle.btest_core.specs.declared.fault.InputFault.TheVariants.{Chain, Nets, Lex, Parse, Board, Device, Link, NoIdent, Memory}
-use Rattle.btest_core.specs.Answers.{Follows, Is, EachOf}
+use Rattle.btest_core.specs.Answers.{IsAnswerOfSteps, Is, EachOf}
 use Rattle.btest_core.specs.InputFaults.{in_board}
 use Rattle.btest_core.specs.TextsRead.{IsEntityOf, AreEntities}
 
@@ -30,15 +30,15 @@ Chosen = ℕ × Option (List ℕ)
 
 -- the choices of the DEVICE lines, in order; `numbers` has the number of the text for each of these
 -- lines
-abbrev pub chosen : List ChainLine → List ℕ → List Chosen
-chosen lines numbers = zip numbers (filter_map (λ line. package_in line.statement) lines)
+abbrev pub chosen_texts : List ChainLine → List ℕ → List Chosen
+chosen_texts lines numbers = zip numbers (filter_map (λ line. package_in line.statement) lines)
 
 -- If the entity breaks no rule in the chosen package, the answer is the device of the entity in
 -- this package. Otherwise the answer is the first rule or string that fails, with the number of the
 -- text.
 abbrev pub IsDeviceIn : Entity → Chosen → Result RawDevice InputFault → Type 0
 IsDeviceIn entity choice (Ok device) = IsSound entity choice.1 device
-IsDeviceIn entity choice (Err (Device text fault)) = (text ≡ choice.0) × IsFirst entity choice.1 fault
+IsDeviceIn entity choice (Err (Device text fault)) = (text ≡ choice.0) × IsFirstFailure entity choice.1 fault
 IsDeviceIn entity choice (Err (Chain fault)) = ⊥
 IsDeviceIn entity choice (Err (Nets fault)) = ⊥
 IsDeviceIn entity choice (Err (Lex text fault)) = ⊥
@@ -55,12 +55,14 @@ IsDeviceOf entities choice answer = (entity : Entity) × (slice_get entities cho
 -- the answer is the devices of the DEVICE lines, in order, or the first fault; a fault of the
 -- selection comes before the faults of the devices
 abbrev pub AreSelected : List ChainLine → List Entity → Result (List RawDevice) InputFault → Type 0
-AreSelected lines entities = Follows (Is (in_board (selection lines entities))) (λ numbers. EachOf (IsDeviceOf entities) (chosen lines numbers))
+AreSelected lines entities =
+    IsAnswerOfSteps (Is (in_board (selection lines entities)))
+    (λ numbers. EachOf (IsDeviceOf entities) (chosen_texts lines numbers))
 
 -- like `AreSelected`, but for the entities that these texts describe
 abbrev pub AreDevices : List ChainLine → List (List ℕ) → Result (List RawDevice) InputFault → Type 0
-AreDevices lines texts = Follows (AreEntities texts) (AreSelected lines)
+AreDevices lines texts = IsAnswerOfSteps (AreEntities texts) (AreSelected lines)
 
 -- the answer is the device that a text describes in its default package, or the text's first fault
 abbrev pub IsDeviceText : List ℕ → Result RawDevice InputFault → Type 0
-IsDeviceText text = Follows (IsEntityOf text 0) (λ entity. IsDeviceIn entity (0, None))
+IsDeviceText text = IsAnswerOfSteps (IsEntityOf text 0) (λ entity. IsDeviceIn entity (0, None))

@@ -8,7 +8,7 @@ use Rattle.board_files.specs.declared.chain_file.ChainStatement.TheVariants.{Dev
 use Rattle.board_files.specs.ChainLines.{chain_lines}
 use Rattle.btest_core.specs.declared.fault.InputFault.{InputFault}
 use Rattle.btest_core.specs.declared.fault.InputFault.TheVariants.{Chain, NoIdent}
-use Rattle.btest_core.specs.Answers.{Follows, Is}
+use Rattle.btest_core.specs.Answers.{IsAnswerOfSteps, Is}
 use Rattle.btest_core.specs.InputFaults.{in_file}
 use Rattle.btest_core.specs.DevicesRead.{AreDevices}
 
@@ -38,8 +38,8 @@ idents_unless (Some line) devices = Err (NoIdent line)
 -- the answer is the patterns of the devices on these lines, in chain order, or the first fault; the
 -- fault of a part without a description comes last
 abbrev pub AreFileIdents : List ChainLine → List (List ℕ) → Result (List Ident) InputFault → Type 0
-AreFileIdents lines texts = Follows (AreDevices lines texts) (λ devices. Is (idents_unless (first_bypass lines) devices))
+AreFileIdents lines texts = IsAnswerOfSteps (AreDevices lines texts) (λ devices. Is (idents_unless (first_bypass lines) devices))
 
 -- like `AreFileIdents`, but for the lines of the chain file that the text contains
 abbrev pub AreIdents : List ℕ → List (List ℕ) → Result (List Ident) InputFault → Type 0
-AreIdents chain texts = Follows (Is (in_file Chain (chain_lines chain))) (λ lines. AreFileIdents lines texts)
+AreIdents chain texts = IsAnswerOfSteps (Is (in_file Chain (chain_lines chain))) (λ lines. AreFileIdents lines texts)

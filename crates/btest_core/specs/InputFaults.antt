@@ -10,38 +10,38 @@ use Rattle.btest_core.specs.declared.fault.InputFault.{InputFault}
 use Rattle.btest_core.specs.declared.fault.InputFault.TheVariants.{Board, Link, Memory}
 
 -- a fault of a chain file or a net file as a fault of the inputs
-abbrev pub file_fault : (LineFault → InputFault) → LineFault → InputFault
-file_fault of_file (line.Memory e) = Memory e
-file_fault of_file (line.Statement n) = of_file (line.Statement n)
-file_fault of_file (line.Word n) = of_file (line.Word n)
-file_fault of_file (line.Number n) = of_file (line.Number n)
+abbrev pub of_line_fault : (LineFault → InputFault) → LineFault → InputFault
+of_line_fault of_file (line.Memory e) = Memory e
+of_line_fault of_file (line.Statement n) = of_file (line.Statement n)
+of_line_fault of_file (line.Word n) = of_file (line.Word n)
+of_line_fault of_file (line.Number n) = of_file (line.Number n)
 
 -- the result of reading a chain file or a net file, with its fault as a fault of the inputs
 abbrev pub in_file : {A : Type 0} → (LineFault → InputFault) → Result A LineFault → Result A InputFault
 in_file of_file (Ok lines) = Ok lines
-in_file of_file (Err fault) = Err (file_fault of_file fault)
+in_file of_file (Err fault) = Err (of_line_fault of_file fault)
 
 -- a fault of the board's files as a fault of the inputs
-abbrev pub board_fault : BoardFault → InputFault
-board_fault (board.Memory e) = Memory e
-board_fault board.NoChain = Board board.NoChain
-board_fault (board.PartTwice spot) = Board (board.PartTwice spot)
-board_fault (board.NoEntity spot) = Board (board.NoEntity spot)
-board_fault (board.EntityTwice text) = Board (board.EntityTwice text)
-board_fault (board.NoPin spot) = Board (board.NoPin spot)
-board_fault (board.PinTwice spot) = Board (board.PinTwice spot)
-board_fault (board.InertInChain spot) = Board (board.InertInChain spot)
-board_fault (board.NoSupplyNet spot) = Board (board.NoSupplyNet spot)
-board_fault (board.GuardedDriver spot) = Board (board.GuardedDriver spot)
-board_fault (board.TwoAlwaysOn spot) = Board (board.TwoAlwaysOn spot)
-board_fault (board.Limit which) = Board (board.Limit which)
-board_fault (board.NoPullNet spot) = Board (board.NoPullNet spot)
-board_fault (board.PullTwice spot) = Board (board.PullTwice spot)
+abbrev pub of_board_fault : BoardFault → InputFault
+of_board_fault (board.Memory e) = Memory e
+of_board_fault board.NoChain = Board board.NoChain
+of_board_fault (board.PartTwice spot) = Board (board.PartTwice spot)
+of_board_fault (board.NoEntity spot) = Board (board.NoEntity spot)
+of_board_fault (board.EntityTwice text) = Board (board.EntityTwice text)
+of_board_fault (board.NoPin spot) = Board (board.NoPin spot)
+of_board_fault (board.PinTwice spot) = Board (board.PinTwice spot)
+of_board_fault (board.InertInChain spot) = Board (board.InertInChain spot)
+of_board_fault (board.NoSupplyNet spot) = Board (board.NoSupplyNet spot)
+of_board_fault (board.GuardedDriver spot) = Board (board.GuardedDriver spot)
+of_board_fault (board.TwoAlwaysOn spot) = Board (board.TwoAlwaysOn spot)
+of_board_fault (board.Limit which) = Board (board.Limit which)
+of_board_fault (board.NoPullNet spot) = Board (board.NoPullNet spot)
+of_board_fault (board.PullTwice spot) = Board (board.PullTwice spot)
 
 -- the result of the board rules, with their fault as a fault of the inputs
 abbrev pub in_board : {A : Type 0} → Result A BoardFault → Result A InputFault
 in_board (Ok value) = Ok value
-in_board (Err fault) = Err (board_fault fault)
+in_board (Err fault) = Err (of_board_fault fault)
 
 -- a fault of the joined files as a fault of the inputs
 abbrev pub link_fault : LinkFault → InputFault

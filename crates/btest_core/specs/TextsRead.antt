@@ -23,13 +23,13 @@ pub record IsEntity (text : List ℕ) (entity : Entity) : Type 0 where
 -- the text has a first bad place, and `fault` is the fault of this place
 pub record IsLexFault (text : List ℕ) (fault : LexFault) : Type 0 where
   pub tokens : List Token
-  pub stops : lexer.IsFault text tokens fault
+  pub stops : lexer.IsLexerFault text tokens fault
 
 -- the text consists of tokens that derive no entity, and `fault` says why
 pub record IsParseFault (text : List ℕ) (fault : ParseFault) : Type 0 where
   pub tokens : List Token
   pub are : AreTokens text tokens
-  pub stops : parser.IsFault text (lexemes text tokens) fault
+  pub stops : parser.IsParserFault text (lexemes text tokens) fault
 
 -- the fault is the first fault of BSDL text `n`
 abbrev pub IsTextFault : List ℕ → ℕ → InputFault → Type 0

@@ -52,7 +52,8 @@ fn has_link(chain: &ChainFile) -> bool
 // Returns the joined files. Frees the net file before a board is built, since the net file and the
 // board each hold a copy of all names.
 fn joined_files(alloc: Global, chain: &ChainFile, nets: NetFile) -> Result<Joined, InputFault>
-    ensures joined { Gives input_told (λ joined. joined) (Is (in_link (joined_files chain.now nets))) result }
+    ensures joined { Gives input_told (λ joined. joined)
+        (Is (in_link (joined_files chain.now nets))) result }
     ensures kept { IfOk result (Kept chain.now nets) }
 {
     match join(alloc, chain, &nets) {
@@ -71,7 +72,8 @@ fn board_of(
 ) -> Result<Board, InputFault>
     requires selected { IsChain chain.now }
     requires devices { vec_len devices ≡ length (named EntityName chain.now) }
-    ensures { Gives input_told (λ board. board) (Is (in_board (board_of chain.now nets.now devices.items))) result }
+    ensures { Gives input_told (λ board. board)
+        (Is (in_board (board_of chain.now nets.now devices.items))) result }
 {
     match board(alloc, chain, nets, devices) {
         Ok(board) => Ok(board),
@@ -91,7 +93,8 @@ fn unlinked_board(
     requires unlinked { has_link chain.now ≡ false }
     requires selected { IsChain chain.now }
     requires devices { vec_len devices ≡ length (named EntityName chain.now) }
-    ensures { Gives input_told (λ board. board) (IsJoinedBoard chain.now nets.now devices.items) result }
+    ensures { Gives input_told (λ board. board) (IsJoinedBoard chain.now nets.now devices.items)
+        result }
 {
     unlinked_files();
     board_of(alloc, chain, nets, devices)
@@ -106,7 +109,8 @@ fn joined_board(
 ) -> Result<Board, InputFault>
     requires selected { IsChain chain.now }
     requires devices { vec_len devices ≡ length (named EntityName chain.now) }
-    ensures { Gives input_told (λ board. board) (IsJoinedBoard chain.now nets devices.items) result }
+    ensures { Gives input_told (λ board. board) (IsJoinedBoard chain.now nets devices.items)
+        result }
 {
     if !has_link(chain) {
         return unlinked_board(alloc, chain, &nets, devices);
@@ -126,7 +130,8 @@ fn files_board(
 ) -> Result<Board, InputFault>
     requires each { All (λ text. length text.items < 2 ^ 32) bsdl.now }
     requires count { length bsdl.now < 2 ^ 32 }
-    ensures { Gives input_told (λ board. board) (IsFilesBoard chain.now nets (map (λ text. text.items) bsdl.now)) result }
+    ensures { Gives input_told (λ board. board)
+        (IsFilesBoard chain.now nets (map (λ text. text.items) bsdl.now)) result }
 {
     match devices(alloc, chain, bsdl) {
         Ok(devices) => joined_board(alloc, chain, nets, devices),
@@ -148,7 +153,8 @@ pub fn read_board(
     requires nets { length nets.now < 2 ^ 32 }
     requires each { All (λ text. length text.items < 2 ^ 32) bsdl.now }
     requires count { length bsdl.now < 2 ^ 32 }
-    ensures { Gives input_told (λ board. board) (IsBoardRead chain.now nets.now (map (λ text. text.items) bsdl.now)) result }
+    ensures { Gives input_told (λ board. board)
+        (IsBoardRead chain.now nets.now (map (λ text. text.items) bsdl.now)) result }
 {
     let chain = match chain_file(alloc, chain) {
         Ok(chain) => chain,

@@ -32,7 +32,8 @@ pub(crate) fn chain_file(alloc: Global, text: &[u8]) -> Result<ChainFile, InputF
 
 // Returns the instruction lengths of these parts.
 fn instruction_lengths(alloc: Global, parts: &[Part]) -> Result<Vec<u32>, AllocError>
-    ensures { IfOk result (λ lengths. lengths.items ≡ map (λ part. instruction_length part.kind) parts.now) }
+    ensures { IfOk result
+        (λ lengths. lengths.items ≡ map (λ part. instruction_length part.kind) parts.now) }
 {
     let mut lengths = Vec::new(alloc);
     for part in parts {
@@ -45,7 +46,9 @@ fn instruction_lengths(alloc: Global, parts: &[Part]) -> Result<Vec<u32>, AllocE
 fn lengths_of(alloc: Global, file: &ChainFile, devices: Vec<Device>) -> Result<Vec<u32>, AllocError>
     requires chain { IsChain file.now }
     requires devices { vec_len devices ≡ length (named EntityName file.now) }
-    ensures lengths { IfOk result (λ lengths. lengths.items ≡ map (λ part. instruction_length part.kind) (chain_parts file.now devices.items)) }
+    ensures lengths { IfOk result
+        (λ lengths. lengths.items
+        ≡ map (λ part. instruction_length part.kind) (chain_parts file.now devices.items)) }
     ensures bounds { IfOk result (λ lengths. AreLengths lengths.items) }
 {
     let parts = parts_of_chain(alloc, file, devices)?;
@@ -58,7 +61,8 @@ fn lengths_of(alloc: Global, file: &ChainFile, devices: Vec<Device>) -> Result<V
 fn file_lengths(alloc: Global, file: &ChainFile, bsdl: &[Vec<u8>]) -> Result<Vec<u32>, InputFault>
     requires each { All (λ text. length text.items < 2 ^ 32) bsdl.now }
     requires count { length bsdl.now < 2 ^ 32 }
-    ensures read { Gives input_told (λ lengths. lengths.items) (AreFileLengths file.now (map (λ text. text.items) bsdl.now)) result }
+    ensures read { Gives input_told (λ lengths. lengths.items)
+        (AreFileLengths file.now (map (λ text. text.items) bsdl.now)) result }
     ensures bounds { IfOk result (λ lengths. AreLengths lengths.items) }
 {
     match devices(alloc, file, bsdl) {
@@ -77,7 +81,8 @@ pub fn read_chain(alloc: Global, chain: &[u8], bsdl: &[Vec<u8>]) -> Result<Vec<u
     requires size { length chain.now < 2 ^ 32 }
     requires each { All (λ text. length text.items < 2 ^ 32) bsdl.now }
     requires count { length bsdl.now < 2 ^ 32 }
-    ensures read { Gives input_told (λ lengths. lengths.items) (AreChainLengths chain.now (map (λ text. text.items) bsdl.now)) result }
+    ensures read { Gives input_told (λ lengths. lengths.items)
+        (AreChainLengths chain.now (map (λ text. text.items) bsdl.now)) result }
     ensures bounds { IfOk result (λ lengths. AreLengths lengths.items) }
 {
     match chain_file(alloc, chain) {

@@ -10,7 +10,7 @@ ghost use Rattle.answers.specs.Gives.{Gives};
 ghost use Rattle.btest_core.specs.Answers.{EachOf, Is, input_told};
 ghost use Rattle.btest_core.specs.InputFaults.{in_board};
 ghost use Rattle.btest_core.specs.inner.Choices.{AreOfChoices, choices_of};
-ghost use Rattle.btest_core.specs.DevicesRead.{Chosen, package_in, chosen, IsDeviceIn, IsDeviceOf, AreSelected, AreDevices, IsDeviceText};
+ghost use Rattle.btest_core.specs.DevicesRead.{Chosen, package_in, chosen_texts, IsDeviceIn, IsDeviceOf, AreSelected, AreDevices, IsDeviceText};
 
 use crate::copies::device_copy;
 use crate::fault::InputFault;
@@ -42,7 +42,8 @@ fn device_in(
     package: Option<&[u8]>,
 ) -> Result<Device, InputFault>
     requires { IsSmall entity.now }
-    ensures { Gives input_told (λ device. device) (IsDeviceIn entity.now (text, option_copied «package».entry)) result }
+    ensures { Gives input_told (λ device. device)
+        (IsDeviceIn entity.now (text, option_copied «package».entry)) result }
 {
     match device(alloc, entity, package) {
         Ok(device) => Ok(device),
@@ -61,7 +62,8 @@ fn device_of(
 ) -> Result<Device, InputFault>
     requires there { text < length entities.now }
     requires small { All IsSmall entities.now }
-    ensures { Gives input_told (λ device. device) (IsDeviceOf entities.now (text, option_copied «package».entry)) result }
+    ensures { Gives input_told (λ device. device)
+        (IsDeviceOf entities.now (text, option_copied «package».entry)) result }
 {
     device_in(alloc, &entities[text as usize], text, package)
 }
@@ -81,7 +83,9 @@ fn is_same_package(a: Option<&[u8]>, b: Option<&[u8]>) -> bool
 fn earlier(chosen: &[(u32, Option<&[u8]>)], i: usize) -> Option<usize>
     requires { i < length chosen.now }
     ensures before { IfSome result (λ j. j < i) }
-    ensures same { IfSome result (λ j. slice_get (choices_of chosen.now) j ≡ slice_get (choices_of chosen.now) i) }
+    ensures same { IfSome result
+        (λ j. slice_get (choices_of chosen.now) j
+        ≡ slice_get (choices_of chosen.now) i) }
 {
     for j in 0..i {
         if chosen[j].0 == chosen[i].0 && is_same_package(chosen[j].1, chosen[i].1) {
@@ -105,7 +109,8 @@ fn next_device(
     requires next { i < length chosen.now }
     requires before { length devices.now ≡ i }
     requires devices { AreOfChoices entities.now (choices_of chosen.now) devices.now }
-    ensures { (choice : Chosen) → slice_get (choices_of chosen.now) i ≡ Some choice → Gives input_told (λ device. device) (IsDeviceOf entities.now choice) result }
+    ensures { (choice : Chosen) → slice_get (choices_of chosen.now) i ≡ Some choice
+        → Gives input_told (λ device. device) (IsDeviceOf entities.now choice) result }
 {
     match earlier(chosen, i) {
         Some(j) => Ok(device_copy(alloc, &devices[j])?),
@@ -121,7 +126,8 @@ fn chosen_devices(
 ) -> Result<Vec<Device>, InputFault>
     requires there { AllByRecursion (λ choice. choice.0 < length entities.now) chosen.now }
     requires small { All IsSmall entities.now }
-    ensures devices { Gives input_told (λ devices. devices.items) (EachOf (IsDeviceOf entities.now) (choices_of chosen.now)) result }
+    ensures devices { Gives input_told (λ devices. devices.items)
+        (EachOf (IsDeviceOf entities.now) (choices_of chosen.now)) result }
     ensures count { IfOk result (λ devices. vec_len devices ≡ length chosen.now) }
 {
     let mut devices = Vec::new(alloc);
@@ -148,7 +154,9 @@ fn package_in(statement: &ChainStatement) -> Option<Option<&[u8]>>
 
 // Returns the packages of the DEVICE lines, in order.
 fn packages<'a>(alloc: Global, lines: &'a [ChainLine]) -> Result<Vec<Option<&'a [u8]>>, AllocError>
-    ensures { IfOk result (λ list. map option_copied list.items ≡ filter_map (λ line. package_in line.statement) lines.now) }
+    ensures { IfOk result
+        (λ list. map option_copied list.items
+        ≡ filter_map (λ line. package_in line.statement) lines.now) }
 {
     let mut list = Vec::new(alloc);
     for line in lines {
@@ -166,8 +174,11 @@ fn chosen<'a>(
     lines: &'a [ChainLine],
     numbers: &[u32],
 ) -> Result<Vec<(u32, Option<&'a [u8]>)>, AllocError>
-    ensures chosen { IfOk result (λ list. map (λ choice. (choice.0, option_copied choice.1)) list.items ≡ chosen lines.now numbers.now) }
-    ensures within { (count : ℕ) → AllByRecursion (λ number. number < count) numbers.now → IfOk result (λ list. AllByRecursion (λ choice. choice.0 < count) list.items) }
+    ensures chosen { IfOk result
+        (λ list. map (λ choice. (choice.0, option_copied choice.1)) list.items
+        ≡ chosen_texts lines.now numbers.now) }
+    ensures within { (count : ℕ) → AllByRecursion (λ number. number < count) numbers.now
+        → IfOk result (λ list. AllByRecursion (λ choice. choice.0 < count) list.items) }
 {
     let packages = packages(alloc, lines)?;
     let choices = zipped(alloc, numbers, &packages)?;
@@ -191,10 +202,12 @@ fn zipped<'a>(
 // Returns the number of the text that each DEVICE line selects, in order.
 fn numbers(alloc: Global, file: &ChainFile, entities: &[Entity]) -> Result<Vec<u32>, InputFault>
     requires { length entities.now < 2 ^ 32 }
-    ensures numbers { Gives input_told (λ numbers. numbers.items) (Is (in_board (selection file.now entities.now))) result }
+    ensures numbers { Gives input_told (λ numbers. numbers.items)
+        (Is (in_board (selection file.now entities.now))) result }
     ensures chain { IfOk result (λ numbers. IsChain file.now) }
     ensures count { IfOk result (λ numbers. vec_len numbers ≡ length (named EntityName file.now)) }
-    ensures within { IfOk result (λ numbers. All (λ number. number < length entities.now) numbers.items) }
+    ensures within { IfOk result
+        (λ numbers. All (λ number. number < length entities.now) numbers.items) }
 {
     match select(alloc, file, entities) {
         Ok(numbers) => Ok(numbers),
@@ -213,8 +226,10 @@ fn devices_by(
 ) -> Result<Vec<Device>, InputFault>
     requires within { All (λ number. number < length entities.now) numbers.now }
     requires small { All IsSmall entities.now }
-    ensures devices { Gives input_told (λ devices. devices.items) (EachOf (IsDeviceOf entities.now) (chosen lines.now numbers.now)) result }
-    ensures number { IfOk result (λ devices. vec_len devices ≡ length (chosen lines.now numbers.now)) }
+    ensures devices { Gives input_told (λ devices. devices.items)
+        (EachOf (IsDeviceOf entities.now) (chosen_texts lines.now numbers.now)) result }
+    ensures number { IfOk result
+        (λ devices. vec_len devices ≡ length (chosen_texts lines.now numbers.now)) }
 {
     let chosen = chosen(alloc, lines, numbers)?;
     chosen_devices(alloc, entities, &chosen)
@@ -228,7 +243,8 @@ fn selected_devices(
 ) -> Result<Vec<Device>, InputFault>
     requires entities { length entities.now < 2 ^ 32 }
     requires small { All IsSmall entities.now }
-    ensures devices { Gives input_told (λ devices. devices.items) (AreSelected file.now entities.now) result }
+    ensures devices { Gives input_told (λ devices. devices.items)
+        (AreSelected file.now entities.now) result }
     ensures chain { IfOk result (λ devices. IsChain file.now) }
     ensures number { IfOk result (λ devices. vec_len devices ≡ length (named EntityName file.now)) }
 {
@@ -247,7 +263,8 @@ pub(crate) fn devices(
 ) -> Result<Vec<Device>, InputFault>
     requires each { All (λ text. length text.items < 2 ^ 32) texts.now }
     requires count { length texts.now < 2 ^ 32 }
-    ensures devices { Gives input_told (λ devices. devices.items) (AreDevices file.now (map (λ text. text.items) texts.now)) result }
+    ensures devices { Gives input_told (λ devices. devices.items)
+        (AreDevices file.now (map (λ text. text.items) texts.now)) result }
     ensures chain { IfOk result (λ devices. IsChain file.now) }
     ensures number { IfOk result (λ devices. vec_len devices ≡ length (named EntityName file.now)) }
 {

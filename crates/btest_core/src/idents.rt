@@ -28,8 +28,10 @@ fn ident_of(alloc: Global, device: &Device) -> Result<Option<Code>, AllocError>
 
 // Returns the patterns of these devices, in order.
 fn idents_of(alloc: Global, devices: &[Device]) -> Result<Vec<Option<Code>>, AllocError>
-    ensures idents { IfOk result (λ idents. idents.items ≡ map (λ device. device.idcode) devices.now) }
-    ensures symbols { IfOk result (λ idents. All (λ ident. IfSome ident (λ code. length code ≡ 32)) idents.items) }
+    ensures idents { IfOk result
+        (λ idents. idents.items ≡ map (λ device. device.idcode) devices.now) }
+    ensures symbols { IfOk result
+        (λ idents. All (λ ident. IfSome ident (λ code. length code ≡ 32)) idents.items) }
 {
     let mut idents = Vec::new(alloc);
     for device in devices {
@@ -66,9 +68,12 @@ fn idents_unless_bypass(
 ) -> Result<Vec<Option<Code>>, InputFault>
     requires chain { IsChain file.now }
     requires devices { length devices.now ≡ length (named EntityName file.now) }
-    ensures read { Gives input_told (λ idents. idents.items) (Is (idents_unless (first_bypass file.now) devices.now)) result }
-    ensures count { IfOk result (λ idents. (0 < length idents.items) × (length idents.items ≤ most_parts)) }
-    ensures symbols { IfOk result (λ idents. All (λ ident. IfSome ident (λ code. length code ≡ 32)) idents.items) }
+    ensures read { Gives input_told (λ idents. idents.items)
+        (Is (idents_unless (first_bypass file.now) devices.now)) result }
+    ensures count { IfOk result
+        (λ idents. (0 < length idents.items) × (length idents.items ≤ most_parts)) }
+    ensures symbols { IfOk result
+        (λ idents. All (λ ident. IfSome ident (λ code. length code ≡ 32)) idents.items) }
 {
     match first_bypass(file.lines()) {
         Some(line) => Err(InputFault::NoIdent(line)),
@@ -84,9 +89,12 @@ fn file_idents(
 ) -> Result<Vec<Option<Code>>, InputFault>
     requires each { All (λ text. length text.items < 2 ^ 32) bsdl.now }
     requires count { length bsdl.now < 2 ^ 32 }
-    ensures read { Gives input_told (λ idents. idents.items) (AreFileIdents file.now (map (λ text. text.items) bsdl.now)) result }
-    ensures count { IfOk result (λ idents. (0 < length idents.items) × (length idents.items ≤ most_parts)) }
-    ensures symbols { IfOk result (λ idents. All (λ ident. IfSome ident (λ code. length code ≡ 32)) idents.items) }
+    ensures read { Gives input_told (λ idents. idents.items)
+        (AreFileIdents file.now (map (λ text. text.items) bsdl.now)) result }
+    ensures count { IfOk result
+        (λ idents. (0 < length idents.items) × (length idents.items ≤ most_parts)) }
+    ensures symbols { IfOk result
+        (λ idents. All (λ ident. IfSome ident (λ code. length code ≡ 32)) idents.items) }
 {
     match devices(alloc, file, bsdl) {
         Ok(devices) => idents_unless_bypass(alloc, file, &devices),
@@ -110,9 +118,12 @@ pub fn read_idents(
     requires size { length chain.now < 2 ^ 32 }
     requires each { All (λ text. length text.items < 2 ^ 32) bsdl.now }
     requires count { length bsdl.now < 2 ^ 32 }
-    ensures read { Gives input_told (λ idents. idents.items) (AreIdents chain.now (map (λ text. text.items) bsdl.now)) result }
-    ensures count { IfOk result (λ idents. (0 < length idents.items) × (length idents.items ≤ most_parts)) }
-    ensures symbols { IfOk result (λ idents. All (λ ident. IfSome ident (λ code. length code ≡ 32)) idents.items) }
+    ensures read { Gives input_told (λ idents. idents.items)
+        (AreIdents chain.now (map (λ text. text.items) bsdl.now)) result }
+    ensures count { IfOk result
+        (λ idents. (0 < length idents.items) × (length idents.items ≤ most_parts)) }
+    ensures symbols { IfOk result
+        (λ idents. All (λ ident. IfSome ident (λ code. length code ≡ 32)) idents.items) }
 {
     match chain_file(alloc, chain) {
         Ok(file) => file_idents(alloc, &file, bsdl),

@@ -19,14 +19,22 @@ use device_check::law::{entities_have_one_answer, sound_devices_keep_rules};
 /// Texts have exactly one answer for a device, for the instruction lengths of a chain, for its
 /// identification codes, and for a board.
 pub fn inputs_have_one_answer()
-    ensures some_device { (text : List ℕ) → (answer : Result RawDevice InputFault) × IsDeviceText text answer }
-    ensures some_chain { (chain : List ℕ) (texts : List (List ℕ)) → (answer : Result (List ℕ) InputFault) × AreChainLengths chain texts answer }
-    ensures some_idents { (chain : List ℕ) (texts : List (List ℕ)) → (answer : Result (List Ident) InputFault) × AreIdents chain texts answer }
-    ensures some_board { (chain nets : List ℕ) (texts : List (List ℕ)) → (answer : Result RawBoard InputFault) × IsBoardRead chain nets texts answer }
-    ensures device { (text : List ℕ) (a b : Result RawDevice InputFault) → IsDeviceText text a → IsDeviceText text b → a ≡ b }
-    ensures chain { (chain : List ℕ) (texts : List (List ℕ)) (a b : Result (List ℕ) InputFault) → AreChainLengths chain texts a → AreChainLengths chain texts b → a ≡ b }
-    ensures idents { (chain : List ℕ) (texts : List (List ℕ)) (a b : Result (List Ident) InputFault) → AreIdents chain texts a → AreIdents chain texts b → a ≡ b }
-    ensures board { (chain nets : List ℕ) (texts : List (List ℕ)) (a b : Result RawBoard InputFault) → IsBoardRead chain nets texts a → IsBoardRead chain nets texts b → a ≡ b }
+    ensures some_device { (text : List ℕ)
+        → (answer : Result RawDevice InputFault) × IsDeviceText text answer }
+    ensures some_chain { (chain : List ℕ) (texts : List (List ℕ))
+        → (answer : Result (List ℕ) InputFault) × AreChainLengths chain texts answer }
+    ensures some_idents { (chain : List ℕ) (texts : List (List ℕ))
+        → (answer : Result (List Ident) InputFault) × AreIdents chain texts answer }
+    ensures some_board { (chain nets : List ℕ) (texts : List (List ℕ))
+        → (answer : Result RawBoard InputFault) × IsBoardRead chain nets texts answer }
+    ensures device { (text : List ℕ) (a b : Result RawDevice InputFault) → IsDeviceText text a
+        → IsDeviceText text b → a ≡ b }
+    ensures chain { (chain : List ℕ) (texts : List (List ℕ)) (a b : Result (List ℕ) InputFault)
+        → AreChainLengths chain texts a → AreChainLengths chain texts b → a ≡ b }
+    ensures idents { (chain : List ℕ) (texts : List (List ℕ)) (a b : Result (List Ident) InputFault)
+        → AreIdents chain texts a → AreIdents chain texts b → a ≡ b }
+    ensures board { (chain nets : List ℕ) (texts : List (List ℕ)) (a b : Result RawBoard InputFault)
+        → IsBoardRead chain nets texts a → IsBoardRead chain nets texts b → a ≡ b }
 {
     texts_have_one_answer();
     token_lists_have_one_answer();
@@ -38,10 +46,12 @@ pub fn inputs_have_one_answer()
 /// the rules of a board. The answer for the identification codes of a chain has 1 to 255 items, and
 /// each pattern among them has 32 symbols.
 pub fn inputs_keep_rules()
-    ensures device { (text : List ℕ) (device : RawDevice) → IsDeviceText text (Ok device) → IsDevice device }
+    ensures device { (text : List ℕ) (device : RawDevice) → IsDeviceText text (Ok device)
+        → IsDevice device }
     ensures idents { (chain : List ℕ) (texts : List (List ℕ)) (idents : List Ident) → AreIdents chain texts (Ok idents)
         → (0 < length idents) × (length idents ≤ most_parts) × All (λ ident. IfSome ident (λ code. length code ≡ 32)) idents }
-    ensures board { (chain nets : List ℕ) (texts : List (List ℕ)) (board : RawBoard) → Denotes chain nets texts board → IsBoard board }
+    ensures board { (chain nets : List ℕ) (texts : List (List ℕ)) (board : RawBoard)
+        → Denotes chain nets texts board → IsBoard board }
 {
     sound_devices_keep_rules();
     selected_are_chains();

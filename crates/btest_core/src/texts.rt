@@ -45,7 +45,8 @@ fn tokens_of(alloc: Global, bytes: &[u8], text: u32) -> Result<Vec<Token>, Input
 pub(crate) fn entities(alloc: Global, texts: &[Vec<u8>]) -> Result<Vec<Entity>, InputFault>
     requires each { All (λ text. length text.items < 2 ^ 32) texts.now }
     requires count { length texts.now < 2 ^ 32 }
-    ensures read { Gives input_told (λ entities. entities.items) (AreEntities (map (λ text. text.items) texts.now)) result }
+    ensures read { Gives input_told (λ entities. entities.items)
+        (AreEntities (map (λ text. text.items) texts.now)) result }
     ensures kinds { IfOk result (λ entities. All HaveKinds entities.items) }
     ensures small { IfOk result (λ entities. All IsSmall entities.items) }
     ensures number { IfOk result (λ entities. vec_len entities ≡ length texts.now) }

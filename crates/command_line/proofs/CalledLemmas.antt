@@ -9,19 +9,28 @@ if_not : {X : Type 0} (x y : X) (b : Bool) → b ≡ false → (if b then x else
 if_not x y true is = absurd cc
 if_not x y false is = refl
 
-pub log_other : (name : Text) (rows : List Row) → bytes_eq (codes "diagnose") name ≡ false → bytes_eq (codes "groups") name ≡ false → bytes_eq (codes "batch") name ≡ false → None ≡ log_found name rows
+pub log_other : (name : Text) (rows : List Row) → bytes_eq (codes "diagnose") name ≡ false
+    → bytes_eq (codes "groups") name ≡ false → bytes_eq (codes "batch") name ≡ false
+    → None ≡ log_found name rows
 unfolding log_found
 log_other name rows diagnose groups batch = sym (if_not _ _ _ diagnose ∙ if_not _ _ _ groups ∙ if_not _ _ _ batch)
 
-pub board_other : (name : Text) (rows : List Row) → bytes_eq (codes "cover") name ≡ false → bytes_eq (codes "svf") name ≡ false → bytes_eq (codes "walk") name ≡ false → bytes_eq (codes "make") name ≡ false → log_found name rows ≡ board_found name rows
+pub board_other : (name : Text) (rows : List Row) → bytes_eq (codes "cover") name ≡ false
+    → bytes_eq (codes "svf") name ≡ false → bytes_eq (codes "walk") name ≡ false
+    → bytes_eq (codes "make") name ≡ false → log_found name rows ≡ board_found name rows
 unfolding board_found
 board_other name rows cover svf walk make = sym (if_not _ _ _ cover ∙ if_not _ _ _ svf ∙ if_not _ _ _ walk ∙ if_not _ _ _ make)
 
-pub called_other : (name : Text) (rows : List Row) → bytes_eq (codes "chain") name ≡ false → bytes_eq (codes "ident") name ≡ false → bytes_eq (codes "device") name ≡ false → board_found name rows ≡ called_found name rows
+pub called_other : (name : Text) (rows : List Row) → bytes_eq (codes "chain") name ≡ false
+    → bytes_eq (codes "ident") name ≡ false → bytes_eq (codes "device") name ≡ false
+    → board_found name rows ≡ called_found name rows
 called_other name rows chain ident device = sym (if_not _ _ _ chain ∙ if_not _ _ _ ident ∙ if_not _ _ _ device)
 
 -- the command in the matches is the command of the subcommand's name and rows
-pub called_by : {S : Type 0} (of : S → Text × List Row) (found : Option S) (name : Text) (rows : List Row) → Some name ≡ option_map (λ s. (of s).0) found → Some rows ≡ option_map (λ p. p.1) (option_map of found) → called_found name rows ≡ command_in (option_map of found)
+pub called_by : {S : Type 0} (of : S → Text × List Row) (found : Option S) (name : Text)
+    (rows : List Row) → Some name ≡ option_map (λ s. (of s).0) found
+    → Some rows ≡ option_map (λ p. p.1) (option_map of found)
+    → called_found name rows ≡ command_in (option_map of found)
 called_by of None name rows named with_rows = absurd cc
 called_by of (Some s) name rows named with_rows =
     let same_name : name ≡ (of s).0 = cc in

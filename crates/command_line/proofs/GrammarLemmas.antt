@@ -12,9 +12,13 @@ abbrev pub now_of : Bor Text → Text
 now_of word = word.now
 
 -- the command with the first `k` words and word `k` is the command with the first `k + 1` words
-pub one_more : (name : Text) (words : List (Bor Text)) (k : ℕ) (d : Bor Text) → k < length words → with_word (worded_app name (map now_of (take k words))) (now_of (slice_index_or words k d)) ≡ worded_app name (map now_of (take (k + 1) words))
+pub one_more : (name : Text) (words : List (Bor Text)) (k : ℕ) (d : Bor Text) → k < length words
+    → with_word (worded_app name (map now_of (take k words))) (now_of (slice_index_or words k d))
+    ≡ worded_app name (map now_of (take (k + 1) words))
 one_more name words k d within =
     let next : suc k ≡ k + 1 = omega arith in
     sym (fold-append with_word (new_app name) (map now_of (take k words)) (now_of (slice_index_or words k d) ∷ []))
-    ∙ ap (worded_app name) (sym (map-append now_of (take k words) (slice_index_or words k d ∷ [])) ∙ ap (map now_of) (sym (take-suc words k d within)))
+    ∙ ap (worded_app name)
+    (sym (map-append now_of (take k words) (slice_index_or words k d ∷ []))
+    ∙ ap (map now_of) (sym (take-suc words k d within)))
     ∙ ap (λ (n : ℕ). worded_app name (map now_of (take n words))) next

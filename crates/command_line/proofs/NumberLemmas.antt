@@ -19,13 +19,18 @@ numerals = numerals_by_value Digits (search rules)
 abbrev is_number : Bool → ℕ → ℕ → ℕ → Bool
 is_number digits most len value = digits && is_within 1 20 len && is_within 1 most value
 
-unread_by : (digits : Bool) (most len value : ℕ) (b : Bool) → is_number digits most len value ≡ b → most < 2 ^ 32 → ¬ ((0 < len) × (value < 2 ^ 32)) → None ≡ (if b then Some value else None)
+unread_by : (digits : Bool) (most len value : ℕ) (b : Bool) → is_number digits most len value ≡ b
+    → most < 2 ^ 32 → ¬ ((0 < len) × (value < 2 ^ 32)) → None ≡ (if b then Some value else None)
 unread_by true most len value true test fits unread = grind (arith, common_steps)
 unread_by false most len value true test fits unread = absurd cc
 unread_by digits most len value false test fits unread = refl
 
 -- if `parse` returns an error for a word of decimal digits, the word denotes no number
-pub unread_number : {E : Type 0} (most : ℕ) (word : Text) (error : E) → ParsesUnsigned 32 10 word (Err error) → Digits word → most < 2 ^ 32 → None ≡ number_of most word
+pub unread_number : {E : Type 0} (most : ℕ) (word : Text) (error : E)
+    → ParsesUnsigned 32 10 word (Err error) → Digits word → most < 2 ^ 32
+    → None ≡ number_of most word
 unread_number {E} most word error parses plain fits =
     let digits : Bool = list_all is_ascii_digit word in
-    unread_by digits most (length word) (digits_value 10 word) (is_number digits most (length word) (digits_value 10 word)) refl fits (parse_digits numerals 32 word (Err error) parses plain)
+    unread_by digits most (length word) (digits_value 10 word)
+    (is_number digits most (length word) (digits_value 10 word)) refl fits
+    (parse_digits numerals 32 word (Err error) parses plain)

@@ -61,35 +61,59 @@ no_trail (a ∷ rest) p all =
 
 -- The walk gives each word to the positional argument at the word's place, and its faults are the faults of these steps.
 abbrev ArePlaced : Shape → Walk → List Text → Type 0
-ArePlaced s w words = (fold (walked s.rules []) w words ≡ fold (placed s.rules) w words) × (walk_fault s [] w words ≡ placed_fault s w words)
+ArePlaced s w words =
+    (fold (walked s.rules []) w words ≡ fold (placed s.rules) w words)
+    × (walk_fault s [] w words ≡ placed_fault s w words)
 
-rest_placed : (s : Shape) (rest : List Text) → ((many : Bool) (h : Held) (position : ℕ) → ArePlaced s (before many h position) rest) → (rule : Option Rule) → NoTrail rule → (word : Text) (many : Bool) (h : Held) (position : ℕ) → ArePlaced s (to_positional s.rules rule word (before many h position) h) rest
+rest_placed : (s : Shape) (rest : List Text)
+    → ((many : Bool) (h : Held) (position : ℕ) → ArePlaced s (before many h position) rest)
+    → (rule : Option Rule) → NoTrail rule → (word : Text) (many : Bool) (h : Held) (position : ℕ)
+    → ArePlaced s (to_positional s.rules rule word (before many h position) h) rest
 rest_placed s rest are None never word many h position = are many h position
 rest_placed s rest are (Some a) never word many h position =
     let next : Walk = before (is_multiple a) (positional_held s.rules a word h) (next_position a position) in
-    subst (λ (b : Bool). ArePlaced s (record next { is_trailing = b }) rest) (sym never) (are (is_multiple a) (positional_held s.rules a word h) (next_position a position))
+    subst (λ (b : Bool). ArePlaced s (record next { is_trailing = b }) rest) (sym never)
+    (are (is_multiple a) (positional_held s.rules a word h) (next_position a position))
 
-all_placed : (s : Shape) → list_all (λ a. not a.trailing_var_arg) s.rules ≡ true → (words : List Text) → AllPlain words → (many : Bool) (h : Held) (position : ℕ) → ArePlaced s (before many h position) words
+all_placed : (s : Shape) → list_all (λ a. not a.trailing_var_arg) s.rules ≡ true
+    → (words : List Text) → AllPlain words → (many : Bool) (h : Held) (position : ℕ)
+    → ArePlaced s (before many h position) words
 unfolding clap_on_literals
 all_placed s never [] all many h position = (refl, refl)
 all_placed s never (word ∷ rest) all many h position =
     let w : Walk = before many h position in
     let rule : Option Rule = arg_by_index s.rules position in
-    let after : ArePlaced s (placed s.rules w word) rest = rest_placed s rest (all_placed s never rest all.1) rule (no_trail s.rules _ never) word many h position in
+    let after : ArePlaced s (placed s.rules w word) rest = rest_placed s rest
+    (all_placed s never rest all.1) rule (no_trail s.rules _ never) word many h position in
     let step : walked s.rules [] w word ≡ placed s.rules w word = plain_walked s many h position word all.0 in (
       ap (λ (v : Walk). fold (walked s.rules []) v rest) step ∙ after.0,
       ap (λ (v : Walk). or_else (turn_fault s [] w word) (walk_fault s [] v rest)) step
-          ∙ ap (λ k. or_else k (walk_fault s [] (placed s.rules w word) rest)) (plain_turn s many h position word all.0) ∙ ap (or_else (step_fault s position h value)) after.1,
+          ∙ ap (λ k. or_else k (walk_fault s [] (placed s.rules w word) rest))
+          (plain_turn s many h position word all.0)
+          ∙ ap (or_else (step_fault s position h value)) after.1,
     )
 
-pub answer_placed : (s : Shape) (read : List Row → Option Command) → list_all (λ a. not a.trailing_var_arg) s.rules ≡ true → (words : List Text) → AllPlain words → (h : Held) (position : ℕ) → answer_from s read (before false h position) words ≡ placed_from s read (before false h position) words
+pub answer_placed : (s : Shape) (read : List Row → Option Command)
+    → list_all (λ a. not a.trailing_var_arg) s.rules ≡ true → (words : List Text) → AllPlain words
+    → (h : Held) (position : ℕ)
+    → answer_from s read (before false h position) words
+    ≡ placed_from s read (before false h position) words
 answer_placed s read never words all h position =
     let are = all_placed s never words all false h position in
-    ap (λ k. answer_at s read k (fold (walked s.rules []) (before false h position) words)) are.1 ∙ ap (answer_at s read (placed_fault s (before false h position) words)) are.0
+    ap (λ k. answer_at s read k (fold (walked s.rules []) (before false h position) words)) are.1
+    ∙ ap (answer_at s read (placed_fault s (before false h position) words)) are.0
 
 -- the row of an argument with one value
 abbrev pub row_of : Text → Text → Row
-row_of id word = record { id = id; values = word ∷ []; count = None; source = Some CommandLine; reading = reading_of (parser_of_value None) }
+row_of id word =
+    record {
+      id = id;
+      values = word
+          ∷ [];
+      count = None;
+      source = Some CommandLine;
+      reading = reading_of (parser_of_value None);
+    }
 
 -- the row of the BSDL names, or no row if there are no names
 abbrev pub names_row : List Text → List Row
@@ -98,7 +122,10 @@ names_row (name ∷ names) = record (row_of (codes "BSDL") name) { values = name
 
 -- the walk after it has read the rows `front`, the BSDL names `names` and one more BSDL name
 abbrev pub at_names : List Row → ℕ → List Text → Text → Walk
-at_names front position names name = before true (record { rows = front ++ names_row names; pending = Some (codes "BSDL", name ∷ []); skip = 0 }) position
+at_names front position names name =
+    before true
+    (record { rows = front ++ names_row names; pending = Some (codes "BSDL", name ∷ []); skip = 0 })
+    position
 
 -- after these names are read, the walk can take one more name, and it can end without a fault
 pub record TakesName (s : Shape) (front : List Row) (position : ℕ) (names : List Text) (name : Text) : Type 0 where
@@ -110,11 +137,18 @@ pub record TakesName (s : Shape) (front : List Row) (position : ℕ) (names : Li
 abbrev pub TakesNames : Shape → List Row → ℕ → Type 0
 TakesNames s front position = (names : List Text) (name : Text) → TakesName s front position names name
 
-pub names_placed : (s : Shape) (read : List Row → Option Command) (front : List Row) (position : ℕ) → TakesNames s front position → (names : List Text) (name : Text) (rest : List Text) → placed_from s read (at_names front position names name) rest ≡ read (front ++ names_row (names ++ name ∷ rest))
+pub names_placed : (s : Shape) (read : List Row → Option Command) (front : List Row) (position : ℕ)
+    → TakesNames s front position → (names : List Text) (name : Text) (rest : List Text)
+    → placed_from s read (at_names front position names name) rest
+    ≡ read (front ++ names_row (names ++ name ∷ rest))
 names_placed s read front position takes names name [] =
-    ap (λ k. if_none k (read (finished s.rules (at_names front position names name).held))) (takes names name).ends ∙ ap read (takes names name).rows
+    ap (λ k. if_none k (read (finished s.rules (at_names front position names name).held)))
+    (takes names name).ends ∙ ap read (takes names name).rows
 names_placed s read front position takes names name (next ∷ rest) =
     let w : Walk = at_names front position names name in
-    ap (λ k. answer_at s read (or_else k (placed_fault s (placed s.rules w next) rest)) (fold (placed s.rules) (placed s.rules w next) rest)) (takes names name).passes
+    ap
+    (λ k. answer_at s read (or_else k (placed_fault s (placed s.rules w next) rest))
+    (fold (placed s.rules) (placed s.rules w next) rest)) (takes names name).passes
     ∙ ap (λ v. placed_from s read v rest) ((takes names name).step next)
-    ∙ names_placed s read front position takes (names ++ name ∷ []) next rest ∙ ap (λ all. read (front ++ names_row all)) (append_assoc names (name ∷ []) (next ∷ rest))
+    ∙ names_placed s read front position takes (names ++ name ∷ []) next rest
+    ∙ ap (λ all. read (front ++ names_row all)) (append_assoc names (name ∷ []) (next ∷ rest))

@@ -40,13 +40,17 @@ is_plain_gives (b ∷ bs) e = plain b bs (not-true (nat_eq b 45) e)
 
 pub all_plain : (ws : List Text) → list_all is_plain ws ≡ true → AllPlain ws
 all_plain [] e = tt
-all_plain (w ∷ ws) e = (is_plain_gives w ((and_parts (is_plain w) (list_all is_plain ws) e).0), all_plain ws ((and_parts (is_plain w) (list_all is_plain ws) e).1))
+all_plain (w ∷ ws) e = (
+  is_plain_gives w ((and_parts (is_plain w) (list_all is_plain ws) e).0),
+  all_plain ws ((and_parts (is_plain w) (list_all is_plain ws) e).1),
+)
 
 -- The state of the walk before a positional argument. `many` is true if the argument takes many values and already has one.
 abbrev pub waiting_for : Bool → Waiting
 waiting_for many = if many then positional else idle
 
-pub met : (c : List Rule) (many : Bool) (position : ℕ) (word : Text) (h : Held) → Plain word → word_met c [] false (waiting_for many) position word h ≡ (h, value)
+pub met : (c : List Rule) (many : Bool) (position : ℕ) (word : Text) (h : Held) → Plain word
+    → word_met c [] false (waiting_for many) position word h ≡ (h, value)
 met c true position word h p =
     ap (λ (t : Bool). (if t then (h, trailing position) else long_or_other c positional word (long_of word) h)) p.dashes
     ∙ ap (λ l. long_or_other c positional word l h) p.long ∙ ap (λ s. short_or_plain c positional word s h) p.short
@@ -69,15 +73,26 @@ abbrev pub placed : List Rule → Walk → Text → Walk
 placed c w word = to_positional c (arg_by_index c w.position) word w w.held
 
 -- if a word is plain, the walk gives it to the positional argument at its position
-pub plain_walked : (s : Shape) (many : Bool) (h : Held) (position : ℕ) (word : Text) → Plain word → walked s.rules [] (before many h position) word ≡ placed s.rules (before many h position) word
+pub plain_walked : (s : Shape) (many : Bool) (h : Held) (position : ℕ) (word : Text) → Plain word
+    → walked s.rules [] (before many h position) word ≡ placed s.rules (before many h position) word
 unfolding clap_on_literals
-plain_walked s many h position word p = ap (λ m. after_step s.rules word (before many h position) m.0 m.1) (met s.rules many position word h p)
+plain_walked s many h position word p =
+    ap (λ m. after_step s.rules word (before many h position) m.0 m.1)
+    (met s.rules many position word h p)
 
-turn_by : (s : Shape) (many : Bool) (h : Held) (position : ℕ) (word : Text) → Plain word → or_else (other_fault s None word h) (step_fault s position (word_met s.rules [] false (waiting_for many) position word h).0 (word_met s.rules [] false (waiting_for many) position word h).1) ≡ step_fault s position h value
+turn_by : (s : Shape) (many : Bool) (h : Held) (position : ℕ) (word : Text) → Plain word
+    → or_else (other_fault s None word h)
+    (step_fault s position (word_met s.rules [] false (waiting_for many) position word h).0
+    (word_met s.rules [] false (waiting_for many) position word h).1)
+    ≡ step_fault s position h value
 turn_by s many h position word p =
-    ap (λ k. or_else k (step_fault s position (word_met s.rules [] false (waiting_for many) position word h).0 (word_met s.rules [] false (waiting_for many) position word h).1)) (plain_fault s word h p)
+    ap
+    (λ k. or_else k
+    (step_fault s position (word_met s.rules [] false (waiting_for many) position word h).0
+    (word_met s.rules [] false (waiting_for many) position word h).1)) (plain_fault s word h p)
     ∙ ap (λ m. step_fault s position m.0 m.1) (met s.rules many position word h p)
 
-pub plain_turn : (s : Shape) (many : Bool) (h : Held) (position : ℕ) (word : Text) → Plain word → turn_fault s [] (before many h position) word ≡ step_fault s position h value
+pub plain_turn : (s : Shape) (many : Bool) (h : Held) (position : ℕ) (word : Text) → Plain word
+    → turn_fault s [] (before many h position) word ≡ step_fault s position h value
 plain_turn s true h position word p = turn_by s true h position word p
 plain_turn s false h position word p = turn_by s false h position word p

@@ -53,7 +53,10 @@ made_twice = refl
 abbrev diagnosed_by : Text → Option Command
 diagnosed_by workers = command_of (codes "diagnose" ∷ workers ∷ codes "g" ∷ codes "c" ∷ codes "n" ∷ codes "drv" ∷ [])
 
-diagnosed : diagnosed_by (codes "2") ≡ Some (Diagnose 2 (codes "g") (record { chain = codes "c"; nets = codes "n"; bsdl = codes "drv" ∷ [] }))
+diagnosed : diagnosed_by (codes "2")
+    ≡ Some
+    (Diagnose 2 (codes "g")
+    (record { chain = codes "c"; nets = codes "n"; bsdl = codes "drv" ∷ [] }))
 unfolding board_called log_called
 diagnosed = refl
 
@@ -76,7 +79,9 @@ walked : command_of (codes "walk" ∷ codes "c" ∷ codes "n" ∷ []) ≡ Some (
 unfolding board_called
 walked = refl
 
-grouped : command_of (codes "groups" ∷ logged) ≡ Some (Groups (codes "g") (record { chain = codes "c"; nets = codes "n"; bsdl = codes "drv" ∷ [] }))
+grouped : command_of (codes "groups" ∷ logged)
+    ≡ Some
+    (Groups (codes "g") (record { chain = codes "c"; nets = codes "n"; bsdl = codes "drv" ∷ [] }))
 unfolding board_called log_called
 grouped = refl
 
@@ -84,7 +89,10 @@ grouped_without_nets : command_of (codes "groups" ∷ codes "g" ∷ codes "c" �
 unfolding board_called log_called
 grouped_without_nets = refl
 
-batched : command_of (codes "batch" ∷ codes "64" ∷ logged) ≡ Some (Batch 64 (codes "g") (record { chain = codes "c"; nets = codes "n"; bsdl = codes "drv" ∷ [] }))
+batched : command_of (codes "batch" ∷ codes "64" ∷ logged)
+    ≡ Some
+    (Batch 64 (codes "g")
+    (record { chain = codes "c"; nets = codes "n"; bsdl = codes "drv" ∷ [] }))
 unfolding board_called log_called
 batched = refl
 
@@ -92,7 +100,9 @@ batched_without_workers : command_of (codes "batch" ∷ logged) ≡ None
 unfolding board_called log_called
 batched_without_workers = refl
 
-batched_with_zeros : command_of (codes "batch" ∷ codes "00000000000000000001" ∷ logged) ≡ Some (Batch 1 (codes "g") (record { chain = codes "c"; nets = codes "n"; bsdl = codes "drv" ∷ [] }))
+batched_with_zeros : command_of (codes "batch" ∷ codes "00000000000000000001" ∷ logged)
+    ≡ Some
+    (Batch 1 (codes "g") (record { chain = codes "c"; nets = codes "n"; bsdl = codes "drv" ∷ [] }))
 unfolding board_called log_called
 batched_with_zeros = refl
 
@@ -105,7 +115,9 @@ unfolding board_called
 walked_without_nets = refl
 
 -- words among which one begins with `-` or is empty form no command
-no_plain_words : map command_of ((codes "walk" ∷ codes "-c" ∷ codes "n" ∷ []) ∷ (codes "walk" ∷ codes "c" ∷ [] ∷ []) ∷ []) ≡ None ∷ None ∷ []
+no_plain_words : map command_of
+    ((codes "walk" ∷ codes "-c" ∷ codes "n" ∷ []) ∷ (codes "walk" ∷ codes "c" ∷ [] ∷ []) ∷ [])
+    ≡ None ∷ None ∷ []
 no_plain_words = refl
 
 -- a chain file, a net file and `count` BSDL names
@@ -117,9 +129,14 @@ most_names = record { chain = codes "c"; nets = codes "n"; bsdl = replicate 255 
 
 -- three commands with `count` BSDL names each
 abbrev with_described : ℕ → List (Option Command)
-with_described count = map command_of ((codes "walk" ∷ described count) ∷ (codes "groups" ∷ codes "g" ∷ described count) ∷ (codes "batch" ∷ codes "1" ∷ codes "g" ∷ described count) ∷ [])
+with_described count =
+    map command_of
+    ((codes "walk" ∷ described count) ∷ (codes "groups" ∷ codes "g" ∷ described count)
+    ∷ (codes "batch" ∷ codes "1" ∷ codes "g" ∷ described count) ∷ [])
 
-most_described : with_described 255 ≡ Some (Walk most_names) ∷ Some (Groups (codes "g") most_names) ∷ Some (Batch 1 (codes "g") most_names) ∷ []
+most_described : with_described 255
+    ≡ Some (Walk most_names) ∷ Some (Groups (codes "g") most_names)
+    ∷ Some (Batch 1 (codes "g") most_names) ∷ []
 unfolding board_called log_called
 most_described = refl
 

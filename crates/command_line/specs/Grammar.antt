@@ -27,12 +27,12 @@ grammar =
     ∷ []
 
 -- the names as a list in a sentence: with commas, and `or` before the last name
-abbrev pub listed : List (List ℕ) → List ℕ
-listed [] = []
-listed (last ∷ []) = last
-listed (name ∷ last ∷ []) = name ++ codes " or " ++ last
-listed (name ∷ second ∷ third ∷ others) = name ++ codes ", " ++ listed (second ∷ third ∷ others)
+abbrev pub list_in_words : List (List ℕ) → List ℕ
+list_in_words [] = []
+list_in_words (last ∷ []) = last
+list_in_words (name ∷ last ∷ []) = name ++ codes " or " ++ last
+list_in_words (name ∷ second ∷ third ∷ others) = name ++ codes ", " ++ list_in_words (second ∷ third ∷ others)
 
 -- the usage line, which names every command
 abbrev pub usage : List ℕ
-usage = codes "usage: btest " ++ listed (map (λ entry. entry.name) grammar) ++ codes "\n"
+usage = codes "usage: btest " ++ list_in_words (map (λ entry. entry.name) grammar) ++ codes "\n"

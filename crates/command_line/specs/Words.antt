@@ -45,7 +45,8 @@ is_within least most n = nat_le least n && nat_le n most
 -- The value of a word of 1 to 20 decimal digits. It is `None` if the value is not from 1 to `most`, or if the word has another form.
 abbrev pub number_of : ℕ → Text → Option ℕ
 number_of most word =
-    if list_all is_ascii_digit word && is_within 1 20 (length word) && is_within 1 most (digits_value 10 word) then Some (digits_value 10 word) else None
+    if list_all is_ascii_digit word && is_within 1 20 (length word)
+    && is_within 1 most (digits_value 10 word) then Some (digits_value 10 word) else None
 
 -- the file names of a chain that these words give: a chain file, then any number of BSDL names
 abbrev pub chain_of : List Text → Option ChainNames
@@ -59,10 +60,10 @@ device_of (name ∷ []) = Some (Device name)
 device_of (name ∷ other ∷ others) = None
 
 -- the file names of a board that these words give: a chain file and a net file, then any number of BSDL names
-abbrev pub board_of : List Text → Option BoardNames
-board_of [] = None
-board_of (chain ∷ []) = None
-board_of (chain ∷ nets ∷ names) = with_names names (record { chain = chain; nets = nets; bsdl = names })
+abbrev pub board_names_of : List Text → Option BoardNames
+board_names_of [] = None
+board_names_of (chain ∷ []) = None
+board_names_of (chain ∷ nets ∷ names) = with_names names (record { chain = chain; nets = nets; bsdl = names })
 
 -- the command `make` that these words give: one number of parts
 abbrev pub make_of : List Text → Option Command
@@ -74,7 +75,10 @@ make_of (number ∷ other ∷ others) = None
 abbrev pub worked_of : (ℕ → Text → BoardNames → Command) → List Text → Option Command
 worked_of command [] = None
 worked_of command (workers ∷ []) = None
-worked_of command (workers ∷ log ∷ names) = option_and_then (λ board. option_map (λ number. command number log board) (number_of most_workers workers)) (board_of names)
+worked_of command (workers ∷ log ∷ names) =
+    option_and_then
+    (λ board. option_map (λ number. command number log board) (number_of most_workers workers))
+    (board_names_of names)
 
 abbrev pub diagnose_of : List Text → Option Command
 diagnose_of words = worked_of Diagnose words
@@ -85,7 +89,7 @@ batch_of words = worked_of Batch words
 -- the command `groups` that these words give: a response log, and the file names of a board
 abbrev pub groups_of : List Text → Option Command
 groups_of [] = None
-groups_of (log ∷ names) = option_map (Groups log) (board_of names)
+groups_of (log ∷ names) = option_map (Groups log) (board_names_of names)
 
 -- the command with this name and these words, if commands with this name read response logs
 unfoldable pub log_called : Text → List Text → Option Command
@@ -97,9 +101,9 @@ log_called word rest =
 -- the command with this name and these words, if the name is not `chain`, `ident` or `device`
 unfoldable pub board_called : Text → List Text → Option Command
 board_called word rest =
-    if bytes_eq (codes "cover") word then option_map Cover (board_of rest) else
-    if bytes_eq (codes "svf") word then option_map Svf (board_of rest) else
-    if bytes_eq (codes "walk") word then option_map Walk (board_of rest) else
+    if bytes_eq (codes "cover") word then option_map Cover (board_names_of rest) else
+    if bytes_eq (codes "svf") word then option_map Svf (board_names_of rest) else
+    if bytes_eq (codes "walk") word then option_map Walk (board_names_of rest) else
     if bytes_eq (codes "make") word then make_of rest else log_called word rest
 
 abbrev pub parsed : List Text → Option Command
@@ -122,14 +126,14 @@ abbrev pub board_names : BoardNames → List Text
 board_names names = names.chain ∷ names.nets ∷ names.bsdl
 
 -- the names of the files that a command reads, in order
-abbrev pub names_of : Command → List Text
-names_of (Chain names) = chain_names names
-names_of (Ident names) = chain_names names
-names_of (Device name) = name ∷ []
-names_of (Cover names) = board_names names
-names_of (Svf names) = board_names names
-names_of (Walk names) = board_names names
-names_of (Make parts) = []
-names_of (Diagnose workers log names) = log ∷ board_names names
-names_of (Groups log names) = log ∷ board_names names
-names_of (Batch workers log names) = log ∷ board_names names
+abbrev pub names_in_command : Command → List Text
+names_in_command (Chain names) = chain_names names
+names_in_command (Ident names) = chain_names names
+names_in_command (Device name) = name ∷ []
+names_in_command (Cover names) = board_names names
+names_in_command (Svf names) = board_names names
+names_in_command (Walk names) = board_names names
+names_in_command (Make parts) = []
+names_in_command (Diagnose workers log names) = log ∷ board_names names
+names_in_command (Groups log names) = log ∷ board_names names
+names_in_command (Batch workers log names) = log ∷ board_names names

@@ -91,7 +91,8 @@ fn log_called<'a>(
 // Returns the word of the argument with this id, if there is one.
 #[tactic(auto, using(crate::proofs::RowLemmas::first_row))]
 fn word_in<'a>(found: &ArgMatches<'a>, id: &str) -> Option<&'a str>
-    ensures { option_map (λ word. word.now) result ≡ first_of id.now (rows_of (found_of found.now)) }
+    ensures { option_map (λ word. word.now) result
+        ≡ first_of id.now (rows_of (found_of found.now)) }
 {
     found.get_str(id)
 }
@@ -109,7 +110,9 @@ fn few_in<'a>(alloc: Global, found: &ArgMatches<'a>) -> Result<Option<BsdlNames<
 
 // Returns these names as names of BSDL files, or `None` if there are more than 255.
 fn few_names<'a>(alloc: Global, names: &[&'a str]) -> Result<Option<BsdlNames<'a>>, AllocError>
-    ensures { IfOk result (λ bsdl. bsdl ≡ with_names (map (λ name. name.now) names.now) (map (λ name. name.now) names.now)) }
+    ensures { IfOk result
+        (λ bsdl. bsdl
+        ≡ with_names (map (λ name. name.now) names.now) (map (λ name. name.now) names.now)) }
 {
     if names.len() > MOST_NAMES {
         return Ok(None);

@@ -33,7 +33,8 @@ fn with_word<'a>(
     id: &'a str,
 ) -> Result<clap::Command<'a>, AllocError>
     requires { IfOk command (λ c. (fields_of c).has_globals ≡ false) }
-    ensures app { (app : App) → IfOk command.entry (λ c. app_of c ≡ app) → IfOk result (λ c. app_of c ≡ with_word app id.entry.now) }
+    ensures app { (app : App) → IfOk command.entry (λ c. app_of c ≡ app)
+        → IfOk result (λ c. app_of c ≡ with_word app id.entry.now) }
     ensures local { IfOk result (λ c. (fields_of c).has_globals ≡ false) }
 {
     command?.arg(name_arg(alloc, id))
@@ -45,7 +46,8 @@ fn with_names<'a>(
     command: Result<clap::Command<'a>, AllocError>,
 ) -> Result<clap::Command<'a>, AllocError>
     requires { IfOk command (λ c. (fields_of c).has_globals ≡ false) }
-    ensures app { (app : App) → IfOk command.entry (λ c. app_of c ≡ app) → IfOk result (λ c. app_of c ≡ with_rule app names_rule) }
+    ensures app { (app : App) → IfOk command.entry (λ c. app_of c ≡ app)
+        → IfOk result (λ c. app_of c ≡ with_rule app names_rule) }
     ensures local { IfOk result (λ c. (fields_of c).has_globals ≡ false) }
 {
     command?.arg(names_arg(alloc))
@@ -57,7 +59,8 @@ fn words_command<'a>(
     name: &'a str,
     words: &[&'a str],
 ) -> Result<clap::Command<'a>, AllocError>
-    ensures app { IfOk result (λ c. app_of c ≡ worded_app name.entry.now (map (λ word. word.now) words.entry.now)) }
+    ensures app { IfOk result
+        (λ c. app_of c ≡ worded_app name.entry.now (map (λ word. word.now) words.entry.now)) }
     ensures local { IfOk result (λ c. (fields_of c).has_globals ≡ false) }
 {
     let mut command = Ok(clap::Command::new(alloc, name));
@@ -74,7 +77,10 @@ fn names_command<'a>(
     name: &'a str,
     words: &[&'a str],
 ) -> Result<clap::Command<'a>, AllocError>
-    ensures app { IfOk result (λ c. app_of c ≡ with_rule (worded_app name.entry.now (map (λ word. word.now) words.entry.now)) names_rule) }
+    ensures app { IfOk result
+        (λ c. app_of c
+        ≡ with_rule (worded_app name.entry.now (map (λ word. word.now) words.entry.now))
+        names_rule) }
     ensures local { IfOk result (λ c. (fields_of c).has_globals ≡ false) }
 {
     with_names(alloc, words_command(alloc, name, words))
@@ -99,7 +105,9 @@ fn with_made<'a>(
 ) -> Result<clap::Command<'a>, AllocError>
     requires top { IfOk command (λ c. (fields_of c).has_globals ≡ false) }
     requires made { IfOk made (λ s. (fields_of s).has_globals ≡ false) }
-    ensures app { (top app : App) → IfOk command.entry (λ c. app_of c ≡ top) → IfOk made.entry (λ s. app_of s ≡ app) → IfOk result (λ c. app_of c ≡ with_subcommand top app.top) }
+    ensures app { (top app : App) → IfOk command.entry (λ c. app_of c ≡ top)
+        → IfOk made.entry (λ s. app_of s ≡ app)
+        → IfOk result (λ c. app_of c ≡ with_subcommand top app.top) }
     ensures local { IfOk result (λ c. (fields_of c).has_globals ≡ false) }
 {
     let command = command?;

@@ -52,7 +52,8 @@ fn is_plain(word: &str) -> bool
 // begin with `-`.
 fn matches_of<'a>(alloc: Global, words: &'a [String]) -> Result<Option<ArgMatches<'a>>, AllocError>
     requires { list_all is_plain (map string_bytes words.now) ≡ true }
-    ensures { IfOk result (λ matches. found_in matches ≡ parsed (map string_bytes words.entry.now)) }
+    ensures { IfOk result
+        (λ matches. found_in matches ≡ parsed (map string_bytes words.entry.now)) }
 {
     match whole_command(alloc)?.try_get_matches_from(words) {
         Ok(matches) => Ok(Some(matches)),

@@ -21,7 +21,8 @@ none_kept q (n ∷ numbers) none = ap (λ (b : Bool). cond b (n ∷ filter q num
 -- if, for each item `x` at place `i`, `q` is true of `k + i` if and only if `p` is true of `x`, then `q` is true of as many of the numbers
 -- from `k` on as `p` of items
 module _ {X : Type 0} (p : X → Bool) (q : ℕ → Bool) where
-  kept_count : (k : ℕ) (xs : List X) → ((i : ℕ) (x : X) → slice_get xs i ≡ Some x → q (k + i) ≡ p x) → length (filter q (range_with_len k (length xs))) ≡ count_by p xs
+  kept_count : (k : ℕ) (xs : List X) → ((i : ℕ) (x : X) → slice_get xs i ≡ Some x → q (k + i) ≡ p x)
+      → length (filter q (range_with_len k (length xs))) ≡ count_by p xs
   kept_count k [] tests = refl
   kept_count k (x ∷ xs) tests = by_test (p x) first (kept_count (k + 1) xs later) ∙ sym (sum_by-cons (λ y. cond (p y) 1 0) x xs)
     where
@@ -38,25 +39,38 @@ module _ {X : Type 0} (p : X → Bool) (q : ℕ → Bool) where
       by_test true e counted = ap (λ (b : Bool). length (cond b (k ∷ rest) rest)) e ∙ omega (arith, counted)
       by_test false e counted = ap (λ (b : Bool). length (cond b (k ∷ rest) rest)) e ∙ omega (arith, counted)
 
-module _ (board : RawBoard) (compare : (walk : List Ctl) → CompareRows (walk_row board) (count_by (is_walked board walk) board.nets) (walk ∷ []) (compared_scans board (walk_row_scans board walk)))
+module _ (board : RawBoard)
+    (compare : (walk : List Ctl)
+    → CompareRows (walk_row board) (count_by (is_walked board walk) board.nets) (walk ∷ [])
+    (compared_scans board (walk_row_scans board walk)))
     (counted : (rows : List RowScan) → count_by is_compared (board_scans board rows) ≡ length (compared_scans board rows)) where
   -- a log of the walking test has as many rows as the test has compared SDR statements
   pub walk_rows_compared : walk_rows board ≡ count_by is_compared (board_scans board (walk_row_list board))
   walk_rows_compared = by_setting (walk_setting board) refl
     where
-      tests : (walk : List Ctl) → walk_setting board ≡ Some walk → (i : ℕ) (net : Net) → slice_get board.nets i ≡ Some net → is_walk_net board (walk_setting board) (slice_get board.nets (0 + i)) ≡ is_walked board walk net
+      tests : (walk : List Ctl) → walk_setting board ≡ Some walk → (i : ℕ) (net : Net)
+          → slice_get board.nets i ≡ Some net
+          → is_walk_net board (walk_setting board) (slice_get board.nets (0 + i))
+          ≡ is_walked board walk net
       tests walk is i net at =
           let same : 0 + i ≡ i = omega arith in
           ap (λ (m : ℕ). is_walk_net board (walk_setting board) (slice_get board.nets m)) same
           ∙ ap (λ (o : Option (List Ctl)). is_walk_net board o (slice_get board.nets i)) is
           ∙ ap (λ (o : Option Net). is_walk_net board (Some walk) o) at
 
-      by_setting : (o : Option (List Ctl)) → walk_setting board ≡ o → walk_rows board ≡ count_by is_compared (board_scans board (walk_row_list board))
+      by_setting : (o : Option (List Ctl)) → walk_setting board ≡ o
+          → walk_rows board ≡ count_by is_compared (board_scans board (walk_row_list board))
       by_setting None is =
-          ap (λ (nets : List ℕ). length nets) (none_kept (λ n. is_walk_net board (walk_setting board) (slice_get board.nets n)) (range_with_len 0 (length board.nets)) (λ n. ap (λ (o : Option (List Ctl)). is_walk_net board o (slice_get board.nets n)) is))
+          ap (λ (nets : List ℕ). length nets)
+          (none_kept (λ n. is_walk_net board (walk_setting board) (slice_get board.nets n))
+          (range_with_len 0 (length board.nets))
+          (λ n. ap (λ (o : Option (List Ctl)). is_walk_net board o (slice_get board.nets n))
+          is))
           ∙ sym (counted []) ∙ ap (λ (o : Option (List Ctl)). count_by is_compared (board_scans board (scans_by board o))) (sym is)
       by_setting (Some walk) is =
-          kept_count (is_walked board walk) (λ n. is_walk_net board (walk_setting board) (slice_get board.nets n)) 0 board.nets (tests walk is)
+          kept_count (is_walked board walk)
+          (λ n. is_walk_net board (walk_setting board) (slice_get board.nets n)) 0 board.nets
+          (tests walk is)
           ∙ sym (one-mul (count_by (is_walked board walk) board.nets))
           ∙ sym (compare walk).count
           ∙ sym (counted (walk_row_scans board walk))

@@ -27,22 +27,35 @@ scan_at (s ∷ scans) zero within = (s, refl)
 scan_at (s ∷ scans) (suc k) within = scan_at scans k (omega (arith, within))
 
 -- the text of the first `k + 1` scans is the text of the first `k` scans, followed by the text of scan `k`
-texts_more : (scans : List Scan) (k : ℕ) (scan : Scan) → slice_get scans k ≡ Some scan → scan_texts (take (suc k) scans) ≡ scan_texts (take k scans) ++ scan_text scan
+texts_more : (scans : List Scan) (k : ℕ) (scan : Scan) → slice_get scans k ≡ Some scan
+    → scan_texts (take (suc k) scans) ≡ scan_texts (take k scans) ++ scan_text scan
 texts_more [] k scan at = absurd cc
 texts_more (s ∷ scans) zero scan at = append-nil (scan_text s) ∙ ap scan_text (same_scan s scan at)
-texts_more (s ∷ scans) (suc k) scan at = ap (λ t. scan_text s ++ t) (texts_more scans k scan at) ∙ sym (append_assoc (scan_text s) (scan_texts (take k scans)) (scan_text scan))
+texts_more (s ∷ scans) (suc k) scan at =
+    ap (λ t. scan_text s ++ t) (texts_more scans k scan at)
+    ∙ sym (append_assoc (scan_text s) (scan_texts (take k scans)) (scan_text scan))
 
 -- the text of all scans is the text of the scans before scan `k`, followed by scan `k` and by the scans after scan `k`
-texts_split : (scans : List Scan) (k : ℕ) (scan : Scan) → slice_get scans k ≡ Some scan → scan_texts scans ≡ scan_texts (take k scans) ++ (scan_text scan ++ scan_texts (drop (suc k) scans))
+texts_split : (scans : List Scan) (k : ℕ) (scan : Scan) → slice_get scans k ≡ Some scan
+    → scan_texts scans
+    ≡ scan_texts (take k scans) ++ (scan_text scan ++ scan_texts (drop (suc k) scans))
 texts_split [] k scan at = absurd cc
 texts_split (s ∷ scans) zero scan at = ap (λ x. scan_text x ++ scan_texts scans) (same_scan s scan at)
-texts_split (s ∷ scans) (suc k) scan at = ap (λ t. scan_text s ++ t) (texts_split scans k scan at) ∙ sym (append_assoc (scan_text s) (scan_texts (take k scans)) (scan_text scan ++ scan_texts (drop (suc k) scans)))
+texts_split (s ∷ scans) (suc k) scan at =
+    ap (λ t. scan_text s ++ t) (texts_split scans k scan at)
+    ∙ sym
+    (append_assoc (scan_text s) (scan_texts (take k scans))
+    (scan_text scan ++ scan_texts (drop (suc k) scans)))
 
 -- if `k` is below the plan's count of scans, it is below the number of scans of the test
-pub below_count : (board : RawBoard) (passes : List (List Ctl)) (width k count : ℕ) → AreTestScans board passes width (test_scans board passes width) → count ≡ 3 + length passes * suc width → k < count → k < length (test_scans board passes width)
+pub below_count : (board : RawBoard) (passes : List (List Ctl)) (width k count : ℕ)
+    → AreTestScans board passes width (test_scans board passes width)
+    → count ≡ 3 + length passes * suc width → k < count → k < length (test_scans board passes width)
 below_count board passes width k count placed is below = subst (λ n. k < n) (is ∙ sym placed.count) below
 
-pub past_count : (board : RawBoard) (passes : List (List Ctl)) (width k count : ℕ) → AreTestScans board passes width (test_scans board passes width) → count ≡ 3 + length passes * suc width → count ≤ k → length (test_scans board passes width) ≤ k
+pub past_count : (board : RawBoard) (passes : List (List Ctl)) (width k count : ℕ)
+    → AreTestScans board passes width (test_scans board passes width)
+    → count ≡ 3 + length passes * suc width → count ≤ k → length (test_scans board passes width) ≤ k
 past_count board passes width k count placed is past = subst (λ n. n ≤ k) (is ∙ sym placed.count) past
 
 -- like `below_count`, but for any list of scans whose length is `count`
@@ -53,23 +66,33 @@ pub past : (scans : List Scan) (k count : ℕ) → count ≡ length scans → co
 past scans k count is beyond = subst (λ n. n ≤ k) is beyond
 
 -- if the sink has taken the head and the first `k` scans, and then takes scan `k`, it has taken the head and the first `k + 1` scans
-pub puts_scan : {E : Type 0} {old mid new : Shown} {r : Result (Unit {0}) E} {x : Unit {0}} (head : Text) (scans : List Scan) (k : ℕ) → k < length scans → Puts {T = Unit {0}} {E = E} old mid (head ++ scan_texts (take k scans)) (Ok tt)
-    → IfSome (slice_get scans k) (λ scan. Puts mid new (scan_text scan) r) → r ≡ Ok x → Puts {T = Unit {0}} {E = E} old new (head ++ scan_texts (take (k + 1) scans)) (Ok tt)
+pub puts_scan : {E : Type 0} {old mid new : Shown} {r : Result (Unit {0}) E} {x : Unit {0}}
+    (head : Text) (scans : List Scan) (k : ℕ) → k < length scans
+    → Puts {T = Unit {0}} {E = E} old mid (head ++ scan_texts (take k scans)) (Ok tt)
+    → IfSome (slice_get scans k) (λ scan. Puts mid new (scan_text scan) r) → r ≡ Ok x
+    → Puts {T = Unit {0}} {E = E} old new (head ++ scan_texts (take (k + 1) scans)) (Ok tt)
 puts_scan {E} {old} {mid} {new} {r} {x} head scans k within before put ok =
     let at = scan_at scans k within in
     let one = subst (λ (o : Option Scan). IfSome o (λ scan. Puts mid new (scan_text scan) r)) at.1 put in
     let done = puts_ok before refl (subst (λ (q : Result (Unit {0}) E). Puts mid new (scan_text at.0) q) ok one) in
     let text : (head ++ scan_texts (take k scans)) ++ scan_text at.0 ≡ head ++ scan_texts (take (k + 1) scans) =
-    append_assoc head (scan_texts (take k scans)) (scan_text at.0) ∙ ap (λ t. head ++ t) (sym (texts_more scans k at.0 at.1)) ∙ ap (λ n. head ++ scan_texts (take n scans)) (suc-eq-add-one k) in
+    append_assoc head (scan_texts (take k scans)) (scan_text at.0)
+    ∙ ap (λ t. head ++ t) (sym (texts_more scans k at.0 at.1))
+    ∙ ap (λ n. head ++ scan_texts (take n scans)) (suc-eq-add-one k) in
     unit_put text done
   where
-    unit_put : {E : Type 0} {old new : Shown} {a b : Text} {x : Unit {0}} → a ≡ b → Puts {T = Unit {0}} {E = E} old new a (Ok x) → Puts {T = Unit {0}} {E = E} old new b (Ok tt)
+    unit_put : {E : Type 0} {old new : Shown} {a b : Text} {x : Unit {0}} → a ≡ b
+        → Puts {T = Unit {0}} {E = E} old new a (Ok x)
+        → Puts {T = Unit {0}} {E = E} old new b (Ok tt)
     unit_put {E} {old} {new} {a} {b} {x} same put = subst (λ (t : Text). Puts {T = Unit {0}} {E = E} old new t (Ok tt)) same put
 
 -- if the sink has taken the head and the first `k` scans, and then takes only some first bytes of scan `k`, it has taken only some first
 -- bytes of the whole text
-pub cut_scan : {E : Type 0} {old mid new : Shown} {r s : Result (Unit {0}) E} {e : E} (head tail : Text) (scans : List Scan) (k : ℕ) → k < length scans → Puts {T = Unit {0}} {E = E} old mid (head ++ scan_texts (take k scans)) (Ok tt)
-    → IfSome (slice_get scans k) (λ scan. Puts mid new (scan_text scan) r) → r ≡ Err e → IsErr s → Puts old new (head ++ (scan_texts scans ++ tail)) s
+pub cut_scan : {E : Type 0} {old mid new : Shown} {r s : Result (Unit {0}) E} {e : E}
+    (head tail : Text) (scans : List Scan) (k : ℕ) → k < length scans
+    → Puts {T = Unit {0}} {E = E} old mid (head ++ scan_texts (take k scans)) (Ok tt)
+    → IfSome (slice_get scans k) (λ scan. Puts mid new (scan_text scan) r) → r ≡ Err e → IsErr s
+    → Puts old new (head ++ (scan_texts scans ++ tail)) s
 cut_scan {E} {old} {mid} {new} {r} {s} {e} head tail scans k within before put err fails =
     let at = scan_at scans k within in
     let one = subst (λ (o : Option Scan). IfSome o (λ scan. Puts mid new (scan_text scan) r)) at.1 put in
@@ -77,22 +100,32 @@ cut_scan {E} {old} {mid} {new} {r} {s} {e} head tail scans k within before put e
     let rest : Text = scan_texts (drop (suc k) scans) in
     let text : head ++ (scan_texts scans ++ tail) ≡ (head ++ front) ++ (scan_text at.0 ++ (rest ++ tail)) =
     ap (λ t. head ++ (t ++ tail)) (texts_split scans k at.0 at.1)
-    ∙ ap (λ t. head ++ t) (append_assoc front (scan_text at.0 ++ rest) tail ∙ ap (λ t. front ++ t) (append_assoc (scan_text at.0) rest tail))
+    ∙ ap (λ t. head ++ t)
+    (append_assoc front (scan_text at.0 ++ rest) tail
+    ∙ ap (λ t. front ++ t) (append_assoc (scan_text at.0) rest tail))
     ∙ sym (append_assoc head front (scan_text at.0 ++ (rest ++ tail))) in
     puts_cut (rest ++ tail) before one err fails text
 
 -- if the sink has taken the head and all scans, writing the tail completes the text
-pub puts_tail : {E : Type 0} {old mid new : Shown} {r : Result (Unit {0}) E} (head tail : Text) (scans : List Scan) (k : ℕ) → length scans ≤ k → Puts {T = Unit {0}} {E = E} old mid (head ++ scan_texts (take k scans)) (Ok tt) → Puts mid new tail r → Puts old new (head ++ (scan_texts scans ++ tail)) r
+pub puts_tail : {E : Type 0} {old mid new : Shown} {r : Result (Unit {0}) E} (head tail : Text)
+    (scans : List Scan) (k : ℕ) → length scans ≤ k
+    → Puts {T = Unit {0}} {E = E} old mid (head ++ scan_texts (take k scans)) (Ok tt)
+    → Puts mid new tail r → Puts old new (head ++ (scan_texts scans ++ tail)) r
 puts_tail {E} {old} {mid} {new} {r} head tail scans k past before put =
     let text : (head ++ scan_texts (take k scans)) ++ tail ≡ head ++ (scan_texts scans ++ tail) =
     append_assoc head (scan_texts (take k scans)) tail ∙ ap (λ l. head ++ (scan_texts l ++ tail)) (take_all k scans past) in
     subst (λ (t : Text). Puts old new t r) text (puts_ok before refl put)
 
 -- if a plan has the board's passes, the text of the plan's test is the text of the board's test
-pub plan_text : (board : RawBoard) (plan : PlanTables) → IsPlanOf board plan → plan.passes ≡ passes_of board → pass_text board plan.passes plan.width ≡ board_text board
-plan_text board plan is passes = ap (pass_text board plan.passes) is.width_is ∙ ap (λ ps. pass_text board ps (code_width (observed_count board ps))) passes
+pub plan_text : (board : RawBoard) (plan : PlanTables) → IsPlanOf board plan
+    → plan.passes ≡ passes_of board → pass_text board plan.passes plan.width ≡ board_text board
+plan_text board plan is passes =
+    ap (pass_text board plan.passes) is.width_is
+    ∙ ap (λ ps. pass_text board ps (code_width (observed_count board ps))) passes
 
 -- if a plan has the board's passes, the plan's number of rows is the number of rows of a log of the board's test
-pub rows_are : (board : RawBoard) (plan : PlanTables) → IsPlanOf board plan → plan.passes ≡ passes_of board → length plan.passes * plan.width ≡ test_rows board
+pub rows_are : (board : RawBoard) (plan : PlanTables) → IsPlanOf board plan
+    → plan.passes ≡ passes_of board → length plan.passes * plan.width ≡ test_rows board
 rows_are board plan planned same =
-    ap (λ (w : ℕ). length plan.passes * w) planned.width_is ∙ ap (λ (p : List (List Ctl)). length p * code_width (observed_count board p)) same
+    ap (λ (w : ℕ). length plan.passes * w) planned.width_is
+    ∙ ap (λ (p : List (List Ctl)). length p * code_width (observed_count board p)) same

@@ -16,18 +16,37 @@ use Rattle.commands.specs.Worth.{IsRight}
 
 module _ (listed : ExplainingListed) (unexplained : PassingUnexplained) (board : RawBoard) (rules : IsBoard board) where
   -- if `pass` says whether the log passes, and `faults` has the faults that explain the log, the diagnosis is right
-  pub is_right : (rows : List (List Bool)) (pass : Bool) (faults : List Single) → (IsTrue pass ↔ IsExpected board (svf_row_scans board) rows) → AreExplaining board rows faults → IsRight board rows pass faults
-  is_right rows pass faults passes explaining = record { passes = passes; lists = listed board rows faults rules explaining; none = λ e. unexplained board rows faults rules (passes.0 e) explaining }
+  pub is_right : (rows : List (List Bool)) (pass : Bool) (faults : List Single)
+      → (IsTrue pass ↔ IsExpected board (svf_row_scans board) rows)
+      → AreExplaining board rows faults → IsRight board rows pass faults
+  is_right rows pass faults passes explaining =
+      record {
+        passes = passes;
+        lists = listed board rows faults rules explaining;
+        none = λ e. unexplained
+            board rows faults rules (passes.0 e) explaining;
+      }
 
   -- if the verdicts are the verdicts on the blocks, each verdict is right for its block's log
-  pub each_right : (blocks : List Block) (verdicts : List Verdict) → AreVerdicts board blocks verdicts → EachPair (λ block verdict. IsRight board block.log verdict.pass verdict.faults) blocks verdicts
+  pub each_right : (blocks : List Block) (verdicts : List Verdict)
+      → AreVerdicts board blocks verdicts
+      → EachPair (λ block verdict. IsRight board block.log verdict.pass verdict.faults) blocks
+      verdicts
   each_right [] [] are = tt
   each_right [] (verdict ∷ verdicts) are = absurd are
   each_right (block ∷ blocks) [] are = absurd are
-  each_right (block ∷ blocks) (verdict ∷ verdicts) are = (is_right block.log verdict.pass verdict.faults are.0.passes are.0.list, each_right blocks verdicts are.1)
+  each_right (block ∷ blocks) (verdict ∷ verdicts) are = (
+    is_right block.log verdict.pass verdict.faults are.0.passes are.0.list,
+    each_right blocks verdicts are.1,
+  )
 
 -- if `found` is the answer for a log, `found` is a set of groups if and only if this set explains the log
-pub exactly_found : OneSet → (board : RawBoard) → IsBoard board → (rows : List (List Bool)) (found : Option (List (List ℕ))) → AreFound board rows found → (groups : List (List ℕ)) → (found ≡ Some groups) ↔ Explain board rows groups
+pub exactly_found : OneSet → (board : RawBoard) → IsBoard board
+    → (rows : List (List Bool)) (found : Option (List (List ℕ))) → AreFound board rows found
+    → (groups : List (List ℕ)) → (found ≡ Some groups) ↔ Explain board rows groups
 exactly_found one board rules rows None none groups = (λ e. absurd cc, λ explains. absurd (none groups explains))
-exactly_found one board rules rows (Some found) explained groups =
-    (λ e. let same : found ≡ groups = cc in subst (Explain board rows) same explained, λ explains. ap Some (one board rows found groups rules explained explains))
+exactly_found one board rules rows (Some found) explained groups = (
+  λ e. let same : found ≡ groups = cc in
+      subst (Explain board rows) same explained,
+  λ explains. ap Some (one board rows found groups rules explained explains),
+)

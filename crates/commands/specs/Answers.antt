@@ -26,7 +26,8 @@ pub record IsCutBy {A F : Type 0} (IsFound : Result A F → Type 0) (text_of : A
   pub takes : Takes old new (take bytes (text_of value))
 
 -- the command found a value, the sink took the value's text, and `IsWorth` holds for the text
-pub record IsPutBy {A F : Type 0} (IsFound : Result A F → Type 0) (text_of : A → Text) (IsWorth : Text → Type 0) (old new : Shown) : Type 0 where
+pub record IsPutBy {A F : Type 0} (IsFound : Result A F → Type 0) (text_of : A → Text)
+    (IsWorth : Text → Type 0) (old new : Shown) : Type 0 where
   pub value : A
   pub found : IsFound (Ok value)
   pub takes : Takes old new (text_of value)
@@ -34,7 +35,8 @@ pub record IsPutBy {A F : Type 0} (IsFound : Result A F → Type 0) (text_of : A
 
 -- The answer of a command that finds a value or a fault in its texts. If it finds a value, it writes the value's text, whole or cut short.
 -- If it finds a fault, it writes nothing and returns the fault. If memory runs out, it writes nothing.
-abbrev pub Answers : {A : Type 0} → (Result A InputFault → Type 0) → (A → Text) → (Text → Type 0) → Shown → Shown → Result (Unit {0}) Unput → Type 0
+abbrev pub Answers : {A : Type 0} → (Result A InputFault → Type 0) → (A → Text) → (Text → Type 0)
+    → Shown → Shown → Result (Unit {0}) Unput → Type 0
 Answers IsFound text_of IsWorth old new (Ok done) = IsPutBy IsFound text_of IsWorth old new
 Answers IsFound text_of IsWorth old new (Err (unput.Input fault)) = IsFound (Err fault) × (new ≡ old)
 Answers IsFound text_of IsWorth old new (Err (unput.Log rows fault)) = ⊥
@@ -43,7 +45,8 @@ Answers IsFound text_of IsWorth old new (Err unput.Write) = IsCutBy IsFound text
 Answers IsFound text_of IsWorth old new (Err unput.Memory) = new ≡ old
 
 -- like `Answers`, but for a command that reads logs
-abbrev pub LogAnswers : {A : Type 0} → (Result A TextFault → Type 0) → (A → Text) → (Text → Type 0) → Shown → Shown → Result (Unit {0}) Unput → Type 0
+abbrev pub LogAnswers : {A : Type 0} → (Result A TextFault → Type 0) → (A → Text) → (Text → Type 0)
+    → Shown → Shown → Result (Unit {0}) Unput → Type 0
 LogAnswers IsFound text_of IsWorth old new (Ok done) = IsPutBy IsFound text_of IsWorth old new
 LogAnswers IsFound text_of IsWorth old new (Err (unput.Input fault)) = IsFound (Err (Input fault)) × (new ≡ old)
 LogAnswers IsFound text_of IsWorth old new (Err (unput.Log rows fault)) = IsFound (Err (Log rows fault)) × (new ≡ old)
@@ -52,7 +55,9 @@ LogAnswers IsFound text_of IsWorth old new (Err unput.Write) = IsCutBy IsFound t
 LogAnswers IsFound text_of IsWorth old new (Err unput.Memory) = new ≡ old
 
 -- like `Answers`, but for a command whose input texts are a chain file and BSDL files
-abbrev pub ChainAnswers : {A : Type 0} → (Text → List Text → Result A InputFault → Type 0) → (A → Text) → (ChainTexts → Text → Type 0) → ChainTexts → Shown → Shown → Result (Unit {0}) Unput → Type 0
+abbrev pub ChainAnswers : {A : Type 0} → (Text → List Text → Result A InputFault → Type 0)
+    → (A → Text) → (ChainTexts → Text → Type 0) → ChainTexts → Shown → Shown
+    → Result (Unit {0}) Unput → Type 0
 ChainAnswers IsFound text_of IsWorth texts old new result = Answers (IsFound texts.chain texts.bsdl) text_of (IsWorth texts) old new result
 
 -- `found` is the board that the texts denote, or the first fault of the texts
@@ -64,8 +69,12 @@ abbrev pub BoardAnswers : (RawBoard → Text) → (BoardTexts → Text → Type 
 BoardAnswers text_of IsWorth texts old new result = Answers (IsBoardOf texts) text_of (IsWorth texts) old new result
 
 -- the answer of a command that judges a text of logs against this board
-abbrev pub AnswersOn : {L E A : Type 0} → Judging L E A → (RawBoard × A → Text) → (Text → RawBoard → Text → Type 0) → Text → RawBoard → Shown → Shown → Result (Unit {0}) Unput → Type 0
-AnswersOn judging text_of IsWorth text board old new result = LogAnswers (OnBoard judging text board) (λ found. text_of (board, found)) (IsWorth text board) old new result
+abbrev pub AnswersOn : {L E A : Type 0} → Judging L E A → (RawBoard × A → Text)
+    → (Text → RawBoard → Text → Type 0) → Text → RawBoard → Shown → Shown → Result (Unit {0}) Unput
+    → Type 0
+AnswersOn judging text_of IsWorth text board old new result =
+    LogAnswers (OnBoard judging text board) (λ found. text_of (board, found)) (IsWorth text board)
+    old new result
 
 -- `found` is the board that the other texts denote, together with what the text of logs shows for this board, or the first fault of the
 -- texts
@@ -73,5 +82,9 @@ abbrev pub IsJudgedOf : {L E A : Type 0} → Judging L E A → LogTexts → Resu
 IsJudgedOf judging texts found = OnDenoted judging texts.log texts.board.chain texts.board.nets texts.board.bsdl found
 
 -- the answer for what a text of logs shows for the board that the other texts denote
-abbrev pub JudgedAnswers : {L E A : Type 0} → Judging L E A → (RawBoard × A → Text) → (Text → RawBoard → Text → Type 0) → LogTexts → Shown → Shown → Result (Unit {0}) Unput → Type 0
-JudgedAnswers judging text_of IsWorth texts old new result = LogAnswers (IsJudgedOf judging texts) text_of (OfDenoted (IsWorth texts.log) texts.board) old new result
+abbrev pub JudgedAnswers : {L E A : Type 0} → Judging L E A → (RawBoard × A → Text)
+    → (Text → RawBoard → Text → Type 0) → LogTexts → Shown → Shown → Result (Unit {0}) Unput
+    → Type 0
+JudgedAnswers judging text_of IsWorth texts old new result =
+    LogAnswers (IsJudgedOf judging texts) text_of (OfDenoted (IsWorth texts.log) texts.board) old
+    new result

@@ -12,7 +12,7 @@ use Rattle.diagnoser.specs.DiagText.{diag_text}
 use Rattle.batch_diag.specs.declared.block.Block.{Block}
 use Rattle.batch_diag.specs.declared.fault.BatchFault.{BatchFault}
 use Rattle.batch_diag.specs.declared.verdict.Verdict.{Verdict}
-use Rattle.batch_diag.specs.Batch.{batch_of}
+use Rattle.batch_diag.specs.Batch.{blocks_of_text}
 use Rattle.batch_diag.specs.Verdicts.{AreVerdicts}
 use Rattle.batch_diag.specs.BatchText.{batch_text}
 use Rattle.walk_test.specs.Groups.{AreFound}
@@ -38,7 +38,7 @@ pub record Judging (L E A : Type 0) : Type 1 where
   pub Finds : RawBoard → L → A → Type 0
 
 -- the text can be read for the board, and `found` is what the text's contents show
-pub record IsJudged {L E A : Type 0} (judging : Judging L E A) (text : Text) (board : RawBoard) (found : A) : Type 0 where
+pub record IsJudgedLog {L E A : Type 0} (judging : Judging L E A) (text : Text) (board : RawBoard) (found : A) : Type 0 where
   pub contents : L
   pub holds : judging.read text board ≡ Ok contents
   pub finds : judging.Finds board contents found
@@ -51,7 +51,7 @@ pub record IsWrong {L E A : Type 0} (judging : Judging L E A) (text : Text) (boa
 
 -- if the result is a value, the text shows this value for the board; if it is a fault, it is the fault of the text
 abbrev pub OnBoard : {L E A : Type 0} → Judging L E A → Text → RawBoard → Result A TextFault → Type 0
-OnBoard judging text board (Ok found) = IsJudged judging text board found
+OnBoard judging text board (Ok found) = IsJudgedLog judging text board found
 OnBoard judging text board (Err fault) = IsWrong judging text board fault
 
 -- the texts denote no board, and `fault` is the first fault of the texts
@@ -77,18 +77,32 @@ test_log text board = log_rows text (test_rows board) (data_bits board)
 
 -- The way to judge a log of the board's test. It finds whether the log passes and which single faults explain the log.
 abbrev pub diagnosing : Judging (List (List Bool)) LogFault (Bool × List Single)
-diagnosing = record { row_count = test_rows; read = test_log; wrong = Log; Finds = λ board rows found. IsDiagnosis board rows found.0 found.1 }
+diagnosing =
+    record {
+      row_count = test_rows;
+      read = test_log;
+      wrong = Log;
+      Finds = λ board rows found. IsDiagnosis
+          board rows found.0 found.1;
+    }
 
 abbrev pub diagnosis_text : RawBoard × (Bool × List Single) → Text
 diagnosis_text (board, found) = diag_text board found.0 found.1
 
 -- the blocks of a batch of logs of the board's test, or the first fault of the batch
 abbrev pub test_blocks : Text → RawBoard → Result (List Block) BatchFault
-test_blocks text board = batch_of text (test_rows board) (data_bits board)
+test_blocks text board = blocks_of_text text (test_rows board) (data_bits board)
 
 -- The way to judge a batch of logs of the board's test. It finds the blocks and the verdict on each block.
 abbrev pub judging_each : Judging (List Block) BatchFault (List Block × List Verdict)
-judging_each = record { row_count = test_rows; read = test_blocks; wrong = Batch; Finds = λ board blocks found. (found.0 ≡ blocks) × AreVerdicts board blocks found.1 }
+judging_each =
+    record {
+      row_count = test_rows;
+      read = test_blocks;
+      wrong = Batch;
+      Finds = λ board blocks found.
+          (found.0 ≡ blocks) × AreVerdicts board blocks found.1;
+    }
 
 abbrev pub verdicts_text : RawBoard × (List Block × List Verdict) → Text
 verdicts_text (board, found) = batch_text board found.0 found.1

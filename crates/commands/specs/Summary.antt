@@ -11,11 +11,15 @@ use Rattle.command_line.specs.Words.{Text}
 -- the line with these counts
 abbrev pub counts_line : ℕ → ℕ → ℕ → ℕ → ℕ → ℕ → Text
 counts_line devices nets covered passes scans bytes =
-    line_of (codes "DEVICES " ∷ decimal devices ∷ codes " NETS " ∷ decimal nets ∷ codes " COVERED " ∷ decimal covered ∷ codes " PASSES " ∷ decimal passes
+    line_of
+    (codes "DEVICES " ∷ decimal devices ∷ codes " NETS " ∷ decimal nets ∷ codes " COVERED " ∷
+    decimal covered ∷ codes " PASSES " ∷ decimal passes
     ∷ codes " SCANS " ∷ decimal scans ∷ codes " BYTES " ∷ decimal bytes ∷ [])
 
 -- The line with the numbers of devices, nets and covered nets of a board, and the numbers of passes, scans and bytes of the board's test.
 -- If the number of bytes is too large for 64 bits, the line has the largest number of 64 bits instead.
 abbrev pub summary_text : RawBoard → Text
 summary_text board =
-    counts_line (length board.chain) (length board.nets) (length (covered board)) (length (passes_of board)) (length (svf_scans board)) (min (length (board_text board)) last_count)
+    counts_line (length board.chain) (length board.nets) (length (covered board))
+    (length (passes_of board)) (length (svf_scans board))
+    (min (length (board_text board)) last_count)

@@ -34,14 +34,14 @@ use Rattle.command_line.specs.Words.{Text}
 use Rattle.commands.specs.Requests.{BoardTexts, ChainTexts, Request}
 
 -- the text tests the length of the chain that these texts describe
-pub record TestsChain (texts : ChainTexts) (text : Text) : Type 0 where
+pub record IsChainTestText (texts : ChainTexts) (text : Text) : Type 0 where
   pub lengths : List ℕ
   pub are : AreChainLengths texts.chain texts.bsdl (Ok lengths)
   pub bounds : AreLengths lengths
   pub tests : IsChainTest lengths text
 
 -- The text is the listing of the device that the BSDL text describes. The device keeps the rules of a device.
-pub record ListsDevice (text listing : Text) : Type 0 where
+pub record IsDeviceListing (text listing : Text) : Type 0 where
   pub device : RawDevice
   pub described : IsDeviceText text (Ok device)
   pub rules : IsDevice device
@@ -49,7 +49,7 @@ pub record ListsDevice (text listing : Text) : Type 0 where
 
 -- The text is a coverage list of the board that these texts denote. The board keeps the rules of a board. The statements of the list about
 -- nets, pins and pairs are true for all safe settings.
-pub record ListsCover (texts : BoardTexts) (text : Text) : Type 0 where
+pub record IsCoverText (texts : BoardTexts) (text : Text) : Type 0 where
   pub board : RawBoard
   pub denoted : Denotes texts.chain texts.nets texts.bsdl board
   pub rules : IsBoard board
@@ -57,13 +57,13 @@ pub record ListsCover (texts : BoardTexts) (text : Text) : Type 0 where
 
 -- The text is a test of the board that these texts denote, and the text has a meaning. The test passes if nothing is faulty. After its
 -- reset, the test is quiet under every fault set. The test fails under every nonempty fault set that is observable.
-pub record TestsBoard (texts : BoardTexts) (text : Text) : Type 0 where
+pub record IsSvfText (texts : BoardTexts) (text : Text) : Type 0 where
   pub board : RawBoard
   pub denoted : Denotes texts.chain texts.nets texts.bsdl board
   pub tests : IsBoardTest board text
 
 -- the text tests the identification codes of the parts that these texts describe
-pub record TestsIdents (texts : ChainTexts) (text : Text) : Type 0 where
+pub record IsIdentTestText (texts : ChainTexts) (text : Text) : Type 0 where
   pub patterns : List (Option (List Symbol))
   pub are : AreIdents texts.chain texts.bsdl (Ok patterns)
   pub bounds : ArePatterns patterns
@@ -71,7 +71,7 @@ pub record TestsIdents (texts : ChainTexts) (text : Text) : Type 0 where
 
 -- The text has a meaning and may be applied to the board that these texts denote. The test passes if nothing is faulty. After its reset,
 -- the test is quiet under every fault set.
-pub record WalksBoard (texts : BoardTexts) (text : Text) : Type 0 where
+pub record IsWalkText (texts : BoardTexts) (text : Text) : Type 0 where
   pub board : RawBoard
   pub denoted : Denotes texts.chain texts.nets texts.bsdl board
   pub harmless : IsHarmless board text
@@ -95,7 +95,8 @@ WalkMeans board = meaning (board_walk_text board) ≡ Some (test_clocks (walk_sc
 -- same compared bits.
 pub record RespondOnce (board : RawBoard) : Type 0 where
   pub some : (single : Single) → IsSingle board single → (log : List (List Bool)) × Explains board single log
-  pub one : (single : Single) (log other : List (List Bool)) → Explains board single log → Explains board single other → AgreeOn board (svf_row_scans board) log other
+  pub one : (single : Single) (log other : List (List Bool)) → Explains board single log
+      → Explains board single other → AgreeOn board (svf_row_scans board) log other
 
 -- The text is the diagnosis of a log of the board's test. The log has a row for each compared SDR statement of the test, in the order of
 -- the statements. Each row has a bit for each position of a data scan.
@@ -124,7 +125,7 @@ pub record DiagnosesEach (log : Text) (board : RawBoard) (text : Text) : Type 0 
 -- The text names the groups that explain a log of a board's walking test. The log has a row for each compared SDR statement of the test.
 -- `found` is the only set of groups that explains the log, or `None` if no set explains it. Each set of groups explains some log, and all
 -- logs that one set explains have the same compared bits.
-pub record FindsGroups (log : Text) (board : RawBoard) (text : Text) : Type 0 where
+pub record IsGroupsText (log : Text) (board : RawBoard) (text : Text) : Type 0 where
   pub means : WalkMeans board
   pub rows : List (List Bool)
   pub read : walk_log log board ≡ Ok rows
@@ -132,7 +133,8 @@ pub record FindsGroups (log : Text) (board : RawBoard) (text : Text) : Type 0 wh
   pub found : Option (List (List ℕ))
   pub exactly : (groups : List (List ℕ)) → (found ≡ Some groups) ↔ Explain board rows groups
   pub respond : (groups : List (List ℕ)) → AreGroups board groups → (other : List (List Bool)) × Explain board other groups
-  pub one : (groups : List (List ℕ)) (one other : List (List Bool)) → Explain board one groups → Explain board other groups → AgreeOn board (walk_row_list board) one other
+  pub one : (groups : List (List ℕ)) (one other : List (List Bool)) → Explain board one groups
+      → Explain board other groups → AgreeOn board (walk_row_list board) one other
   pub is : text ≡ groups_text board found
 
 -- the texts denote some board, and P holds for this board and the text
@@ -142,13 +144,13 @@ OfDenoted P texts text = (board : RawBoard) × Denotes texts.chain texts.nets te
 -- The property of the text that is written for a request. The text of a test tests the chain, the parts or the board. The text of a walking
 -- test is harmless. What a list, a diagnosis or groups state is true. A summary has no stated property.
 abbrev pub IsWorthFor : Request → Text → Type 0
-IsWorthFor (Chain texts) text = TestsChain texts text
-IsWorthFor (Ident texts) text = TestsIdents texts text
-IsWorthFor (Device bsdl) text = ListsDevice bsdl text
-IsWorthFor (Cover texts) text = ListsCover texts text
-IsWorthFor (Svf texts) text = TestsBoard texts text
-IsWorthFor (Walk texts) text = WalksBoard texts text
+IsWorthFor (Chain texts) text = IsChainTestText texts text
+IsWorthFor (Ident texts) text = IsIdentTestText texts text
+IsWorthFor (Device bsdl) text = IsDeviceListing bsdl text
+IsWorthFor (Cover texts) text = IsCoverText texts text
+IsWorthFor (Svf texts) text = IsSvfText texts text
+IsWorthFor (Walk texts) text = IsWalkText texts text
 IsWorthFor (Make parts) text = Unit {0}
 IsWorthFor (Diagnose workers log board) text = OfDenoted (Diagnoses log) board text
-IsWorthFor (Groups log board) text = OfDenoted (FindsGroups log) board text
+IsWorthFor (Groups log board) text = OfDenoted (IsGroupsText log) board text
 IsWorthFor (Batch workers log board) text = OfDenoted (DiagnosesEach log) board text

@@ -3,7 +3,7 @@ ghost use Rattle.net_classes.specs.Kept.{AreClasses};
 ghost use Rattle.coverage_list.specs.CoverText.{cover_text};
 ghost use Rattle.commands.specs.Answers.{BoardAnswers};
 ghost use Rattle.commands.specs.inner.Unput.{PutsText};
-ghost use Rattle.commands.specs.Worth.{ListsCover};
+ghost use Rattle.commands.specs.Worth.{IsCoverText};
 
 use crate::planned::board_of;
 use crate::texts::BoardTexts;
@@ -19,7 +19,8 @@ use std::alloc::Global;
 
 /// Writes the coverage list of the board that the texts denote. Allocates all memory before the first write.
 pub fn cover<K: Sink>(alloc: Global, texts: &BoardTexts, out: &mut K) -> Result<(), Unput>
-    ensures { BoardAnswers cover_text ListsCover texts.now (K.shown out.old) (K.shown out.new) result }
+    ensures { BoardAnswers cover_text IsCoverText texts.now (K.shown out.old) (K.shown out.new)
+        result }
 {
     inputs_keep_rules();
     lists_are_true();

@@ -7,7 +7,7 @@ ghost use Rattle.net_classes.specs.Kept.{AreClasses};
 ghost use Rattle.net_pins.specs.Tables.{AreNetPins};
 ghost use Rattle.coverage_list.specs.CoverText.{covered};
 ghost use Rattle.scan_planner.specs.Plans.{scan_count};
-ghost use Rattle.board_gen.specs.BoardTexts.{chain_text, net_text};
+ghost use Rattle.board_gen.specs.BoardTexts.{chain_file_text, net_text};
 ghost use Rattle.board_gen.specs.DeviceText.{bsdl_text};
 ghost use Rattle.answers.specs.Gives.{Gives};
 ghost use Rattle.btest_core.specs.Answers.{input_told};
@@ -48,7 +48,8 @@ struct Counts {
 
 /// Writes the summary of the generated board with `number` parts, from 1 to 255. Allocates all memory before the first write.
 pub fn summary<K: Sink>(alloc: Global, number: PartCount, out: &mut K) -> Result<(), Unput>
-    ensures { Answers (IsBoardRead (chain_text number) (net_text number) (bsdl_text ∷ [])) summary_text Nothing (K.shown out.old) (K.shown out.new) result }
+    ensures { Answers (IsBoardRead (chain_file_text number) (net_text number) (bsdl_text ∷ []))
+        summary_text Nothing (K.shown out.old) (K.shown out.new) result }
 {
     match generated_board(alloc, number) {
         Ok(board) => {
@@ -71,7 +72,8 @@ fn put_summary<K: Sink>(alloc: Global, board: &Board, out: &mut K) -> Result<(),
 
 // Returns the generated board with `number` parts.
 fn generated_board(alloc: Global, number: PartCount) -> Result<Board, InputFault>
-    ensures { Gives input_told (λ board. board) (IsBoardRead (chain_text number) (net_text number) (bsdl_text ∷ [])) result }
+    ensures { Gives input_told (λ board. board)
+        (IsBoardRead (chain_file_text number) (net_text number) (bsdl_text ∷ [])) result }
 {
     let Made { chain, nets, bsdl } = make(alloc, number.number())?;
     let mut texts = Vec::new(alloc);
@@ -96,7 +98,10 @@ fn net_count(board: &Board) -> u32
 // Returns the number of bytes of the text of the plan's test, or the largest number of 64 bits if the text has more bytes. Writes the text
 // to a sink that only counts bytes.
 fn text_bytes(alloc: Global, test: &BoardPlan<'_>) -> Result<u64, AllocError>
-    ensures { IfOk result (λ bytes. bytes ≡ min (length (pass_text test.now.board test.now.plan.passes test.now.plan.width)) last_count) }
+    ensures { IfOk result
+        (λ bytes. bytes
+        ≡ min (length (pass_text test.now.board test.now.plan.passes test.now.plan.width))
+        last_count) }
 {
     let mut rows = TestRows::for_board(alloc, test.board())?;
     let mut counter = CountSink::new();
@@ -107,7 +112,9 @@ fn text_bytes(alloc: Global, test: &BoardPlan<'_>) -> Result<u64, AllocError>
 
 // Returns the counts of a board and its test.
 fn board_counts(alloc: Global, board: &Board) -> Result<Counts, AllocError>
-    ensures { IfOk result (λ counts. counts_line counts.devices counts.nets counts.covered counts.passes counts.scans counts.bytes ≡ summary_text board.now) }
+    ensures { IfOk result
+        (λ counts. counts_line counts.devices counts.nets counts.covered counts.passes
+        counts.scans counts.bytes ≡ summary_text board.now) }
 {
     let ClassesWithPins { classes, pins } = ClassesWithPins::of(alloc, board)?;
     let counts = classed_counts(alloc, board, &classes, pins);
@@ -124,7 +131,9 @@ fn classed_counts(
 ) -> Result<Counts, AllocError>
     requires classes { AreClasses board.now classes.now }
     requires pins { AreNetPins board.now pins }
-    ensures { IfOk result (λ counts. counts_line counts.devices counts.nets counts.covered counts.passes counts.scans counts.bytes ≡ summary_text board.now) }
+    ensures { IfOk result
+        (λ counts. counts_line counts.devices counts.nets counts.covered counts.passes
+        counts.scans counts.bytes ≡ summary_text board.now) }
 {
     let plan = plan_by(alloc, board, pins, classes)?;
     let counts = planned_counts(alloc, &BoardTest::of(board, &plan), classes);
@@ -139,7 +148,9 @@ fn planned_counts(
     classes: &Classes,
 ) -> Result<Counts, AllocError>
     requires { AreClasses test.now.board classes.now }
-    ensures { IfOk result (λ counts. counts_line counts.devices counts.nets counts.covered counts.passes counts.scans counts.bytes ≡ summary_text test.now.board) }
+    ensures { IfOk result
+        (λ counts. counts_line counts.devices counts.nets counts.covered counts.passes
+        counts.scans counts.bytes ≡ summary_text test.now.board) }
 {
     let bytes = text_bytes(alloc, test.board_plan())?;
     scans_placed();

@@ -15,7 +15,7 @@ ghost use Rattle.scan_planner.specs.Plans.{IsRoom, scan_count};
 ghost use Rattle.response_log.specs.LogRows.{HasSize};
 ghost use Rattle.diagnoser.specs.Laws.{ExplainingListed, PassingUnexplained};
 ghost use Rattle.commands.specs.LogRead.{test_rows};
-ghost use Rattle.commands.specs.Worth.{RespondOnce, TestsBoard};
+ghost use Rattle.commands.specs.Worth.{RespondOnce, IsSvfText};
 ghost use Rattle.commands.specs.Answers.{BoardAnswers};
 ghost use Rattle.commands.specs.inner.Rows.{EachStoredHasRoom, HoldScan};
 ghost use Rattle.commands.specs.inner.Unput.{PutsText};
@@ -37,7 +37,8 @@ use tap_defs::{ScanRows, Shape, StoredRows};
 
 /// Writes the test of the board that the texts denote. Allocates all memory before the first write.
 pub fn svf<K: Sink>(alloc: Global, texts: &BoardTexts, out: &mut K) -> Result<(), Unput>
-    ensures { BoardAnswers board_text TestsBoard texts.now (K.shown out.old) (K.shown out.new) result }
+    ensures { BoardAnswers board_text IsSvfText texts.now (K.shown out.old) (K.shown out.new)
+        result }
 {
     match planned_board(alloc, texts) {
         Ok(planned) => {
@@ -70,7 +71,9 @@ fn tests_board(board: &Board)
 
 /// States that the text of any data scans of the board means the clocks of these scans. Does nothing.
 pub fn test_means(board: &Board)
-    ensures { (scans : List RowScan) → meaning (svf_text (board_scans board.now scans)) ≡ Some (test_clocks (board_scans board.now scans)) }
+    ensures { (scans : List RowScan)
+        → meaning (svf_text (board_scans board.now scans))
+        ≡ Some (test_clocks (board_scans board.now scans)) }
 {
     let _rules = board.raw();
     texts_mean();
@@ -79,7 +82,8 @@ pub fn test_means(board: &Board)
 // States that a log with the rows and bits of the board's test has a row for each compared SDR statement of the test, in
 // the order of the statements, and that each row has a bit for each position. Does nothing.
 fn test_logs_shaped(board: &Board)
-    ensures { (log : List (List Bool)) → HasSize (test_rows board.now) (data_bits board.now) log → HasShape board.now (svf_row_scans board.now) log }
+    ensures { (log : List (List Bool)) → HasSize (test_rows board.now) (data_bits board.now) log
+        → HasShape board.now (svf_row_scans board.now) log }
 {
     let _rules = board.raw();
     passes_kept();
@@ -100,8 +104,12 @@ fn singles_respond(board: &Board)
 /// diagnosis lists exactly the faults that explain its log. No fault explains a log that passes. Does nothing.
 pub fn judging_laws(board: &Board)
     ensures rules { IsBoard board.now }
-    ensures means { (scans : List RowScan) → meaning (svf_text (board_scans board.now scans)) ≡ Some (test_clocks (board_scans board.now scans)) }
-    ensures shaped { (log : List (List Bool)) → HasSize (test_rows board.now) (data_bits board.now) log → HasShape board.now (svf_row_scans board.now) log }
+    ensures means { (scans : List RowScan)
+        → meaning (svf_text (board_scans board.now scans))
+        ≡ Some (test_clocks (board_scans board.now scans)) }
+    ensures shaped { (log : List (List Bool))
+        → HasSize (test_rows board.now) (data_bits board.now) log
+        → HasShape board.now (svf_row_scans board.now) log }
     ensures respond { RespondOnce board.now }
     ensures listed { ExplainingListed }
     ensures unexplained { PassingUnexplained }
@@ -132,7 +140,8 @@ impl TestRows {
     /// Allocates rows with room for the scans of a board.
     pub fn for_board(alloc: Global, board: &Board) -> Result<TestRows, AllocError>
         ensures room { IfOk result (λ made. EachStoredHasRoom (IsRoom board.now) made.rows.scan) }
-        ensures kept { IfOk result (λ made. (plan : PlanRecord) → AreKept board.now plan made.kept) }
+        ensures kept { IfOk result
+            (λ made. (plan : PlanRecord) → AreKept board.now plan made.kept) }
     {
         Ok(TestRows {
             rows: Rows::with_room(alloc, longest_scan(board))?,
@@ -149,7 +158,8 @@ pub fn write_test<K: Sink>(
 ) -> Result<(), PutFault>
     requires kept { AreKept test.now.board test.now.plan made.old.kept }
     requires room { EachStoredHasRoom (IsRoom test.now.board) made.old.rows.scan }
-    ensures { Puts (K.shown out.old) (K.shown out.new) (pass_text test.now.board test.now.plan.passes test.now.plan.width) result }
+    ensures { Puts (K.shown out.old) (K.shown out.new)
+        (pass_text test.now.board test.now.plan.passes test.now.plan.width) result }
 {
     write_scans(test, &mut made.kept, &mut made.rows, out)
 }
@@ -164,7 +174,8 @@ fn write_scans<K: Sink>(
 ) -> Result<(), PutFault>
     requires kept { AreKept test.now.board test.now.plan kept.old }
     requires room { EachStoredHasRoom (IsRoom test.now.board) rows.old.scan }
-    ensures { Puts (K.shown out.old) (K.shown out.new) (pass_text test.now.board test.now.plan.passes test.now.plan.width) result }
+    ensures { Puts (K.shown out.old) (K.shown out.new)
+        (pass_text test.now.board test.now.plan.passes test.now.plan.width) result }
 {
     scans_placed();
     write_head(out)?;
@@ -187,11 +198,15 @@ fn write_scan_at<K: Sink>(
 ) -> Result<(), PutFault>
     requires scan { k < scan_count test.now.plan }
     requires later { IfSome held.old (λ shape. 0 < k) }
-    requires held { IfSome held.old (λ shape. HoldScan test.now.board test.now.plan (k - 1) shape rows.old.scan) }
+    requires held { IfSome held.old
+        (λ shape. HoldScan test.now.board test.now.plan (k - 1) shape rows.old.scan) }
     requires kept { AreKept test.now.board test.now.plan kept.old }
     requires room { EachStoredHasRoom (IsRoom test.now.board) rows.old.scan }
-    ensures text { IfSome (slice_get (test_scans test.now.board test.now.plan.passes test.now.plan.width) k) (λ scan. Puts (K.shown out.old) (K.shown out.new) (scan_text scan) result) }
-    ensures held { IfSome held.new (λ shape. HoldScan test.now.board test.now.plan k shape rows.new.scan) }
+    ensures text { IfSome
+        (slice_get (test_scans test.now.board test.now.plan.passes test.now.plan.width) k)
+        (λ scan. Puts (K.shown out.old) (K.shown out.new) (scan_text scan) result) }
+    ensures held { IfSome held.new
+        (λ shape. HoldScan test.now.board test.now.plan k shape rows.new.scan) }
     ensures kept { AreKept test.now.board test.now.plan kept.new }
     ensures room { EachStoredHasRoom (IsRoom test.now.board) rows.new.scan }
 {
@@ -212,7 +227,8 @@ fn fill_at(
 ) -> Shape
     requires scan { k < scan_count test.now.plan }
     requires later { IfSome before (λ shape. 0 < k) }
-    requires held { IfSome before (λ shape. HoldScan test.now.board test.now.plan (k - 1) shape rows.old) }
+    requires held { IfSome before
+        (λ shape. HoldScan test.now.board test.now.plan (k - 1) shape rows.old) }
     requires kept { AreKept test.now.board test.now.plan kept.old }
     requires room { EachStoredHasRoom (IsRoom test.now.board) rows.old }
     ensures filled { HoldScan test.now.board test.now.plan k result rows.new }

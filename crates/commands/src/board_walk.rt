@@ -8,14 +8,14 @@ ghost use Rattle.tap_defs.specs.chain.Text.{scan_text};
 ghost use Rattle.net_classes.specs.Kept.{AreClasses};
 ghost use Rattle.net_pins.specs.Tables.{AreNetPins};
 ghost use Rattle.scan_planner.specs.Plans.{IsRoom};
-ghost use Rattle.walk_test.specs.Tables.{IsWalkOf, scan_count};
+ghost use Rattle.walk_test.specs.Tables.{IsWalkOf, count_walk_scans};
 ghost use Rattle.walk_test.specs.WalkTest.{board_walk_text, walk_row_list, walk_scans};
 ghost use Rattle.response_log.specs.LogRows.{HasSize};
 ghost use Rattle.commands.specs.Answers.{BoardAnswers, IsBoardOf};
 ghost use Rattle.commands.specs.LogRead.{walk_rows};
 ghost use Rattle.commands.specs.inner.Rows.{EachStoredHasRoom};
 ghost use Rattle.commands.specs.inner.Unput.{NoBoard, PutsText};
-ghost use Rattle.commands.specs.Worth.{WalksBoard};
+ghost use Rattle.commands.specs.Worth.{IsWalkText};
 
 use crate::board_test::longest_scan;
 use crate::planned::{ClassesWithPins, board_of};
@@ -76,7 +76,7 @@ impl Walked {
 
     // Returns the number of scans of the walking test.
     fn scans(&self) -> u64
-        ensures count { result ≡ scan_count self.now.walk }
+        ensures count { result ≡ count_walk_scans self.now.walk }
         ensures scans { result ≡ length (walk_scans self.now.board) }
     {
         scans_counted();
@@ -106,7 +106,8 @@ fn with_walk(alloc: Global, board: Board) -> Result<Walked, AllocError>
 /// States that a log with the rows and bits of the board's walking test has a row for each compared SDR statement of the
 /// test, in the order of the statements, and that each row has a bit for each position. Does nothing.
 pub fn walk_logs_shaped(board: &Board)
-    ensures { (log : List (List Bool)) → HasSize (walk_rows board.now) (data_bits board.now) log → HasShape board.now (walk_row_list board.now) log }
+    ensures { (log : List (List Bool)) → HasSize (walk_rows board.now) (data_bits board.now) log
+        → HasShape board.now (walk_row_list board.now) log }
 {
     let _rules = board.raw();
     rows_compared();
@@ -140,7 +141,8 @@ fn walk_by(
 
 /// Writes the walking test of the board that the texts denote. Allocates all memory before the first write.
 pub fn walk<K: Sink>(alloc: Global, texts: &BoardTexts, out: &mut K) -> Result<(), Unput>
-    ensures { BoardAnswers board_walk_text WalksBoard texts.now (K.shown out.old) (K.shown out.new) result }
+    ensures { BoardAnswers board_walk_text IsWalkText texts.now (K.shown out.old) (K.shown out.new)
+        result }
 {
     match walked_board(alloc, texts) {
         Ok(walked) => {
@@ -155,7 +157,8 @@ pub fn walk<K: Sink>(alloc: Global, texts: &BoardTexts, out: &mut K) -> Result<(
 
 // Writes the walking test, which is already made, of a board.
 fn put_walk<K: Sink>(alloc: Global, walked: &Walked, out: &mut K) -> Result<(), Unput>
-    ensures { PutsText (board_walk_text walked.now.board) (K.shown out.old) (K.shown out.new) result }
+    ensures { PutsText (board_walk_text walked.now.board) (K.shown out.old) (K.shown out.new)
+        result }
 {
     let mut rows = Rows::with_room(alloc, longest_scan(walked.board()))?;
     answer_by(write_walk(walked, &mut rows, out))
@@ -189,9 +192,10 @@ fn write_walk_scan<K: Sink>(
     rows: &mut Rows,
     out: &mut K,
 ) -> Result<(), PutFault>
-    requires scan { k < scan_count walked.now.walk }
+    requires scan { k < count_walk_scans walked.now.walk }
     requires room { EachStoredHasRoom (IsRoom walked.now.board) rows.old.scan }
-    ensures text { IfSome (slice_get (walk_scans walked.now.board) k) (λ scan. Puts (K.shown out.old) (K.shown out.new) (scan_text scan) result) }
+    ensures text { IfSome (slice_get (walk_scans walked.now.board) k)
+        (λ scan. Puts (K.shown out.old) (K.shown out.new) (scan_text scan) result) }
     ensures room { EachStoredHasRoom (IsRoom walked.now.board) rows.new.scan }
 {
     let Walked { board, walk } = walked;

@@ -3,9 +3,9 @@ ghost use Rattle.std.specs.Prelude.{◌≡◌, ◌<◌, ◌^◌, sum};
 ghost use Rattle.bt_base.specs.Puts.{Puts};
 ghost use Rattle.tap_defs.specs.chain.ChainScans.{chain_text};
 ghost use Rattle.tap_defs.specs.chain.ChainTest.{IsChainTest};
-ghost use Rattle.svf_writer.specs.Rows.{IsRoom};
+ghost use Rattle.svf_writer.specs.Rows.{IsChainRoom};
 ghost use Rattle.btest_core.specs.BoardRead.{AreChainLengths, AreLengths};
-ghost use Rattle.commands.specs.Worth.{TestsChain};
+ghost use Rattle.commands.specs.Worth.{IsChainTestText};
 ghost use Rattle.commands.specs.Answers.{ChainAnswers};
 ghost use Rattle.commands.specs.inner.Rows.{EachStoredHasRoom};
 ghost use Rattle.commands.specs.inner.Unput.{PutsText};
@@ -21,7 +21,8 @@ use tap_defs::chain_law::chain_tests;
 
 /// Writes the test of the length of the chain that the texts describe. Allocates all memory before the first write.
 pub fn chain<K: Sink>(alloc: Global, texts: &ChainTexts, out: &mut K) -> Result<(), Unput>
-    ensures { ChainAnswers AreChainLengths chain_text TestsChain texts.now (K.shown out.old) (K.shown out.new) result }
+    ensures { ChainAnswers AreChainLengths chain_text IsChainTestText texts.now (K.shown out.old)
+        (K.shown out.new) result }
 {
     match read_chain(alloc, texts.chain.as_bytes(), texts.bsdl.as_slice()) {
         Ok(lengths) => {
@@ -53,7 +54,7 @@ fn tests_length(lengths: &[u32])
 // Returns the number of bits of the longest scan of the chain test.
 fn longest_scan(lengths: &[u32]) -> u32
     requires { AreLengths lengths.now }
-    ensures { IsRoom lengths.now result }
+    ensures { IsChainRoom lengths.now result }
 {
     instruction_bits(lengths).max(lengths.len() as u32 + 8)
 }
@@ -69,7 +70,7 @@ fn instruction_bits(lengths: &[u32]) -> u32
 #[tactic(auto, unfolding(tap_defs::specs::chain::Text::svf_text))]
 fn write_test<K: Sink>(lengths: &[u32], rows: &mut Rows, out: &mut K) -> Result<(), PutFault>
     requires lengths { AreLengths lengths.now }
-    requires room { EachStoredHasRoom (IsRoom lengths.now) rows.old.scan }
+    requires room { EachStoredHasRoom (IsChainRoom lengths.now) rows.old.scan }
     ensures { Puts (K.shown out.old) (K.shown out.new) (chain_text lengths.now) result }
 {
     write_head(out)?;

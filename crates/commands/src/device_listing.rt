@@ -2,7 +2,7 @@
 ghost use Rattle.device_check.specs.DeviceText.{device_text};
 ghost use Rattle.btest_core.specs.DevicesRead.{IsDeviceText};
 ghost use Rattle.commands.specs.Answers.{Answers};
-ghost use Rattle.commands.specs.Worth.{ListsDevice};
+ghost use Rattle.commands.specs.Worth.{IsDeviceListing};
 ghost use Rattle.commands.specs.inner.Unput.{PutsText};
 
 use crate::texts::ShortText;
@@ -17,7 +17,8 @@ use std::alloc::Global;
 
 /// Writes the listing, in its default package, of the device that a BSDL text describes. Allocates all memory before the first write.
 pub fn device<K: Sink>(alloc: Global, text: &ShortText, out: &mut K) -> Result<(), Unput>
-    ensures { Answers (IsDeviceText text.now) device_text (ListsDevice text.now) (K.shown out.old) (K.shown out.new) result }
+    ensures { Answers (IsDeviceText text.now) device_text (IsDeviceListing text.now)
+        (K.shown out.old) (K.shown out.new) result }
 {
     inputs_keep_rules();
     match read_device(alloc, text.as_bytes()) {

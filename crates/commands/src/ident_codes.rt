@@ -5,7 +5,7 @@ ghost use Rattle.bt_base.specs.Puts.{Puts};
 ghost use Rattle.ident_test.specs.IdentTest.{ArePatterns, IsIdentTest};
 ghost use Rattle.ident_test.specs.Patterns.{ident_bits, ident_text};
 ghost use Rattle.btest_core.specs.IdentsRead.{AreIdents};
-ghost use Rattle.commands.specs.Worth.{TestsIdents};
+ghost use Rattle.commands.specs.Worth.{IsIdentTestText};
 ghost use Rattle.commands.specs.Answers.{ChainAnswers};
 ghost use Rattle.commands.specs.inner.Rows.{EachStoredHasRoom};
 ghost use Rattle.commands.specs.inner.Unput.{PutsText};
@@ -26,7 +26,8 @@ const MOST_CODE_BITS: u32 = 8160;
 
 /// Writes the test of the identification codes of the parts that the texts describe. Allocates all memory before the first write.
 pub fn ident<K: Sink>(alloc: Global, texts: &ChainTexts, out: &mut K) -> Result<(), Unput>
-    ensures { ChainAnswers AreIdents ident_text TestsIdents texts.now (K.shown out.old) (K.shown out.new) result }
+    ensures { ChainAnswers AreIdents ident_text IsIdentTestText texts.now (K.shown out.old)
+        (K.shown out.new) result }
 {
     match read_idents(alloc, texts.chain.as_bytes(), texts.bsdl.as_slice()) {
         Ok(patterns) => {
@@ -54,7 +55,8 @@ fn write_test<K: Sink>(
     out: &mut K,
 ) -> Result<(), PutFault>
     requires patterns { ArePatterns patterns.now }
-    requires room { EachStoredHasRoom (λ room. length (ident_bits patterns.now) ≤ room) rows.old.scan }
+    requires room { EachStoredHasRoom (λ room. length (ident_bits patterns.now) ≤ room)
+        rows.old.scan }
     ensures { Puts (K.shown out.old) (K.shown out.new) (ident_text patterns.now) result }
 {
     let Rows { scan, line } = rows;

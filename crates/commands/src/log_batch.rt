@@ -1,6 +1,6 @@
 // The command `batch`, which diagnoses each log of a batch.
 ghost use Rattle.std.specs.Prelude.{◌≡◌, ◌≤◌, All, Ok, length};
-ghost use Rattle.diagnoser.specs.Diagnosis.{IsNamed};
+ghost use Rattle.diagnoser.specs.Diagnosis.{IsFaultOnBoard};
 ghost use Rattle.board_defs.specs.Pins.{data_bits};
 ghost use Rattle.response_log.specs.LogRows.{HasSize};
 ghost use Rattle.batch_diag.specs.BatchText.{batch_text};
@@ -34,7 +34,8 @@ pub fn batch<R: Threads + Sync, K: Sink, G: Gate>(
 ) -> Result<(), Unput>
     requires some { 1 ≤ workers }
     requires few { workers ≤ 64 }
-    ensures { JudgedAnswers judging_each verdicts_text DiagnosesEach texts (K.shown out.old) (K.shown out.new) result }
+    ensures { JudgedAnswers judging_each verdicts_text DiagnosesEach texts (K.shown out.old)
+        (K.shown out.new) result }
 {
     batch_of(rt, alloc, &texts, Workers::of(workers), gate, out)
 }
@@ -48,7 +49,8 @@ fn batch_of<R: Threads + Sync, K: Sink, G: Gate>(
     gate: &G,
     out: &mut K,
 ) -> Result<(), Unput>
-    ensures { JudgedAnswers judging_each verdicts_text DiagnosesEach texts.now (K.shown out.old) (K.shown out.new) result }
+    ensures { JudgedAnswers judging_each verdicts_text DiagnosesEach texts.now (K.shown out.old)
+        (K.shown out.new) result }
 {
     match planned_board(alloc, &texts.board) {
         Ok(planned) => {
@@ -70,7 +72,8 @@ fn put_batch<R: Threads + Sync, K: Sink, G: Gate>(
     gate: &G,
     out: &mut K,
 ) -> Result<(), Unput>
-    ensures { AnswersOn judging_each verdicts_text DiagnosesEach text.now planned.now.board (K.shown out.old) (K.shown out.new) result }
+    ensures { AnswersOn judging_each verdicts_text DiagnosesEach text.now planned.now.board
+        (K.shown out.old) (K.shown out.new) result }
 {
     let (rows, bits) = (planned.log_rows(), planned.log_bits());
     match blocks_by(rt, alloc, text.as_bytes(), rows, bits, workers.number()) {
@@ -89,8 +92,12 @@ fn put_blocks<R: Threads + Sync, K: Sink, G: Gate>(
     gate: &G,
     out: &mut K,
 ) -> Result<(), Unput>
-    requires size { All (λ block. HasSize (test_rows planned.now.board) (data_bits planned.now.board) block.log) blocks.now }
-    ensures { (text : Text) → test_blocks text planned.now.board ≡ Ok blocks.now → AnswersOn judging_each verdicts_text DiagnosesEach text planned.now.board (K.shown out.old) (K.shown out.new) result }
+    requires size { All
+        (λ block. HasSize (test_rows planned.now.board) (data_bits planned.now.board) block.log)
+        blocks.now }
+    ensures { (text : Text) → test_blocks text planned.now.board ≡ Ok blocks.now
+        → AnswersOn judging_each verdicts_text DiagnosesEach text planned.now.board
+        (K.shown out.old) (K.shown out.new) result }
 {
     let test = planned.test();
     let verdicts = diagnose_blocks(rt, alloc, &test, blocks, workers, gate)?;
@@ -108,8 +115,9 @@ fn put_verdicts<K: Sink>(
     out: &mut K,
 ) -> Result<(), Unput>
     requires count { length verdicts.now ≡ length blocks.now }
-    requires named { All (λ verdict. All (IsNamed board.now) verdict.faults) verdicts.now }
-    ensures { PutsText (batch_text board.now blocks.now verdicts.now) (K.shown out.old) (K.shown out.new) result }
+    requires named { All (λ verdict. All (IsFaultOnBoard board.now) verdict.faults) verdicts.now }
+    ensures { PutsText (batch_text board.now blocks.now verdicts.now) (K.shown out.old)
+        (K.shown out.new) result }
 {
     let mut line = Line::new(alloc)?;
     answer_by(write_batch(board, blocks, verdicts, &mut line, out))

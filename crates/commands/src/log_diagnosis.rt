@@ -3,7 +3,7 @@ ghost use Rattle.std.specs.Prelude.{◌≡◌, ◌↔◌, ◌≤◌, All, IfOk, 
 ghost use Rattle.tap_defs.specs.board.BoardScans.{svf_row_scans};
 ghost use Rattle.tap_defs.specs.board.Explaining.{IsExpected};
 ghost use Rattle.diagnoser.specs.DiagText.{diag_text};
-ghost use Rattle.diagnoser.specs.Diagnosis.{AreExplaining, IsNamed};
+ghost use Rattle.diagnoser.specs.Diagnosis.{AreExplaining, IsFaultOnBoard};
 ghost use Rattle.command_line.specs.Words.{Text};
 ghost use Rattle.commands.specs.LogRead.{diagnosing, diagnosis_text, test_log};
 ghost use Rattle.commands.specs.Worth.{Diagnoses};
@@ -42,7 +42,8 @@ pub fn diagnosis<R: Threads + Sync, K: Sink, G: Gate>(
 ) -> Result<(), Unput>
     requires some { 1 ≤ workers }
     requires few { workers ≤ 64 }
-    ensures { JudgedAnswers diagnosing diagnosis_text Diagnoses texts (K.shown out.old) (K.shown out.new) result }
+    ensures { JudgedAnswers diagnosing diagnosis_text Diagnoses texts (K.shown out.old)
+        (K.shown out.new) result }
 {
     let LogTexts { log, board } = texts;
     diagnosis_of(rt, alloc, &board, log, Workers::of(workers), gate, out)
@@ -58,7 +59,8 @@ fn diagnosis_of<R: Threads + Sync, K: Sink, G: Gate>(
     gate: &G,
     out: &mut K,
 ) -> Result<(), Unput>
-    ensures { JudgedAnswers diagnosing diagnosis_text Diagnoses (record { log = log; board = texts.now }) (K.shown out.old) (K.shown out.new) result }
+    ensures { JudgedAnswers diagnosing diagnosis_text Diagnoses
+        (record { log = log; board = texts.now }) (K.shown out.old) (K.shown out.new) result }
 {
     match planned_board(alloc, texts) {
         Ok(planned) => {
@@ -80,7 +82,8 @@ fn put_diagnosis<R: Threads + Sync, K: Sink, G: Gate>(
     gate: &G,
     out: &mut K,
 ) -> Result<(), Unput>
-    ensures { AnswersOn diagnosing diagnosis_text Diagnoses text planned.now.board (K.shown out.old) (K.shown out.new) result }
+    ensures { AnswersOn diagnosing diagnosis_text Diagnoses text planned.now.board (K.shown out.old)
+        (K.shown out.new) result }
 {
     let (rows, bits) = (planned.log_rows(), planned.log_bits());
     match log_of(alloc, text.into_bytes(), rows, bits) {
@@ -101,7 +104,9 @@ fn put_judged<R: Threads + Sync, K: Sink, G: Gate>(
     gate: &G,
     out: &mut K,
 ) -> Result<(), Unput>
-    ensures { (text : Text) → test_log text logged.now.test.board ≡ Ok logged.now.log → AnswersOn diagnosing diagnosis_text Diagnoses text logged.now.test.board (K.shown out.old) (K.shown out.new) result }
+    ensures { (text : Text) → test_log text logged.now.test.board ≡ Ok logged.now.log
+        → AnswersOn diagnosing diagnosis_text Diagnoses text logged.now.test.board
+        (K.shown out.old) (K.shown out.new) result }
 {
     let found = found_in(rt, alloc, logged, workers, gate)?;
     let _plan = logged.plan();
@@ -119,9 +124,14 @@ fn found_in<R: Threads + Sync, G: Gate>(
     workers: Workers,
     gate: &G,
 ) -> Result<Found, AllocError>
-    ensures passes { IfOk result (λ found. IsTrue found.pass ↔ IsExpected logged.now.test.board (svf_row_scans logged.now.test.board) logged.now.log) }
-    ensures faults { IfOk result (λ found. AreExplaining logged.now.test.board logged.now.log found.faults.items) }
-    ensures named { IfOk result (λ found. All (IsNamed logged.now.test.board) found.faults.items) }
+    ensures passes { IfOk result
+        (λ found. IsTrue found.pass
+        ↔ IsExpected logged.now.test.board (svf_row_scans logged.now.test.board)
+        logged.now.log) }
+    ensures faults { IfOk result
+        (λ found. AreExplaining logged.now.test.board logged.now.log found.faults.items) }
+    ensures named { IfOk result
+        (λ found. All (IsFaultOnBoard logged.now.test.board) found.faults.items) }
 {
     let nets = logged.differing(alloc)?;
     let pass = logged.none_differs(&nets);
@@ -131,8 +141,9 @@ fn found_in<R: Threads + Sync, G: Gate>(
 
 // Writes the diagnosis `found` of a log.
 fn put_found<K: Sink>(alloc: Global, board: &Board, found: &Found, out: &mut K) -> Result<(), Unput>
-    requires { All (IsNamed board.now) found.now.faults.items }
-    ensures { PutsText (diag_text board.now found.now.pass found.now.faults.items) (K.shown out.old) (K.shown out.new) result }
+    requires { All (IsFaultOnBoard board.now) found.now.faults.items }
+    ensures { PutsText (diag_text board.now found.now.pass found.now.faults.items) (K.shown out.old)
+        (K.shown out.new) result }
 {
     let mut line = Line::new(alloc)?;
     answer_by(write_diagnosis(board, found.pass, &found.faults, &mut line, out))

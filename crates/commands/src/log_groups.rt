@@ -5,7 +5,7 @@ ghost use Rattle.response_log.specs.LogRows.{HasSize};
 ghost use Rattle.walk_test.specs.GroupText.{groups_text};
 ghost use Rattle.command_line.specs.Words.{Text};
 ghost use Rattle.commands.specs.LogRead.{grouping, grouping_text, walk_log, walk_rows};
-ghost use Rattle.commands.specs.Worth.{FindsGroups};
+ghost use Rattle.commands.specs.Worth.{IsGroupsText};
 ghost use Rattle.commands.specs.Answers.{AnswersOn, JudgedAnswers};
 ghost use Rattle.commands.specs.inner.Unput.{PutsText};
 
@@ -24,7 +24,8 @@ use walk_test::{Group, write_groups};
 /// Writes the groups of nets that explain `texts.log`, a log of the board's walking test. The board is the one that `texts.board` denotes.
 /// Allocates all memory before the first write.
 pub fn groups<K: Sink>(alloc: Global, texts: LogTexts, out: &mut K) -> Result<(), Unput>
-    ensures { JudgedAnswers grouping grouping_text FindsGroups texts (K.shown out.old) (K.shown out.new) result }
+    ensures { JudgedAnswers grouping grouping_text IsGroupsText texts (K.shown out.old)
+        (K.shown out.new) result }
 {
     let LogTexts { log, board } = texts;
     groups_of(alloc, &board, log, out)
@@ -37,7 +38,8 @@ fn groups_of<K: Sink>(
     log: ShortText,
     out: &mut K,
 ) -> Result<(), Unput>
-    ensures { JudgedAnswers grouping grouping_text FindsGroups (record { log = log; board = texts.now }) (K.shown out.old) (K.shown out.new) result }
+    ensures { JudgedAnswers grouping grouping_text IsGroupsText
+        (record { log = log; board = texts.now }) (K.shown out.old) (K.shown out.new) result }
 {
     match walked_board(alloc, texts) {
         Ok(walked) => {
@@ -51,7 +53,8 @@ fn groups_of<K: Sink>(
 
 // Borrows the groups, if there are any.
 fn lent(found: &Option<Vec<Group>>) -> Option<&[Group]>
-    ensures { option_map (λ groups. groups.now) result ≡ option_map (λ groups. groups.items) found.now }
+    ensures { option_map (λ groups. groups.now) result
+        ≡ option_map (λ groups. groups.items) found.now }
 {
     match found {
         None => None,
@@ -67,7 +70,8 @@ fn put_groups<K: Sink>(
     text: ShortText,
     out: &mut K,
 ) -> Result<(), Unput>
-    ensures { AnswersOn grouping grouping_text FindsGroups text walked.now.board (K.shown out.old) (K.shown out.new) result }
+    ensures { AnswersOn grouping grouping_text IsGroupsText text walked.now.board (K.shown out.old)
+        (K.shown out.new) result }
 {
     let (rows, bits) = (walked.log_rows(), walked.log_bits());
     match log_of(alloc, text.into_bytes(), rows, bits) {
@@ -79,7 +83,9 @@ fn put_groups<K: Sink>(
 // Finds the groups that explain a log of the board's walking test, and writes them.
 fn put_grouped<K: Sink>(alloc: Global, walked: &Walked, log: &Log, out: &mut K) -> Result<(), Unput>
     requires size { HasSize (walk_rows walked.now.board) (data_bits walked.now.board) log.now }
-    ensures { (text : Text) → walk_log text walked.now.board ≡ Ok log.now → AnswersOn grouping grouping_text FindsGroups text walked.now.board (K.shown out.old) (K.shown out.new) result }
+    ensures { (text : Text) → walk_log text walked.now.board ≡ Ok log.now
+        → AnswersOn grouping grouping_text IsGroupsText text walked.now.board (K.shown out.old)
+        (K.shown out.new) result }
 {
     let Walked { board, walk } = walked;
     let found = walk_test::groups(alloc, board, walk, log)?;
@@ -98,7 +104,8 @@ fn put_found<K: Sink>(
     found: &Option<Vec<Group>>,
     out: &mut K,
 ) -> Result<(), Unput>
-    ensures { PutsText (groups_text board.now (option_map (λ groups. groups.items) found.now)) (K.shown out.old) (K.shown out.new) result }
+    ensures { PutsText (groups_text board.now (option_map (λ groups. groups.items) found.now))
+        (K.shown out.old) (K.shown out.new) result }
 {
     let mut line = Line::new(alloc)?;
     answer_by(write_groups(board, lent(found), &mut line, out))

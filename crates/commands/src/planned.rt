@@ -51,7 +51,8 @@ impl Planned {
     /// Returns the board's test.
     pub fn test(&self) -> BoardTest<'_>
         ensures test { result ≡ self.now }
-        ensures rows { length self.now.plan.passes * self.now.plan.width ≡ test_rows self.now.board }
+        ensures rows { length self.now.plan.passes * self.now.plan.width
+            ≡ test_rows self.now.board }
     {
         BoardTest::of(&self.board, &self.plan)
     }

@@ -59,7 +59,8 @@ impl Model for ShortTexts {
 
     ghost view = { λ t. map (λ text. text.items) t.texts.items };
 
-    ghost invariant = { λ t. All (λ text. length text.items < 2 ^ 32) t.texts.items × (length t.texts.items < 2 ^ 32) };
+    ghost invariant = { λ t. All (λ text. length text.items < 2 ^ 32) t.texts.items
+        × (length t.texts.items < 2 ^ 32) };
 }
 
 impl ShortTexts {

@@ -19,7 +19,9 @@ half_below c w h = omega (arith, pow-suc 2 w, h)
 
 pub has_one : (w c : ℕ) → 1 ≤ c → c < 2 ^ w → HasBit c w 1
 has_one zero c some fits = absurd (omega (arith, some, fits))
-has_one (suc w) c some fits = by_parity (c % 2) refl (λ even. shifted c w 1 (has_one w (c / 2) (omega (arith, some, even)) (half_below c w fits)))
+has_one (suc w) c some fits =
+    by_parity (c % 2) refl
+    (λ even. shifted c w 1 (has_one w (c / 2) (omega (arith, some, even)) (half_below c w fits)))
   where
     by_parity : (r : ℕ) → c % 2 ≡ r → (c % 2 ≡ 0 → HasBit c (suc w) 1) → HasBit c (suc w) 1
     by_parity zero e ih = ih e

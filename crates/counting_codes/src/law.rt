@@ -6,7 +6,10 @@ ghost use Rattle.std.specs.Int.{bit_at};
 /// If `2 ^ width` is at least `n + 2`, each code from 1 to `n` has a 0 bit and a 1 bit below bit
 /// `width`, and every two of these codes differ in some bit below bit `width`.
 pub fn codes_tell()
-    ensures zero { (n width : ℕ) → n + 2 ≤ 2 ^ width → (c : ℕ) → 1 ≤ c → c ≤ n → (j : ℕ) × (j < width) × (bit_at c j ≡ 0) }
-    ensures one { (n width : ℕ) → n + 2 ≤ 2 ^ width → (c : ℕ) → 1 ≤ c → c ≤ n → (j : ℕ) × (j < width) × (bit_at c j ≡ 1) }
-    ensures differ { (n width : ℕ) → n + 2 ≤ 2 ^ width → (c d : ℕ) → 1 ≤ c → c ≤ n → 1 ≤ d → d ≤ n → c ≢ d → (j : ℕ) × (j < width) × (bit_at c j ≢ bit_at d j) }
+    ensures zero { (n width : ℕ) → n + 2 ≤ 2 ^ width → (c : ℕ) → 1 ≤ c → c ≤ n
+        → (j : ℕ) × (j < width) × (bit_at c j ≡ 0) }
+    ensures one { (n width : ℕ) → n + 2 ≤ 2 ^ width → (c : ℕ) → 1 ≤ c → c ≤ n
+        → (j : ℕ) × (j < width) × (bit_at c j ≡ 1) }
+    ensures differ { (n width : ℕ) → n + 2 ≤ 2 ^ width → (c d : ℕ) → 1 ≤ c → c ≤ n → 1 ≤ d → d ≤ n
+        → c ≢ d → (j : ℕ) × (j < width) × (bit_at c j ≢ bit_at d j) }
 {}

@@ -13,7 +13,10 @@ unfolding digits
 counts = refl
 
 -- each reason has its line; a covered net has no reason and so no line
-reasons : whole (map (reason_line (codes "A")) (None ∷ Some Supply ∷ Some TestPort ∷ Some Dark ∷ Some NoDriver ∷ Some Blocked ∷ Some NoReceiver ∷ []))
+reasons : whole
+    (map (reason_line (codes "A"))
+    (None ∷ Some Supply ∷ Some TestPort ∷ Some Dark ∷ Some NoDriver ∷ Some Blocked
+    ∷ Some NoReceiver ∷ []))
     ≡ codes "NET A SUPPLY\nNET A TESTPORT\nNET A DARK\nNET A NODRIVER\nNET A BLOCKED\nNET A NORECEIVER\n"
 reasons = refl
 

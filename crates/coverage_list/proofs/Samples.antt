@@ -63,7 +63,8 @@ bi = device (bits Both (codes "1" ∷ [])) (entry 0 Bidir 0 (by 1) ∷ control 1
 
 abbrev two : RawDevice
 two = device (bits Outward (codes "1" ∷ codes "2" ∷ codes "3" ∷ codes "4" ∷ []))
-    (entry 0 Output3 0 (by 4) ∷ entry 1 Output3 1 (by 4) ∷ entry 2 Output3 2 (by 5) ∷ entry 3 Output3 3 (by 5) ∷ control 4 ∷ control 5 ∷ []) 6
+    (entry 0 Output3 0 (by 4) ∷ entry 1 Output3 1 (by 4) ∷ entry 2 Output3 2 (by 5)
+    ∷ entry 3 Output3 3 (by 5) ∷ control 4 ∷ control 5 ∷ []) 6
 
 abbrev od : RawDevice
 od = device (bits Outward (codes "1" ∷ [])) (entry 0 Output2 0 (by 0) ∷ []) 1
@@ -92,7 +93,11 @@ abbrev lines : List (List ℕ) → List ℕ
 lines ls = flat_map (λ l. l ++ 10 ∷ []) ls
 
 -- Net X has a driver of each of two controls and is paired with nets A and B. Nets A and B are not paired with each other.
-crossing : cover_text (board (two ∷ rcv ∷ rcv ∷ []) (net (codes "A") None (pin 0 0 ∷ pin 1 0 ∷ []) ∷ net (codes "X") None (pin 0 1 ∷ pin 0 2 ∷ pin 1 1 ∷ []) ∷ net (codes "B") None (pin 0 3 ∷ pin 2 0 ∷ []) ∷ []))
+crossing : cover_text
+    (board (two ∷ rcv ∷ rcv ∷ [])
+    (net (codes "A") None (pin 0 0 ∷ pin 1 0 ∷ [])
+    ∷ net (codes "X") None (pin 0 1 ∷ pin 0 2 ∷ pin 1 1 ∷ [])
+    ∷ net (codes "B") None (pin 0 3 ∷ pin 2 0 ∷ []) ∷ []))
     ≡ lines (codes "NETS 3 COVERED 3" ∷ codes "PAIR A B" ∷ [])
 unfolding cover_text digits
 crossing = refl
@@ -105,7 +110,10 @@ shared = refl
 
 -- a board on which a pin of a part without a description makes its net dark, unless the part is inert
 abbrev beside : Bool → RawBoard
-beside inert = board (two ∷ rcv ∷ []) (net (codes "N1") None (pin 0 0 ∷ pin 1 0 ∷ foreign inert ∷ []) ∷ net (codes "N2") None (pin 0 2 ∷ pin 1 1 ∷ []) ∷ [])
+beside inert =
+    board (two ∷ rcv ∷ [])
+    (net (codes "N1") None (pin 0 0 ∷ pin 1 0 ∷ foreign inert ∷ [])
+    ∷ net (codes "N2") None (pin 0 2 ∷ pin 1 1 ∷ []) ∷ [])
 
 dark : cover_text (beside false) ≡ lines (codes "NETS 2 COVERED 1" ∷ codes "NET N1 DARK" ∷ [])
 unfolding cover_text digits

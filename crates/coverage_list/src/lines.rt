@@ -76,7 +76,8 @@ fn put_uncovered<K: Sink>(
     line: &mut Line,
     out: &mut K,
 ) -> Result<(), PutFault>
-    ensures { Prints (K.shown out.old) (K.shown out.new) [] [] (line_of (codes "NET " ∷ name.now ∷ codes " " ∷ word.now ∷ [])) result }
+    ensures { Prints (K.shown out.old) (K.shown out.new) [] []
+        (line_of (codes "NET " ∷ name.now ∷ codes " " ∷ word.now ∷ [])) result }
 {
     put_line(&[b"NET ".as_slice(), name, b" ", word], line, out)
 }
@@ -88,7 +89,8 @@ pub fn put_reason<K: Sink>(
     line: &mut Line,
     out: &mut K,
 ) -> Result<(), PutFault>
-    ensures { Prints (K.shown out.old) (K.shown out.new) [] [] (reason_line name.now reason) result }
+    ensures { Prints (K.shown out.old) (K.shown out.new) [] [] (reason_line name.now reason)
+        result }
 {
     match reason {
         None => Ok(()),
@@ -102,7 +104,8 @@ fn put_word_and_pin<K: Sink>(
     line: &mut Line,
     out: &mut K,
 ) -> Result<(), PutFault>
-    ensures { Prints (K.shown out.old) (K.shown out.new) [] [] (line_of (word.now ∷ pin.now.part ∷ codes "." ∷ pin.now.pin ∷ [])) result }
+    ensures { Prints (K.shown out.old) (K.shown out.new) [] []
+        (line_of (word.now ∷ pin.now.part ∷ codes "." ∷ pin.now.pin ∷ [])) result }
 {
     put_line(&[word, pin.part.bytes(), b".", pin.pin.bytes()], line, out)
 }
@@ -114,7 +117,8 @@ pub fn put_pin<K: Sink>(
     line: &mut Line,
     out: &mut K,
 ) -> Result<(), PutFault>
-    ensures { Prints (K.shown out.old) (K.shown out.new) [] [] (pin_line pin_use (Some pin.now)) result }
+    ensures { Prints (K.shown out.old) (K.shown out.new) [] [] (pin_line pin_use (Some pin.now))
+        result }
 {
     put_word_and_pin(use_word(pin_use), pin, line, out)
 }

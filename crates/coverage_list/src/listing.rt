@@ -4,10 +4,10 @@ ghost use Rattle.std.specs.Int.{bit_at};
 ghost use Rattle.bt_base.specs.Puts.{Puts};
 ghost use Rattle.line_printer.specs.Prints.{Prints};
 ghost use Rattle.net_classes.specs.Kept.{AreClasses};
-ghost use Rattle.net_classes.specs.inner.Kept.{OfNet};
-ghost use Rattle.net_classes.specs.Pairs.{AreBitsOf, unpaired_with};
+ghost use Rattle.net_classes.specs.inner.Kept.{HoldsOfNet};
+ghost use Rattle.net_classes.specs.Pairs.{AreWordBits, unpaired_with};
 ghost use Rattle.coverage_list.specs.CoverText.{cover_text, covered, count_line};
-ghost use Rattle.coverage_list.specs.inner.CoverForms.{is_unpaired, pair_at, pairs_at, pins_at, place_text, reason_at, section_at, section_lines, texts_from};
+ghost use Rattle.coverage_list.specs.inner.CoverForms.{is_unpaired, pair_at, untested_pair_lines, untested_lines_at, pin_text_at, reason_at, section_at, section_lines, texts_from};
 
 use crate::lines::{PinUse, Section, put_counts, put_pair, put_pin, put_reason};
 use crate::questions::{covered_count, is_untested, may_be_unpaired, net_at, pin_count};
@@ -68,7 +68,8 @@ fn put_place<K: Sink>(
 ) -> Result<(), PutFault>
     requires net { slice_get board.now.nets pin.net ≡ Some net.now }
     requires place { pin.place < length net.now.pins }
-    ensures { Prints (K.shown out.old) (K.shown out.new) [] [] (place_text board.now pin_use net.now pin.place) result }
+    ensures { Prints (K.shown out.old) (K.shown out.new) [] []
+        (pin_text_at board.now pin_use net.now pin.place) result }
 {
     if is_untested(board, pin_use, pin) {
         put_pin(pin_use, pin_at(net, pin.place), line, out)
@@ -87,7 +88,8 @@ fn put_net_pins<K: Sink>(
     out: &mut K,
 ) -> Result<(), PutFault>
     requires { slice_get board.now.nets n ≡ Some net.now }
-    ensures { Prints (K.shown out.old) (K.shown out.new) [] [] (texts_from (place_text board.now pin_use net.now) 0 (length net.now.pins)) result }
+    ensures { Prints (K.shown out.old) (K.shown out.new) [] []
+        (texts_from (pin_text_at board.now pin_use net.now) 0 (length net.now.pins)) result }
 {
     for place in 0..pin_count(board, net, n) {
         let pin = PinRef { net: n, place };
@@ -105,7 +107,8 @@ fn put_pins_at<K: Sink>(
     out: &mut K,
 ) -> Result<(), PutFault>
     requires { n < length board.now.nets }
-    ensures { Prints (K.shown out.old) (K.shown out.new) [] [] (pins_at board.now pin_use n) result }
+    ensures { Prints (K.shown out.old) (K.shown out.new) [] []
+        (untested_lines_at board.now pin_use n) result }
 {
     if board.is_covered(n) {
         put_net_pins(board, pin_use, net_at(board, n), n, line, out)
@@ -125,8 +128,9 @@ fn has_bit(word: u64, place: u32) -> bool
 /// Returns whether net `high` is covered and not paired with net `low`. `unpaired` is the word that contains the bit of net `high`. A bit
 /// in it is set if its net is covered and not paired with net `low`.
 fn is_unpaired(board: &BoardClasses<'_>, unpaired: u64, low: u32, high: u32) -> bool
-    requires { AreBitsOf (unpaired_with board.now low) (high / 64) unpaired }
-    ensures { OfNet board.now low (λ one. OfNet board.now high (λ two. result ≡ is_unpaired board.now one two)) }
+    requires { AreWordBits (unpaired_with board.now low) (high / 64) unpaired }
+    ensures { HoldsOfNet board.now low
+        (λ one. HoldsOfNet board.now high (λ two. result ≡ is_unpaired board.now one two)) }
 {
     has_bit(unpaired, high % 64)
 }
@@ -142,8 +146,10 @@ fn put_pair_at<K: Sink>(
 ) -> Result<(), PutFault>
     requires first { low < length board.now.nets }
     requires second { high < length board.now.nets }
-    requires unpaired { AreBitsOf (unpaired_with board.now low) (high / 64) unpaired }
-    ensures { OfNet board.now low (λ net. Prints (K.shown out.old) (K.shown out.new) [] [] (pair_at board.now net high) result) }
+    requires unpaired { AreWordBits (unpaired_with board.now low) (high / 64) unpaired }
+    ensures { HoldsOfNet board.now low
+        (λ net. Prints (K.shown out.old) (K.shown out.new) [] [] (pair_at board.now net high)
+        result) }
 {
     if is_unpaired(board, unpaired, low, high) {
         put_pair(net_at(board, low), net_at(board, high), line, out)
@@ -165,7 +171,9 @@ fn put_word<K: Sink>(
     requires net { low < length board.now.nets }
     requires within { end ≤ length board.now.nets }
     requires word { end ≤ 64 * (from / 64 + 1) }
-    ensures { OfNet board.now low (λ net. Prints (K.shown out.old) (K.shown out.new) [] [] (texts_from (pair_at board.now net) from end) result) }
+    ensures { HoldsOfNet board.now low
+        (λ net. Prints (K.shown out.old) (K.shown out.new) [] []
+        (texts_from (pair_at board.now net) from end) result) }
 {
     let unpaired = board.unpaired_word(low as usize, (from / 64) as usize);
     if unpaired == 0 {
@@ -185,7 +193,9 @@ fn put_later<K: Sink>(
     out: &mut K,
 ) -> Result<(), PutFault>
     requires { low < length board.now.nets }
-    ensures { OfNet board.now low (λ net. Prints (K.shown out.old) (K.shown out.new) [] [] (texts_from (pair_at board.now net) (low + 1) (length board.now.nets)) result) }
+    ensures { HoldsOfNet board.now low
+        (λ net. Prints (K.shown out.old) (K.shown out.new) [] []
+        (texts_from (pair_at board.now net) (low + 1) (length board.now.nets)) result) }
 {
     let count = board.net_count() as u32;
     let mut from = low + 1;
@@ -205,7 +215,8 @@ fn put_pairs_at<K: Sink>(
     out: &mut K,
 ) -> Result<(), PutFault>
     requires { low < length board.now.nets }
-    ensures { Prints (K.shown out.old) (K.shown out.new) [] [] (pairs_at board.now low) result }
+    ensures { Prints (K.shown out.old) (K.shown out.new) [] [] (untested_pair_lines board.now low)
+        result }
 {
     if may_be_unpaired(board, low) {
         put_later(board, low, line, out)
@@ -223,7 +234,8 @@ fn put_at<K: Sink>(
     out: &mut K,
 ) -> Result<(), PutFault>
     requires { n < length board.now.nets }
-    ensures { Prints (K.shown out.old) (K.shown out.new) [] [] (section_at board.now section n) result }
+    ensures { Prints (K.shown out.old) (K.shown out.new) [] [] (section_at board.now section n)
+        result }
 {
     match section {
         Section::Reasons => put_reason_at(board, n, line, out),
@@ -239,7 +251,8 @@ fn put_section<K: Sink>(
     line: &mut Line,
     out: &mut K,
 ) -> Result<(), PutFault>
-    ensures { Prints (K.shown out.old) (K.shown out.new) [] [] (section_lines board.now section) result }
+    ensures { Prints (K.shown out.old) (K.shown out.new) [] [] (section_lines board.now section)
+        result }
 {
     for n in 0..board.net_count() as u32 {
         put_at(board, section, n, line, out)?;

@@ -2,7 +2,7 @@
 ghost use Rattle.std.specs.Prelude.{◌≡◌, ◌<◌, [], length, Some, true, false, slice_get};
 ghost use Rattle.board_defs.specs.Pins.{IsOnBoard};
 ghost use Rattle.board_defs.specs.Decided.{is_covered};
-ghost use Rattle.net_classes.specs.inner.Kept.{OfNet};
+ghost use Rattle.net_classes.specs.inner.Kept.{HoldsOfNet};
 ghost use Rattle.coverage_list.specs.CoverText.{covered, is_untested};
 ghost use Rattle.coverage_list.specs.inner.CoverForms.{net_pairs};
 
@@ -43,7 +43,8 @@ pub fn covered_count(board: &BoardClasses<'_>) -> u32
 /// Returns whether the pin has this role, driver or receiver, and is not tested in it.
 pub fn is_untested(board: &BoardClasses<'_>, pin_use: PinUse, pin: PinRef) -> bool
     requires { IsOnBoard board.now pin }
-    ensures { OfNet board.now pin.net (λ net. result ≡ is_untested board.now pin_use net pin.place) }
+    ensures { HoldsOfNet board.now pin.net
+        (λ net. result ≡ is_untested board.now pin_use net pin.place) }
 {
     let class = board.pin(pin);
     match pin_use {
@@ -56,8 +57,9 @@ pub fn is_untested(board: &BoardClasses<'_>, pin_use: PinUse, pin: PinRef) -> bo
 /// tested drivers shows that every covered net is paired with it. If the result is true, the net is covered.
 pub fn may_be_unpaired(board: &BoardClasses<'_>, n: u32) -> bool
     requires { n < length board.now.nets }
-    ensures free { result ≡ false → OfNet board.now n (λ net. net_pairs board.now n net ≡ []) }
-    ensures covered { result ≡ true → OfNet board.now n (λ net. is_covered board.now net ≡ true) }
+    ensures free { result ≡ false → HoldsOfNet board.now n (λ net. net_pairs board.now n net ≡ []) }
+    ensures covered { result ≡ true
+        → HoldsOfNet board.now n (λ net. is_covered board.now net ≡ true) }
 {
     board.is_covered(n) && !board.is_paired_with_all(n as usize)
 }

@@ -20,37 +20,49 @@ use Rattle.device_check.specs.declared.sources.Source.{Source}
 use Rattle.device_check.specs.declared.strings.Strings.{Strings}
 use Rattle.device_check.specs.Sources.{source_number}
 use Rattle.device_check.specs.Attributes.{only_number}
-use Rattle.device_check.specs.Needed.{Found, v1}
-use Rattle.device_check.specs.DeviceStrings.{AreStrings, LeavesFirst, in_order}
-use Rattle.device_check.specs.inner.Reading.{NamesPlace, IsJudged}
-use Rattle.device_check.specs.SoundDevice.{draft_of, IsAnswer, device_told}
+use Rattle.device_check.specs.Needed.{FoundValues, v1}
+use Rattle.device_check.specs.DeviceStrings.{AreStrings, LeavesFirst, strings_in_order}
+use Rattle.device_check.specs.inner.Reading.{NamesPlace, IsJudgedDraft}
+use Rattle.device_check.specs.SoundDevice.{draft_of, IsDeviceAnswer, device_told}
 use Rattle.device_check.proofs.FoundLemmas.{found_is, lies_within}
 use Rattle.device_check.proofs.StringLemmas.{few_entries}
 use Rattle.device_check.proofs.TextLemmas.{short_strings}
 
 -- if V1 fails, the answer is the fault of rule 1 whose item is the number of the source that V1
 -- returns
-pub needs_answer : (entity : Entity) (given : Option (List ℕ)) (source : Source) → v1 entity given ≡ Err source → IsAnswer entity given (Err (Rule (rule_number Mandatory) (source_number source)))
+pub needs_answer : (entity : Entity) (given : Option (List ℕ)) (source : Source)
+    → v1 entity given ≡ Err source
+    → IsDeviceAnswer entity given (Err (Rule (rule_number Mandatory) (source_number source)))
 needs_answer entity given source e = inl (record { number_is = refl; source = source; wrong = e; item_is = refl })
 
 -- if V1 holds and a string leaves its grammar, the fault of the first such string is the answer
-pub text_answer : (entity : Entity) (given : Option (List ℕ)) (found : Found) (fault : DeviceFault) → v1 entity given ≡ Ok found → NamesPlace (LeavesFirst entity found in_order) fault → IfSome (device_told fault) (λ f. IsAnswer entity given (Err f))
+pub text_answer : (entity : Entity) (given : Option (List ℕ)) (found : FoundValues)
+    (fault : DeviceFault) → v1 entity given ≡ Ok found
+    → NamesPlace (LeavesFirst entity found strings_in_order) fault
+    → IfSome (device_told fault) (λ f. IsDeviceAnswer entity given (Err f))
 text_answer entity given found (Rule number item) e h = absurd h
 text_answer entity given found (Text attribute entry) e h = record { found = found; needed = e; leaves = h }
 text_answer entity given found (Memory error) e h = tt
 
-pub judged_answer : (entity : Entity) (given : Option (List ℕ)) (found : Found) (strings : Strings) (draft : Draft) (result : Result RawDevice DeviceFault) → v1 entity given ≡ Ok found → AreStrings entity found strings → draft ≡ draft_of entity found strings
-    → IsJudged draft result → Gives device_told (λ device. device) (IsAnswer entity given) result
-judged_answer entity given found strings draft result e read is h = by_result result (subst (λ d. IsJudged d result) is h)
+pub judged_answer : (entity : Entity) (given : Option (List ℕ)) (found : FoundValues)
+    (strings : Strings) (draft : Draft) (result : Result RawDevice DeviceFault)
+    → v1 entity given ≡ Ok found → AreStrings entity found strings
+    → draft ≡ draft_of entity found strings
+    → IsJudgedDraft draft result → Gives device_told (λ device. device) (IsDeviceAnswer entity given) result
+judged_answer entity given found strings draft result e read is h = by_result result (subst (λ d. IsJudgedDraft d result) is h)
   where
-    by_result : (result : Result RawDevice DeviceFault) → IsJudged (draft_of entity found strings) result → Gives device_told (λ device. device) (IsAnswer entity given) result
+    by_result : (result : Result RawDevice DeviceFault)
+        → IsJudgedDraft (draft_of entity found strings) result
+        → Gives device_told (λ device. device) (IsDeviceAnswer entity given) result
     by_result (Ok device) k = record { found = found; needed = e; strings = strings; read = read; kept = k.0; device_is = k.1 }
     by_result (Err (Rule number item)) k = inr (record { found = found; needed = e; strings = strings; read = read; broken = k })
     by_result (Err (Text attribute entry)) k = absurd k
     by_result (Err (Memory error)) k = tt
 
 -- if V1 holds of a small entity and its strings have values, the lists of its draft are short
-short_lists : (entity : Entity) (given : Option (List ℕ)) (found : Found) (strings : Strings) → IsSmall entity → v1 entity given ≡ Ok found → AreStrings entity found strings → HasShortLists (draft_of entity found strings)
+short_lists : (entity : Entity) (given : Option (List ℕ)) (found : FoundValues) (strings : Strings)
+    → IsSmall entity → v1 entity given ≡ Ok found → AreStrings entity found strings
+    → HasShortLists (draft_of entity found strings)
 short_lists entity given found strings small e read =
     let short = short_strings entity given found small e in
     record {
@@ -60,15 +72,21 @@ short_lists entity given found strings small e read =
       entries = few_entries can_entries found.registers.boundary strings.entries read.entries_are short.boundary;
     }
 
-pub short_draft : (entity : Entity) (given : Option (List ℕ)) (found : Found) (strings : Strings) (draft : Draft) → IsSmall entity → v1 entity given ≡ Ok found → AreStrings entity found strings → draft ≡ draft_of entity found strings → HasShortLists draft
-short_draft entity given found strings draft small e read is = subst HasShortLists (sym is) (short_lists entity given found strings small e read)
+pub short_draft : (entity : Entity) (given : Option (List ℕ)) (found : FoundValues)
+    (strings : Strings) (draft : Draft) → IsSmall entity → v1 entity given ≡ Ok found
+    → AreStrings entity found strings → draft ≡ draft_of entity found strings → HasShortLists draft
+short_draft entity given found strings draft small e read is =
+    subst HasShortLists (sym is) (short_lists entity given found strings small e read)
 
-pub lengths_hold : (entity : Entity) (given : Option (List ℕ)) (found : Found) (strings : Strings) → v1 entity given ≡ Ok found → HasLengths (draft_of entity found strings)
+pub lengths_hold : (entity : Entity) (given : Option (List ℕ)) (found : FoundValues)
+    (strings : Strings) → v1 entity given ≡ Ok found → HasLengths (draft_of entity found strings)
 lengths_hold entity given found strings e =
     let is = found_is entity given found e in
     let ir = lies_within 2 most_instruction_bits (only_number entity InstructionLength) found.registers.instruction_length is.length_is in
     let boundary = lies_within 1 most_bits (only_number entity BoundaryLength) found.registers.boundary_length is.cells_are in
     record { ir_least = ir.0; ir_most = ir.1; boundary_least = boundary.0; boundary_most = boundary.1 }
 
-pub has_lengths : (entity : Entity) (given : Option (List ℕ)) (found : Found) (strings : Strings) (draft : Draft) → v1 entity given ≡ Ok found → draft ≡ draft_of entity found strings → HasLengths draft
+pub has_lengths : (entity : Entity) (given : Option (List ℕ)) (found : FoundValues)
+    (strings : Strings) (draft : Draft) → v1 entity given ≡ Ok found
+    → draft ≡ draft_of entity found strings → HasLengths draft
 has_lengths entity given found strings draft e is = subst HasLengths (sym is) (lengths_hold entity given found strings e)

@@ -10,29 +10,35 @@ use Rattle.device_check.specs.declared.sources.Attribute.TheVariants.{PinMap, Ta
 use Rattle.device_check.specs.declared.sources.Source.{Source}
 use Rattle.device_check.specs.declared.sources.Source.TheVariants as sources
 use Rattle.device_check.specs.Sources.{attribute_number, source_number}
-use Rattle.device_check.specs.Attributes.{only_value, only_port, only_number, only_text, chosen}
-use Rattle.device_check.specs.Needed.{need, and_then, unless, within, is_repeated, conforms, found_taps, found_registers, wrong_option, found_package, v1}
+use Rattle.device_check.specs.Attributes.{only_value, only_port, only_number, only_text, chosen_package}
+use Rattle.device_check.specs.Needed.{need, and_then, unless_bad, within, is_repeated, conforms, found_taps, found_registers, wrong_option, found_package, v1}
 use Rattle.device_check.specs.NumberedSources.{breaks_source, reported}
 
 -- what a search reports that needs a value and then reports `rest`
-needed : {A B : Type 0} (source : Source) (value : Option A) (next : A → Result B Source) (rest : Option ℕ) → ((it : A) → reported (next it) ≡ rest)
+needed : {A B : Type 0} (source : Source) (value : Option A) (next : A → Result B Source)
+    (rest : Option ℕ) → ((it : A) → reported (next it) ≡ rest)
     → reported (need source value next) ≡ (if is_none value then Some (source_number source) else rest)
 needed source None next rest h = refl
 needed source (Some it) next rest h = h it
 
 -- what a search reports whose first part reports `mine`, and whose second part reports `rest`
-both : {A B : Type 0} (first : Result A Source) (next : A → Result B Source) (mine rest : Option ℕ) → reported first ≡ mine → ((it : A) → reported (next it) ≡ rest)
+both : {A B : Type 0} (first : Result A Source) (next : A → Result B Source) (mine rest : Option ℕ)
+    → reported first ≡ mine → ((it : A) → reported (next it) ≡ rest)
     → reported (and_then first next) ≡ or_else mine rest
 both (Err source) next mine rest e h = ap (λ o. or_else o rest) e
 both (Ok it) next mine rest e h = h it ∙ ap (λ o. or_else o rest) e
 
 -- what a search reports that ends at a wrong attribute, and otherwise reports `rest`
-after : {B : Type 0} (attribute : Option Attribute) (next : Result B Source) (mine rest : Option ℕ) → option_map attribute_number attribute ≡ mine → reported next ≡ rest
-    → reported (unless attribute next) ≡ or_else mine rest
+after : {B : Type 0} (attribute : Option Attribute) (next : Result B Source) (mine rest : Option ℕ)
+    → option_map attribute_number attribute ≡ mine → reported next ≡ rest
+    → reported (unless_bad attribute next) ≡ or_else mine rest
 after (Some attribute) next mine rest e h = ap (λ o. or_else o rest) e
 after None next mine rest e h = h ∙ ap (λ o. or_else o rest) e
 
-four_cases : (a b c d : Bool) → option_map attribute_number (if a then Some TapScanReset else if b then Some IdcodeRegister else if c then Some CompliancePatterns else if d then None else Some ComponentConformance)
+four_cases : (a b c d : Bool)
+    → option_map attribute_number
+    (if a then Some TapScanReset else if b then Some IdcodeRegister else if c
+    then Some CompliancePatterns else if d then None else Some ComponentConformance)
     ≡ (if a then Some 11 else if b then Some 12 else if c then Some 13 else if not d then Some 14 else None)
 four_cases true b c d = refl
 four_cases false true c d = refl
@@ -54,7 +60,9 @@ least_split is from (suc a) b =
     next = omega arith
 
     by_test : (t : Bool) → least_from is (suc from) (a + b) ≡ or_else (least_from is (suc from) a) (least_from is (suc from + a) b)
-        → (if t then Some from else least_from is (suc from) (a + b)) ≡ or_else (if t then Some from else least_from is (suc from) a) (least_from is (from + suc a) b)
+        → (if t then Some from else least_from is (suc from) (a + b))
+        ≡ or_else (if t then Some from else least_from is (suc from) a)
+        (least_from is (from + suc a) b)
     by_test true h = refl
     by_test false h = h ∙ ap (λ k. or_else (least_from is (suc from) a) (least_from is k b)) next
 
@@ -74,28 +82,44 @@ module _ (entity : Entity) (given : Option (List ℕ)) where
   registers_reported : reported (found_registers entity) ≡ least_from breaks 6 5
   unfolding found_registers
   registers_reported =
-      needed (sources.Attribute InstructionLength) (within 2 most_instruction_bits (only_number entity InstructionLength)) _ (least_from breaks 7 4) (λ instruction_length.
+      needed (sources.Attribute InstructionLength)
+      (within 2 most_instruction_bits (only_number entity InstructionLength)) _
+      (least_from breaks 7 4) (λ instruction_length.
       needed (sources.Attribute InstructionOpcode) (only_text entity InstructionOpcode) _ (least_from breaks 8 3) (λ opcodes.
       needed (sources.Attribute InstructionCapture) (only_text entity InstructionCapture) _ (least_from breaks 9 2) (λ capture.
-      needed (sources.Attribute BoundaryLength) (within 1 most_bits (only_number entity BoundaryLength)) _ (least_from breaks 10 1) (λ boundary_length.
+      needed (sources.Attribute BoundaryLength)
+      (within 1 most_bits (only_number entity BoundaryLength)) _ (least_from breaks 10 1)
+      (λ boundary_length.
       needed (sources.Attribute BoundaryRegister) (only_text entity BoundaryRegister) _ None (λ boundary. refl)))))
 
   options_reported : option_map attribute_number (wrong_option entity) ≡ least_from breaks 11 4
   unfolding wrong_option
-  options_reported = four_cases (is_repeated entity TapScanReset) (is_repeated entity IdcodeRegister) (is_repeated entity CompliancePatterns) (conforms entity)
+  options_reported =
+      four_cases (is_repeated entity TapScanReset) (is_repeated entity IdcodeRegister)
+      (is_repeated entity CompliancePatterns) (conforms entity)
 
-  parts_reported : reported (v1 entity given) ≡ or_else (least_from breaks 1 5) (or_else (least_from breaks 6 5) (or_else (least_from breaks 11 4) (least_from breaks 15 1)))
+  parts_reported : reported (v1 entity given)
+      ≡ or_else (least_from breaks 1 5)
+      (or_else (least_from breaks 6 5) (or_else (least_from breaks 11 4) (least_from breaks 15 1)))
   unfolding v1
   parts_reported =
-      both (found_taps entity) _ (least_from breaks 1 5) (or_else (least_from breaks 6 5) (or_else (least_from breaks 11 4) (least_from breaks 15 1))) taps_reported (λ taps.
-      both (found_registers entity) _ (least_from breaks 6 5) (or_else (least_from breaks 11 4) (least_from breaks 15 1)) registers_reported (λ registers.
+      both (found_taps entity) _ (least_from breaks 1 5)
+      (or_else (least_from breaks 6 5)
+      (or_else (least_from breaks 11 4) (least_from breaks 15 1))) taps_reported (λ taps.
+      both (found_registers entity) _ (least_from breaks 6 5)
+      (or_else (least_from breaks 11 4) (least_from breaks 15 1)) registers_reported
+      (λ registers.
       after (wrong_option entity) _ (least_from breaks 11 4) (least_from breaks 15 1) options_reported (
-      needed sources.PinMapConstant (found_package entity (chosen entity given)) _ None (λ chosen. refl))))
+      needed sources.PinMapConstant (found_package entity (chosen_package entity given)) _ None (λ chosen_package. refl))))
 
-  parts_are_all : least_below breaks 16 ≡ or_else (least_from breaks 1 5) (or_else (least_from breaks 6 5) (or_else (least_from breaks 11 4) (least_from breaks 15 1)))
+  parts_are_all : least_below breaks 16
+      ≡ or_else (least_from breaks 1 5)
+      (or_else (least_from breaks 6 5) (or_else (least_from breaks 11 4) (least_from breaks 15 1)))
   parts_are_all =
       least_split breaks 1 5 10
-      ∙ ap (λ o. or_else (least_from breaks 1 5) o) (least_split breaks 6 5 5 ∙ ap (λ o. or_else (least_from breaks 6 5) o) (least_split breaks 11 4 1))
+      ∙ ap (λ o. or_else (least_from breaks 1 5) o)
+      (least_split breaks 6 5 5
+      ∙ ap (λ o. or_else (least_from breaks 6 5) o) (least_split breaks 11 4 1))
 
   pub v1_reports : IsLeast breaks 16 (reported (v1 entity given))
   v1_reports = subst (IsLeast breaks 16) (parts_are_all ∙ sym parts_reported) (is_least breaks 16)

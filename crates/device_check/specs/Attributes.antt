@@ -22,12 +22,12 @@ abbrev pub times : Entity → Attribute → ℕ
 times entity attribute = count_by (is_numbered (attribute_number attribute)) entity.attributes
 
 -- the value of the attribute at its first place
-abbrev pub value_of : Entity → Attribute → Option AttrValue
-value_of entity attribute = option_map (λ found. found.value) (find (is_numbered (attribute_number attribute)) entity.attributes)
+abbrev pub value_of_attribute : Entity → Attribute → Option AttrValue
+value_of_attribute entity attribute = option_map (λ found. found.value) (find (is_numbered (attribute_number attribute)) entity.attributes)
 
 -- the value of an attribute that the entity has exactly once
 abbrev pub only_value : Entity → Attribute → Option AttrValue
-only_value entity attribute = if times entity attribute == 1 then value_of entity attribute else None
+only_value entity attribute = if times entity attribute == 1 then value_of_attribute entity attribute else None
 
 abbrev pub port_in : AttrValue → Option (List ℕ)
 port_in values.Plain = None
@@ -35,11 +35,11 @@ port_in (values.Port port) = Some port
 port_in (values.Number number) = None
 port_in (values.Text text) = None
 
-abbrev pub number_in : AttrValue → Option ℕ
-number_in values.Plain = None
-number_in (values.Port port) = None
-number_in (values.Number number) = Some number
-number_in (values.Text text) = None
+abbrev pub number_of_value : AttrValue → Option ℕ
+number_of_value values.Plain = None
+number_of_value (values.Port port) = None
+number_of_value (values.Number number) = Some number
+number_of_value (values.Text text) = None
 
 abbrev pub text_in : AttrValue → Option (List ℕ)
 text_in values.Plain = None
@@ -48,12 +48,12 @@ text_in (values.Number number) = None
 text_in (values.Text text) = Some text
 
 -- the port that is the value of the attribute, as of a TAP attribute
-abbrev pub port_of : Entity → Attribute → Option (List ℕ)
-port_of entity attribute = option_and_then port_in (value_of entity attribute)
+abbrev pub port_of_attribute : Entity → Attribute → Option (List ℕ)
+port_of_attribute entity attribute = option_and_then port_in (value_of_attribute entity attribute)
 
 -- the string that is the attribute's value
-abbrev pub text_of : Entity → Attribute → Option (List ℕ)
-text_of entity attribute = option_and_then text_in (value_of entity attribute)
+abbrev pub text_of_attribute : Entity → Attribute → Option (List ℕ)
+text_of_attribute entity attribute = option_and_then text_in (value_of_attribute entity attribute)
 
 -- the port that is the value of an attribute that the entity has exactly once
 abbrev pub only_port : Entity → Attribute → Option (List ℕ)
@@ -61,7 +61,7 @@ only_port entity attribute = option_and_then port_in (only_value entity attribut
 
 -- the number that is the value of an attribute that the entity has exactly once
 abbrev pub only_number : Entity → Attribute → Option ℕ
-only_number entity attribute = option_and_then number_in (only_value entity attribute)
+only_number entity attribute = option_and_then number_of_value (only_value entity attribute)
 
 -- the string that is the value of an attribute that the entity has exactly once
 abbrev pub only_text : Entity → Attribute → Option (List ℕ)
@@ -69,9 +69,9 @@ only_text entity attribute = option_and_then text_in (only_value entity attribut
 
 -- the package that the caller gives, or, if the caller gives none, the default of the entity's
 -- generic
-abbrev pub chosen : Entity → Option (List ℕ) → Option (List ℕ)
-chosen entity (Some name) = Some name
-chosen entity None = entity.fallback
+abbrev pub chosen_package : Entity → Option (List ℕ) → Option (List ℕ)
+chosen_package entity (Some name) = Some name
+chosen_package entity None = entity.fallback
 
 -- the constant has this name
 abbrev pub is_constant : List ℕ → Constant → Bool
@@ -82,13 +82,15 @@ abbrev pub only_constant : Entity → List ℕ → Option Constant
 only_constant entity name = if count_by (is_constant name) entity.constants == 1 then find (is_constant name) entity.constants else None
 
 -- there is a text, and the text equals `wanted`
-abbrev pub is_text : List ℕ → Option (List ℕ) → Bool
-is_text wanted None = false
-is_text wanted (Some text) = bytes_eq text wanted
+abbrev pub has_text : List ℕ → Option (List ℕ) → Bool
+has_text wanted None = false
+has_text wanted (Some text) = bytes_eq text wanted
 
 -- COMPONENT_CONFORMANCE or a `use` item names the edition of 2001
 abbrev pub is_of_2001 : Entity → Bool
-is_of_2001 entity = is_text (codes "STD_1149_1_2001") (text_of entity ComponentConformance) || list_any (λ name. bytes_eq name (codes "STD_1149_1_2001")) entity.uses
+is_of_2001 entity =
+    has_text (codes "STD_1149_1_2001") (text_of_attribute entity ComponentConformance)
+    || list_any (λ name. bytes_eq name (codes "STD_1149_1_2001")) entity.uses
 
 abbrev pub edition : Entity → Edition
 edition entity = if is_of_2001 entity then Of2001 else Old

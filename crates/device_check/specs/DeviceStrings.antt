@@ -13,8 +13,8 @@ use Rattle.bsdl_parser.specs.declared.entity.Attribute.TheVariants.{InstructionO
 use Rattle.device_check.specs.declared.sources.Source.{Source}
 use Rattle.device_check.specs.declared.sources.Source.TheVariants as sources
 use Rattle.device_check.specs.Sources.{source_number}
-use Rattle.device_check.specs.Attributes.{text_of}
-use Rattle.device_check.specs.Needed.{Found}
+use Rattle.device_check.specs.Attributes.{text_of_attribute}
+use Rattle.device_check.specs.Needed.{FoundValues}
 
 -- either there is a string and `value` is its value, or there is neither a string nor a value
 abbrev pub MayBe : {A : Type 0} → (List ℕ → A → Type 0) → Option (List ℕ) → Option A → Type 0
@@ -52,43 +52,43 @@ abbrev pub string_number : DeviceString → ℕ
 string_number string = source_number (source_of string)
 
 -- the string has a value in its grammar, or it is optional and missing
-abbrev pub IsRead : Entity → Found → DeviceString → Type 0
-IsRead entity found pin_map = (entries : List MapEntry) × IsPinMap found.chosen.pin_map entries
-IsRead entity found opcodes = (ops : List Opcode) × AreOpcodes found.registers.opcodes ops
-IsRead entity found capture = (code : List Symbol) × IsPattern found.registers.capture code
-IsRead entity found idcode = (code : Option (List Symbol)) × MayBe IsPattern (text_of entity IdcodeRegister) code
-IsRead entity found compliance = (value : Option Compliance) × MayBe IsCompliance (text_of entity CompliancePatterns) value
-IsRead entity found boundary = (entries : List Entry) × IsBoundary found.registers.boundary entries
+abbrev pub IsReadString : Entity → FoundValues → DeviceString → Type 0
+IsReadString entity found pin_map = (entries : List MapEntry) × IsPinMap found.chosen.pin_map entries
+IsReadString entity found opcodes = (ops : List Opcode) × AreOpcodes found.registers.opcodes ops
+IsReadString entity found capture = (code : List Symbol) × IsPattern found.registers.capture code
+IsReadString entity found idcode = (code : Option (List Symbol)) × MayBe IsPattern (text_of_attribute entity IdcodeRegister) code
+IsReadString entity found compliance = (value : Option Compliance) × MayBe IsCompliance (text_of_attribute entity CompliancePatterns) value
+IsReadString entity found boundary = (entries : List Entry) × IsBoundary found.registers.boundary entries
 
 -- the string leaves its grammar at this entry
-abbrev pub Leaves : Entity → Found → DeviceString → ℕ → Type 0
+abbrev pub Leaves : Entity → FoundValues → DeviceString → ℕ → Type 0
 Leaves entity found pin_map entry = IsNoPinMap found.chosen.pin_map entry
 Leaves entity found opcodes entry = AreNoOpcodes found.registers.opcodes entry
 Leaves entity found capture entry = IsNoPattern found.registers.capture entry
-Leaves entity found idcode entry = MayLeave IsNoPattern (text_of entity IdcodeRegister) entry
-Leaves entity found compliance entry = MayLeave IsNoCompliance (text_of entity CompliancePatterns) entry
+Leaves entity found idcode entry = MayLeave IsNoPattern (text_of_attribute entity IdcodeRegister) entry
+Leaves entity found compliance entry = MayLeave IsNoCompliance (text_of_attribute entity CompliancePatterns) entry
 Leaves entity found boundary entry = IsNoBoundary found.registers.boundary entry
 
 -- `attribute` is the number of the string, and the string leaves its grammar at this entry
-abbrev pub LeavesBy : Entity → Found → DeviceString → ℕ → ℕ → Type 0
+abbrev pub LeavesBy : Entity → FoundValues → DeviceString → ℕ → ℕ → Type 0
 LeavesBy entity found string attribute entry = (attribute ≡ string_number string) × Leaves entity found string entry
 
 -- `attribute` is the number of the first string that leaves its grammar, and that string leaves it
 -- at this entry; the strings before it are read
-abbrev pub LeavesFirst : Entity → Found → List DeviceString → ℕ → ℕ → Type 0
+abbrev pub LeavesFirst : Entity → FoundValues → List DeviceString → ℕ → ℕ → Type 0
 LeavesFirst entity found [] attribute entry = ⊥
 LeavesFirst entity found (string ∷ strings) attribute entry =
-    LeavesBy entity found string attribute entry ⊎ (IsRead entity found string × LeavesFirst entity found strings attribute entry)
+    LeavesBy entity found string attribute entry ⊎ (IsReadString entity found string × LeavesFirst entity found strings attribute entry)
 
 -- the order in which the strings are read
-abbrev pub in_order : List DeviceString
-in_order = pin_map ∷ opcodes ∷ capture ∷ idcode ∷ compliance ∷ boundary ∷ []
+abbrev pub strings_in_order : List DeviceString
+strings_in_order = pin_map ∷ opcodes ∷ capture ∷ idcode ∷ compliance ∷ boundary ∷ []
 
 -- `strings` has the values of all strings, each by its own grammar
-pub record AreStrings (entity : Entity) (found : Found) (strings : Strings) : Type 0 where
+pub record AreStrings (entity : Entity) (found : FoundValues) (strings : Strings) : Type 0 where
   pub map_is : IsPinMap found.chosen.pin_map strings.map
   pub opcodes_are : AreOpcodes found.registers.opcodes strings.opcodes
   pub capture_is : IsPattern found.registers.capture strings.capture
-  pub idcode_is : MayBe IsPattern (text_of entity IdcodeRegister) strings.idcode
-  pub compliance_is : MayBe IsCompliance (text_of entity CompliancePatterns) strings.compliance
+  pub idcode_is : MayBe IsPattern (text_of_attribute entity IdcodeRegister) strings.idcode
+  pub compliance_is : MayBe IsCompliance (text_of_attribute entity CompliancePatterns) strings.compliance
   pub entries_are : IsBoundary found.registers.boundary strings.entries

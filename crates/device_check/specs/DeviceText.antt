@@ -2,7 +2,7 @@
 -- and each entry of a cell.
 use Rattle.std.specs.Prelude.{ℕ, ◌==◌, Bool, true, false, List, [], ◌∷◌, ◌++◌, length, codes, decimal, filter, Option, None, Some, is_some, slice_get, slice_index_or, if◌then◌else◌}
 use Rattle.std.specs.List.{flat_map, list_any, range_with_len}
-use Rattle.line_printer.specs.Prints.{whole, line_of}
+use Rattle.line_printer.specs.Prints.{whole, line_of, bit_word}
 use Rattle.board_defs.specs.declared.device.Symbol.{Symbol}
 use Rattle.board_defs.specs.declared.device.Symbol.TheVariants.{Zero, One, Any}
 use Rattle.board_defs.specs.declared.device.Mode.{Mode}
@@ -40,10 +40,6 @@ symbol_word Zero = codes "0"
 symbol_word One = codes "1"
 symbol_word Any = codes "X"
 
-abbrev pub bit_word : Bool → List ℕ
-bit_word false = codes "0"
-bit_word true = codes "1"
-
 -- the text of a code: its symbols in reverse, so that the first symbol of the code, the one nearest
 -- TDO, is the last
 abbrev pub code_text : List Symbol → List ℕ
@@ -63,7 +59,10 @@ pattern_text (Some code) = code_text code
 
 abbrev pub instruction_line : RawDevice → List ℕ
 instruction_line device =
-    line_of (codes "IR " ∷ decimal device.ir ∷ instructions_text device.edition device.sample device.extest ∷ codes " IDCODE " ∷ pattern_text device.idcode ∷ [])
+    line_of
+    (codes "IR " ∷ decimal device.ir
+    ∷ instructions_text device.edition device.sample device.extest ∷ codes " IDCODE "
+    ∷ pattern_text device.idcode ∷ [])
 
 -- a space and the pin of a port bit, or no text if the bit has no pin
 abbrev pub pin_text : Option (List ℕ) → List ℕ
@@ -80,12 +79,12 @@ abbrev pub port_line : List ℕ → List PortBit → List ℕ
 port_line name [] = []
 port_line name (bit ∷ bits) = line_of (codes "PORT " ∷ name ∷ codes " " ∷ mode_word bit.mode ∷ pins_text (bit ∷ bits) ∷ [])
 
-abbrev pub port_name : List (List ℕ) → ℕ → List ℕ
-port_name ports port = slice_index_or ports port []
+abbrev pub name_of_port : List (List ℕ) → ℕ → List ℕ
+name_of_port ports port = slice_index_or ports port []
 
 abbrev pub port_lines : List (List ℕ) → List PortBit → List ℕ
 port_lines ports bits =
-    flat_map (λ port. port_line (port_name ports port) (filter (λ bit. bit.port == port) bits)) (range_with_len 0 (length ports))
+    flat_map (λ port. port_line (name_of_port ports port) (filter (λ bit. bit.port == port) bits)) (range_with_len 0 (length ports))
 
 -- the index of a vector's bit in parentheses, or no text for the bit of a plain port
 abbrev pub index_text : Option ℕ → List ℕ
@@ -95,7 +94,7 @@ index_text (Some index) = whole (codes "(" ∷ decimal index ∷ codes ")" ∷ [
 -- a port bit: the name of its port, followed by its index
 abbrev pub bit_text : List (List ℕ) → Option PortBit → List ℕ
 bit_text ports None = []
-bit_text ports (Some bit) = port_name ports bit.port ++ index_text bit.index
+bit_text ports (Some bit) = name_of_port ports bit.port ++ index_text bit.index
 
 -- the port bit of an entry, or `*` if the entry has none
 abbrev pub place_text : List (List ℕ) → List PortBit → Option ℕ → List ℕ
@@ -110,20 +109,26 @@ control_text (Some control) = whole (codes " " ∷ decimal control.cell ∷ code
 -- the line of an entry of a cell
 abbrev pub cell_line : List (List ℕ) → List PortBit → Cell → List ℕ
 cell_line ports bits cell =
-    line_of (codes "CELL " ∷ decimal cell.num ∷ codes " " ∷ role_word cell.role ∷ codes " " ∷ place_text ports bits cell.bit ∷ codes " " ∷ symbol_word cell.safe ∷ control_text cell.ctl ∷ [])
+    line_of
+    (codes "CELL " ∷ decimal cell.num ∷ codes " " ∷ role_word cell.role ∷ codes " "
+    ∷ place_text ports bits cell.bit ∷ codes " " ∷ symbol_word cell.safe
+    ∷ control_text cell.ctl ∷ [])
 
 -- the entries of a cell, in the order of the list
-abbrev pub entries_of : ℕ → List Cell → List Cell
-entries_of num cells = filter (λ cell. cell.num == num) cells
+abbrev pub entries_of_cell : ℕ → List Cell → List Cell
+entries_of_cell num cells = filter (λ cell. cell.num == num) cells
 
 -- the lines of the entries of `count` cells from `from` on, in the order of the cells
 abbrev pub cell_lines : List (List ℕ) → List PortBit → List Cell → ℕ → ℕ → List ℕ
 cell_lines ports bits cells from count =
-    flat_map (λ num. flat_map (cell_line ports bits) (entries_of num cells)) (range_with_len from count)
+    flat_map (λ num. flat_map (cell_line ports bits) (entries_of_cell num cells)) (range_with_len from count)
 
 -- the listing of a device
 unfoldable pub device_text : RawDevice → List ℕ
 device_text device =
     line_of (codes "ENTITY " ∷ device.entity ∷ [])
     ++ (line_of (codes "PACKAGE " ∷ device.package ∷ [])
-    ++ (instruction_line device ++ (port_lines device.ports device.bits ++ cell_lines device.ports device.bits device.cells 0 device.boundary)))
+    ++
+    (instruction_line device ++
+    (port_lines device.ports device.bits ++ cell_lines device.ports device.bits device.cells 0
+    device.boundary)))

@@ -7,7 +7,7 @@ use Rattle.bsdl_parser.specs.declared.entity.Attribute.{Attribute}
 use Rattle.bsdl_parser.specs.declared.entity.Attribute.TheVariants.{PinMap, TapScanIn, TapScanOut, TapScanMode, TapScanClock, InstructionLength, InstructionOpcode, InstructionCapture, BoundaryLength, BoundaryRegister, TapScanReset, IdcodeRegister, CompliancePatterns, ComponentConformance}
 use Rattle.device_check.specs.declared.sources.Source.{Source}
 use Rattle.device_check.specs.declared.sources.Source.TheVariants as sources
-use Rattle.device_check.specs.Attributes.{times, only_value, only_port, only_number, only_text, chosen, only_constant, is_text}
+use Rattle.device_check.specs.Attributes.{times, only_value, only_port, only_number, only_text, chosen_package, only_constant, has_text}
 
 -- the ports that the mandatory TAP attributes name
 pub record FoundTaps : Type 0 where
@@ -30,7 +30,7 @@ pub record FoundPackage : Type 0 where
   pub pin_map : List ℕ
 
 -- the values that an entity has if V1 holds
-pub record Found : Type 0 where
+pub record FoundValues : Type 0 where
   pub taps : FoundTaps
   pub registers : FoundRegisters
   pub chosen : FoundPackage
@@ -47,9 +47,9 @@ and_then (Err source) next = Err source
 and_then (Ok value) next = next value
 
 -- the result `next` of the next step, or the attribute as the source if an attribute is wrong
-abbrev pub unless : {B : Type 0} → Option Attribute → Result B Source → Result B Source
-unless (Some attribute) next = Err (sources.Attribute attribute)
-unless None next = next
+abbrev pub unless_bad : {B : Type 0} → Option Attribute → Result B Source → Result B Source
+unless_bad (Some attribute) next = Err (sources.Attribute attribute)
+unless_bad None next = next
 
 -- the ports that the four mandatory TAP attributes name, or the first of PIN_MAP and these
 -- attributes that the entity does not have exactly once or whose value has the wrong kind
@@ -72,12 +72,21 @@ within least most (Some number) = if nat_le least number && nat_le number most t
 -- range
 unfoldable pub found_registers : Entity → Result FoundRegisters Source
 found_registers entity =
-    need (sources.Attribute InstructionLength) (within 2 most_instruction_bits (only_number entity InstructionLength)) (λ instruction_length.
+    need (sources.Attribute InstructionLength)
+    (within 2 most_instruction_bits (only_number entity InstructionLength))
+    (λ instruction_length.
     need (sources.Attribute InstructionOpcode) (only_text entity InstructionOpcode) (λ opcodes.
     need (sources.Attribute InstructionCapture) (only_text entity InstructionCapture) (λ capture.
     need (sources.Attribute BoundaryLength) (within 1 most_bits (only_number entity BoundaryLength)) (λ boundary_length.
     need (sources.Attribute BoundaryRegister) (only_text entity BoundaryRegister) (λ boundary.
-    Ok (record { instruction_length = instruction_length; opcodes = opcodes; capture = capture; boundary_length = boundary_length; boundary = boundary }))))))
+    Ok
+    (record {
+      instruction_length = instruction_length;
+      opcodes = opcodes;
+      capture = capture;
+      boundary_length = boundary_length;
+      boundary = boundary;
+    }))))))
 
 -- the entity has the attribute more than once
 abbrev pub is_repeated : Entity → Attribute → Bool
@@ -85,7 +94,9 @@ is_repeated entity attribute = nat_lt 1 (times entity attribute)
 
 -- the text is one of the editions that COMPONENT_CONFORMANCE may name
 abbrev pub is_edition : Option (List ℕ) → Bool
-is_edition text = is_text (codes "STD_1149_1_1990") text || (is_text (codes "STD_1149_1_1993") text || is_text (codes "STD_1149_1_2001") text)
+is_edition text =
+    has_text (codes "STD_1149_1_1990") text
+    || (has_text (codes "STD_1149_1_1993") text || has_text (codes "STD_1149_1_2001") text)
 
 -- COMPONENT_CONFORMANCE is missing, or appears exactly once and names an edition
 abbrev pub conforms : Entity → Bool
@@ -113,10 +124,10 @@ found_package entity (Some name) = pin_map_in name (only_constant entity name)
 -- V1: the values of all sources, or the first source that is missing, repeated or has a wrong
 -- value. The attributes are checked first, in the order of their numbers, and the pin map is
 -- checked last.
-unfoldable pub v1 : Entity → Option (List ℕ) → Result Found Source
+unfoldable pub v1 : Entity → Option (List ℕ) → Result FoundValues Source
 v1 entity given =
     and_then (found_taps entity) (λ taps.
     and_then (found_registers entity) (λ registers.
-    unless (wrong_option entity) (
-    need sources.PinMapConstant (found_package entity (chosen entity given)) (λ chosen.
-    Ok (record { taps = taps; registers = registers; chosen = chosen })))))
+    unless_bad (wrong_option entity) (
+    need sources.PinMapConstant (found_package entity (chosen_package entity given)) (λ chosen_package.
+    Ok (record { taps = taps; registers = registers; chosen = chosen_package })))))

@@ -5,7 +5,7 @@ use Rattle.bsdl_parser.specs.declared.entity.Entity.{Entity}
 use Rattle.device_check.specs.declared.sources.Attribute.TheVariants.{PinMap, TapScanIn, TapScanOut, TapScanMode, TapScanClock, InstructionLength, InstructionOpcode, InstructionCapture, BoundaryLength, BoundaryRegister, TapScanReset, IdcodeRegister, CompliancePatterns}
 use Rattle.device_check.specs.declared.sources.Source.{Source}
 use Rattle.device_check.specs.Sources.{source_number}
-use Rattle.device_check.specs.Attributes.{only_value, only_port, only_number, only_text, chosen}
+use Rattle.device_check.specs.Attributes.{only_value, only_port, only_number, only_text, chosen_package}
 use Rattle.device_check.specs.Needed.{within, is_repeated, conforms, found_package}
 
 -- the attribute with this number, or the pin map (15), is missing, repeated or has a wrong value
@@ -25,7 +25,7 @@ breaks_source entity given number =
     if number == 12 then is_repeated entity IdcodeRegister else
     if number == 13 then is_repeated entity CompliancePatterns else
     if number == 14 then not (conforms entity) else
-    if number == 15 then is_none (found_package entity (chosen entity given)) else false
+    if number == 15 then is_none (found_package entity (chosen_package entity given)) else false
 
 -- the number of the source with which a search ends, if the search finds no value
 abbrev pub reported : {A : Type 0} → Result A Source → Option ℕ

@@ -15,22 +15,22 @@ use Rattle.bsdl_parser.specs.declared.entity.Attribute.TheVariants.{TapScanReset
 use Rattle.device_check.specs.declared.sources.Source.{Source}
 use Rattle.device_check.specs.declared.strings.Strings.{Strings}
 use Rattle.device_check.specs.Sources.{source_number}
-use Rattle.device_check.specs.Attributes.{port_of, edition}
-use Rattle.device_check.specs.Needed.{Found, v1}
-use Rattle.device_check.specs.DeviceStrings.{LeavesFirst, in_order, AreStrings}
+use Rattle.device_check.specs.Attributes.{port_of_attribute, edition}
+use Rattle.device_check.specs.Needed.{FoundValues, v1}
+use Rattle.device_check.specs.DeviceStrings.{LeavesFirst, strings_in_order, AreStrings}
 
 -- the ports that the entity's TAP attributes name
-abbrev pub taps_of : Entity → Found → TapPorts
+abbrev pub taps_of : Entity → FoundValues → TapPorts
 taps_of entity found = record {
   scan_in = found.taps.scan_in;
   scan_out = found.taps.scan_out;
   mode = found.taps.mode;
   clock = found.taps.clock;
-  reset = port_of entity TapScanReset;
+  reset = port_of_attribute entity TapScanReset;
 }
 
 -- the draft of the entity, made from the values that V1 returned and the values of the strings
-abbrev pub draft_of : Entity → Found → Strings → Draft
+abbrev pub draft_of : Entity → FoundValues → Strings → Draft
 draft_of entity found strings = record {
   entity = entity.name;
   «package» = found.chosen.name;
@@ -49,7 +49,7 @@ draft_of entity found strings = record {
 
 -- V1 holds, the strings have values, V2 to V14 hold, and `device` is made from these values
 pub record IsSound (entity : Entity) (given : Option (List ℕ)) (device : RawDevice) : Type 0 where
-  pub found : Found
+  pub found : FoundValues
   pub needed : v1 entity given ≡ Ok found
   pub strings : Strings
   pub read : AreStrings entity found strings
@@ -58,7 +58,7 @@ pub record IsSound (entity : Entity) (given : Option (List ℕ)) (device : RawDe
 
 -- V1 holds, the strings have values, and rule `number` is the first of V2 to V14 that fails; `item` is the first item that breaks it
 pub record FailsRule (entity : Entity) (given : Option (List ℕ)) (number item : ℕ) : Type 0 where
-  pub found : Found
+  pub found : FoundValues
   pub needed : v1 entity given ≡ Ok found
   pub strings : Strings
   pub read : AreStrings entity found strings
@@ -66,9 +66,9 @@ pub record FailsRule (entity : Entity) (given : Option (List ℕ)) (number item 
 
 -- V1 holds, and the string with number `attribute` is the first that leaves its grammar, at entry `entry`
 pub record FailsText (entity : Entity) (given : Option (List ℕ)) (attribute entry : ℕ) : Type 0 where
-  pub found : Found
+  pub found : FoundValues
   pub needed : v1 entity given ≡ Ok found
-  pub leaves : LeavesFirst entity found in_order attribute entry
+  pub leaves : LeavesFirst entity found strings_in_order attribute entry
 
 -- V1 fails, and `item` is the number of the first source that is missing, repeated or has a wrong value
 pub record FailsNeed (entity : Entity) (given : Option (List ℕ)) (number item : ℕ) : Type 0 where
@@ -79,14 +79,14 @@ pub record FailsNeed (entity : Entity) (given : Option (List ℕ)) (number item 
 
 -- the fault is the fault of the first step that fails; the steps are V1, then the strings, then V2
 -- to V14
-abbrev pub IsFirst : Entity → Option (List ℕ) → DeviceFault → Type 0
-IsFirst entity given (Rule number item) = FailsNeed entity given number item ⊎ FailsRule entity given number item
-IsFirst entity given (Text attribute entry) = FailsText entity given attribute entry
-IsFirst entity given (Memory error) = ⊥
+abbrev pub IsFirstFailure : Entity → Option (List ℕ) → DeviceFault → Type 0
+IsFirstFailure entity given (Rule number item) = FailsNeed entity given number item ⊎ FailsRule entity given number item
+IsFirstFailure entity given (Text attribute entry) = FailsText entity given attribute entry
+IsFirstFailure entity given (Memory error) = ⊥
 
-abbrev pub IsAnswer : Entity → Option (List ℕ) → Result RawDevice DeviceFault → Type 0
-IsAnswer entity given (Ok device) = IsSound entity given device
-IsAnswer entity given (Err fault) = IsFirst entity given fault
+abbrev pub IsDeviceAnswer : Entity → Option (List ℕ) → Result RawDevice DeviceFault → Type 0
+IsDeviceAnswer entity given (Ok device) = IsSound entity given device
+IsDeviceAnswer entity given (Err fault) = IsFirstFailure entity given fault
 
 -- the fault, or None if memory ran out
 abbrev pub device_told : DeviceFault → Option DeviceFault

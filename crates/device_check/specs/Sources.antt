@@ -13,6 +13,9 @@ source_number sources.PinMapConstant = 15
 -- the name by which a fault names the string of the source with this number
 abbrev pub string_name : ℕ → List ℕ
 string_name source =
-    if source == attribute_number InstructionOpcode then codes "INSTRUCTION_OPCODE" else (if source == attribute_number InstructionCapture then codes "INSTRUCTION_CAPTURE"
-    else (if source == attribute_number BoundaryRegister then codes "BOUNDARY_REGISTER" else (if source == attribute_number IdcodeRegister then codes "IDCODE_REGISTER"
+    if source == attribute_number InstructionOpcode then codes "INSTRUCTION_OPCODE" else
+    (if source == attribute_number InstructionCapture then codes "INSTRUCTION_CAPTURE"
+    else
+    (if source == attribute_number BoundaryRegister then codes "BOUNDARY_REGISTER" else
+    (if source == attribute_number IdcodeRegister then codes "IDCODE_REGISTER"
     else (if source == attribute_number CompliancePatterns then codes "COMPLIANCE_PATTERNS" else codes "PIN_MAP_STRING"))))

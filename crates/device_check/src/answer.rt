@@ -8,8 +8,8 @@ ghost use Rattle.device_rules.specs.Raw.{HasLengths};
 ghost use Rattle.device_check.specs.declared.fault.DeviceFault.{DeviceFault};
 ghost use Rattle.device_check.specs.Needed.{v1};
 ghost use Rattle.device_check.specs.DeviceStrings.{AreStrings};
-ghost use Rattle.device_check.specs.inner.Reading.{needed_view, IsJudged};
-ghost use Rattle.device_check.specs.SoundDevice.{draft_of, IsAnswer, device_told};
+ghost use Rattle.device_check.specs.inner.Reading.{needed_view, IsJudgedDraft};
+ghost use Rattle.device_check.specs.SoundDevice.{draft_of, IsDeviceAnswer, device_told};
 
 use crate::draft::draft_of;
 use crate::fault::DeviceFault;
@@ -25,7 +25,7 @@ use std::alloc::Global;
 fn judge(alloc: Global, draft: Draft) -> Result<Device, DeviceFault>
     requires short { HasShortLists draft }
     requires lengths { HasLengths draft }
-    ensures { IsJudged draft result }
+    ensures { IsJudgedDraft draft result }
 {
     match raw_device(alloc, draft) {
         Ok(raw) => Ok(Device::new(raw)),
@@ -40,7 +40,8 @@ fn judge(alloc: Global, draft: Draft) -> Result<Device, DeviceFault>
 #[tactic(auto, using(crate::proofs::AnswerLemmas::needs_answer, crate::proofs::AnswerLemmas::text_answer))]
 fn answer(alloc: Global, entity: &Entity, package: Option<&[u8]>) -> Result<Device, DeviceFault>
     requires small { IsSmall entity.now }
-    ensures { Gives device_told (λ device. device) (IsAnswer entity.now (option_copied «package».entry)) result }
+    ensures { Gives device_told (λ device. device)
+        (IsDeviceAnswer entity.now (option_copied «package».entry)) result }
 {
     let needed = match find_needed(entity, package) {
         Ok(needed) => needed,
@@ -70,9 +71,12 @@ pub fn device(alloc: Global, entity: &Entity, package: Option<&[u8]>) -> Result<
     requires small { IsSmall entity.now }
     // The device is the sound device of the entity, or the fault is the fault of the first step
     // that fails.
-    ensures answer { Gives device_told (λ device. device) (IsAnswer entity.now (option_copied «package».entry)) result }
+    ensures answer { Gives device_told (λ device. device)
+        (IsDeviceAnswer entity.now (option_copied «package».entry)) result }
     // There is no other answer.
-    ensures only { Gives device_told (λ device. device) (λ answer. (other : Result RawDevice DeviceFault) → IsAnswer entity.now (option_copied «package».entry) other → other ≡ answer) result }
+    ensures only { Gives device_told (λ device. device)
+        (λ answer. (other : Result RawDevice DeviceFault)
+        → IsDeviceAnswer entity.now (option_copied «package».entry) other → other ≡ answer) result }
 {
     answer(alloc, entity, package)
 }

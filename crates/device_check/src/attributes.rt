@@ -2,7 +2,7 @@
 ghost use Rattle.std.specs.Prelude.{◌≡◌, find, count_by, option_copied, option_map, option_and_then, None};
 ghost use Rattle.std.specs.List.{list_any};
 ghost use Rattle.std.specs.Str.{bytes_eq};
-ghost use Rattle.device_check.specs.Attributes.{is_numbered, times, value_of, only_value, port_in, number_in, text_in, port_of, text_of, only_port, only_number, only_text, chosen, is_constant, only_constant, is_text, is_of_2001, edition};
+ghost use Rattle.device_check.specs.Attributes.{is_numbered, times, value_of_attribute, only_value, port_in, number_of_value, text_in, port_of_attribute, text_of_attribute, only_port, only_number, only_text, chosen_package, is_constant, only_constant, has_text, is_of_2001, edition};
 
 use board_defs::Edition;
 use bsdl_parser::{AttrValue, Attribute, Constant, Entity};
@@ -19,7 +19,8 @@ fn count_numbered(entity: &Entity, number: u32) -> usize
 }
 
 fn find_numbered(entity: &Entity, number: u32) -> Option<&AttrValue>
-    ensures { option_copied result ≡ option_map (λ found. found.value) (find (is_numbered number) entity.now.attributes) }
+    ensures { option_copied result
+        ≡ option_map (λ found. found.value) (find (is_numbered number) entity.now.attributes) }
 {
     entity
         .attributes
@@ -37,7 +38,7 @@ pub(crate) fn times(entity: &Entity, attribute: Attribute) -> usize
 }
 
 fn value_of(entity: &Entity, attribute: Attribute) -> Option<&AttrValue>
-    ensures { option_copied result ≡ value_of entity.now attribute }
+    ensures { option_copied result ≡ value_of_attribute entity.now attribute }
 {
     find_numbered(entity, attribute.number())
 }
@@ -63,7 +64,7 @@ fn port_in(value: Option<&AttrValue>) -> Option<&[u8]>
 }
 
 fn number_in(value: Option<&AttrValue>) -> Option<u32>
-    ensures { result ≡ option_and_then number_in (option_copied value.entry) }
+    ensures { result ≡ option_and_then number_of_value (option_copied value.entry) }
 {
     match value {
         Some(AttrValue::Number(number)) => Some(*number),
@@ -82,14 +83,14 @@ fn text_in(value: Option<&AttrValue>) -> Option<&[u8]>
 
 /// Returns the port that is the value of the attribute, as of a TAP attribute.
 pub(crate) fn port_of(entity: &Entity, attribute: Attribute) -> Option<&[u8]>
-    ensures { option_copied result ≡ port_of entity.now attribute }
+    ensures { option_copied result ≡ port_of_attribute entity.now attribute }
 {
     port_in(value_of(entity, attribute))
 }
 
 /// Returns the string that is the attribute's value.
 pub(crate) fn text_of(entity: &Entity, attribute: Attribute) -> Option<&[u8]>
-    ensures { option_copied result ≡ text_of entity.now attribute }
+    ensures { option_copied result ≡ text_of_attribute entity.now attribute }
 {
     text_in(value_of(entity, attribute))
 }
@@ -118,7 +119,7 @@ pub(crate) fn only_text(entity: &Entity, attribute: Attribute) -> Option<&[u8]>
 /// Returns the package that the caller gives, or, if the caller gives none, the default of the
 /// entity's generic.
 pub(crate) fn chosen<'a>(entity: &'a Entity, package: Option<&'a [u8]>) -> Option<&'a [u8]>
-    ensures { option_copied result ≡ chosen entity.now (option_copied «package».entry) }
+    ensures { option_copied result ≡ chosen_package entity.now (option_copied «package».entry) }
 {
     match package {
         Some(name) => Some(name),
@@ -163,7 +164,7 @@ pub(crate) fn only_constant<'a>(entity: &'a Entity, name: &[u8]) -> Option<&'a C
 
 /// Returns whether there is a text, and the text equals `wanted`.
 pub(crate) fn is_text(wanted: &[u8], text: Option<&[u8]>) -> bool
-    ensures { result ≡ is_text wanted.now (option_copied text.entry) }
+    ensures { result ≡ has_text wanted.now (option_copied text.entry) }
 {
     match text {
         Some(text) => text == wanted,

@@ -1,7 +1,7 @@
 //! The draft of a device, made from an entity.
 ghost use Rattle.std.specs.Prelude.{◌≡◌, IfOk};
 ghost use Rattle.bsdl_parser.specs.declared.entity.Attribute.TheVariants.{TapScanReset};
-ghost use Rattle.device_check.specs.Attributes.{port_of};
+ghost use Rattle.device_check.specs.Attributes.{port_of_attribute};
 ghost use Rattle.device_check.specs.inner.Reading.{needed_view};
 ghost use Rattle.device_check.specs.SoundDevice.{taps_of, draft_of};
 
@@ -34,7 +34,7 @@ fn copied_ports(alloc: Global, ports: &[Port]) -> Result<Vec<Port>, AllocError>
 }
 
 fn reset_port(alloc: Global, entity: &Entity) -> Result<Option<Name>, AllocError>
-    ensures { IfOk result (λ port. port ≡ port_of entity.now TapScanReset) }
+    ensures { IfOk result (λ port. port ≡ port_of_attribute entity.now TapScanReset) }
 {
     match port_of(entity, Attribute::TapScanReset) {
         Some(port) => Ok(Some(Name::of(alloc, port)?)),
@@ -60,7 +60,14 @@ fn taps_of(alloc: Global, entity: &Entity, needed: &Needed) -> Result<TapPorts, 
 type EntityParts = (Name, Name, Items<Port>, TapPorts);
 
 fn parts_of(alloc: Global, entity: &Entity, needed: &Needed) -> Result<EntityParts, AllocError>
-    ensures { IfOk result (λ parts. parts ≡ (entity.now.name, needed.now.chosen.name.now, entity.now.ports, taps_of entity.now (needed_view needed.now))) }
+    ensures { IfOk result
+        (λ parts. parts
+        ≡ (
+          entity.now.name,
+          needed.now.chosen.name.now,
+          entity.now.ports,
+          taps_of entity.now (needed_view needed.now),
+        )) }
 {
     let name = Name::of(alloc, entity.name.bytes())?;
     let package = Name::of(alloc, needed.chosen.name)?;

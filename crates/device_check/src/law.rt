@@ -7,24 +7,29 @@ ghost use Rattle.board_defs.specs.DeviceRules.{IsDevice};
 ghost use Rattle.first_places.specs.Items.{IsLeast};
 ghost use Rattle.device_check.specs.Needed.{v1};
 ghost use Rattle.device_check.specs.NumberedSources.{breaks_source, reported};
-ghost use Rattle.device_check.specs.SoundDevice.{IsAnswer, IsSound};
+ghost use Rattle.device_check.specs.SoundDevice.{IsDeviceAnswer, IsSound};
 
 use device_rules::law::devices_keep_rules;
 
 /// An entity has exactly one answer for each package: its sound device, or its first fault.
 pub fn entities_have_one_answer()
-    ensures some { (entity : Entity) (given : Option (List ℕ)) → (answer : Result RawDevice DeviceFault) × IsAnswer entity given answer }
-    ensures one { (entity : Entity) (given : Option (List ℕ)) (answer other : Result RawDevice DeviceFault) → IsAnswer entity given answer → IsAnswer entity given other → answer ≡ other }
+    ensures some { (entity : Entity) (given : Option (List ℕ))
+        → (answer : Result RawDevice DeviceFault) × IsDeviceAnswer entity given answer }
+    ensures one { (entity : Entity) (given : Option (List ℕ))
+        (answer other : Result RawDevice DeviceFault) → IsDeviceAnswer entity given answer
+        → IsDeviceAnswer entity given other → answer ≡ other }
 {}
 
 /// If rule V1 holds, no source breaks the rule. Otherwise V1 reports the least number of a source that breaks it.
 pub fn least_source_is_reported()
-    ensures { (entity : Entity) (given : Option (List ℕ)) → IsLeast (breaks_source entity given) 16 (reported (v1 entity given)) }
+    ensures { (entity : Entity) (given : Option (List ℕ))
+        → IsLeast (breaks_source entity given) 16 (reported (v1 entity given)) }
 {}
 
 /// The sound device of an entity keeps the rules of a device.
 pub fn sound_devices_keep_rules()
-    ensures { (entity : Entity) (given : Option (List ℕ)) (device : RawDevice) → IsSound entity given device → IsDevice device }
+    ensures { (entity : Entity) (given : Option (List ℕ)) (device : RawDevice)
+        → IsSound entity given device → IsDevice device }
 {
     devices_keep_rules();
 }

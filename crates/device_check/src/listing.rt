@@ -3,9 +3,9 @@ ghost use Rattle.std.specs.Prelude.{◌≡◌, ◌==◌, ◌<◌, ◌≤◌, ◌
 ghost use Rattle.std.specs.List.{flat_map, list_any, prefix_len};
 ghost use Rattle.board_defs.specs.Limits.{most_bits};
 ghost use Rattle.bt_base.specs.Puts.{Puts};
-ghost use Rattle.line_printer.specs.Prints.{Prints, line_of, whole};
+ghost use Rattle.line_printer.specs.Prints.{Prints, line_of, whole, bit_word};
 ghost use Rattle.board_defs.specs.DeviceRules.{IsDevice};
-ghost use Rattle.device_check.specs.DeviceText.{mode_word, role_word, symbol_word, bit_word, code_text, instructions_text, pattern_text, instruction_line, pin_text, pins_text, port_line, port_name, port_lines, index_text, place_text, control_text, cell_line, entries_of, cell_lines, device_text};
+ghost use Rattle.device_check.specs.DeviceText.{mode_word, role_word, symbol_word, code_text, instructions_text, pattern_text, instruction_line, pin_text, pins_text, port_line, name_of_port, port_lines, index_text, place_text, control_text, cell_line, entries_of_cell, cell_lines, device_text};
 ghost use Rattle.device_check.specs.inner.ListingForms.{Rises, Climbs, entries_in};
 
 use crate::listing_table::{Entries, fill_entries};
@@ -65,7 +65,8 @@ fn bit_word(bit: bool) -> &'static [u8]
 /// Prints a code in reverse, so that the symbol nearest TDO, the first of the code, is the last
 /// printed.
 fn print_code<K: Sink>(code: &[Symbol], line: &mut Line, out: &mut K) -> Result<(), PutFault>
-    ensures { Prints (K.shown out.old) (K.shown out.new) line.old line.new (code_text code.now) result }
+    ensures { Prints (K.shown out.old) (K.shown out.new) line.old line.new (code_text code.now)
+        result }
 {
     let mut at = code.len();
     while 0 < at {
@@ -82,7 +83,8 @@ fn print_instruction<K: Sink>(
     line: &mut Line,
     out: &mut K,
 ) -> Result<(), PutFault>
-    ensures { Prints (K.shown out.old) (K.shown out.new) line.old line.new (name.now ++ code_text code.now) result }
+    ensures { Prints (K.shown out.old) (K.shown out.new) line.old line.new
+        (name.now ++ code_text code.now) result }
 {
     print(name, line, out)?;
     print_code(code, line, out)
@@ -108,7 +110,8 @@ fn print_instructions<K: Sink>(
 
 /// Prints the pattern of the identification code, or `-` if there is none.
 fn print_pattern<K: Sink>(device: &RawDevice, line: &mut Line, out: &mut K) -> Result<(), PutFault>
-    ensures { Prints (K.shown out.old) (K.shown out.new) line.old line.new (pattern_text device.now.idcode) result }
+    ensures { Prints (K.shown out.old) (K.shown out.new) line.old line.new
+        (pattern_text device.now.idcode) result }
 {
     match &device.idcode {
         None => print(b"-", line, out),
@@ -118,7 +121,8 @@ fn print_pattern<K: Sink>(device: &RawDevice, line: &mut Line, out: &mut K) -> R
 
 /// Begins the line of the instruction register with its length.
 fn begin_instructions<K: Sink>(ir: u32, line: &mut Line, out: &mut K) -> Result<(), PutFault>
-    ensures { Prints (K.shown out.old) (K.shown out.new) [] line.new (whole (codes "IR " ∷ decimal ir ∷ [])) result }
+    ensures { Prints (K.shown out.old) (K.shown out.new) [] line.new
+        (whole (codes "IR " ∷ decimal ir ∷ [])) result }
 {
     let mut number = Buffer::new();
     let number = number.format(ir).as_bytes();
@@ -131,7 +135,8 @@ fn put_instructions<K: Sink>(
     line: &mut Line,
     out: &mut K,
 ) -> Result<(), PutFault>
-    ensures { Prints (K.shown out.old) (K.shown out.new) [] [] (instruction_line device.now) result }
+    ensures { Prints (K.shown out.old) (K.shown out.new) [] [] (instruction_line device.now)
+        result }
 {
     begin_instructions(device.ir, line, out)?;
     print_instructions(device, line, out)?;
@@ -142,7 +147,8 @@ fn put_instructions<K: Sink>(
 
 /// Prints the pin of a port bit, if the port bit has a pin.
 fn print_pin<K: Sink>(bit: &PortBit, line: &mut Line, out: &mut K) -> Result<(), PutFault>
-    ensures { Prints (K.shown out.old) (K.shown out.new) line.old line.new (pin_text bit.now.pin) result }
+    ensures { Prints (K.shown out.old) (K.shown out.new) line.old line.new (pin_text bit.now.pin)
+        result }
 {
     match &bit.pin {
         None => Ok(()),
@@ -170,7 +176,8 @@ fn print_each_pin<K: Sink>(bits: &[PortBit], line: &mut Line, out: &mut K) -> Re
 
 /// Prints the pins of a port, or `-` if the port has no pins.
 fn print_pins<K: Sink>(bits: &[PortBit], line: &mut Line, out: &mut K) -> Result<(), PutFault>
-    ensures { Prints (K.shown out.old) (K.shown out.new) line.old line.new (pins_text bits.now) result }
+    ensures { Prints (K.shown out.old) (K.shown out.new) line.old line.new (pins_text bits.now)
+        result }
 {
     if has_pins(bits) {
         print_each_pin(bits, line, out)
@@ -218,7 +225,8 @@ fn put_port<K: Sink>(
     line: &mut Line,
     out: &mut K,
 ) -> Result<(), PutFault>
-    ensures { Prints (K.shown out.old) (K.shown out.new) [] [] (port_line name.now bits.now) result }
+    ensures { Prints (K.shown out.old) (K.shown out.new) [] [] (port_line name.now bits.now)
+        result }
 {
     match bits {
         [] => Ok(()),
@@ -228,7 +236,7 @@ fn put_port<K: Sink>(
 
 /// Returns the name of the port with this number, or an empty name if there is no such port.
 fn port_name(ports: &[Name], port: usize) -> &[u8]
-    ensures { result.now ≡ port_name ports.now port }
+    ensures { result.now ≡ name_of_port ports.now port }
 {
     match ports.get(port) {
         Some(name) => name.bytes(),
@@ -252,7 +260,8 @@ fn split_port(port: usize, bits: &[PortBit]) -> (&[PortBit], &[PortBit])
     requires { Rises port bits.now }
     ensures own { result.0.now ≡ filter (λ bit. bit.port == port) bits.now }
     ensures rises { Rises (port + 1) result.1.now }
-    ensures others { (q : ℕ) → port < q → filter (λ bit. bit.port == q) result.1.now ≡ filter (λ bit. bit.port == q) bits.now }
+    ensures others { (q : ℕ) → port < q
+        → filter (λ bit. bit.port == q) result.1.now ≡ filter (λ bit. bit.port == q) bits.now }
 {
     bits.split_at(count_bits(port, bits))
 }
@@ -265,7 +274,8 @@ fn put_ports<K: Sink>(
     out: &mut K,
 ) -> Result<(), PutFault>
     requires { Rises 0 bits.now }
-    ensures { Prints (K.shown out.old) (K.shown out.new) [] [] (port_lines ports.now bits.now) result }
+    ensures { Prints (K.shown out.old) (K.shown out.new) [] [] (port_lines ports.now bits.now)
+        result }
 {
     let mut rest = bits;
     for port in 0..ports.len() {
@@ -278,7 +288,8 @@ fn put_ports<K: Sink>(
 
 /// Prints the index of a bit in parentheses, or nothing if the bit belongs to a plain port.
 fn print_index<K: Sink>(index: Option<u32>, line: &mut Line, out: &mut K) -> Result<(), PutFault>
-    ensures { Prints (K.shown out.old) (K.shown out.new) line.old line.new (index_text index) result }
+    ensures { Prints (K.shown out.old) (K.shown out.new) line.old line.new (index_text index)
+        result }
 {
     let Some(index) = index else {
         return Ok(());
@@ -295,7 +306,8 @@ fn print_port_name<K: Sink>(
     line: &mut Line,
     out: &mut K,
 ) -> Result<(), PutFault>
-    ensures { Prints (K.shown out.old) (K.shown out.new) line.old line.new (port_name ports.now port) result }
+    ensures { Prints (K.shown out.old) (K.shown out.new) line.old line.new
+        (name_of_port ports.now port) result }
 {
     print(port_name(ports, port as usize), line, out)
 }
@@ -308,7 +320,7 @@ fn print_bit<K: Sink>(
     out: &mut K,
 ) -> Result<(), PutFault>
     ensures { Prints (K.shown out.old) (K.shown out.new) line.old line.new
-        (port_name ports.now bit.now.port ++ index_text bit.now.index) result }
+        (name_of_port ports.now bit.now.port ++ index_text bit.now.index) result }
 {
     print_port_name(ports, bit.port, line, out)?;
     print_index(bit.index, line, out)
@@ -322,7 +334,8 @@ fn print_place<K: Sink>(
     line: &mut Line,
     out: &mut K,
 ) -> Result<(), PutFault>
-    ensures { Prints (K.shown out.old) (K.shown out.new) line.old line.new (place_text ports.now bits.now bit) result }
+    ensures { Prints (K.shown out.old) (K.shown out.new) line.old line.new
+        (place_text ports.now bits.now bit) result }
 {
     let Some(bit) = bit else {
         return print(b"*", line, out);
@@ -339,7 +352,8 @@ fn print_control<K: Sink>(
     line: &mut Line,
     out: &mut K,
 ) -> Result<(), PutFault>
-    ensures { Prints (K.shown out.old) (K.shown out.new) line.old line.new (control_text control) result }
+    ensures { Prints (K.shown out.old) (K.shown out.new) line.old line.new (control_text control)
+        result }
 {
     let Some(control) = control else {
         return Ok(());
@@ -366,7 +380,8 @@ fn begin_cell<K: Sink>(num: u32, role: Role, line: &mut Line, out: &mut K) -> Re
 
 /// Prints the safe value of an entry.
 fn print_safe<K: Sink>(safe: Symbol, line: &mut Line, out: &mut K) -> Result<(), PutFault>
-    ensures { Prints (K.shown out.old) (K.shown out.new) line.old line.new (whole (codes " " ∷ symbol_word safe ∷ [])) result }
+    ensures { Prints (K.shown out.old) (K.shown out.new) line.old line.new
+        (whole (codes " " ∷ symbol_word safe ∷ [])) result }
 {
     print_all(&[b" ".as_slice(), symbol_word(safe)], line, out)
 }
@@ -379,7 +394,8 @@ fn put_cell<K: Sink>(
     line: &mut Line,
     out: &mut K,
 ) -> Result<(), PutFault>
-    ensures { Prints (K.shown out.old) (K.shown out.new) [] [] (cell_line ports.now bits.now cell) result }
+    ensures { Prints (K.shown out.old) (K.shown out.new) [] [] (cell_line ports.now bits.now cell)
+        result }
 {
     begin_cell(cell.num, cell.role, line, out)?;
     print_place(ports, bits, cell.bit, line, out)?;
@@ -396,7 +412,8 @@ fn put_entries<K: Sink>(
     line: &mut Line,
     out: &mut K,
 ) -> Result<(), PutFault>
-    ensures { Prints (K.shown out.old) (K.shown out.new) [] [] (flat_map (cell_line ports.now bits.now) (entries_in entries)) result }
+    ensures { Prints (K.shown out.old) (K.shown out.new) [] []
+        (flat_map (cell_line ports.now bits.now) (entries_in entries)) result }
 {
     match entries {
         Entries::Nothing => Ok(()),
@@ -434,7 +451,7 @@ fn put_block<K: Sink>(
     line: &mut Line,
     out: &mut K,
 ) -> Result<(), PutFault>
-    requires { (num : ℕ) → length (entries_of num device.now.cells) ≤ 2 }
+    requires { (num : ℕ) → length (entries_of_cell num device.now.cells) ≤ 2 }
     ensures text { Prints (K.shown out.old) (K.shown out.new) [] []
         (cell_lines device.now.ports device.now.bits device.now.cells from (length table.old)) result }
     ensures length { length table.new ≡ length table.old }
@@ -452,7 +469,7 @@ fn put_block<K: Sink>(
 /// Writes the lines of all cells, block by block. Each block takes one walk over all entries,
 /// whatever their order is, so the time does not depend on the order.
 fn put_blocks<K: Sink>(device: &RawDevice, line: &mut Line, out: &mut K) -> Result<(), PutFault>
-    requires few { (num : ℕ) → length (entries_of num device.now.cells) ≤ 2 }
+    requires few { (num : ℕ) → length (entries_of_cell num device.now.cells) ≤ 2 }
     requires most { device.now.boundary ≤ most_bits }
     ensures { Prints (K.shown out.old) (K.shown out.new) [] []
         (cell_lines device.now.ports device.now.bits device.now.cells 0 device.now.boundary) result }
@@ -490,7 +507,8 @@ fn put_in_order<K: Sink>(
     line: &mut Line,
     out: &mut K,
 ) -> Result<(), PutFault>
-    ensures { Prints (K.shown out.old) (K.shown out.new) [] [] (flat_map (cell_line ports.now bits.now) cells.now) result }
+    ensures { Prints (K.shown out.old) (K.shown out.new) [] []
+        (flat_map (cell_line ports.now bits.now) cells.now) result }
 {
     for cell in cells {
         put_cell(ports, bits, *cell, line, out)?;
@@ -501,7 +519,7 @@ fn put_in_order<K: Sink>(
 /// Writes the lines of all cells. If the entries are in the order of their cells, as in most texts,
 /// one walk writes them.
 fn put_cells<K: Sink>(device: &RawDevice, line: &mut Line, out: &mut K) -> Result<(), PutFault>
-    requires few { (num : ℕ) → length (entries_of num device.now.cells) ≤ 2 }
+    requires few { (num : ℕ) → length (entries_of_cell num device.now.cells) ≤ 2 }
     requires most { device.now.boundary ≤ most_bits }
     ensures { Prints (K.shown out.old) (K.shown out.new) [] []
         (cell_lines device.now.ports device.now.bits device.now.cells 0 device.now.boundary) result }
@@ -523,14 +541,16 @@ fn put_cells<K: Sink>(device: &RawDevice, line: &mut Line, out: &mut K) -> Resul
 /// Writes the lines of the ports of a device.
 fn put_all_ports<K: Sink>(device: &RawDevice, line: &mut Line, out: &mut K) -> Result<(), PutFault>
     requires { IsDevice device.now }
-    ensures { Prints (K.shown out.old) (K.shown out.new) [] [] (port_lines device.now.ports device.now.bits) result }
+    ensures { Prints (K.shown out.old) (K.shown out.new) [] []
+        (port_lines device.now.ports device.now.bits) result }
 {
     put_ports(device.ports.as_slice(), device.bits.as_slice(), line, out)
 }
 
 /// Writes a line with a word and a name.
 fn put_name<K: Sink>(word: &[u8], name: &Name, line: &mut Line, out: &mut K) -> Result<(), PutFault>
-    ensures { Prints (K.shown out.old) (K.shown out.new) [] [] (line_of (word.now ∷ name.now ∷ [])) result }
+    ensures { Prints (K.shown out.old) (K.shown out.new) [] [] (line_of (word.now ∷ name.now ∷ []))
+        result }
 {
     put_line(&[word, name.bytes()], line, out)
 }

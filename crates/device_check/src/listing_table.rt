@@ -1,7 +1,7 @@
 //! The table of the entries of a block of cells.
 ghost use Rattle.std.specs.Prelude.{◌≡◌, ◌==◌, ◌<◌, ◌≤◌, ◌+◌, ℕ, [], ◌∷◌, ◌++◌, length, map, slice_index_or, if◌then◌else◌};
 ghost use Rattle.std.specs.List.{range_with_len};
-ghost use Rattle.device_check.specs.DeviceText.{entries_of};
+ghost use Rattle.device_check.specs.DeviceText.{entries_of_cell};
 ghost use Rattle.device_check.specs.inner.ListingForms.{entries_in};
 
 use board_defs::Cell;
@@ -31,7 +31,8 @@ impl Entries {
 /// Adds an entry to the place of its cell in the table, if the cell is in the block that begins
 /// with cell `from`.
 fn add_entry(cell: Cell, from: u32, table: &mut [Entries])
-    requires { (k : ℕ) → k < length table.old → cell.num ≡ from + k → length (entries_in (slice_index_or table.old k Entries.Nothing)) < 2 }
+    requires { (k : ℕ) → k < length table.old → cell.num ≡ from + k
+        → length (entries_in (slice_index_or table.old k Entries.Nothing)) < 2 }
     ensures length { length table.new ≡ length table.old }
     ensures entries { (k : ℕ) → k < length table.old
         → entries_in (slice_index_or table.new k Entries.Nothing)
@@ -49,7 +50,8 @@ fn add_entry(cell: Cell, from: u32, table: &mut [Entries])
 /// Empties each place of a table.
 fn clear(table: &mut [Entries])
     ensures length { length table.new ≡ length table.old }
-    ensures nothing { (k : ℕ) → k < length table.new → slice_index_or table.new k Entries.Nothing ≡ Entries.Nothing }
+    ensures nothing { (k : ℕ) → k < length table.new
+        → slice_index_or table.new k Entries.Nothing ≡ Entries.Nothing }
 {
     for at in 0..table.len() {
         table[at] = Entries::Nothing;
@@ -58,8 +60,9 @@ fn clear(table: &mut [Entries])
 
 /// Fills a table with the entries of cells `from`, `from + 1` and so on, one cell for each place.
 pub fn fill_entries(cells: &[Cell], from: u32, table: &mut [Entries])
-    requires { (num : ℕ) → length (entries_of num cells.now) ≤ 2 }
-    ensures entries { map entries_in table.new ≡ map (λ num. entries_of num cells.now) (range_with_len from (length table.old)) }
+    requires { (num : ℕ) → length (entries_of_cell num cells.now) ≤ 2 }
+    ensures entries { map entries_in table.new
+        ≡ map (λ num. entries_of_cell num cells.now) (range_with_len from (length table.old)) }
     ensures length { length table.new ≡ length table.old }
 {
     clear(table);

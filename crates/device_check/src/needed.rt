@@ -1,6 +1,6 @@
 //! Rule V1: the attributes, strings and pin map that an entity must have.
 ghost use Rattle.std.specs.Prelude.{◌≡◌, option_copied, option_map};
-ghost use Rattle.device_check.specs.Attributes.{chosen};
+ghost use Rattle.device_check.specs.Attributes.{chosen_package};
 ghost use Rattle.device_check.specs.Needed.{within, is_repeated, is_edition, conforms, found_taps, found_registers, wrong_option, found_package, v1};
 ghost use Rattle.device_check.specs.inner.Reading.{Says, taps_view, registers_view, package_view, needed_view};
 
@@ -165,7 +165,8 @@ fn wrong_option(entity: &Entity) -> Option<Attribute>
 /// the default of the entity's generic. Returns None if there is no package, or if there is not
 /// exactly one constant with the package's name.
 fn needed_package<'a>(entity: &'a Entity, package: Option<&'a [u8]>) -> Option<NeededPackage<'a>>
-    ensures { option_map package_view result ≡ found_package entity.now (chosen entity.now (option_copied «package».entry)) }
+    ensures { option_map package_view result
+        ≡ found_package entity.now (chosen_package entity.now (option_copied «package».entry)) }
 {
     let name = chosen(entity, package)?;
     let constant = only_constant(entity, name)?;

@@ -4,10 +4,10 @@ ghost use Rattle.bsdl_parser.specs.Entity.{HasShortText};
 ghost use Rattle.bsdl_strings.specs.Strings.{IsPinMap, IsNoPinMap, AreOpcodes, AreNoOpcodes, IsPattern, IsNoPattern, IsCompliance, IsBoundary, IsNoBoundary};
 ghost use Rattle.bsdl_parser.specs.declared.entity.Entity.{Entity};
 ghost use Rattle.bsdl_parser.specs.declared.entity.Attribute.TheVariants.{IdcodeRegister, CompliancePatterns};
-ghost use Rattle.device_check.specs.Attributes.{text_of};
-ghost use Rattle.device_check.specs.Needed.{Found};
+ghost use Rattle.device_check.specs.Attributes.{text_of_attribute};
+ghost use Rattle.device_check.specs.Needed.{FoundValues};
 ghost use Rattle.device_check.specs.DeviceStrings.{MayBe, LeavesBy, pin_map, opcodes, capture, idcode, compliance, boundary};
-ghost use Rattle.device_check.specs.inner.Reading.{fault_of, needed_view, HasShortStrings, NamesPlace, Gathers};
+ghost use Rattle.device_check.specs.inner.Reading.{source_fault, needed_view, HasShortStrings, NamesPlace, Gathers};
 
 use crate::attributes::text_of;
 use crate::fault::DeviceFault;
@@ -31,7 +31,7 @@ pub struct Strings {
 
 /// Returns the fault of the device for a fault in the string of this source.
 fn fault(source: Source, fault: StringFault) -> DeviceFault
-    ensures { result ≡ fault_of source fault }
+    ensures { result ≡ source_fault source fault }
 {
     match fault {
         StringFault::At(entry) => DeviceFault::Text {
@@ -45,7 +45,8 @@ fn fault(source: Source, fault: StringFault) -> DeviceFault
 fn read_pin_map(alloc: Global, needed: &Needed) -> Result<Items<MapEntry>, DeviceFault>
     requires { length needed.now.chosen.pin_map.now < 2 ^ 32 }
     ensures value { IfOk result (λ map. IsPinMap needed.now.chosen.pin_map.now map) }
-    ensures fault { (entity : Entity) → IfErr result (NamesPlace (LeavesBy entity (needed_view needed.now) pin_map)) }
+    ensures fault { (entity : Entity)
+        → IfErr result (NamesPlace (LeavesBy entity (needed_view needed.now) pin_map)) }
 {
     match bsdl_strings::pin_map(alloc, needed.chosen.pin_map) {
         Ok(map) => Ok(Items::of(map)),
@@ -56,7 +57,8 @@ fn read_pin_map(alloc: Global, needed: &Needed) -> Result<Items<MapEntry>, Devic
 fn read_opcodes(alloc: Global, needed: &Needed) -> Result<Items<Opcode>, DeviceFault>
     requires { length needed.now.registers.opcodes.now < 2 ^ 32 }
     ensures value { IfOk result (λ opcodes. AreOpcodes needed.now.registers.opcodes.now opcodes) }
-    ensures fault { (entity : Entity) → IfErr result (NamesPlace (LeavesBy entity (needed_view needed.now) opcodes)) }
+    ensures fault { (entity : Entity)
+        → IfErr result (NamesPlace (LeavesBy entity (needed_view needed.now) opcodes)) }
 {
     match bsdl_strings::opcodes(alloc, needed.registers.opcodes) {
         Ok(opcodes) => Ok(Items::of(opcodes)),
@@ -67,7 +69,8 @@ fn read_opcodes(alloc: Global, needed: &Needed) -> Result<Items<Opcode>, DeviceF
 fn read_capture(alloc: Global, needed: &Needed) -> Result<Code, DeviceFault>
     requires { length needed.now.registers.capture.now < 2 ^ 32 }
     ensures value { IfOk result (λ code. IsPattern needed.now.registers.capture.now code) }
-    ensures fault { (entity : Entity) → IfErr result (NamesPlace (LeavesBy entity (needed_view needed.now) capture)) }
+    ensures fault { (entity : Entity)
+        → IfErr result (NamesPlace (LeavesBy entity (needed_view needed.now) capture)) }
 {
     match bsdl_strings::pattern(alloc, needed.registers.capture) {
         Ok(code) => Ok(code),
@@ -77,8 +80,10 @@ fn read_capture(alloc: Global, needed: &Needed) -> Result<Code, DeviceFault>
 
 fn read_idcode(alloc: Global, entity: &Entity) -> Result<Option<Code>, DeviceFault>
     requires { All (λ attribute. HasShortText attribute.value) entity.now.attributes }
-    ensures value { IfOk result (λ code. MayBe IsPattern (text_of entity.now IdcodeRegister) code) }
-    ensures fault { (found : Found) → IfErr result (NamesPlace (LeavesBy entity.now found idcode)) }
+    ensures value { IfOk result
+        (λ code. MayBe IsPattern (text_of_attribute entity.now IdcodeRegister) code) }
+    ensures fault { (found : FoundValues)
+        → IfErr result (NamesPlace (LeavesBy entity.now found idcode)) }
 {
     match text_of(entity, Attribute::IdcodeRegister) {
         None => Ok(None),
@@ -90,8 +95,10 @@ fn read_idcode(alloc: Global, entity: &Entity) -> Result<Option<Code>, DeviceFau
 }
 
 fn read_compliance(alloc: Global, entity: &Entity) -> Result<Option<Compliance>, DeviceFault>
-    ensures value { IfOk result (λ value. MayBe IsCompliance (text_of entity.now CompliancePatterns) value) }
-    ensures fault { (found : Found) → IfErr result (NamesPlace (LeavesBy entity.now found compliance)) }
+    ensures value { IfOk result
+        (λ value. MayBe IsCompliance (text_of_attribute entity.now CompliancePatterns) value) }
+    ensures fault { (found : FoundValues)
+        → IfErr result (NamesPlace (LeavesBy entity.now found compliance)) }
 {
     match text_of(entity, Attribute::CompliancePatterns) {
         None => Ok(None),
@@ -105,7 +112,8 @@ fn read_compliance(alloc: Global, entity: &Entity) -> Result<Option<Compliance>,
 fn read_boundary(alloc: Global, needed: &Needed) -> Result<Items<Entry>, DeviceFault>
     requires { length needed.now.registers.boundary.now < 2 ^ 32 }
     ensures value { IfOk result (λ entries. IsBoundary needed.now.registers.boundary.now entries) }
-    ensures fault { (entity : Entity) → IfErr result (NamesPlace (LeavesBy entity (needed_view needed.now) boundary)) }
+    ensures fault { (entity : Entity)
+        → IfErr result (NamesPlace (LeavesBy entity (needed_view needed.now) boundary)) }
 {
     match bsdl_strings::boundary(alloc, needed.registers.boundary) {
         Ok(entries) => Ok(Items::of(entries)),

@@ -15,56 +15,76 @@ use Rattle.board_defs.specs.Limits.{most_bits}
 use Rattle.board_defs.proofs.Members.{has_at}
 use Rattle.bsdl_parser.specs.declared.entity.Port.{Port}
 use Rattle.first_places.specs.Items.{first_from, or_else}
-use Rattle.device_rules.specs.Ports.{in_order, width, bits_of, port_named, breaks_port, v2, indexes, bits_along, bits_of_port, bits_from, port_bits, has_index, is_bit, is_named, bit_number, Bit}
+use Rattle.device_rules.specs.Ports.{range_in_order, width, bit_total, port_named, breaks_port, v2, indexes, bits_along, bits_in_port, bits_from, all_port_bits, has_index, is_bit_named, is_named, bit_number, Bit}
 use Rattle.bsdl_strings.specs.declared.values.PortWord.TheVariants.{Star}
-use Rattle.device_rules.specs.inner.Index.{place_in}
+use Rattle.device_rules.specs.inner.Index.{index_place}
 use Rattle.device_rules.proofs.RangeLemmas.{place_found, place_within, length_indexes}
 use Rattle.device_rules.proofs.RuleLemmas.{holds}
 use Rattle.device_rules.proofs.IsDeviceLists.{none_has}
 
 -- the first place in two joined lists of an item that passes is the place in the first list, or, if
 -- no item of that list passes, the place in the second list plus the length of the first
-place_append_by : {A : Type 0} (p : A → Bool) (n : ℕ) (xs ys : List A) (b : Bool) → position_from p (n + 1) (xs ++ ys) ≡ or_else (position_from p (n + 1) xs) (position_from p (n + 1 + length xs) ys)
-    → cond b (Some n) (position_from p (n + 1) (xs ++ ys)) ≡ or_else (cond b (Some n) (position_from p (n + 1) xs)) (position_from p (n + suc (length xs)) ys)
+place_append_by : {A : Type 0} (p : A → Bool) (n : ℕ) (xs ys : List A) (b : Bool)
+    → position_from p (n + 1) (xs ++ ys)
+    ≡ or_else (position_from p (n + 1) xs) (position_from p (n + 1 + length xs) ys)
+    → cond b (Some n) (position_from p (n + 1) (xs ++ ys))
+    ≡ or_else (cond b (Some n) (position_from p (n + 1) xs))
+    (position_from p (n + suc (length xs)) ys)
 place_append_by p n xs ys true e = refl
 place_append_by p n xs ys false e =
     let sums : n + 1 + length xs ≡ n + suc (length xs) = omega arith in
     e ∙ ap (λ k. or_else (position_from p (n + 1) xs) (position_from p k ys)) sums
 
-place_append : {A : Type 0} (p : A → Bool) (n : ℕ) (xs ys : List A) → position_from p n (xs ++ ys) ≡ or_else (position_from p n xs) (position_from p (n + length xs) ys)
+place_append : {A : Type 0} (p : A → Bool) (n : ℕ) (xs ys : List A)
+    → position_from p n (xs ++ ys)
+    ≡ or_else (position_from p n xs) (position_from p (n + length xs) ys)
 place_append p n [] ys = let sums : n ≡ n + zero = omega arith in ap (λ k. position_from p k ys) sums
 place_append p n (x ∷ xs) ys = place_append_by p n xs ys (p x) (place_append p (n + 1) xs ys)
 
-none_along : (name : List ℕ) (at : Option ℕ) (number : ℕ) (port : Port) (place : ℕ) (ixs : List (Option ℕ)) (n : ℕ) → bytes_eq port.name name ≡ false → position_from (is_bit name at) n (bits_along number port place ixs) ≡ None
+none_along : (name : List ℕ) (at : Option ℕ) (number : ℕ) (port : Port) (place : ℕ)
+    (ixs : List (Option ℕ)) (n : ℕ) → bytes_eq port.name name ≡ false
+    → position_from (is_bit_named name at) n (bits_along number port place ixs) ≡ None
 none_along name at number port place [] n e = refl
 none_along name at number port place (i ∷ ixs) n e =
-    ap (λ b. cond (b && has_index at i) (Some n) (position_from (is_bit name at) (n + 1) (bits_along number port (place + 1) ixs))) e ∙ none_along name at number port (place + 1) ixs (n + 1) e
+    ap
+    (λ b. cond (b && has_index at i) (Some n)
+    (position_from (is_bit_named name at) (n + 1) (bits_along number port (place + 1) ixs))) e
+    ∙ none_along name at number port (place + 1) ixs (n + 1) e
 
-some_along : (name : List ℕ) (at : Option ℕ) (number : ℕ) (port : Port) (place : ℕ) (ixs : List (Option ℕ)) (n : ℕ) → bytes_eq port.name name ≡ true → position_from (is_bit name at) n (bits_along number port place ixs) ≡ position_from (has_index at) n ixs
+some_along : (name : List ℕ) (at : Option ℕ) (number : ℕ) (port : Port) (place : ℕ)
+    (ixs : List (Option ℕ)) (n : ℕ) → bytes_eq port.name name ≡ true
+    → position_from (is_bit_named name at) n (bits_along number port place ixs)
+    ≡ position_from (has_index at) n ixs
 some_along name at number port place [] n e = refl
 some_along name at number port place (i ∷ ixs) n e =
-    ap (λ b. cond (b && has_index at i) (Some n) (position_from (is_bit name at) (n + 1) (bits_along number port (place + 1) ixs))) e
+    ap (λ b. cond (b && has_index at i) (Some n) (position_from (is_bit_named name at) (n + 1) (bits_along number port (place + 1) ixs))) e
     ∙ ap (λ o. cond (has_index at i) (Some n) o) (some_along name at number port (place + 1) ixs (n + 1) e)
 
 length_along : (number : ℕ) (port : Port) (place : ℕ) (ixs : List (Option ℕ)) → length (bits_along number port place ixs) ≡ length ixs
 length_along number port place [] = refl
 length_along number port place (i ∷ ixs) = ap suc (length_along number port (place + 1) ixs)
 
-none_among : (name : List ℕ) (at : Option ℕ) (number n : ℕ) (ports : List Port) → list_any (port_named name) ports ≡ false → position_from (is_bit name at) n (bits_from number ports) ≡ None
+none_among : (name : List ℕ) (at : Option ℕ) (number n : ℕ) (ports : List Port)
+    → list_any (port_named name) ports ≡ false
+    → position_from (is_bit_named name at) n (bits_from number ports) ≡ None
 none_among name at number n [] e = refl
 none_among name at number n (port ∷ ports) e =
     let parts = or_parts (bytes_eq port.name name) (list_any (port_named name) ports) e in
-    place_append (is_bit name at) n (bits_of_port number port) (bits_from (number + 1) ports)
-    ∙ ap (λ o. or_else o (position_from (is_bit name at) (n + length (bits_of_port number port)) (bits_from (number + 1) ports))) (none_along name at number port 0 (indexes port.range) n parts.0)
-    ∙ none_among name at (number + 1) (n + length (bits_of_port number port)) ports parts.1
+    place_append (is_bit_named name at) n (bits_in_port number port) (bits_from (number + 1) ports)
+    ∙ ap
+    (λ o. or_else o
+    (position_from (is_bit_named name at) (n + length (bits_in_port number port))
+    (bits_from (number + 1) ports)))
+    (none_along name at number port 0 (indexes port.range) n parts.0)
+    ∙ none_among name at (number + 1) (n + length (bits_in_port number port)) ports parts.1
 
 -- no port has the name of an earlier port, and each port's range is in order
 abbrev pub Apart : List Port → Type 0
 Apart [] = Unit {0}
-Apart (port ∷ ports) = (in_order port.range ≡ true) × (list_any (port_named port.name) ports ≡ false) × Apart ports
+Apart (port ∷ ports) = (range_in_order port.range ≡ true) × (list_any (port_named port.name) ports ≡ false) × Apart ports
 
 -- if a port's range is in order, the port has as many bits as its range is wide
-pub length_bits : (number : ℕ) (port : Port) → in_order port.range ≡ true → length (bits_of_port number port) ≡ width port.range
+pub length_bits : (number : ℕ) (port : Port) → range_in_order port.range ≡ true → length (bits_in_port number port) ≡ width port.range
 length_bits number port e = length_along number port 0 (indexes port.range) ∙ length_indexes port.range e
 
 none_else : {A : Type 0} (o : Option A) → or_else o None ≡ o
@@ -75,61 +95,97 @@ none_else (Some a) = refl
 -- `start` on
 abbrev located : List ℕ → Option ℕ → ℕ → List Port → Option ℕ
 located name at start [] = None
-located name at start (port ∷ ports) = cond (bytes_eq port.name name) (option_map (λ k. start + k) (place_in port.range at)) (located name at (start + width port.range) ports)
+located name at start (port ∷ ports) =
+    cond (bytes_eq port.name name) (option_map (λ k. start + k) (index_place port.range at))
+    (located name at (start + width port.range) ports)
 
-located_by : (name : List ℕ) (at : Option ℕ) (number start : ℕ) (port : Port) (ports : List Port) (b : Bool) → bytes_eq port.name name ≡ b → Apart (port ∷ ports)
-    → position_from (is_bit name at) (start + width port.range) (bits_from (number + 1) ports) ≡ located name at (start + width port.range) ports
-    → position_from (is_bit name at) start (bits_from number (port ∷ ports)) ≡ cond b (option_map (λ k. start + k) (place_in port.range at)) (located name at (start + width port.range) ports)
+located_by : (name : List ℕ) (at : Option ℕ) (number start : ℕ) (port : Port) (ports : List Port)
+    (b : Bool) → bytes_eq port.name name ≡ b → Apart (port ∷ ports)
+    → position_from (is_bit_named name at) (start + width port.range) (bits_from (number + 1) ports)
+    ≡ located name at (start + width port.range) ports
+    → position_from (is_bit_named name at) start (bits_from number (port ∷ ports))
+    ≡ cond b (option_map (λ k. start + k) (index_place port.range at))
+    (located name at (start + width port.range) ports)
 located_by name at number start port ports true e apart later =
     let is : port.name ≡ name = named e in
     let others : list_any (port_named name) ports ≡ false = subst (λ n. list_any (port_named n) ports ≡ false) is apart.1 in
-    place_append (is_bit name at) start (bits_of_port number port) (bits_from (number + 1) ports)
-    ∙ ap (λ o. or_else (position_from (is_bit name at) start (bits_of_port number port)) o) (none_among name at (number + 1) (start + length (bits_of_port number port)) ports others)
-    ∙ none_else (position_from (is_bit name at) start (bits_of_port number port))
+    place_append (is_bit_named name at) start (bits_in_port number port) (bits_from (number + 1) ports)
+    ∙ ap (λ o. or_else (position_from (is_bit_named name at) start (bits_in_port number port)) o)
+    (none_among name at (number + 1) (start + length (bits_in_port number port)) ports others)
+    ∙ none_else (position_from (is_bit_named name at) start (bits_in_port number port))
     ∙ some_along name at number port 0 (indexes port.range) start e
     ∙ place_found port.range at start apart.0
   where
     named : bytes_eq port.name name ≡ true → port.name ≡ name
     named e = grind (arith, bytes_eq-Decides)
 located_by name at number start port ports false e apart later =
-    place_append (is_bit name at) start (bits_of_port number port) (bits_from (number + 1) ports)
-    ∙ ap (λ o. or_else o (position_from (is_bit name at) (start + length (bits_of_port number port)) (bits_from (number + 1) ports))) (none_along name at number port 0 (indexes port.range) start e)
-    ∙ ap (λ k. position_from (is_bit name at) (start + k) (bits_from (number + 1) ports)) (length_bits number port apart.0)
+    place_append (is_bit_named name at) start (bits_in_port number port) (bits_from (number + 1) ports)
+    ∙ ap
+    (λ o. or_else o
+    (position_from (is_bit_named name at) (start + length (bits_in_port number port))
+    (bits_from (number + 1) ports)))
+    (none_along name at number port 0 (indexes port.range) start e)
+    ∙ ap (λ k. position_from (is_bit_named name at) (start + k) (bits_from (number + 1) ports)) (length_bits number port apart.0)
     ∙ later
 
-located_is : (name : List ℕ) (at : Option ℕ) (number start : ℕ) (ports : List Port) → Apart ports → position_from (is_bit name at) start (bits_from number ports) ≡ located name at start ports
+located_is : (name : List ℕ) (at : Option ℕ) (number start : ℕ) (ports : List Port) → Apart ports
+    → position_from (is_bit_named name at) start (bits_from number ports)
+    ≡ located name at start ports
 located_is name at number start [] apart = refl
-located_is name at number start (port ∷ ports) apart = located_by name at number start port ports (bytes_eq port.name name) refl apart (located_is name at (number + 1) (start + width port.range) ports apart.2)
+located_is name at number start (port ∷ ports) apart =
+    located_by name at number start port ports (bytes_eq port.name name) refl apart
+    (located_is name at (number + 1) (start + width port.range) ports apart.2)
 
 -- the step for one item: if a search in the later items that begins with a number one higher finds
 -- a place one higher, so does a search in all items
-place_later_by : {A : Type 0} (p : A → Bool) (n : ℕ) (x : A) (xs : List A) (b : Bool) → position_from p (n + 1 + 1) xs ≡ option_map (λ k. k + 1) (position_from p (n + 1) xs) → cond b (Some (n + 1)) (position_from p (n + 1 + 1) xs) ≡ option_map (λ k. k + 1) (cond b (Some n) (position_from p (n + 1) xs))
+place_later_by : {A : Type 0} (p : A → Bool) (n : ℕ) (x : A) (xs : List A) (b : Bool)
+    → position_from p (n + 1 + 1) xs ≡ option_map (λ k. k + 1) (position_from p (n + 1) xs)
+    → cond b (Some (n + 1)) (position_from p (n + 1 + 1) xs)
+    ≡ option_map (λ k. k + 1) (cond b (Some n) (position_from p (n + 1) xs))
 place_later_by p n x xs true e = refl
 place_later_by p n x xs false e = e
 
-place_later : {A : Type 0} (p : A → Bool) (n : ℕ) (xs : List A) → position_from p (n + 1) xs ≡ option_map (λ k. k + 1) (position_from p n xs)
+place_later : {A : Type 0} (p : A → Bool) (n : ℕ) (xs : List A)
+    → position_from p (n + 1) xs ≡ option_map (λ k. k + 1) (position_from p n xs)
 place_later p n [] = refl
 place_later p n (x ∷ xs) = place_later_by p n x xs (p x) (place_later p (n + 1) xs)
 
 -- the step of `located` for one port: if no port has the name, no bit is located
-nowhere_by : (name : List ℕ) (at : Option ℕ) (start : ℕ) (port : Port) (ports : List Port) (b : Bool) → (position_from (port_named name) 0 ports ≡ None → located name at (start + width port.range) ports ≡ None)
-    → cond b (Some 0) (position_from (port_named name) 1 ports) ≡ None → cond b (option_map (λ k. start + k) (place_in port.range at)) (located name at (start + width port.range) ports) ≡ None
+nowhere_by : (name : List ℕ) (at : Option ℕ) (start : ℕ) (port : Port) (ports : List Port)
+    (b : Bool)
+    → (position_from (port_named name) 0 ports ≡ None
+    → located name at (start + width port.range) ports ≡ None)
+    → cond b (Some 0) (position_from (port_named name) 1 ports) ≡ None
+    → cond b (option_map (λ k. start + k) (index_place port.range at))
+    (located name at (start + width port.range) ports) ≡ None
 nowhere_by name at start port ports true later e = cc e
-nowhere_by name at start port ports false later e = later (none_before (position_from (port_named name) 0 ports) (sym (place_later (port_named name) 0 ports) ∙ e))
+nowhere_by name at start port ports false later e =
+    later
+    (none_before (position_from (port_named name) 0 ports)
+    (sym (place_later (port_named name) 0 ports) ∙ e))
   where
     none_before : (o : Option ℕ) → option_map (λ k. k + 1) o ≡ None → o ≡ None
     none_before None e = refl
     none_before (Some k) e = cc e
 
-nowhere : (name : List ℕ) (at : Option ℕ) (start : ℕ) (ports : List Port) → position_from (port_named name) 0 ports ≡ None → located name at start ports ≡ None
+nowhere : (name : List ℕ) (at : Option ℕ) (start : ℕ) (ports : List Port)
+    → position_from (port_named name) 0 ports ≡ None → located name at start ports ≡ None
 nowhere name at start [] e = refl
-nowhere name at start (port ∷ ports) e = nowhere_by name at start port ports (bytes_eq port.name name) (λ none. nowhere name at (start + width port.range) ports none) e
+nowhere name at start (port ∷ ports) e =
+    nowhere_by name at start port ports (bytes_eq port.name name)
+    (λ none. nowhere name at (start + width port.range) ports none) e
 
 -- the step of `located` for one port, if port `n` is the first that has the name
 there_by : (name : List ℕ) (at : Option ℕ) (start n : ℕ) (d port : Port) (ports : List Port) (b : Bool)
-    → ((m : ℕ) → position_from (port_named name) 0 ports ≡ Some m → located name at (start + width port.range) ports ≡ option_map (λ k. start + width port.range + bits_of (take m ports) + k) (place_in (get_or ports m d).range at))
+    → ((m : ℕ) → position_from (port_named name) 0 ports ≡ Some m
+    → located name at (start + width port.range) ports
+    ≡ option_map (λ k. start + width port.range + bit_total (take m ports) + k)
+    (index_place (get_or ports m d).range at))
     → cond b (Some 0) (position_from (port_named name) 1 ports) ≡ Some n
-    → cond b (option_map (λ k. start + k) (place_in port.range at)) (located name at (start + width port.range) ports) ≡ option_map (λ k. start + bits_of (take n (port ∷ ports)) + k) (place_in (get_or (port ∷ ports) n d).range at)
+    → cond b (option_map (λ k. start + k) (index_place port.range at))
+    (located name at (start + width port.range) ports)
+    ≡ option_map (λ k. start + bit_total (take n (port ∷ ports)) + k)
+    (index_place (get_or (port ∷ ports) n d).range at)
 there_by name at start n d port ports true later e = first n (first_is e)
   where
     first_is : Some 0 ≡ Some n → 0 ≡ n
@@ -139,42 +195,75 @@ there_by name at start n d port ports true later e = first n (first_is e)
     same_sums None = refl
     same_sums (Some k) = let sums : start + k ≡ start + 0 + k = omega arith in ap Some sums
 
-    first : (n : ℕ) → 0 ≡ n → option_map (λ k. start + k) (place_in port.range at) ≡ option_map (λ k. start + bits_of (take n (port ∷ ports)) + k) (place_in (get_or (port ∷ ports) n d).range at)
-    first n e = subst (λ n. option_map (λ k. start + k) (place_in port.range at) ≡ option_map (λ k. start + bits_of (take n (port ∷ ports)) + k) (place_in (get_or (port ∷ ports) n d).range at)) e (same_sums (place_in port.range at))
-there_by name at start n d port ports false later e = next (position_from (port_named name) 0 ports) refl (sym (place_later (port_named name) 0 ports) ∙ e)
+    first : (n : ℕ) → 0 ≡ n
+        → option_map (λ k. start + k) (index_place port.range at)
+        ≡ option_map (λ k. start + bit_total (take n (port ∷ ports)) + k)
+        (index_place (get_or (port ∷ ports) n d).range at)
+    first n e =
+        subst
+        (λ n. option_map (λ k. start + k) (index_place port.range at)
+        ≡ option_map (λ k. start + bit_total (take n (port ∷ ports)) + k)
+        (index_place (get_or (port ∷ ports) n d).range at)) e
+        (same_sums (index_place port.range at))
+there_by name at start n d port ports false later e =
+    next (position_from (port_named name) 0 ports) refl
+    (sym (place_later (port_named name) 0 ports) ∙ e)
   where
-    sums : (m : ℕ) (o : Option ℕ) → option_map (λ k. start + width port.range + bits_of (take m ports) + k) o ≡ option_map (λ k. start + bits_of (port ∷ take m ports) + k) o
+    sums : (m : ℕ) (o : Option ℕ)
+        → option_map (λ k. start + width port.range + bit_total (take m ports) + k) o
+        ≡ option_map (λ k. start + bit_total (port ∷ take m ports) + k) o
     sums m None = refl
     sums m (Some k) =
-        let bits : bits_of (port ∷ take m ports) ≡ width port.range + bits_of (take m ports) = sum_by-cons (λ port. width port.range) port (take m ports) in
-        let sums : start + width port.range + bits_of (take m ports) + k ≡ start + bits_of (port ∷ take m ports) + k = omega (arith, bits) in
+        let bits : bit_total (port ∷ take m ports)
+        ≡ width port.range + bit_total (take m ports) = sum_by-cons (λ port. width port.range)
+        port (take m ports) in
+        let sums : start + width port.range + bit_total (take m ports) + k
+        ≡ start + bit_total (port ∷ take m ports) + k = omega (arith, bits) in
         ap Some sums
 
-    shifted : (m : ℕ) → suc m ≡ n → position_from (port_named name) 0 ports ≡ Some m → located name at (start + width port.range) ports ≡ option_map (λ k. start + bits_of (take n (port ∷ ports)) + k) (place_in (get_or (port ∷ ports) n d).range at)
-    shifted m e f = subst (λ n. located name at (start + width port.range) ports ≡ option_map (λ k. start + bits_of (take n (port ∷ ports)) + k) (place_in (get_or (port ∷ ports) n d).range at)) e
-        (later m f ∙ sums m (place_in (get_or ports m d).range at))
+    shifted : (m : ℕ) → suc m ≡ n → position_from (port_named name) 0 ports ≡ Some m
+        → located name at (start + width port.range) ports
+        ≡ option_map (λ k. start + bit_total (take n (port ∷ ports)) + k)
+        (index_place (get_or (port ∷ ports) n d).range at)
+    shifted m e f =
+        subst
+        (λ n. located name at (start + width port.range) ports
+        ≡ option_map (λ k. start + bit_total (take n (port ∷ ports)) + k)
+        (index_place (get_or (port ∷ ports) n d).range at)) e
+        (later m f ∙ sums m (index_place (get_or ports m d).range at))
 
-    next : (o : Option ℕ) → position_from (port_named name) 0 ports ≡ o → option_map (λ k. k + 1) o ≡ Some n → located name at (start + width port.range) ports ≡ option_map (λ k. start + bits_of (take n (port ∷ ports)) + k) (place_in (get_or (port ∷ ports) n d).range at)
+    next : (o : Option ℕ) → position_from (port_named name) 0 ports ≡ o
+        → option_map (λ k. k + 1) o ≡ Some n
+        → located name at (start + width port.range) ports
+        ≡ option_map (λ k. start + bit_total (take n (port ∷ ports)) + k)
+        (index_place (get_or (port ∷ ports) n d).range at)
     next None f e = cc e
     next (Some m) f e = let is : m + 1 ≡ n = cc e in shifted m (omega (arith, is)) f
 
 there : (name : List ℕ) (at : Option ℕ) (start n : ℕ) (d : Port) (ports : List Port) → position_from (port_named name) 0 ports ≡ Some n
-    → located name at start ports ≡ option_map (λ k. start + bits_of (take n ports) + k) (place_in (get_or ports n d).range at)
+    → located name at start ports ≡ option_map (λ k. start + bit_total (take n ports) + k) (index_place (get_or ports n d).range at)
 there name at start n d [] e = cc e
-there name at start n d (port ∷ ports) e = there_by name at start n d port ports (bytes_eq port.name name) (λ m f. there name at (start + width port.range) m d ports f) e
+there name at start n d (port ∷ ports) e =
+    there_by name at start n d port ports (bytes_eq port.name name)
+    (λ m f. there name at (start + width port.range) m d ports f) e
 
 -- no port of the second list has the name of a port of the first
 abbrev Fresh : List Port → List Port → Type 0
 Fresh before [] = Unit {0}
 Fresh before (port ∷ ports) = (list_any (port_named port.name) before ≡ false) × Fresh before ports
 
-fresh_less : (before : List Port) (port : Port) (ports : List Port) → Fresh (before ++ port ∷ []) ports → Fresh before ports × (list_any (port_named port.name) ports ≡ false)
+fresh_less : (before : List Port) (port : Port) (ports : List Port)
+    → Fresh (before ++ port ∷ []) ports
+    → Fresh before ports × (list_any (port_named port.name) ports ≡ false)
 fresh_less before port [] h = (tt, refl)
 fresh_less before port (later ∷ ports) h =
     let rest = fresh_less before port ports h.1 in
-    let both : (list_any (port_named later.name) before || (bytes_eq port.name later.name || false)) ≡ false = sym (list_any-append (port_named later.name) before (port ∷ [])) ∙ h.0 in
+    let both : (list_any (port_named later.name) before || (bytes_eq port.name later.name || false))
+    ≡ false = sym (list_any-append (port_named later.name) before (port ∷ [])) ∙ h.0 in
     let parts = or_parts (list_any (port_named later.name) before) _ both in
-    let here : bytes_eq later.name port.name ≡ false = turned port.name later.name (or_parts (bytes_eq port.name later.name) false parts.1).0 in
+    let here : bytes_eq later.name port.name
+    ≡ false = turned port.name later.name
+    (or_parts (bytes_eq port.name later.name) false parts.1).0 in
     ((parts.0, rest.0), or_from _ _ here rest.1)
   where
     turned : (a b : List ℕ) → bytes_eq a b ≡ false → bytes_eq b a ≡ false
@@ -183,15 +272,18 @@ fresh_less before port (later ∷ ports) h =
 abbrev KeptFrom : List Port → List Port → Type 0
 KeptFrom before ports = Fresh before ports × Apart ports
 
-kept_by : (before : List Port) (port : Port) (ports : List Port) (b : Bool) → breaks_port before port ≡ b → (first_from breaks_port (before ++ port ∷ []) ports ≡ None → KeptFrom (before ++ port ∷ []) ports)
+kept_by : (before : List Port) (port : Port) (ports : List Port) (b : Bool)
+    → breaks_port before port ≡ b
+    → (first_from breaks_port (before ++ port ∷ []) ports ≡ None
+    → KeptFrom (before ++ port ∷ []) ports)
     → (if b then Some (length before + 1) else first_from breaks_port (before ++ port ∷ []) ports) ≡ None → KeptFrom before (port ∷ ports)
 kept_by before port ports true e later h = cc h
 kept_by before port ports false e later h =
     let rest = later h in
     let less = fresh_less before port ports rest.0 in
     let fresh = or_parts (list_any (port_named port.name) before) _ e in
-    let ordered = or_parts (not (in_order port.range)) _ fresh.1 in
-    ((fresh.0, less.0), (not-false (in_order port.range) ordered.0, less.1, rest.1))
+    let ordered = or_parts (not (range_in_order port.range)) _ fresh.1 in
+    ((fresh.0, less.0), (not-false (range_in_order port.range) ordered.0, less.1, rest.1))
 
 kept_from : (before ports : List Port) → first_from breaks_port before ports ≡ None → KeptFrom before ports
 kept_from before [] e = (tt, tt)
@@ -204,12 +296,18 @@ apart ports e = (kept_from [] ports e).1
 
 -- if no two ports have the same name, a port with this name at place `n` is the first that has the
 -- name
-pub is_first : (name : List ℕ) (ports : List Port) (n : ℕ) (port : Port) → Apart ports → slice_get ports n ≡ Some port → bytes_eq port.name name ≡ true → position_from (port_named name) 0 ports ≡ Some n
+pub is_first : (name : List ℕ) (ports : List Port) (n : ℕ) (port : Port) → Apart ports
+    → slice_get ports n ≡ Some port → bytes_eq port.name name ≡ true
+    → position_from (port_named name) 0 ports ≡ Some n
 is_first name [] n port h at is = cc at
-is_first name (first ∷ ports) zero port h at is = let same : first ≡ port = cc at in ap (λ b. cond b (Some 0) (position_from (port_named name) 1 ports)) (ap (port_named name) same ∙ is)
+is_first name (first ∷ ports) zero port h at is =
+    let same : first ≡ port = cc at in
+    ap (λ b. cond b (Some 0) (position_from (port_named name) 1 ports))
+    (ap (port_named name) same ∙ is)
 is_first name (first ∷ ports) (suc n) port h at is =
     let sums : n + 1 ≡ suc n = omega arith in
-    ap (λ b. cond b (Some 0) (position_from (port_named name) 1 ports)) (differs (none_has (port_named first.name) ports port h.1 (has_at ports n port at)) is)
+    ap (λ b. cond b (Some 0) (position_from (port_named name) 1 ports))
+    (differs (none_has (port_named first.name) ports port h.1 (has_at ports n port at)) is)
     ∙ place_later (port_named name) 0 ports ∙ ap (option_map (λ k. k + 1)) (is_first name ports n port h.2 at is) ∙ ap Some sums
   where
     differs : bytes_eq port.name first.name ≡ false → bytes_eq port.name name ≡ true → bytes_eq first.name name ≡ false
@@ -217,13 +315,17 @@ is_first name (first ∷ ports) (suc n) port h at is =
 
 -- if `n` is the first place of an item that passes, `n` is below the length of the list, and item
 -- `n` is the one that `find` returns
-at_by : {A : Type 0} (p : A → Bool) (xs : List A) (n : ℕ) (b : Bool) → nat_lt (position_or_len p xs) (length xs) ≡ b → cond b (Some (position_or_len p xs)) None ≡ Some n → (n < length xs) × (find p xs ≡ slice_get xs n)
+at_by : {A : Type 0} (p : A → Bool) (xs : List A) (n : ℕ) (b : Bool)
+    → nat_lt (position_or_len p xs) (length xs) ≡ b
+    → cond b (Some (position_or_len p xs)) None ≡ Some n
+    → (n < length xs) × (find p xs ≡ slice_get xs n)
 at_by p xs n true e f =
     let is : position_or_len p xs ≡ n = cc f in
     (subst (λ k. k < length xs) is (ltb-true (position_or_len p xs) (length xs) e), find_at p xs ∙ ap (slice_get xs) is)
 at_by p xs n false e f = cc f
 
-at_first : {A : Type 0} (p : A → Bool) (xs : List A) (n : ℕ) → position_from p 0 xs ≡ Some n → (n < length xs) × (find p xs ≡ slice_get xs n)
+at_first : {A : Type 0} (p : A → Bool) (xs : List A) (n : ℕ) → position_from p 0 xs ≡ Some n
+    → (n < length xs) × (find p xs ≡ slice_get xs n)
 at_first p xs n e = at_by p xs n (nat_lt (position_or_len p xs) (length xs)) refl (position_from-zero p xs ∙ e)
 
 pub number_below : {A : Type 0} (p : A → Bool) (xs : List A) (n : ℕ) → position_from p 0 xs ≡ Some n → n < length xs
@@ -232,7 +334,9 @@ number_below p xs n e = (at_first p xs n e).0
 pub found_at : {A : Type 0} (p : A → Bool) (xs : List A) (n : ℕ) → position_from p 0 xs ≡ Some n → slice_get xs n ≡ find p xs
 found_at p xs n e = sym (at_first p xs n e).1
 
-nothing_by : {A : Type 0} (p : A → Bool) (xs : List A) (b : Bool) → nat_lt (position_or_len p xs) (length xs) ≡ b → cond b (Some (position_or_len p xs)) None ≡ None → None ≡ find p xs
+nothing_by : {A : Type 0} (p : A → Bool) (xs : List A) (b : Bool)
+    → nat_lt (position_or_len p xs) (length xs) ≡ b
+    → cond b (Some (position_or_len p xs)) None ≡ None → None ≡ find p xs
 nothing_by p xs true e f = cc f
 nothing_by p xs false e f = sym (find_at p xs ∙ slice_get_past xs (position_or_len p xs) (ltb-false (position_or_len p xs) (length xs) e))
 
@@ -240,53 +344,76 @@ pub nothing_found : {A : Type 0} (p : A → Bool) (xs : List A) → position_fro
 nothing_found p xs e = nothing_by p xs (nat_lt (position_or_len p xs) (length xs)) refl (position_from-zero p xs ∙ e)
 
 -- if V2 holds, ports `0..=i` together have at most 65,535 bits
-pub bits_few : (ports : List Port) (i : ℕ) (port : Port) → v2 ports ≡ None → i < length ports → get_or ports i port ≡ port → bits_of (take i ports) + width port.range ≤ most_bits
+pub bits_few : (ports : List Port) (i : ℕ) (port : Port) → v2 ports ≡ None → i < length ports
+    → get_or ports i port ≡ port → bit_total (take i ports) + width port.range ≤ most_bits
 unfolding v2
 bits_few ports i port e less is =
     let cut : ports ≡ take i ports ++ port ∷ drop (i + 1) ports =
     sym (take-append-drop i ports) ∙ ap (λ xs. take i ports ++ xs) (drop_more ports i port less ∙ ap (λ x. x ∷ drop (i + 1) ports) is) in
     let fits : breaks_port (take i ports) port ≡ false = holds breaks_port ports e (take i ports) port (drop (i + 1) ports) cut in
-    few (bits_of (take i ports) + width port.range) (or_parts (not (in_order port.range)) _ (or_parts (list_any (port_named port.name) (take i ports)) _ fits).1).1
+    few (bit_total (take i ports) + width port.range)
+    (or_parts (not (range_in_order port.range)) _
+    (or_parts (list_any (port_named port.name) (take i ports)) _ fits).1).1
   where
     few : (n : ℕ) → nat_lt most_bits n ≡ false → n ≤ most_bits
     few n e = grind (arith, nat_tests)
 
 -- the number of bits of ports `0..=i` is the number of bits of ports `0..i` plus the width of port
 -- `i`'s range
-pub bits_more : (ports : List Port) (i : ℕ) (port : Port) → i < length ports → get_or ports i port ≡ port → bits_of (take (i + 1) ports) ≡ bits_of (take i ports) + width port.range
+pub bits_more : (ports : List Port) (i : ℕ) (port : Port) → i < length ports
+    → get_or ports i port ≡ port
+    → bit_total (take (i + 1) ports) ≡ bit_total (take i ports) + width port.range
 bits_more ports i port less is =
-    sum_by_more (λ port. width port.range) ports i port less ∙ ap (λ p. bits_of (take i ports) + width p.range) is
+    sum_by_more (λ port. width port.range) ports i port less ∙ ap (λ p. bit_total (take i ports) + width p.range) is
 
-pub found_item : {A : Type 0} (p : A → Bool) (xs : List A) (n : ℕ) (x : A) → position_from p 0 xs ≡ Some n → get_or xs n x ≡ x → Some x ≡ find p xs
+pub found_item : {A : Type 0} (p : A → Bool) (xs : List A) (n : ℕ) (x : A)
+    → position_from p 0 xs ≡ Some n → get_or xs n x ≡ x → Some x ≡ find p xs
 found_item p xs n x e is = sym (slice_get-get_or xs n x (number_below p xs n e) ∙ ap Some is) ∙ found_at p xs n e
 
 -- the number of the bit with this name and index
 abbrev bit_by : List Port → List ℕ → Option ℕ → Option ℕ
-bit_by ports name at = position_from (is_bit name at) 0 (port_bits ports)
+bit_by ports name at = position_from (is_bit_named name at) 0 (all_port_bits ports)
 
-pub nowhere_bit : (ports : List Port) (name : List ℕ) (at : Option ℕ) → v2 ports ≡ None → position_from (port_named name) 0 ports ≡ None → None ≡ bit_by ports name at
+pub nowhere_bit : (ports : List Port) (name : List ℕ) (at : Option ℕ) → v2 ports ≡ None
+    → position_from (port_named name) 0 ports ≡ None → None ≡ bit_by ports name at
 nowhere_bit ports name at kept e = sym (located_is name at 0 0 ports (apart ports kept) ∙ nowhere name at 0 ports e)
 
-there_bit : (ports : List Port) (name : List ℕ) (at : Option ℕ) (n : ℕ) (port : Port) → v2 ports ≡ None → position_from (port_named name) 0 ports ≡ Some n → get_or ports n port ≡ port
-    → bit_by ports name at ≡ option_map (λ k. bits_of (take n ports) + k) (place_in port.range at)
+there_bit : (ports : List Port) (name : List ℕ) (at : Option ℕ) (n : ℕ) (port : Port)
+    → v2 ports ≡ None → position_from (port_named name) 0 ports ≡ Some n
+    → get_or ports n port ≡ port
+    → bit_by ports name at ≡ option_map (λ k. bit_total (take n ports) + k) (index_place port.range at)
 there_bit ports name at n port kept e is =
-    located_is name at 0 0 ports (apart ports kept) ∙ there name at 0 n port ports e ∙ ap (λ p. option_map (λ k. 0 + bits_of (take n ports) + k) (place_in p.range at)) is ∙ same (place_in port.range at)
+    located_is name at 0 0 ports (apart ports kept) ∙ there name at 0 n port ports e
+    ∙ ap (λ p. option_map (λ k. 0 + bit_total (take n ports) + k) (index_place p.range at)) is
+    ∙ same (index_place port.range at)
   where
-    same : (o : Option ℕ) → option_map (λ k. 0 + bits_of (take n ports) + k) o ≡ option_map (λ k. bits_of (take n ports) + k) o
+    same : (o : Option ℕ) → option_map (λ k. 0 + bit_total (take n ports) + k) o ≡ option_map (λ k. bit_total (take n ports) + k) o
     same None = refl
-    same (Some k) = let sums : 0 + bits_of (take n ports) + k ≡ bits_of (take n ports) + k = omega arith in ap Some sums
+    same (Some k) = let sums : 0 + bit_total (take n ports) + k ≡ bit_total (take n ports) + k = omega arith in ap Some sums
 
-pub outside_bit : (ports : List Port) (name : List ℕ) (at : Option ℕ) (n : ℕ) (port : Port) → v2 ports ≡ None → position_from (port_named name) 0 ports ≡ Some n → get_or ports n port ≡ port
-    → place_in port.range at ≡ None → None ≡ bit_by ports name at
-outside_bit ports name at n port kept e is none = sym (there_bit ports name at n port kept e is ∙ ap (option_map (λ k. bits_of (take n ports) + k)) none)
+pub outside_bit : (ports : List Port) (name : List ℕ) (at : Option ℕ) (n : ℕ) (port : Port)
+    → v2 ports ≡ None → position_from (port_named name) 0 ports ≡ Some n
+    → get_or ports n port ≡ port
+    → index_place port.range at ≡ None → None ≡ bit_by ports name at
+outside_bit ports name at n port kept e is none =
+    sym
+    (there_bit ports name at n port kept e is
+    ∙ ap (option_map (λ k. bit_total (take n ports) + k)) none)
 
-pub inside_bit : (ports : List Port) (name : List ℕ) (at : Option ℕ) (n k start : ℕ) (port : Port) → v2 ports ≡ None → position_from (port_named name) 0 ports ≡ Some n → get_or ports n port ≡ port
-    → place_in port.range at ≡ Some k → start ≡ bits_of (take n ports) → Some (start + k) ≡ bit_by ports name at
+pub inside_bit : (ports : List Port) (name : List ℕ) (at : Option ℕ) (n k start : ℕ) (port : Port)
+    → v2 ports ≡ None → position_from (port_named name) 0 ports ≡ Some n
+    → get_or ports n port ≡ port
+    → index_place port.range at ≡ Some k → start ≡ bit_total (take n ports) → Some (start + k) ≡ bit_by ports name at
 inside_bit ports name at n k start port kept e is here before =
-    ap (λ m. Some (m + k)) before ∙ sym (there_bit ports name at n port kept e is ∙ ap (option_map (λ k. bits_of (take n ports) + k)) here)
+    ap (λ m. Some (m + k)) before
+    ∙ sym
+    (there_bit ports name at n port kept e is
+    ∙ ap (option_map (λ k. bit_total (take n ports) + k)) here)
 
-pub bit_fits : (ports : List Port) (name : List ℕ) (at : Option ℕ) (n k start : ℕ) (port : Port) → v2 ports ≡ None → position_from (port_named name) 0 ports ≡ Some n → get_or ports n port ≡ port
-    → place_in port.range at ≡ Some k → start ≡ bits_of (take n ports) → start + k < 65536
+pub bit_fits : (ports : List Port) (name : List ℕ) (at : Option ℕ) (n k start : ℕ) (port : Port)
+    → v2 ports ≡ None → position_from (port_named name) 0 ports ≡ Some n
+    → get_or ports n port ≡ port
+    → index_place port.range at ≡ Some k → start ≡ bit_total (take n ports) → start + k < 65536
 bit_fits ports name at n k start port kept e is here before =
     let few = bits_few ports n port kept (number_below (port_named name) ports n e) is in
     let within = place_within port.range at k here in
@@ -294,8 +421,9 @@ bit_fits ports name at n k start port kept e is here before =
 
 -- if the index has place `k` in the range of port `n`, and `start` is the number of bits before
 -- port `n`, `start + k` is less than the number of all bits
-pub bit_within : (ports : List Port) (name : List ℕ) (at : Option ℕ) (n k start : ℕ) (port : Port) → position_from (port_named name) 0 ports ≡ Some n → get_or ports n port ≡ port
-    → place_in port.range at ≡ Some k → start ≡ bits_of (take n ports) → start + k < bits_of ports
+pub bit_within : (ports : List Port) (name : List ℕ) (at : Option ℕ) (n k start : ℕ) (port : Port)
+    → position_from (port_named name) 0 ports ≡ Some n → get_or ports n port ≡ port
+    → index_place port.range at ≡ Some k → start ≡ bit_total (take n ports) → start + k < bit_total ports
 bit_within ports name at n k start port e is here before =
     let more = bits_more ports n port (number_below (port_named name) ports n e) is in
     let all = sum_by-take-le (λ port. width port.range) ports (n + 1) in
@@ -308,4 +436,4 @@ star_by n (bit ∷ bits) = star_by (n + 1) bits
 
 -- `*` names no port bit
 pub star_bit : (ports : List Port) → bit_number ports Star ≡ None
-star_bit ports = star_by 0 (port_bits ports)
+star_bit ports = star_by 0 (all_port_bits ports)

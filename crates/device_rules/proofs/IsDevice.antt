@@ -5,7 +5,7 @@ use Rattle.board_defs.specs.Limits.{most_bits}
 use Rattle.board_defs.specs.DeviceRules.{PortPinsDiffer, IsDevice}
 use Rattle.board_defs.specs.declared.device.RawDevice.{RawDevice}
 use Rattle.device_rules.specs.declared.draft.Draft.{Draft}
-use Rattle.device_rules.specs.Ports.{port_bits}
+use Rattle.device_rules.specs.Ports.{all_port_bits}
 use Rattle.device_rules.specs.PinMap.{v4}
 use Rattle.device_rules.specs.Rules.{first_rule, KeepsRules}
 use Rattle.device_rules.specs.Raw.{port_bit, raw_bits, raw_device, HasLengths}
@@ -22,7 +22,8 @@ bits_most : (draft : Draft) → PortsStand draft.ports → length (raw_device dr
 unfolding raw_bits
 bits_most draft stand =
     let made = port_bit draft.map draft.taps draft.compliance in
-    let many : length (map made (port_bits draft.ports)) ≡ length (port_bits draft.ports) = length-map (port_bits draft.ports) made in
+    let many : length (map made (all_port_bits draft.ports))
+    ≡ length (all_port_bits draft.ports) = length-map (all_port_bits draft.ports) made in
     omega (arith, many, bits_few draft.ports stand)
 
 pins_differ : (draft : Draft) → PortsStand draft.ports → v4 draft.ports draft.map ≡ None → PortPinsDiffer (raw_device draft)

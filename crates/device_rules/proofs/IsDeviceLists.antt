@@ -8,7 +8,7 @@ use Rattle.std.proofs.lemmas.Bool.{or_parts, cases_order}
 use Rattle.std.proofs.lemmas.List.Sums.{sum_by-cons}
 use Rattle.std.proofs.lemmas.Slice.Eq.{bytes_eq-Decides}
 use Rattle.board_defs.proofs.Members.{Has, has_at, has_place, has_append}
-use Rattle.first_places.specs.Items.{Holds}
+use Rattle.first_places.specs.Items.{KeepsRule}
 
 -- the test `bytes_eq` is true of two names if and only if the names are equal
 pub same_name : (a b : List ℕ) → bytes_eq a b ≡ true → a ≡ b
@@ -29,7 +29,8 @@ earlier (y ∷ ys) i zero x less e = absurd (omega arith)
 earlier (y ∷ ys) zero (suc j) x less e = inl (cc e)
 earlier (y ∷ ys) (suc i) (suc j) x less e = inr (earlier ys i j x (omega arith) e)
 
-pub holds_at : {X : Type 0} (breaks : List X → X → Bool) (xs : List X) → Holds breaks xs → (j : ℕ) (x : X) → slice_get xs j ≡ Some x → breaks (take j xs) x ≡ false
+pub holds_at : {X : Type 0} (breaks : List X → X → Bool) (xs : List X) → KeepsRule breaks xs
+    → (j : ℕ) (x : X) → slice_get xs j ≡ Some x → breaks (take j xs) x ≡ false
 holds_at breaks xs h j x e = h (take j xs) x (drop (suc j) xs) (cut xs j x e)
 
 -- if `list_any` is false of a test and a list, no item of the list passes the test
@@ -49,7 +50,8 @@ Once {X} key xs = (i j : ℕ) (x y : X) → slice_get xs i ≡ Some x → slice_
 pub once_nil : {X K : Type 0} (key : X → K) → Once key []
 once_nil key i j x y ex ey e = cc ex
 
-pub once_cons : {X K : Type 0} (key : X → K) (x : X) (xs : List X) → Once key xs → ((y : X) → Has xs y → key x ≡ key y → ⊥) → Once key (x ∷ xs)
+pub once_cons : {X K : Type 0} (key : X → K) (x : X) (xs : List X) → Once key xs
+    → ((y : X) → Has xs y → key x ≡ key y → ⊥) → Once key (x ∷ xs)
 once_cons key x xs h new zero zero a b ea eb e = refl
 once_cons key x xs h new zero (suc j) a b ea eb e = let same : x ≡ a = cc ea in absurd (new b (has_at xs j b eb) (ap key same ∙ e))
 once_cons key x xs h new (suc i) zero a b ea eb e = let same : x ≡ b = cc eb in absurd (new a (has_at xs i a ea) (ap key same ∙ sym e))
@@ -64,17 +66,22 @@ once_head key x xs y h k e =
     let same : 0 ≡ suc r.0 = h 0 (suc r.0) x y refl r.1 e in
     omega arith
 
-pub once_append : {X K : Type 0} (key : X → K) (xs ys : List X) → Once key xs → Once key ys → ((x y : X) → Has xs x → Has ys y → key x ≡ key y → ⊥) → Once key (xs ++ ys)
+pub once_append : {X K : Type 0} (key : X → K) (xs ys : List X) → Once key xs → Once key ys
+    → ((x y : X) → Has xs x → Has ys y → key x ≡ key y → ⊥) → Once key (xs ++ ys)
 once_append key [] ys hx hy new = hy
 once_append key (x ∷ xs) ys hx hy new =
-    once_cons key x (xs ++ ys) (once_append key xs ys (once_tail key x xs hx) hy (λ a b ha hb. new a b (inr ha) hb)) (λ b hb e. by_part b (has_append xs ys b hb) e)
+    once_cons key x (xs ++ ys)
+    (once_append key xs ys (once_tail key x xs hx) hy (λ a b ha hb. new a b (inr ha) hb))
+    (λ b hb e. by_part b (has_append xs ys b hb) e)
   where
     by_part : (b : _) → Has xs b ⊎ Has ys b → key x ≡ key b → ⊥
     by_part b (inl k) e = once_head key x xs b hx k e
     by_part b (inr k) e = new x b (inl refl) k e
 
 -- if no item has the key of an earlier item, no two places have items with the same key
-pub once_by_order : {X K : Type 0} (key : X → K) (xs : List X) → ((i j : ℕ) (x y : X) → i < j → slice_get xs i ≡ Some x → slice_get xs j ≡ Some y → key x ≡ key y → ⊥) → Once key xs
+pub once_by_order : {X K : Type 0} (key : X → K) (xs : List X)
+    → ((i j : ℕ) (x y : X) → i < j → slice_get xs i ≡ Some x → slice_get xs j ≡ Some y
+    → key x ≡ key y → ⊥) → Once key xs
 once_by_order key xs later i j x y ex ey e = by_order (cases_order i j)
   where
     by_order : (i ≡ j) ⊎ ((i < j) ⊎ (j < i)) → i ≡ j
@@ -106,9 +113,19 @@ placed_at : {X : Type 0} (p : X → Bool) (n : ℕ) (xs : List X) (k : ℕ) → 
 placed_at p n [] k e = cc e
 placed_at {X} p n (x ∷ xs) k e = by_test (placed_at p (n + 1) xs k) (p x) refl e
   where
-    by_test : (position_from p (n + 1) xs ≡ Some k → Placed p xs (n + 1) k) → (b : Bool) → p x ≡ b → cond b (Some n) (position_from p (n + 1) xs) ≡ Some k → Placed p (x ∷ xs) n k
+    by_test : (position_from p (n + 1) xs ≡ Some k → Placed p xs (n + 1) k) → (b : Bool) → p x ≡ b
+        → cond b (Some n) (position_from p (n + 1) xs) ≡ Some k → Placed p (x ∷ xs) n k
     by_test rest true is found = let same : n ≡ k = cc found in record { place = 0; item = x; number = omega arith; at = refl; passes = is }
-    by_test rest false is found = let r : Placed p xs (n + 1) k = rest found in record { place = suc r.place; item = r.item; number = omega (arith, r.number); at = r.at; passes = r.passes }
+    by_test rest false is found =
+        let r : Placed p xs (n + 1) k = rest found in
+        record {
+          place = suc r.place;
+          item = r.item;
+          number = omega (arith, r.number);
+          at = r.at;
+          passes
+              = r.passes;
+        }
 
 pub record Found {X : Type 0} (p : X → Bool) (xs : List X) (k : ℕ) : Type 0 where
   pub item : X
@@ -132,9 +149,12 @@ counted p (x ∷ xs) zero y e t =
     let same : x ≡ y = cc e in
     let here : ◌≡◌ {A = ℕ} (cond (p x) 1 0) 1 = ap (λ b. cond b 1 0) (ap p same ∙ t) in
     omega (arith, sum_by-cons (λ v. cond (p v) 1 0) x xs, here)
-counted p (x ∷ xs) (suc j) y e t = let rest : 1 ≤ count_by p xs = counted p xs j y e t in omega (arith, sum_by-cons (λ v. cond (p v) 1 0) x xs, rest)
+counted p (x ∷ xs) (suc j) y e t =
+    let rest : 1 ≤ count_by p xs = counted p xs j y e t in
+    omega (arith, sum_by-cons (λ v. cond (p v) 1 0) x xs, rest)
 
-pub counted_once : {X : Type 0} (p : X → Bool) (xs : List X) (i j : ℕ) (x y : X) → count_by p xs ≤ 1 → slice_get xs i ≡ Some x → slice_get xs j ≡ Some y → p x ≡ true → p y ≡ true → i ≡ j
+pub counted_once : {X : Type 0} (p : X → Bool) (xs : List X) (i j : ℕ) (x y : X) → count_by p xs ≤ 1
+    → slice_get xs i ≡ Some x → slice_get xs j ≡ Some y → p x ≡ true → p y ≡ true → i ≡ j
 counted_once p [] i j x y most ex ey tx ty = cc ex
 counted_once p (z ∷ xs) zero zero x y most ex ey tx ty = refl
 counted_once p (z ∷ xs) zero (suc j) x y most ex ey tx ty =

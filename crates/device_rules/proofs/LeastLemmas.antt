@@ -7,9 +7,12 @@ use Rattle.first_places.specs.Items.{least_from, least_below, IsLeast}
 one_on : (n bound : ℕ) → n < bound → bound - n ≡ suc (bound - (n + 1))
 one_on n bound lt = omega arith
 
-pub least_step : (is : ℕ → Bool) (n bound : ℕ) (o : Option ℕ) → n < bound → is n ≡ false → least_from is n (bound - n) ≡ o → least_from is (n + 1) (bound - (n + 1)) ≡ o
+pub least_step : (is : ℕ → Bool) (n bound : ℕ) (o : Option ℕ) → n < bound → is n ≡ false
+    → least_from is n (bound - n) ≡ o → least_from is (n + 1) (bound - (n + 1)) ≡ o
 least_step is n bound o lt e so_far =
-    sym (ap (λ m. least_from is m (bound - (n + 1))) (suc-eq-add-one n)) ∙ sym (skips is n (bound - (n + 1)) e) ∙ sym (ap (λ k. least_from is n k) (one_on n bound lt)) ∙ so_far
+    sym (ap (λ m. least_from is m (bound - (n + 1))) (suc-eq-add-one n))
+    ∙ sym (skips is n (bound - (n + 1)) e)
+    ∙ sym (ap (λ k. least_from is n k) (one_on n bound lt)) ∙ so_far
   where
     skips : (is : ℕ → Bool) (n k : ℕ) → is n ≡ false → least_from is n (suc k) ≡ least_from is (suc n) k
     skips is n k e = rw e refl
@@ -23,7 +26,9 @@ least_hit is n bound o lt e so_far = sym (found is n (bound - (n + 1)) e) ∙ sy
 same_from : (p q : ℕ → Bool) (n count : ℕ) → ((m : ℕ) → m < n + count → p m ≡ q m) → least_from p n count ≡ least_from q n count
 same_from p q n zero h = refl
 same_from p q n (suc count) h =
-    ap (λ b. if b then Some n else least_from p (suc n) count) (h n (omega arith)) ∙ ap (λ o. if q n then Some n else o) (same_from p q (suc n) count (λ m less. h m (omega arith)))
+    ap (λ b. if b then Some n else least_from p (suc n) count) (h n (omega arith))
+    ∙ ap (λ o. if q n then Some n else o)
+    (same_from p q (suc n) count (λ m less. h m (omega arith)))
 
 -- if two properties agree on the numbers below the bound, the lowest number below it with one
 -- property is the lowest with the other
@@ -40,7 +45,9 @@ least_end is n bound o le so_far = sym (ap (λ k. least_from is n k) (none_left 
 -- number in this range has it
 abbrev LeastFrom : (ℕ → Bool) → ℕ → ℕ → Option ℕ → Type 0
 LeastFrom is from count None = (n : ℕ) → from ≤ n → n < from + count → is n ≡ false
-LeastFrom is from count (Some least) = (from ≤ least) × (least < from + count) × (is least ≡ true) × ((n : ℕ) → from ≤ n → n < least → is n ≡ false)
+LeastFrom is from count (Some least) =
+    (from ≤ least) × (least < from + count) × (is least ≡ true)
+    × ((n : ℕ) → from ≤ n → n < least → is n ≡ false)
 
 one_of : (from n : ℕ) → from ≤ n → (n ≡ from) ⊎ (suc from ≤ n)
 one_of from n le = grind arith
@@ -48,11 +55,19 @@ one_of from n le = grind arith
 later : (is : ℕ → Bool) (from : ℕ) → is from ≡ false → (n : ℕ) → from ≤ n → (suc from ≤ n → is n ≡ false) → is n ≡ false
 later is from e n le h = elim (one_of from n le) [ inl same ↦ ap is same ∙ e | inr more ↦ h more ]
 
-found_later : (is : ℕ → Bool) (from count : ℕ) (o : Option ℕ) → is from ≡ false → LeastFrom is (suc from) count o → LeastFrom is from (suc count) o
+found_later : (is : ℕ → Bool) (from count : ℕ) (o : Option ℕ) → is from ≡ false
+    → LeastFrom is (suc from) count o → LeastFrom is from (suc count) o
 found_later is from count None e h = λ n le lt. later is from e n le (λ more. h n more (omega arith))
-found_later is from count (Some least) e h = (omega (arith, h.0), omega (arith, h.1), h.2, λ n le lt. later is from e n le (λ more. h.3 n more lt))
+found_later is from count (Some least) e h = (
+  omega (arith, h.0),
+  omega (arith, h.1),
+  h.2,
+  λ n le lt. later is from e n le (λ more. h.3 n more lt),
+)
 
-found_now : (is : ℕ → Bool) (from count : ℕ) (b : Bool) → is from ≡ b → LeastFrom is (suc from) count (least_from is (suc from) count) → LeastFrom is from (suc count) (if b then Some from else least_from is (suc from) count)
+found_now : (is : ℕ → Bool) (from count : ℕ) (b : Bool) → is from ≡ b
+    → LeastFrom is (suc from) count (least_from is (suc from) count)
+    → LeastFrom is from (suc count) (if b then Some from else least_from is (suc from) count)
 found_now is from count true e h = (omega arith, omega arith, e, λ n le lt. absurd (omega arith))
 found_now is from count false e h = found_later is from count (least_from is (suc from) count) e h
 

@@ -10,27 +10,37 @@ use Rattle.bsdl_strings.specs.declared.values.Compliance.{Compliance}
 use Rattle.bsdl_strings.specs.declared.values.PortWord.{PortWord}
 use Rattle.bsdl_strings.specs.declared.values.PortWord.TheVariants.{Star, Plain, Index}
 use Rattle.device_rules.specs.Ports.{Bit, is_named, has_index}
-use Rattle.device_rules.specs.inner.Index.{key_of, is_key, names_bit, words_of}
+use Rattle.device_rules.specs.inner.Index.{key_of, is_key, names_bit, compliance_words}
 use Rattle.device_rules.specs.Raw.{in_compliance}
 use Rattle.device_rules.proofs.NameLemmas.{bytes_turned}
 use Rattle.device_rules.proofs.PinLemmas.{one_more}
 
 -- if a flag says whether one of the first `i` words names the bit, and word `i` names a bit with
 -- the key `key`, the new flag says whether one of the first `i + 1` words names the bit
-pub marked_more : (words : List PortWord) (i : ℕ) (word : PortWord) (key : List ℕ × Option ℕ) (name : List ℕ) (index : Option ℕ) (new old : Bool) → i < length words → get_or words i word ≡ word → key_of word ≡ Some key
-    → new ≡ cond (bytes_eq key.0 name && option_eq nat_eq key.1 index) true old → old ≡ list_any (names_bit name index) (take i words) → new ≡ list_any (names_bit name index) (take (i + 1) words)
+pub marked_more : (words : List PortWord) (i : ℕ) (word : PortWord) (key : List ℕ × Option ℕ)
+    (name : List ℕ) (index : Option ℕ) (new old : Bool) → i < length words
+    → get_or words i word ≡ word → key_of word ≡ Some key
+    → new ≡ cond (bytes_eq key.0 name && option_eq nat_eq key.1 index) true old
+    → old ≡ list_any (names_bit name index) (take i words)
+    → new ≡ list_any (names_bit name index) (take (i + 1) words)
 marked_more words i word key name index new old less is same e f =
-    e ∙ one_more (bytes_eq key.0 name && option_eq nat_eq key.1 index) old ∙ ap (λ b. b || (bytes_eq key.0 name && option_eq nat_eq key.1 index)) f
+    e ∙ one_more (bytes_eq key.0 name && option_eq nat_eq key.1 index) old
+    ∙ ap (λ b. b || (bytes_eq key.0 name && option_eq nat_eq key.1 index)) f
     ∙ ap (λ k. list_any (names_bit name index) (take i words) || is_key k name index) (sym same)
-    ∙ ap (λ x. list_any (names_bit name index) (take i words) || names_bit name index x) (sym is) ∙ sym (list_any_more (names_bit name index) words i word less)
+    ∙ ap (λ x. list_any (names_bit name index) (take i words) || names_bit name index x) (sym is)
+    ∙ sym (list_any_more (names_bit name index) words i word less)
 
 -- if word `i` has no key, the flag for the first `i` words is also right for the first `i + 1`
 -- words
-pub marked_none : (words : List PortWord) (i : ℕ) (word : PortWord) (name : List ℕ) (index : Option ℕ) (old : Bool) → i < length words → get_or words i word ≡ word → key_of word ≡ None
+pub marked_none : (words : List PortWord) (i : ℕ) (word : PortWord) (name : List ℕ)
+    (index : Option ℕ) (old : Bool) → i < length words → get_or words i word ≡ word
+    → key_of word ≡ None
     → old ≡ list_any (names_bit name index) (take i words) → old ≡ list_any (names_bit name index) (take (i + 1) words)
 marked_none words i word name index old less is same f =
-    f ∙ sym (or-false (list_any (names_bit name index) (take i words))) ∙ ap (λ k. list_any (names_bit name index) (take i words) || is_key k name index) (sym same)
-    ∙ ap (λ x. list_any (names_bit name index) (take i words) || names_bit name index x) (sym is) ∙ sym (list_any_more (names_bit name index) words i word less)
+    f ∙ sym (or-false (list_any (names_bit name index) (take i words)))
+    ∙ ap (λ k. list_any (names_bit name index) (take i words) || is_key k name index) (sym same)
+    ∙ ap (λ x. list_any (names_bit name index) (take i words) || names_bit name index x) (sym is)
+    ∙ sym (list_any_more (names_bit name index) words i word less)
 
 same_index : (at index : Option ℕ) → has_index at index ≡ option_eq nat_eq at index
 same_index None None = refl
@@ -52,8 +62,12 @@ names_is bit (Index name number) = both _ _ _ _ (bytes_turned name bit.name) (sy
 
 any_is : (bit : Bit) (words : List PortWord) → list_any (names_bit bit.name bit.index) words ≡ list_any (λ word. is_named word bit) words
 any_is bit [] = refl
-any_is bit (word ∷ words) = ap (λ b. b || list_any (names_bit bit.name bit.index) words) (names_is bit word) ∙ ap (λ b. is_named word bit || b) (any_is bit words)
+any_is bit (word ∷ words) =
+    ap (λ b. b || list_any (names_bit bit.name bit.index) words) (names_is bit word)
+    ∙ ap (λ b. is_named word bit || b) (any_is bit words)
 
-pub in_compliance_is : (compliance : Option Compliance) (bit : Bit) → list_any (names_bit bit.name bit.index) (words_of compliance) ≡ in_compliance compliance bit
+pub in_compliance_is : (compliance : Option Compliance) (bit : Bit)
+    → list_any (names_bit bit.name bit.index) (compliance_words compliance)
+    ≡ in_compliance compliance bit
 in_compliance_is None bit = refl
 in_compliance_is (Some compliance) bit = any_is bit compliance.ports

@@ -4,7 +4,7 @@ use Rattle.device_rules.specs.declared.draft.Draft.{Draft}
 use Rattle.device_rules.specs.declared.broken.Broken.{Broken}
 use Rattle.device_rules.specs.declared.broken.Rule.{Rule}
 use Rattle.device_rules.specs.declared.broken.Rule.TheVariants.{Ports, TestPort, PinMap, Opcodes, Instructions, Patterns, Cells, Places, Controls, DisableValues, Stages, Drivers, Modes}
-use Rattle.first_places.specs.Items.{first_break, least_below, Holds, IsFound, IsLeast}
+use Rattle.first_places.specs.Items.{first_break, least_below, KeepsRule, IsFound, IsLeast}
 use Rattle.device_rules.specs.Ports.{v2}
 use Rattle.device_rules.specs.Taps.{v3}
 use Rattle.device_rules.specs.PinMap.{v4}
@@ -24,7 +24,9 @@ none_found : (which : Rule) (item : Option ℕ) (after : Option Broken) → rule
 none_found which None after e = (refl, e)
 none_found which (Some item) after e = cc e
 
-from_11_none : (draft : Draft) → from_11 draft ≡ None → (v11 draft.boundary draft.entries ≡ None) × (v12 draft.boundary draft.entries ≡ None) × (v13 draft.ports draft.entries ≡ None) × (v14 draft.ports draft.taps draft.entries ≡ None)
+from_11_none : (draft : Draft) → from_11 draft ≡ None
+    → (v11 draft.boundary draft.entries ≡ None) × (v12 draft.boundary draft.entries ≡ None)
+    × (v13 draft.ports draft.entries ≡ None) × (v14 draft.ports draft.taps draft.entries ≡ None)
 unfolding from_11
 from_11_none draft e =
     let a = none_found DisableValues _ _ e in
@@ -33,7 +35,8 @@ from_11_none draft e =
     let d = none_found Modes _ _ c.1 in
     (a.0, b.0, c.0, d.0)
 
-from_9_none : (draft : Draft) → from_9 draft ≡ None → (v9 draft.ports draft.entries ≡ None) × (v10 draft.entries ≡ None) × (from_11 draft ≡ None)
+from_9_none : (draft : Draft) → from_9 draft ≡ None
+    → (v9 draft.ports draft.entries ≡ None) × (v10 draft.entries ≡ None) × (from_11 draft ≡ None)
 unfolding from_9
 from_9_none draft e =
     let a = none_found Places _ _ e in
@@ -44,7 +47,9 @@ from_8_none : (draft : Draft) → from_8 draft ≡ None → (v8 draft.boundary d
 unfolding from_8
 from_8_none draft e = none_found Cells _ _ e
 
-from_5_none : (draft : Draft) → from_5 draft ≡ None → (v5 draft.ir draft.opcodes ≡ None) × (v6 draft.edition draft.opcodes ≡ None) × (v7 draft.ir draft.capture draft.idcode ≡ None) × (from_8 draft ≡ None)
+from_5_none : (draft : Draft) → from_5 draft ≡ None
+    → (v5 draft.ir draft.opcodes ≡ None) × (v6 draft.edition draft.opcodes ≡ None)
+    × (v7 draft.ir draft.capture draft.idcode ≡ None) × (from_8 draft ≡ None)
 unfolding from_5
 from_5_none draft e =
     let a = none_found Opcodes _ _ e in
@@ -52,7 +57,9 @@ from_5_none draft e =
     let c = none_found Patterns _ _ b.1 in
     (a.0, b.0, c.0, c.1)
 
-from_3_none : (draft : Draft) → from_3 draft ≡ None → (v3 draft.ports draft.taps draft.compliance ≡ None) × (v4 draft.ports draft.map ≡ None) × (from_5 draft ≡ None)
+from_3_none : (draft : Draft) → from_3 draft ≡ None
+    → (v3 draft.ports draft.taps draft.compliance ≡ None) × (v4 draft.ports draft.map ≡ None)
+    × (from_5 draft ≡ None)
 unfolding from_3
 from_3_none draft e =
     let a = none_found TestPort _ _ e in
@@ -89,7 +96,7 @@ keeps_rules draft e =
     }
 
 -- if `first_break` returns None, no item breaks the rule
-pub holds : {A : Type 0} (breaks : List A → A → Bool) (items : List A) → first_break breaks items ≡ None → Holds breaks items
+pub holds : {A : Type 0} (breaks : List A → A → Bool) (items : List A) → first_break breaks items ≡ None → KeepsRule breaks items
 holds breaks items e = subst (IsFound breaks items) e (first_is_found breaks items)
 
 -- if `least_below` returns None, no number below the bound has the property

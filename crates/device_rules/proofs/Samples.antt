@@ -5,8 +5,8 @@ use Rattle.board_defs.specs.declared.device.Mode.TheVariants.{Inward}
 use Rattle.bsdl_parser.specs.declared.entity.Port.{Port}
 use Rattle.bsdl_parser.specs.declared.entity.Range.{Range}
 use Rattle.bsdl_strings.specs.declared.values.PortWord.TheVariants.{Star, Plain, Index}
-use Rattle.device_rules.specs.Ports.{bit_number, bits_of}
-use Rattle.device_rules.specs.inner.Index.{AreStarts, place_in}
+use Rattle.device_rules.specs.Ports.{bit_number, bit_total}
+use Rattle.device_rules.specs.inner.Index.{AreBitStarts, index_place}
 
 abbrev port : List ℕ → Option Range → Port
 port name range = record { name = name; mode = Inward; range = range }
@@ -27,13 +27,13 @@ ports = port (codes "D") falling ∷ port (codes "C") None ∷ port (codes "Q") 
 abbrev firsts : List ℕ
 firsts = 0 ∷ 8 ∷ 9 ∷ 12 ∷ []
 
-starts : AreStarts ports firsts
+starts : AreBitStarts ports firsts
 starts = record {
   size = refl;
   each = each;
 }
   where
-    each : (n : ℕ) → n ≤ 3 → slice_index firsts n ≡ bits_of (take n ports)
+    each : (n : ℕ) → n ≤ 3 → slice_index firsts n ≡ bit_total (take n ports)
     each zero within = refl
     each (suc zero) within = refl
     each (suc (suc zero)) within = refl
@@ -41,34 +41,40 @@ starts = record {
     each (suc (suc (suc (suc n)))) within = absurd (omega (arith, within))
 
 -- a list without the number of all bits as its last item is not a list of starts
-no_last : AreStarts ports (0 ∷ 8 ∷ 9 ∷ []) → ⊥
+no_last : AreBitStarts ports (0 ∷ 8 ∷ 9 ∷ []) → ⊥
 no_last are = absurd (omega (arith, are.size))
 
 -- if there are no ports, the only item is the number of all bits, which is 0
-no_ports : AreStarts [] (0 ∷ [])
+no_ports : AreBitStarts [] (0 ∷ [])
 no_ports = record {
   size = refl;
   each = each;
 }
   where
-    each : (n : ℕ) → n ≤ 0 → slice_index (0 ∷ []) n ≡ bits_of (take n [])
+    each : (n : ℕ) → n ≤ 0 → slice_index (0 ∷ []) n ≡ bit_total (take n [])
     each zero within = refl
     each (suc n) within = absurd (omega (arith, within))
 
 -- Places of indexes at both ends of a range and just outside it. A plain port has no bit with an
 -- index, and a vector has no bit without one.
-places : place_in falling (Some 7) ∷ place_in falling (Some 0) ∷ place_in falling (Some 8) ∷ place_in rising (Some 2) ∷ place_in rising (Some 4) ∷ place_in rising (Some 1) ∷ place_in rising (Some 5) ∷ []
+places : index_place falling (Some 7) ∷ index_place falling (Some 0) ∷ index_place falling (Some 8)
+    ∷ index_place rising (Some 2) ∷ index_place rising (Some 4) ∷ index_place rising (Some 1)
+    ∷ index_place rising (Some 5) ∷ []
     ≡ Some 0 ∷ Some 7 ∷ None ∷ Some 0 ∷ Some 2 ∷ None ∷ None ∷ []
 places = refl
 
-plain_places : place_in None None ∷ place_in None (Some 0) ∷ place_in rising None ∷ [] ≡ Some 0 ∷ None ∷ None ∷ []
+plain_places : index_place None None ∷ index_place None (Some 0) ∷ index_place rising None ∷ [] ≡ Some 0 ∷ None ∷ None ∷ []
 plain_places = refl
 
 -- the number of the bit that a word names is the number of bits before its port plus its place in
 -- the port
-numbers : map (bit_number ports) (Index (codes "D") 7 ∷ Index (codes "D") 0 ∷ Plain (codes "C") ∷ Index (codes "Q") 2 ∷ Index (codes "Q") 4 ∷ [])
+numbers : map (bit_number ports)
+    (Index (codes "D") 7 ∷ Index (codes "D") 0 ∷ Plain (codes "C") ∷ Index (codes "Q") 2
+    ∷ Index (codes "Q") 4 ∷ [])
     ≡ Some 0 ∷ Some 7 ∷ Some 8 ∷ Some 9 ∷ Some 11 ∷ []
 numbers = refl
 
-no_numbers : map (bit_number ports) (Star ∷ Plain (codes "D") ∷ Index (codes "C") 0 ∷ Index (codes "Q") 5 ∷ Plain (codes "E") ∷ []) ≡ None ∷ None ∷ None ∷ None ∷ None ∷ []
+no_numbers : map (bit_number ports)
+    (Star ∷ Plain (codes "D") ∷ Index (codes "C") 0 ∷ Index (codes "Q") 5 ∷ Plain (codes "E") ∷ [])
+    ≡ None ∷ None ∷ None ∷ None ∷ None ∷ []
 no_numbers = refl

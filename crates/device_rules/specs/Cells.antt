@@ -35,18 +35,20 @@ needs_control Internal = false
 needs_control Clock = false
 needs_control ObserveOnly = false
 
-abbrev pub is_control_of : ℕ → Entry → Bool
-is_control_of cell entry = (entry.num == cell) && is_controlling entry.role
+abbrev pub is_entry_of_control : ℕ → Entry → Bool
+is_entry_of_control cell entry = (entry.num == cell) && is_controlling entry.role
 
 -- the cell has a CONTROL or CONTROLR entry
 abbrev pub has_control_entry : List Entry → ℕ → Bool
-has_control_entry entries cell = list_any (is_control_of cell) entries
+has_control_entry entries cell = list_any (is_entry_of_control cell) entries
 
 -- An entry with this control breaks rule V10: it lacks a control that it needs, it has one although it does not drive, or its control is
 -- a cell that may not be a control.
 abbrev pub breaks_control_of : List Entry → Entry → Option Control → Bool
 breaks_control_of entries entry None = needs_control entry.role
-breaks_control_of entries entry (Some control) = if is_driving entry.role then not ((control.cell == entry.num) || has_control_entry entries control.cell) else true
+breaks_control_of entries entry (Some control) =
+    if is_driving entry.role
+    then not ((control.cell == entry.num) || has_control_entry entries control.cell) else true
 
 abbrev pub breaks_control : List Entry → Entry → Bool
 breaks_control entries entry = breaks_control_of entries entry entry.ctl

@@ -10,7 +10,7 @@ use Rattle.bsdl_strings.specs.declared.values.Entry.{Entry}
 use Rattle.device_rules.specs.declared.draft.TapPorts.{TapPorts}
 use Rattle.first_places.specs.Items.{first_break}
 use Rattle.device_rules.specs.Ports.{bit_number, named_port}
-use Rattle.device_rules.specs.Taps.{is_among, tap_names}
+use Rattle.device_rules.specs.Taps.{is_named_among, tap_names}
 
 abbrev pub is_star : PortWord → Bool
 is_star Star = true
@@ -27,15 +27,15 @@ unfoldable pub v9 : List Port → List Entry → Option ℕ
 v9 ports entries = first_break (λ before entry. breaks_place ports entry) entries
 
 -- the number of the port bit that the entry drives, if the entry drives one
-abbrev pub driven_bit : List Port → Entry → Option ℕ
-driven_bit ports entry = if is_driving entry.role then bit_number ports entry.port else None
+abbrev pub driven_bit_number : List Port → Entry → Option ℕ
+driven_bit_number ports entry = if is_driving entry.role then bit_number ports entry.port else None
 
 abbrev pub is_driven : List Port → List Entry → Option ℕ → Bool
 is_driven ports before None = false
-is_driven ports before (Some bit) = list_any (λ entry. is_on bit (driven_bit ports entry)) before
+is_driven ports before (Some bit) = list_any (λ entry. is_on bit (driven_bit_number ports entry)) before
 
 abbrev pub breaks_driver : List Port → List Entry → Entry → Bool
-breaks_driver ports before entry = is_driven ports before (driven_bit ports entry)
+breaks_driver ports before entry = is_driven ports before (driven_bit_number ports entry)
 
 -- V13: a port bit has at most one driving entry
 unfoldable pub v13 : List Port → List Entry → Option ℕ
@@ -43,7 +43,7 @@ v13 ports entries = first_break (breaks_driver ports) entries
 
 abbrev pub misfits : TapPorts → Role → Option Port → Bool
 misfits taps role None = false
-misfits taps role (Some port) = is_among (tap_names taps) port.name || (is_driving role && not (may_drive port.mode))
+misfits taps role (Some port) = is_named_among (tap_names taps) port.name || (is_driving role && not (may_drive port.mode))
 
 abbrev pub breaks_mode : List Port → TapPorts → Entry → Bool
 breaks_mode ports taps entry = misfits taps entry.role (named_port ports entry.port)

@@ -12,23 +12,25 @@ use Rattle.bsdl_strings.specs.declared.values.PortWord.TheVariants.{Star, Plain,
 use Rattle.first_places.specs.Items.{first_break}
 
 -- the range is in order: `to` with bounds that do not fall, or `downto` with bounds that do not rise
-abbrev pub in_order : Option Range → Bool
-in_order None = true
-in_order (Some range) = if range.up then nat_le range.left range.right else nat_le range.right range.left
+abbrev pub range_in_order : Option Range → Bool
+range_in_order None = true
+range_in_order (Some range) = if range.up then nat_le range.left range.right else nat_le range.right range.left
 
 -- the number of bits of a port with this range
 abbrev pub width : Option Range → ℕ
 width None = 1
 width (Some range) = (if range.up then range.right - range.left else range.left - range.right) + 1
 
-abbrev pub bits_of : List Port → ℕ
-bits_of ports = sum_by (λ port. width port.range) ports
+abbrev pub bit_total : List Port → ℕ
+bit_total ports = sum_by (λ port. width port.range) ports
 
 abbrev pub port_named : List ℕ → Port → Bool
 port_named name port = bytes_eq port.name name
 
 abbrev pub breaks_port : List Port → Port → Bool
-breaks_port before port = list_any (port_named port.name) before || (not (in_order port.range) || nat_lt most_bits (bits_of before + width port.range))
+breaks_port before port =
+    list_any (port_named port.name) before
+    || (not (range_in_order port.range) || nat_lt most_bits (bit_total before + width port.range))
 
 -- V2: port names differ, ranges are in order, and there are at most 65,535 port bits
 unfoldable pub v2 : List Port → Option ℕ
@@ -58,18 +60,20 @@ indexes (Some range) = map Some (range_indexes range.left range.right)
 -- the bits of a port that have these indexes, with places numbered from `place` on
 abbrev pub bits_along : ℕ → Port → ℕ → List (Option ℕ) → List Bit
 bits_along number port place [] = []
-bits_along number port place (index ∷ indexes) = record { port = number; name = port.name; index = index; place = place; mode = port.mode } ∷ bits_along number port (place + 1) indexes
+bits_along number port place (index ∷ indexes) =
+    record { port = number; name = port.name; index = index; place = place; mode = port.mode }
+    ∷ bits_along number port (place + 1) indexes
 
-abbrev pub bits_of_port : ℕ → Port → List Bit
-bits_of_port number port = bits_along number port 0 (indexes port.range)
+abbrev pub bits_in_port : ℕ → Port → List Bit
+bits_in_port number port = bits_along number port 0 (indexes port.range)
 
 abbrev pub bits_from : ℕ → List Port → List Bit
 bits_from number [] = []
-bits_from number (port ∷ ports) = bits_of_port number port ++ bits_from (number + 1) ports
+bits_from number (port ∷ ports) = bits_in_port number port ++ bits_from (number + 1) ports
 
 -- the bits of all ports, in the order of the ports
-abbrev pub port_bits : List Port → List Bit
-port_bits ports = bits_from 0 ports
+abbrev pub all_port_bits : List Port → List Bit
+all_port_bits ports = bits_from 0 ports
 
 -- A word with the first index can name a bit with the second: both are None, or both are the same
 -- number.
@@ -77,25 +81,25 @@ abbrev pub has_index : Option ℕ → Option ℕ → Bool
 has_index None index = is_none index
 has_index (Some number) index = is_on number index
 
-abbrev pub is_bit : List ℕ → Option ℕ → Bit → Bool
-is_bit name index bit = bytes_eq bit.name name && has_index index bit.index
+abbrev pub is_bit_named : List ℕ → Option ℕ → Bit → Bool
+is_bit_named name index bit = bytes_eq bit.name name && has_index index bit.index
 
 -- the word names the bit: `name` names the bit of a plain port, and `name(index)` names a bit of a
 -- vector
 abbrev pub is_named : PortWord → Bit → Bool
 is_named Star bit = false
-is_named (Plain name) bit = is_bit name None bit
-is_named (Index name index) bit = is_bit name (Some index) bit
+is_named (Plain name) bit = is_bit_named name None bit
+is_named (Index name index) bit = is_bit_named name (Some index) bit
 
 -- the number of the port bit that the word names, counted from 0
 abbrev pub bit_number : List Port → PortWord → Option ℕ
-bit_number ports word = position_from (is_named word) 0 (port_bits ports)
+bit_number ports word = position_from (is_named word) 0 (all_port_bits ports)
 
-abbrev pub name_in : PortWord → Option (List ℕ)
-name_in Star = None
-name_in (Plain name) = Some name
-name_in (Index name index) = Some name
+abbrev pub plain_name : PortWord → Option (List ℕ)
+plain_name Star = None
+plain_name (Plain name) = Some name
+plain_name (Index name index) = Some name
 
 -- the port that the word names, if there is such a port
 abbrev pub named_port : List Port → PortWord → Option Port
-named_port ports word = option_and_then (port_of ports) (name_in word)
+named_port ports word = option_and_then (port_of ports) (plain_name word)

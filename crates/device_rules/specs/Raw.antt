@@ -11,15 +11,15 @@ use Rattle.bsdl_strings.specs.declared.values.Entry.{Entry}
 use Rattle.bsdl_strings.specs.declared.values.MapEntry.{MapEntry}
 use Rattle.device_rules.specs.declared.draft.Draft.{Draft}
 use Rattle.device_rules.specs.declared.draft.TapPorts.{TapPorts}
-use Rattle.device_rules.specs.Ports.{Bit, port_bits, is_named, bit_number}
-use Rattle.device_rules.specs.Taps.{is_among, tap_names}
+use Rattle.device_rules.specs.Ports.{Bit, all_port_bits, is_named, bit_number}
+use Rattle.device_rules.specs.Taps.{is_named_among, tap_names}
 use Rattle.device_rules.specs.PinMap.{maps_port}
 use Rattle.instruction_rules.specs.Instructions.{preload, extest}
 
 -- The pin of a bit, or None if the bit has no pin. The pins of a port are in the order of its bits from left to right. A
 -- port that the map does not name has no pins.
-abbrev pub pin_of : List MapEntry → Bit → Option (List ℕ)
-pin_of entries bit = option_and_then (λ entry. slice_get entry.pins bit.place) (find (maps_port bit.name) entries)
+abbrev pub mapped_pin : List MapEntry → Bit → Option (List ℕ)
+mapped_pin entries bit = option_and_then (λ entry. slice_get entry.pins bit.place) (find (maps_port bit.name) entries)
 
 -- the compliance patterns name the bit
 abbrev pub in_compliance : Option Compliance → Bit → Bool
@@ -31,14 +31,14 @@ port_bit entries taps compliance bit = record {
   port = bit.port;
   index = bit.index;
   mode = bit.mode;
-  pin = pin_of entries bit;
-  tap = is_among (tap_names taps) bit.name;
+  pin = mapped_pin entries bit;
+  tap = is_named_among (tap_names taps) bit.name;
   compliance = in_compliance compliance bit;
 }
 
 -- the bits of the ports, in the order of the ports; the bits of a vector are in order from left to right
 unfoldable pub raw_bits : List Port → List MapEntry → TapPorts → Option Compliance → List PortBit
-raw_bits ports entries taps compliance = map (port_bit entries taps compliance) (port_bits ports)
+raw_bits ports entries taps compliance = map (port_bit entries taps compliance) (all_port_bits ports)
 
 abbrev pub cell_of : List Port → Entry → Cell
 cell_of ports entry = record {

@@ -27,17 +27,17 @@ is_outward Buffer = false
 is_outward Linkage = false
 
 -- there is a port, it has type bit, and `mode` is true of its mode
-abbrev pub is_plain : (Mode → Bool) → Option Port → Bool
-is_plain mode None = false
-is_plain mode (Some port) = is_none port.range && mode port.mode
+abbrev pub is_plain_port : (Mode → Bool) → Option Port → Bool
+is_plain_port mode None = false
+is_plain_port mode (Some port) = is_none port.range && mode port.mode
 
-abbrev pub is_among : List (List ℕ) → List ℕ → Bool
-is_among names name = list_any (bytes_eq name) names
+abbrev pub is_named_among : List (List ℕ) → List ℕ → Bool
+is_named_among names name = list_any (bytes_eq name) names
 
 -- a TAP attribute that names the port `name` breaks V3: the name is one of `before`, there is no
 -- port of type bit with this name, or `mode` is false of the port's mode
 abbrev pub breaks_tap : (Mode → Bool) → List Port → List (List ℕ) → List ℕ → Bool
-breaks_tap mode ports before name = is_among before name || not (is_plain mode (port_of ports name))
+breaks_tap mode ports before name = is_named_among before name || not (is_plain_port mode (port_of ports name))
 
 -- like `breaks_tap`, but for TRST*, which a device need not have
 abbrev pub reset_breaks : List Port → List (List ℕ) → Option (List ℕ) → Bool
@@ -48,13 +48,13 @@ reset_breaks ports before (Some name) = breaks_tap is_inward ports before name
 abbrev pub four_taps : TapPorts → List (List ℕ)
 four_taps taps = taps.scan_in ∷ taps.scan_out ∷ taps.mode ∷ taps.clock ∷ []
 
-abbrev pub listed : Option (List ℕ) → List (List ℕ)
-listed None = []
-listed (Some name) = name ∷ []
+abbrev pub listed_name : Option (List ℕ) → List (List ℕ)
+listed_name None = []
+listed_name (Some name) = name ∷ []
 
 -- the names of the TAP ports
 abbrev pub tap_names : TapPorts → List (List ℕ)
-tap_names taps = four_taps taps ++ listed taps.reset
+tap_names taps = four_taps taps ++ listed_name taps.reset
 
 -- the number of the first TAP attribute that breaks the rule: TAP_SCAN_IN, TAP_SCAN_OUT, TAP_SCAN_MODE, TAP_SCAN_CLOCK or
 -- TAP_SCAN_RESET
@@ -63,15 +63,21 @@ wrong_tap ports taps =
     or_else (broken_by (attribute_number TapScanIn) (breaks_tap is_inward ports [] taps.scan_in))
     (or_else (broken_by (attribute_number TapScanOut) (breaks_tap is_outward ports (taps.scan_in ∷ []) taps.scan_out))
     (or_else (broken_by (attribute_number TapScanMode) (breaks_tap is_inward ports (taps.scan_in ∷ taps.scan_out ∷ []) taps.mode))
-    (or_else (broken_by (attribute_number TapScanClock) (breaks_tap is_inward ports (taps.scan_in ∷ taps.scan_out ∷ taps.mode ∷ []) taps.clock))
+    (or_else
+    (broken_by (attribute_number TapScanClock)
+    (breaks_tap is_inward ports (taps.scan_in ∷ taps.scan_out ∷ taps.mode ∷ []) taps.clock))
     (broken_by (attribute_number TapScanReset) (reset_breaks ports (four_taps taps) taps.reset)))))
 
 -- the compliance patterns name port bits only, and each pattern has a symbol for each of these bits
 abbrev pub complies : List Port → Option Compliance → Bool
 complies ports None = true
-complies ports (Some compliance) = list_all (λ word. is_some (bit_number ports word)) compliance.ports && list_all (λ pattern. length pattern == length compliance.ports) compliance.patterns
+complies ports (Some compliance) =
+    list_all (λ word. is_some (bit_number ports word)) compliance.ports
+    && list_all (λ pattern. length pattern == length compliance.ports) compliance.patterns
 
 -- V3: the number of the first TAP attribute that breaks the rule; if there is none, the number of COMPLIANCE_PATTERNS if this
 -- attribute breaks the rule
 unfoldable pub v3 : List Port → TapPorts → Option Compliance → Option ℕ
-v3 ports taps compliance = or_else (wrong_tap ports taps) (broken_by (attribute_number CompliancePatterns) (not (complies ports compliance)))
+v3 ports taps compliance =
+    or_else (wrong_tap ports taps)
+    (broken_by (attribute_number CompliancePatterns) (not (complies ports compliance)))

@@ -2,7 +2,7 @@
 ghost use Rattle.std.specs.Prelude.{◌≡◌, ◌<◌, ◌+◌, ◌^◌, ◌&&◌, ◌||◌, not, length, IfOk, false, nat_lt, vec_len, slice_index, slice_index_or, slice_set};
 ghost use Rattle.first_places.specs.Items.{least_below};
 ghost use Rattle.device_rules.specs.Cells.{is_entry_of, controls_entry, too_large, v8, v11, v12};
-ghost use Rattle.device_rules.specs.inner.Tables.{Marks, Counts};
+ghost use Rattle.device_rules.specs.inner.Tables.{MarksItems, Counts};
 ghost use Rattle.device_rules.specs.inner.Stages.{is_for, is_for_cell};
 
 use board_defs::Role;
@@ -16,7 +16,7 @@ fn cells_with_entry(
     boundary: u32,
     entries: &[Entry],
 ) -> Result<Vec<bool>, AllocError>
-    ensures { IfOk result (λ table. Marks is_entry_of entries.now boundary table.items) }
+    ensures { IfOk result (λ table. MarksItems is_entry_of entries.now boundary table.items) }
 {
     let mut table = vec![in alloc; false; boundary as usize]?;
     for entry in entries {
@@ -35,7 +35,7 @@ fn cells_disabling_by(
     entries: &[Entry],
 ) -> Result<Vec<bool>, AllocError>
     ensures { IfOk result (λ table.
-        Marks (controls_entry value) entries.now boundary table.items) }
+        MarksItems (controls_entry value) entries.now boundary table.items) }
 {
     let mut table = vec![in alloc; false; boundary as usize]?;
     for entry in entries {

@@ -1,7 +1,7 @@
 //! The port bits that the compliance patterns name.
 ghost use Rattle.std.specs.Prelude.{◌≡◌, option_map, IfOk};
 ghost use Rattle.std.specs.List.{list_any};
-ghost use Rattle.device_rules.specs.inner.Index.{HasBits, has_key, key_of, names_bit, words_of};
+ghost use Rattle.device_rules.specs.inner.Index.{HasBits, has_key, key_of, names_bit, compliance_words};
 
 use bsdl_strings::{Compliance, PortWord};
 use std::alloc::{AllocError, Global};
@@ -24,7 +24,7 @@ fn key_of(word: &PortWord) -> Option<Key>
 
 /// Returns the words of the compliance patterns, which name the bits that the patterns are for.
 fn words_of(compliance: &Option<Compliance>) -> &[PortWord]
-    ensures { result.now ≡ words_of compliance.now }
+    ensures { result.now ≡ compliance_words compliance.now }
 {
     match compliance {
         Some(compliance) => compliance.ports.as_slice(),
@@ -62,13 +62,13 @@ pub struct NamedBits<'a> {
 impl<'a> Model for NamedBits<'a> {
     ghost use Rattle.std.specs.Prelude.{Option};
     ghost use Rattle.bsdl_strings.specs.declared.values.Compliance.{Compliance};
-    ghost use Rattle.device_rules.specs.inner.Index.{HasBits, words_of};
+    ghost use Rattle.device_rules.specs.inner.Index.{HasBits, compliance_words};
 
     ghost Value = { Option Compliance };
 
     ghost view = { λ a. a.compliance.now };
 
-    ghost invariant = { λ a. HasBits a.bits (words_of a.compliance.now) };
+    ghost invariant = { λ a. HasBits a.bits (compliance_words a.compliance.now) };
 }
 
 impl<'a> NamedBits<'a> {
@@ -85,7 +85,7 @@ impl<'a> NamedBits<'a> {
 
     /// Returns whether the patterns name the bit with this name and index.
     pub fn has(&self, name: &[u8], index: Option<u32>) -> bool
-        ensures { result ≡ list_any (names_bit name.now index) (words_of self.now) }
+        ensures { result ≡ list_any (names_bit name.now index) (compliance_words self.now) }
     {
         match self.compliance {
             None => false,

@@ -1,7 +1,7 @@
 //! The rule on the controls of boundary entries.
 ghost use Rattle.std.specs.Prelude.{◌≡◌, ◌<◌, ◌^◌, length, All, IfOk};
-ghost use Rattle.device_rules.specs.Cells.{needs_control, is_control_of, has_control_entry, breaks_control, v10};
-ghost use Rattle.device_rules.specs.inner.Tables.{Marks};
+ghost use Rattle.device_rules.specs.Cells.{needs_control, is_entry_of_control, has_control_entry, breaks_control, v10};
+ghost use Rattle.device_rules.specs.inner.Tables.{MarksItems};
 
 use board_defs::Role;
 use bsdl_strings::Entry;
@@ -17,7 +17,8 @@ fn wants_control(role: Role) -> bool
 
 /// Returns a flag for each cell, which is true if the cell has a CONTROL or CONTROLR entry.
 fn control_cells(alloc: Global, boundary: u32, entries: &[Entry]) -> Result<Vec<bool>, AllocError>
-    ensures { IfOk result (λ table. Marks is_control_of entries.now boundary table.items) }
+    ensures { IfOk result
+        (λ table. MarksItems is_entry_of_control entries.now boundary table.items) }
 {
     let mut table = vec![in alloc; false; boundary as usize]?;
     for entry in entries {

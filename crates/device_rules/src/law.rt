@@ -32,22 +32,34 @@ pub fn all_rules_hold()
 /// it looks for a cell without an entry.
 pub fn finds_the_first()
     ensures v2 { (ports : List Port) → IsFound breaks_port ports (v2 ports) }
-    ensures v3 { (ports : List Port) (taps : TapPorts) (compliance : Option Compliance) → IsLeast (breaks_attribute ports taps compliance) 14 (v3 ports taps compliance) }
-    ensures v4 { (ports : List Port) (entries : List MapEntry) → IsFound (breaks_map ports) entries (v4 ports entries) }
+    ensures v3 { (ports : List Port) (taps : TapPorts) (compliance : Option Compliance)
+        → IsLeast (breaks_attribute ports taps compliance) 14 (v3 ports taps compliance) }
+    ensures v4 { (ports : List Port) (entries : List MapEntry)
+        → IsFound (breaks_map ports) entries (v4 ports entries) }
     ensures v5 { (ir : ℕ) (ops : List Opcode) → IsFound (breaks_opcode ir) ops (v5 ir ops) }
-    ensures v6 { (edition : Edition) (ops : List Opcode) → IsLeast (lacks_code edition ops) 4 (v6 edition ops) }
-    ensures v7 { (ir : ℕ) (capture : List Symbol) (idcode : Option (List Symbol)) → IsLeast (breaks_pattern ir capture idcode) 3 (v7 ir capture idcode) }
-    ensures v8 { (boundary : ℕ) (entries : List Entry) → IsWrongCell boundary entries (v8 boundary entries) }
-    ensures v9 { (ports : List Port) (entries : List Entry) → IsFound (λ before entry. breaks_place ports entry) entries (v9 ports entries) }
-    ensures v10 { (entries : List Entry) → IsFound (λ before entry. breaks_control entries entry) entries (v10 entries) }
-    ensures v11 { (boundary : ℕ) (entries : List Entry) → IsLeast (has_two_values entries) boundary (v11 boundary entries) }
-    ensures v12 { (boundary : ℕ) (entries : List Entry) → IsLeast (is_crowded entries) boundary (v12 boundary entries) }
-    ensures v13 { (ports : List Port) (entries : List Entry) → IsFound (breaks_driver ports) entries (v13 ports entries) }
-    ensures v14 { (ports : List Port) (taps : TapPorts) (entries : List Entry) → IsFound (λ before entry. breaks_mode ports taps entry) entries (v14 ports taps entries) }
+    ensures v6 { (edition : Edition) (ops : List Opcode)
+        → IsLeast (lacks_code edition ops) 4 (v6 edition ops) }
+    ensures v7 { (ir : ℕ) (capture : List Symbol) (idcode : Option (List Symbol))
+        → IsLeast (breaks_pattern ir capture idcode) 3 (v7 ir capture idcode) }
+    ensures v8 { (boundary : ℕ) (entries : List Entry)
+        → IsWrongCell boundary entries (v8 boundary entries) }
+    ensures v9 { (ports : List Port) (entries : List Entry)
+        → IsFound (λ before entry. breaks_place ports entry) entries (v9 ports entries) }
+    ensures v10 { (entries : List Entry)
+        → IsFound (λ before entry. breaks_control entries entry) entries (v10 entries) }
+    ensures v11 { (boundary : ℕ) (entries : List Entry)
+        → IsLeast (has_two_values entries) boundary (v11 boundary entries) }
+    ensures v12 { (boundary : ℕ) (entries : List Entry)
+        → IsLeast (is_crowded entries) boundary (v12 boundary entries) }
+    ensures v13 { (ports : List Port) (entries : List Entry)
+        → IsFound (breaks_driver ports) entries (v13 ports entries) }
+    ensures v14 { (ports : List Port) (taps : TapPorts) (entries : List Entry)
+        → IsFound (λ before entry. breaks_mode ports taps entry) entries (v14 ports taps entries) }
 {}
 
 /// If a draft breaks no rule and the lengths of its registers are in their ranges, the record of
 /// the draft keeps the rules of devices.
 pub fn devices_keep_rules()
-    ensures { (draft : Draft) → HasLengths draft → first_rule draft ≡ None → IsDevice (raw_device draft) }
+    ensures { (draft : Draft) → HasLengths draft → first_rule draft ≡ None
+        → IsDevice (raw_device draft) }
 {}

@@ -4,7 +4,7 @@ ghost use Rattle.std.specs.Option.{option_copied};
 ghost use Rattle.std.specs.Str.{bytes_eq};
 ghost use Rattle.indexmap.specs.IndexMap.{get_by};
 ghost use Rattle.first_places.specs.Places.{first_place};
-ghost use Rattle.device_rules.specs.inner.Index.{AreLent, Finds, is_called, place_called};
+ghost use Rattle.device_rules.specs.inner.Index.{AreLent, FindsPlaces, is_item_called, place_called};
 
 use bsdl_parser::Port;
 use bsdl_strings::MapEntry;
@@ -56,7 +56,7 @@ fn first_places_of<'a>(
 ) -> Result<IndexMap<&'a [u8], u32>, AllocError>
     requires { length names.now < 2 ^ 32 }
     ensures { IfOk result (λ places.
-        Finds places (first_place bytes_eq (map (λ n. n.now) names.now))) }
+        FindsPlaces places (first_place bytes_eq (map (λ n. n.now) names.now))) }
 {
     first_places(alloc, names)
 }
@@ -67,7 +67,7 @@ fn places_of<'a, T: Named>(
     items: &'a [T],
 ) -> Result<IndexMap<&'a [u8], u32>, AllocError>
     requires { length items.now < 2 ^ 32 }
-    ensures { IfOk result (λ places. Finds places (place_called T.name_in items.now)) }
+    ensures { IfOk result (λ places. FindsPlaces places (place_called T.name_in items.now)) }
 {
     let names = names_of(alloc, items)?;
     first_places_of(alloc, &names)
@@ -90,13 +90,14 @@ pub struct NameIndex<'a, T: Named> {
 
 impl<'a, T: Named> Model for NameIndex<'a, T> {
     ghost use Rattle.std.specs.Prelude.{◌<◌, ◌^◌, List, length};
-    ghost use Rattle.device_rules.specs.inner.Index.{Finds, place_called};
+    ghost use Rattle.device_rules.specs.inner.Index.{FindsPlaces, place_called};
 
     ghost Value = { List T };
 
     ghost view = { λ a. a.items.now };
 
-    ghost invariant = { λ a. (length a.items.now < 2 ^ 32) × Finds a.places (place_called T.name_in a.items.now) };
+    ghost invariant = { λ a. (length a.items.now < 2 ^ 32)
+        × FindsPlaces a.places (place_called T.name_in a.items.now) };
 }
 
 impl<'a, T: Named> NameIndex<'a, T> {
@@ -126,7 +127,7 @@ impl<'a, T: Named> NameIndex<'a, T> {
 
     /// Returns the first item with this name, if there is one.
     pub fn item_of(&self, name: &[u8]) -> Option<&T>
-        ensures { option_copied result ≡ find (is_called T.name_in name.now) self.now }
+        ensures { option_copied result ≡ find (is_item_called T.name_in name.now) self.now }
     {
         let items = self.as_slice();
         match self.place_of(name) {

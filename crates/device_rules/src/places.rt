@@ -2,8 +2,8 @@
 ghost use Rattle.std.specs.Prelude.{◌≡◌, ◌<◌, ◌^◌, ◌&&◌, not, length, IfOk, IfSome};
 ghost use Rattle.std.specs.Option.{option_copied};
 ghost use Rattle.board_defs.specs.DeviceRules.{is_driving, is_inner, may_drive};
-ghost use Rattle.device_rules.specs.Ports.{bits_of, bit_number, named_port};
-ghost use Rattle.device_rules.specs.Places.{is_star, breaks_place, v9, driven_bit, breaks_driver, v13, breaks_mode, v14};
+ghost use Rattle.device_rules.specs.Ports.{bit_total, bit_number, named_port};
+ghost use Rattle.device_rules.specs.Places.{is_star, breaks_place, v9, driven_bit_number, breaks_driver, v13, breaks_mode, v14};
 
 use crate::draft::TapPorts;
 use crate::port_index::{Near, PortIndex};
@@ -49,8 +49,8 @@ pub(crate) fn wrong_place(ports: &PortIndex, entries: &[Entry]) -> Option<u32>
 
 /// Returns the number of the port bit that the entry drives, or None if the entry drives no port bit.
 fn driven_bit(ports: &PortIndex, near: &mut Near, entry: &Entry) -> Option<u32>
-    ensures number { result ≡ driven_bit ports.now entry.now }
-    ensures few { IfSome result (λ bit. bit < bits_of ports.now) }
+    ensures number { result ≡ driven_bit_number ports.now entry.now }
+    ensures few { IfSome result (λ bit. bit < bit_total ports.now) }
 {
     if entry.role.is_driving() {
         ports.bit_at(near, &entry.port)

@@ -2,8 +2,8 @@
 ghost use Rattle.std.specs.Prelude.{◌≡◌, ◌<◌, ◌^◌, Some, None, true, length, take, IfOk, IfSome};
 ghost use Rattle.std.specs.Option.{option_copied};
 ghost use Rattle.std.specs.List.{position_from};
-ghost use Rattle.device_rules.specs.Ports.{v2, bits_of, port_of, port_number, port_bits, is_bit, bit_number};
-ghost use Rattle.device_rules.specs.inner.Index.{AreStarts, place_in};
+ghost use Rattle.device_rules.specs.Ports.{v2, bit_total, port_of, port_number, all_port_bits, is_bit_named, bit_number};
+ghost use Rattle.device_rules.specs.inner.Index.{AreBitStarts, index_place};
 
 use crate::name_index::NameIndex;
 use crate::ports::bit_count;
@@ -15,7 +15,7 @@ use std::marker::Model;
 /// Returns the number of bits before each port, followed by the number of all bits.
 fn starts_of(alloc: Global, ports: &[Port]) -> Result<Vec<u32>, AllocError>
     requires { v2 ports.now ≡ None }
-    ensures { IfOk result (λ starts. AreStarts ports.now starts.items) }
+    ensures { IfOk result (λ starts. AreBitStarts ports.now starts.items) }
 {
     let mut starts = Vec::new(alloc);
     let mut bits = 0u64;
@@ -30,7 +30,7 @@ fn starts_of(alloc: Global, ports: &[Port]) -> Result<Vec<u32>, AllocError>
 /// Returns the place of index `number` in the range, or None if the range does not have the index. Places count from 0,
 /// from left to right.
 fn place_in(range: Option<Range>, number: Option<u32>) -> Option<u32>
-    ensures { result ≡ place_in range number }
+    ensures { result ≡ index_place range number }
 {
     match (range, number) {
         (None, None) => Some(0),
@@ -159,22 +159,23 @@ impl<'a> PortIndex<'a> {
     /// Returns the number of bits before port `number`.
     fn start_of(&self, number: u32) -> u32
         requires { number < length self.now }
-        ensures { result ≡ bits_of (take number self.now) }
+        ensures { result ≡ bit_total (take number self.now) }
     {
         self.starts[number as usize]
     }
 
     /// Returns the number of bits of all ports together.
     pub fn total_bits(&self) -> u32
-        ensures { result ≡ bits_of self.now }
+        ensures { result ≡ bit_total self.now }
     {
         self.starts[self.ports.as_slice().len()]
     }
 
     /// Returns the number of the port bit with this name and index, if there is one.
     fn bit_in(&self, near: &mut Near, name: &[u8], index: Option<u32>) -> Option<u32>
-        ensures number { result ≡ position_from (is_bit name.now index) 0 (port_bits self.now) }
-        ensures few { IfSome result (λ bit. bit < bits_of self.now) }
+        ensures number { result
+            ≡ position_from (is_bit_named name.now index) 0 (all_port_bits self.now) }
+        ensures few { IfSome result (λ bit. bit < bit_total self.now) }
     {
         let ports = self.as_slice();
         match self.number_of(near, name) {
@@ -189,7 +190,7 @@ impl<'a> PortIndex<'a> {
     /// Returns the number of the port bit that the word names, or None if the word names no port bit.
     pub fn bit_at(&self, near: &mut Near, word: &PortWord) -> Option<u32>
         ensures number { result ≡ bit_number self.now word.now }
-        ensures few { IfSome result (λ bit. bit < bits_of self.now) }
+        ensures few { IfSome result (λ bit. bit < bit_total self.now) }
     {
         match word {
             PortWord::Star => None,

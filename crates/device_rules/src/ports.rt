@@ -1,6 +1,6 @@
 //! The rule on the ports.
 ghost use Rattle.std.specs.Prelude.{◌≡◌, ◌<◌, ◌^◌, length, IfOk};
-ghost use Rattle.device_rules.specs.Ports.{in_order, width, v2};
+ghost use Rattle.device_rules.specs.Ports.{range_in_order, width, v2};
 
 use board_defs::MOST_BITS;
 use bsdl_parser::{Port, Range};
@@ -9,7 +9,7 @@ use std::collections::HashSet;
 
 /// Returns whether the range is in order: `to` with bounds that do not fall, or `downto` with bounds that do not rise.
 fn is_in_order(range: Option<Range>) -> bool
-    ensures { result ≡ in_order range }
+    ensures { result ≡ range_in_order range }
 {
     match range {
         None => true,

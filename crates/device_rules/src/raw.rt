@@ -2,7 +2,7 @@
 ghost use Rattle.std.specs.Prelude.{◌≡◌, ◌<◌, ◌^◌, ◌++◌, true, map, slice_get, option_and_then, IfOk, OnOk};
 ghost use Rattle.std.specs.Option.{option_copied};
 ghost use Rattle.board_defs.specs.DeviceRules.{IsDevice};
-ghost use Rattle.device_rules.specs.Ports.{in_order, width, bits_of_port};
+ghost use Rattle.device_rules.specs.Ports.{range_in_order, width, bits_in_port};
 ghost use Rattle.device_rules.specs.Rules.{HasShortLists, IfSound};
 ghost use Rattle.device_rules.specs.inner.Index.{index_at};
 ghost use Rattle.instruction_rules.specs.Instructions.{preload as preload_code, extest as extest_code};
@@ -77,10 +77,10 @@ fn push_bits(
     port: &Port,
     bits: &mut Vec<PortBit>,
 ) -> Result<(), AllocError>
-    requires ordered { in_order port.now.range ≡ true }
+    requires ordered { range_in_order port.now.range ≡ true }
     requires few { width port.now.range < 2 ^ 32 }
     ensures { OnOk result (bits.new.items ≡ bits.old.items
-        ++ map (port_bit pins.now taps.now named.now) (bits_of_port number port.now)) }
+        ++ map (port_bit pins.now taps.now named.now) (bits_in_port number port.now)) }
 {
     let name = port.name.bytes();
     let entry = pins.item_of(name);
@@ -169,7 +169,12 @@ struct Parts {
 
 /// Returns the preload code and the EXTEST code.
 fn codes_of(alloc: Global, text: &Draft) -> Result<(Code, Code), AllocError>
-    ensures { IfOk result (λ codes. codes ≡ (preload_code text.now.edition text.now.opcodes, extest_code text.now.edition text.now.ir text.now.opcodes)) }
+    ensures { IfOk result
+        (λ codes. codes
+        ≡ (
+          preload_code text.now.edition text.now.opcodes,
+          extest_code text.now.edition text.now.ir text.now.opcodes,
+        )) }
 {
     let opcodes = text.opcodes.as_slice();
     let sample = preload(alloc, text.edition, opcodes)?;

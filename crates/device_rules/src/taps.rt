@@ -4,7 +4,7 @@ ghost use Rattle.std.specs.Option.{option_copied};
 ghost use Rattle.std.specs.List.{list_any, list_all};
 ghost use Rattle.std.specs.Str.{bytes_eq};
 ghost use Rattle.device_rules.specs.Ports.{bit_number};
-ghost use Rattle.device_rules.specs.Taps.{is_inward, is_outward, is_plain, breaks_tap, reset_breaks, wrong_tap, complies, v3, listed, tap_names, is_among};
+ghost use Rattle.device_rules.specs.Taps.{is_inward, is_outward, is_plain_port, breaks_tap, reset_breaks, wrong_tap, complies, v3, listed_name, tap_names, is_named_among};
 
 use crate::draft::TapPorts;
 use crate::port_index::{Near, PortIndex};
@@ -14,7 +14,7 @@ use bsdl_strings::{Compliance, PortWord};
 
 /// Returns whether there is a port, and it has type bit and mode in.
 fn is_plain_in(port: Option<&Port>) -> bool
-    ensures { result ≡ is_plain is_inward (option_copied port.entry) }
+    ensures { result ≡ is_plain_port is_inward (option_copied port.entry) }
 {
     match port {
         Some(port) => port.range.is_none() && matches!(port.mode, Mode::Inward),
@@ -24,7 +24,7 @@ fn is_plain_in(port: Option<&Port>) -> bool
 
 /// Returns whether there is a port, and it has type bit and mode out.
 fn is_plain_out(port: Option<&Port>) -> bool
-    ensures { result ≡ is_plain is_outward (option_copied port.entry) }
+    ensures { result ≡ is_plain_port is_outward (option_copied port.entry) }
 {
     match port {
         Some(port) => port.range.is_none() && matches!(port.mode, Mode::Outward),
@@ -39,7 +39,7 @@ fn is_lent(names: &[&[u8]], name: &[u8]) -> bool
 }
 
 fn is_in(names: &[&[u8]], name: &[u8]) -> bool
-    ensures { result ≡ is_among (map (λ n. n.now) names.now) name.now }
+    ensures { result ≡ is_named_among (map (λ n. n.now) names.now) name.now }
 {
     is_lent(names, name)
 }
@@ -96,7 +96,7 @@ fn wrong_tap(ports: &PortIndex, taps: &TapPorts) -> Option<u32>
 
 /// Returns whether `name` is the name of a TAP port.
 pub fn is_tap(taps: &TapPorts, name: &[u8]) -> bool
-    ensures { result ≡ is_among (tap_names taps.now) name.now }
+    ensures { result ≡ is_named_among (tap_names taps.now) name.now }
 {
     name == taps.scan_in.bytes()
         || name == taps.scan_out.bytes()
@@ -106,7 +106,7 @@ pub fn is_tap(taps: &TapPorts, name: &[u8]) -> bool
 }
 
 fn is_reset(reset: &Option<Name>, name: &[u8]) -> bool
-    ensures { result ≡ is_among (listed reset.now) name.now }
+    ensures { result ≡ is_named_among (listed_name reset.now) name.now }
 {
     match reset {
         Some(reset) => name == reset.bytes(),

@@ -26,7 +26,7 @@ use Rattle.fault_sim.specs.declared.fault_lists.FaultLists.{FaultLists}
 use Rattle.fault_sim.specs.Laws.{SuspectsSuffice}
 use Rattle.fault_sim.specs.Places.{fault_at}
 use Rattle.fault_sim.specs.Suspects.{AreSuspects}
-use Rattle.diagnoser.specs.Diagnosis.{AreExplaining, IsNamed}
+use Rattle.diagnoser.specs.Diagnosis.{AreExplaining, IsFaultOnBoard}
 use Rattle.fault_sim.specs.Diagnosis.{Picks}
 use Rattle.side_by_side.specs.Pieces.{items_between}
 use Rattle.side_by_side.proofs.RangeLemmas.{range_whole}
@@ -67,8 +67,13 @@ same_one (OpenPin p v) (StuckNet m w) e = cc e
 same_one (OpenPin p v) (OpenPin q w) e =
     let h = and_parts (p.net == q.net) ((p.place == q.place) && is_same v w) e in
     let i = and_parts (p.place == q.place) (is_same v w) h.1 in
-    let net : p ≡ record { net = q.net; place = p.place } = ap (λ (n : ℕ). let r : PinRef = record { net = n; place = p.place } in r) (eqb-true p.net q.net h.0) in
-    let place : record { net = q.net; place = p.place } ≡ q = ap (λ (n : ℕ). let r : PinRef = record { net = q.net; place = n } in r) (eqb-true p.place q.place i.0) in
+    let net : p
+    ≡ record { net = q.net; place = p.place } = ap
+    (λ (n : ℕ). let r : PinRef = record { net = n; place = p.place } in r)
+    (eqb-true p.net q.net h.0) in
+    let place : record { net = q.net; place = p.place }
+    ≡ q = ap (λ (n : ℕ). let r : PinRef = record { net = q.net; place = n } in r)
+    (eqb-true p.place q.place i.0) in
     ap (λ r. OpenPin r v) (net ∙ place) ∙ ap (λ b. OpenPin q b) (same_of_is_same v w i.1)
 same_one (OpenPin p v) (Short c d l) e = cc e
 same_one (Short a b k) (StuckNet m w) e = cc e
@@ -82,11 +87,16 @@ same_one (Short a b k) (Short c d l) e =
 one_same : (s : Single) → same_single s s ≡ true
 one_same (StuckNet n v) = and_from (n == n) (is_same v v) (eq-eqb n n refl) (is_same_refl v)
 one_same (OpenPin p v) =
-    and_from (p.net == p.net) ((p.place == p.place) && is_same v v) (eq-eqb p.net p.net refl) (and_from (p.place == p.place) (is_same v v) (eq-eqb p.place p.place refl) (is_same_refl v))
+    and_from (p.net == p.net) ((p.place == p.place) && is_same v v) (eq-eqb p.net p.net refl)
+    (and_from (p.place == p.place) (is_same v v) (eq-eqb p.place p.place refl) (is_same_refl v))
 one_same (Short a b k) =
-    and_from (a == a) ((b == b) && (kind_rank k == kind_rank k)) (eq-eqb a a refl) (and_from (b == b) (kind_rank k == kind_rank k) (eq-eqb b b refl) (eq-eqb (kind_rank k) (kind_rank k) refl))
+    and_from (a == a) ((b == b) && (kind_rank k == kind_rank k)) (eq-eqb a a refl)
+    (and_from (b == b) (kind_rank k == kind_rank k) (eq-eqb b b refl)
+    (eq-eqb (kind_rank k) (kind_rank k) refl))
 
-module _ (board : RawBoard) (rules : IsBoard board) (plan : PlanTables) (lists : FaultLists) (log : List (List Bool)) (suspects : List ℕ) (are : AreSuspects board plan lists log suspects) (suffice : SuspectsSuffice) where
+module _ (board : RawBoard) (rules : IsBoard board) (plan : PlanTables) (lists : FaultLists)
+    (log : List (List Bool)) (suspects : List ℕ) (are : AreSuspects board plan lists log suspects)
+    (suffice : SuspectsSuffice) where
   abbrev candidates : List Single
   candidates = filter_map (fault_at board) suspects
 
@@ -94,14 +104,22 @@ module _ (board : RawBoard) (rules : IsBoard board) (plan : PlanTables) (lists :
   has_candidate : (single : Single) → Has (singles board) single → Explains board single log → Has candidates single
   has_candidate single listed explains =
       let test : Single → Bool = λ other. same_single other single in
-      let kept = suffice board plan lists log suspects rules are test (λ other is on. subst (λ (s : Single). Explains board s log) (sym (same_one other single on)) explains) in
-      (filter_has test candidates single (subst (λ (l : List Single). Has l single) kept (has_filter test (singles board) single listed (one_same single)))).0
+      let kept = suffice board plan lists log suspects rules are test
+      (λ other is on. subst (λ (s : Single). Explains board s log)
+      (sym (same_one other single on)) explains) in
+      (filter_has test candidates single
+      (subst (λ (l : List Single). Has l single) kept
+      (has_filter test (singles board) single listed (one_same single)))).0
 
   -- the candidates that explain the log are all single faults of the board that explain the log
-  pub candidates_explain : (faults : List Single) → Picks (λ single. Explains board single log) candidates faults → AreExplaining board log faults
+  pub candidates_explain : (faults : List Single)
+      → Picks (λ single. Explains board single log) candidates faults
+      → AreExplaining board log faults
   candidates_explain faults those =
       subst (λ (l : List Single). AreExplaining board log l) whole
-      (filter_those (λ single. Explains board single log) test (singles board) (λ single listed on. only single on) (λ single listed explains. all single (has_candidate single listed explains) explains))
+      (filter_those (λ single. Explains board single log) test (singles board)
+      (λ single listed on. only single on)
+      (λ single listed explains. all single (has_candidate single listed explains) explains))
     where
       test : Single → Bool
       test single = list_any (λ other. same_single other single) faults
@@ -109,39 +127,57 @@ module _ (board : RawBoard) (rules : IsBoard board) (plan : PlanTables) (lists :
       only : (single : Single) → test single ≡ true → Explains board single log
       only single on =
           let r = any_has (λ other. same_single other single) faults on in
-          subst (λ (s : Single). Explains board s log) (same_one r.0 single r.2) (those_hold (λ s. Explains board s log) candidates faults r.0 those r.1).1
+          subst (λ (s : Single). Explains board s log) (same_one r.0 single r.2)
+          (those_hold (λ s. Explains board s log) candidates faults r.0 those r.1).1
 
       all : (single : Single) → Has candidates single → Explains board single log → test single ≡ true
-      all single candidate explains = has_any (λ other. same_single other single) faults single (hold_those (λ s. Explains board s log) candidates faults single those candidate explains) (one_same single)
+      all single candidate explains =
+          has_any (λ other. same_single other single) faults single
+          (hold_those (λ s. Explains board s log) candidates faults single those candidate explains)
+          (one_same single)
 
       whole : filter test (singles board) ≡ faults
       whole =
           suffice board plan lists log suspects rules are test (λ single is on. only single on)
-          ∙ those_filter (λ single. Explains board single log) test candidates faults (λ single candidate on. only single on) (λ single candidate explains. all single candidate explains) those
+          ∙ those_filter (λ single. Explains board single log) test candidates faults
+          (λ single candidate on. only single on)
+          (λ single candidate explains. all single candidate explains) those
 
   -- if a search returns the candidates that explain the log, it returns all single faults of the board that explain the log
-  pub all_found : {V E : Type 0} (view : V → List Single) (result : Result V E) → IfOk result (λ v. Picks (λ single. Explains board single log) (filter_map (fault_at board) (items_between suspects 0 (length suspects))) (view v)) → IfOk result (λ v. AreExplaining board log (view v))
+  pub all_found : {V E : Type 0} (view : V → List Single) (result : Result V E)
+      → IfOk result
+      (λ v. Picks (λ single. Explains board single log)
+      (filter_map (fault_at board) (items_between suspects 0 (length suspects))) (view v))
+      → IfOk result (λ v. AreExplaining board log (view v))
   all_found view (Err e) found = tt
-  all_found view (Ok v) found = candidates_explain (view v) (subst (λ (l : List ℕ). Picks (λ single. Explains board single log) (filter_map (fault_at board) l) (view v)) (range_whole suspects) found)
+  all_found view (Ok v) found =
+      candidates_explain (view v)
+      (subst
+      (λ (l : List ℕ). Picks (λ single. Explains board single log)
+      (filter_map (fault_at board) l) (view v)) (range_whole suspects) found)
 
 -- the nets and the pin of a board's single fault are on the board
-pub single_named : (board : RawBoard) (single : Single) → IsSingle board single → IsNamed board single
+pub single_named : (board : RawBoard) (single : Single) → IsSingle board single → IsFaultOnBoard board single
 single_named board (StuckNet net value) is = (nets_there board (StuckNet net value) is).0
 single_named board (OpenPin pin value) is = ((nets_there board (OpenPin pin value) is).0, by_use is)
   where
-    within : (v : Net) (p : NetPin) → slice_get board.nets pin.net ≡ Some v → slice_get v.pins pin.place ≡ Some p → (net : Net) → slice_get board.nets pin.net ≡ Some net → pin.place < length net.pins
+    within : (v : Net) (p : NetPin) → slice_get board.nets pin.net ≡ Some v
+        → slice_get v.pins pin.place ≡ Some p → (net : Net)
+        → slice_get board.nets pin.net ≡ Some net → pin.place < length net.pins
     within v p here stands net at =
         let two : Some v ≡ Some net = sym here ∙ at in
         let same : v ≡ net = cc two in
         subst (λ (n : Net). pin.place < length n.pins) same (slice_get_within v.pins pin.place p stands)
 
-    by_use : IsTestedDriver board pin.net pin.place ⊎ IsTestedReceiver board pin.net pin.place → (net : Net) → slice_get board.nets pin.net ≡ Some net → pin.place < length net.pins
+    by_use : IsTestedDriver board pin.net pin.place ⊎ IsTestedReceiver board pin.net pin.place
+        → (net : Net) → slice_get board.nets pin.net ≡ Some net → pin.place < length net.pins
     by_use (inl (setting, safe, (v, en, o))) = within v o.pin en o.stands
     by_use (inr (setting, safe, (v, q, driver, en, ep, reads, ne, o))) = within v q en ep
 single_named board (Short a b kind) is = nets_there board (Short a b kind) is
 
-pub all_named : (board : RawBoard) → IsBoard board → (log : List (List Bool)) → {V E : Type 0} (view : V → List Single) (result : Result V E) →
-    IfOk result (λ v. AreExplaining board log (view v)) → IfOk result (λ v. All (IsNamed board) (view v))
+pub all_named : (board : RawBoard) → IsBoard board → (log : List (List Bool))
+    → {V E : Type 0} (view : V → List Single) (result : Result V E) →
+    IfOk result (λ v. AreExplaining board log (view v)) → IfOk result (λ v. All (IsFaultOnBoard board) (view v))
 all_named board rules log view (Err e) explaining = tt
 all_named board rules log view (Ok v) explaining = λ k d less.
     let faults = view v in

@@ -23,23 +23,42 @@ pub one_diagnosis : OneDiagnosis
 one_diagnosis board log text other first second =
     first.is_text
     ∙ (ap (λ (b : Bool). diag_text board b first.faults) (one_answer first.pass second.pass first.passes second.passes)
-    ∙ (ap (λ (l : List Single). diag_text board second.pass l) (one_list board log first.faults second.faults first.explaining second.explaining) ∙ sym second.is_text))
+    ∙
+    (ap (λ (l : List Single). diag_text board second.pass l)
+    (one_list board log first.faults second.faults first.explaining second.explaining) ∙ sym
+    second.is_text))
 
-module _ (listed : SinglesListed) (board : RawBoard) (log : List (List Bool)) (faults : List Single) (rules : IsBoard board) (explaining : AreExplaining board log faults) where
+module _ (listed : SinglesListed) (board : RawBoard) (log : List (List Bool)) (faults : List Single)
+    (rules : IsBoard board) (explaining : AreExplaining board log faults) where
   abbrev Explaining : Single → Type 0
   Explaining single = Explains board single log
 
   pub explaining_listed : ListsExplaining board log faults
   explaining_listed = record {
     exactly = λ single. (
-      (λ has. let r = those_hold Explaining (singles board) faults single explaining (contains_has faults single has) in (((listed board rules).exactly single).0 (has_contains (singles board) single r.0), r.1)),
-      (λ h. has_contains faults single (hold_those Explaining (singles board) faults single explaining (contains_has (singles board) single (((listed board rules).exactly single).1 h.0)) h.1)),
+      (λ has. let r = those_hold Explaining (singles board) faults single explaining
+          (contains_has faults single has) in
+          (((listed board rules).exactly single).0 (has_contains (singles board) single r.0), r.1)),
+      (λ h. has_contains faults single
+          (hold_those Explaining (singles board) faults single explaining
+          (contains_has (singles board) single (((listed board rules).exactly single).1 h.0))
+          h.1)),
     );
-    in_order = order_pairs SinglePrecedes faults (those_order Explaining SinglePrecedes (singles board) faults (pairs_order SinglePrecedes (singles board) (listed board rules).in_order) explaining);
+    in_order =
+        order_pairs SinglePrecedes faults
+        (those_order Explaining SinglePrecedes (singles board) faults
+        (pairs_order SinglePrecedes (singles board) (listed board rules).in_order) explaining);
   }
 
   -- if no set of observable faults explains a log, no single fault explains it
-  pub passing_unexplained : ((single : Single) → IsSingle board single → IsObservable board (set_of single)) → ((single : Single) → IsNonempty (set_of single)) →
-      ((faults : FaultSet) → IsObservable board faults → IsNonempty faults → ExplainedBy board faults (svf_row_scans board) log → ⊥) → faults ≡ []
+  pub passing_unexplained :
+      ((single : Single) → IsSingle board single → IsObservable board (set_of single))
+      → ((single : Single) → IsNonempty (set_of single)) →
+      ((faults : FaultSet) → IsObservable board faults → IsNonempty faults
+      → ExplainedBy board faults (svf_row_scans board) log → ⊥) → faults ≡ []
   passing_unexplained observable nonempty unexplained =
-      those_none Explaining (singles board) faults (λ single has explains. unexplained (set_of single) (observable single (((listed board rules).exactly single).0 (has_contains (singles board) single has))) (nonempty single) explains) explaining
+      those_none Explaining (singles board) faults
+      (λ single has explains. unexplained (set_of single)
+      (observable single
+      (((listed board rules).exactly single).0 (has_contains (singles board) single has)))
+      (nonempty single) explains) explaining

@@ -10,7 +10,16 @@ use Rattle.diagnoser.specs.DiagText.{diag_text, fault_line}
 abbrev board : RawBoard
 board = record {
   chain = [];
-  nets = record { name = codes "A"; pins = record { part = codes "U1"; pin = codes "7"; at = None; inert = true } ∷ record { part = codes "U2"; pin = codes "3"; at = None; inert = true } ∷ []; supply = false; pull = None }
+  nets =
+      record {
+        name = codes "A";
+        pins = record
+            { part = codes "U1"; pin = codes "7"; at = None; inert = true }
+            ∷ record { part = codes "U2"; pin = codes "3"; at = None; inert = true }
+            ∷ [];
+        supply = false;
+        pull = None;
+      }
       ∷ record { name = codes "B"; pins = []; supply = false; pull = None } ∷ [];
 }
 
@@ -44,6 +53,7 @@ unexplained : diag_text board false [] ≡ line (codes "FAIL 0")
 unfolding diag_text digits
 unexplained = refl
 
-explained : diag_text board false (StuckNet 0 false ∷ Short 0 1 And ∷ []) ≡ line (codes "FAIL 2") ++ (line (codes "stuck A 0") ++ line (codes "short AND A B"))
+explained : diag_text board false (StuckNet 0 false ∷ Short 0 1 And ∷ [])
+    ≡ line (codes "FAIL 2") ++ (line (codes "stuck A 0") ++ line (codes "short AND A B"))
 unfolding diag_text digits
 explained = refl

@@ -1,7 +1,7 @@
 -- The text of a diagnosis.
 use Rattle.std.specs.Prelude.{◌≡◌, ℕ, Bool, false, true, List, [], ◌∷◌, ◌++◌, length, codes, decimal, Option, None, Some, slice_get, IsTrue, ◌↔◌}
 use Rattle.std.specs.List.{flat_map}
-use Rattle.line_printer.specs.Prints.{line_of}
+use Rattle.line_printer.specs.Prints.{line_of, bit_word}
 use Rattle.board_defs.specs.declared.board.NetPin.{NetPin}
 use Rattle.board_defs.specs.declared.board.Net.{Net}
 use Rattle.board_defs.specs.declared.board.RawBoard.{RawBoard}
@@ -9,22 +9,10 @@ use Rattle.board_defs.specs.declared.fault.Kind.{Kind}
 use Rattle.board_defs.specs.declared.fault.Kind.TheVariants.{And, Or, First, Second}
 use Rattle.board_defs.specs.declared.fault.Single.{Single}
 use Rattle.board_defs.specs.declared.fault.Single.TheVariants.{StuckNet, OpenPin, Short}
-use Rattle.board_defs.specs.Pins.{pin_at}
+use Rattle.board_defs.specs.Pins.{pin_at, name_of, net_name}
 use Rattle.tap_defs.specs.board.BoardScans.{svf_row_scans}
 use Rattle.tap_defs.specs.board.Explaining.{IsExpected}
 use Rattle.diagnoser.specs.Diagnosis.{AreExplaining}
-
-abbrev pub bit_word : Bool → List ℕ
-bit_word false = codes "0"
-bit_word true = codes "1"
-
--- the name of a net, or no text if there is no such net
-abbrev pub name_of : Option Net → List ℕ
-name_of None = []
-name_of (Some net) = net.name
-
-abbrev pub net_name : RawBoard → ℕ → List ℕ
-net_name board n = name_of (slice_get board.nets n)
 
 -- the line of a stuck net, with its name and the value that it is stuck at
 abbrev pub stuck_line : List ℕ → Bool → List ℕ
@@ -36,14 +24,14 @@ open_line None value = []
 open_line (Some pin) value = line_of (codes "open " ∷ pin.part ∷ codes "." ∷ pin.pin ∷ codes " " ∷ bit_word value ∷ [])
 
 -- The line of a short of two nets. If one net dominates, the name of that net comes first.
-abbrev pub pair_line : List ℕ → List ℕ → List ℕ → List ℕ
-pair_line word x y = line_of (codes "short " ∷ word ∷ codes " " ∷ x ∷ codes " " ∷ y ∷ [])
+abbrev pub short_fault_line : List ℕ → List ℕ → List ℕ → List ℕ
+short_fault_line word x y = line_of (codes "short " ∷ word ∷ codes " " ∷ x ∷ codes " " ∷ y ∷ [])
 
 abbrev pub short_line : Kind → List ℕ → List ℕ → List ℕ
-short_line And a b = pair_line (codes "AND") a b
-short_line Or a b = pair_line (codes "OR") a b
-short_line First a b = pair_line (codes "DOM") a b
-short_line Second a b = pair_line (codes "DOM") b a
+short_line And a b = short_fault_line (codes "AND") a b
+short_line Or a b = short_fault_line (codes "OR") a b
+short_line First a b = short_fault_line (codes "DOM") a b
+short_line Second a b = short_fault_line (codes "DOM") b a
 
 -- the line of a fault
 abbrev pub fault_line : RawBoard → Single → List ℕ

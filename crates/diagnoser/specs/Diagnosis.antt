@@ -13,7 +13,7 @@ abbrev pub AreExplaining : RawBoard → List (List Bool) → List Single → Typ
 AreExplaining board log faults = Picks (λ single. Explains board single log) (singles board) faults
 
 -- the nets and the pin of a fault are on the board
-abbrev pub IsNamed : RawBoard → Single → Type 0
-IsNamed board (StuckNet net value) = net < length board.nets
-IsNamed board (OpenPin pin value) = IsOnBoard board pin
-IsNamed board (Short a b kind) = (a < length board.nets) × (b < length board.nets)
+abbrev pub IsFaultOnBoard : RawBoard → Single → Type 0
+IsFaultOnBoard board (StuckNet net value) = net < length board.nets
+IsFaultOnBoard board (OpenPin pin value) = IsOnBoard board pin
+IsFaultOnBoard board (Short a b kind) = (a < length board.nets) × (b < length board.nets)

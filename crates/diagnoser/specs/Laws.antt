@@ -15,17 +15,24 @@ pub record ListsExplaining (board : RawBoard) (log : List (List Bool)) (faults :
   pub in_order : AllPairs SinglePrecedes faults
 
 abbrev pub ExplainingListed : Type 0
-ExplainingListed = (board : RawBoard) (log : List (List Bool)) (faults : List Single) → IsBoard board → AreExplaining board log faults → ListsExplaining board log faults
+ExplainingListed =
+    (board : RawBoard) (log : List (List Bool)) (faults : List Single) → IsBoard board
+    → AreExplaining board log faults → ListsExplaining board log faults
 
 -- a log has at most one list of the single faults that explain it, in order
 abbrev pub OneList : Type 0
-OneList = (board : RawBoard) (log : List (List Bool)) (faults others : List Single) → AreExplaining board log faults → AreExplaining board log others → faults ≡ others
+OneList =
+    (board : RawBoard) (log : List (List Bool)) (faults others : List Single)
+    → AreExplaining board log faults → AreExplaining board log others → faults ≡ others
 
 -- a log has at most one diagnosis text
 abbrev pub OneDiagnosis : Type 0
-OneDiagnosis = (board : RawBoard) (log : List (List Bool)) (text other : List ℕ) → IsDiagText board log text → IsDiagText board log other → text ≡ other
+OneDiagnosis =
+    (board : RawBoard) (log : List (List Bool)) (text other : List ℕ) → IsDiagText board log text
+    → IsDiagText board log other → text ≡ other
 
 -- if every compared bit of a log is the expected bit, no single fault explains the log
 abbrev pub PassingUnexplained : Type 0
 PassingUnexplained =
-    (board : RawBoard) (log : List (List Bool)) (faults : List Single) → IsBoard board → IsExpected board (svf_row_scans board) log → AreExplaining board log faults → faults ≡ []
+    (board : RawBoard) (log : List (List Bool)) (faults : List Single) → IsBoard board
+    → IsExpected board (svf_row_scans board) log → AreExplaining board log faults → faults ≡ []

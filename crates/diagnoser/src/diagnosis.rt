@@ -5,7 +5,7 @@ ghost use Rattle.board_defs.specs.Pins.{data_bits};
 ghost use Rattle.scan_planner.specs.Plans.{IsPlanOf};
 ghost use Rattle.fault_sim.specs.Places.{IsUniverse};
 ghost use Rattle.fault_sim.specs.Suspects.{AreDiffering};
-ghost use Rattle.diagnoser.specs.Diagnosis.{AreExplaining, IsNamed};
+ghost use Rattle.diagnoser.specs.Diagnosis.{AreExplaining, IsFaultOnBoard};
 
 use crate::search::{Search, search_pieces};
 use crate::workers::Workers;
@@ -41,7 +41,7 @@ pub fn diagnose<R: Threads + Sync, G: Gate>(
     requires rows { length log.now ≡ length plan.now.passes * plan.now.width }
     requires bits { All (λ row. length row ≡ data_bits board.now) log.now }
     ensures faults { IfOk result (λ faults. AreExplaining board.now log.now faults.items) }
-    ensures named { IfOk result (λ faults. All (IsNamed board.now) faults.items) }
+    ensures named { IfOk result (λ faults. All (IsFaultOnBoard board.now) faults.items) }
 {
     let logged = LoggedTest::of(board, plan, log);
     let nets = logged.differing(alloc)?;
@@ -57,9 +57,12 @@ pub fn diagnose_logged<R: Threads + Sync, G: Gate>(
     workers: Workers,
     gate: &G,
 ) -> Result<Vec<Single>, AllocError>
-    requires differing { AreDiffering logged.now.test.board logged.now.test.plan logged.now.log nets.now }
-    ensures faults { IfOk result (λ faults. AreExplaining logged.now.test.board logged.now.log faults.items) }
-    ensures named { IfOk result (λ faults. All (IsNamed logged.now.test.board) faults.items) }
+    requires differing { AreDiffering logged.now.test.board logged.now.test.plan logged.now.log
+        nets.now }
+    ensures faults { IfOk result
+        (λ faults. AreExplaining logged.now.test.board logged.now.log faults.items) }
+    ensures named { IfOk result
+        (λ faults. All (IsFaultOnBoard logged.now.test.board) faults.items) }
 {
     let universe = Universe::new(alloc, logged.board(), logged.plan())?;
     diagnose_in(rt, alloc, logged, &universe, nets, workers, gate)
@@ -76,9 +79,12 @@ pub fn diagnose_in<R: Threads + Sync, G: Gate>(
     gate: &G,
 ) -> Result<Vec<Single>, AllocError>
     requires universe { IsUniverse logged.now.test.board universe.now }
-    requires differing { AreDiffering logged.now.test.board logged.now.test.plan logged.now.log nets.now }
-    ensures faults { IfOk result (λ faults. AreExplaining logged.now.test.board logged.now.log faults.items) }
-    ensures named { IfOk result (λ faults. All (IsNamed logged.now.test.board) faults.items) }
+    requires differing { AreDiffering logged.now.test.board logged.now.test.plan logged.now.log
+        nets.now }
+    ensures faults { IfOk result
+        (λ faults. AreExplaining logged.now.test.board logged.now.log faults.items) }
+    ensures named { IfOk result
+        (λ faults. All (IsFaultOnBoard logged.now.test.board) faults.items) }
 {
     let _rules = logged.board().raw();
     law::suspects_suffice();

@@ -1,7 +1,7 @@
 // Writes the lines of a diagnosis.
 ghost use Rattle.std.specs.Prelude.{◌≡◌, [], ◌∷◌, Some, codes, decimal};
-ghost use Rattle.line_printer.specs.Prints.{Prints, line_of};
-ghost use Rattle.diagnoser.specs.DiagText.{bit_word, stuck_line, open_line, pair_line, short_line, fail_line};
+ghost use Rattle.line_printer.specs.Prints.{Prints, line_of, bit_word};
+ghost use Rattle.diagnoser.specs.DiagText.{stuck_line, open_line, short_fault_line, short_line, fail_line};
 
 use board_defs::{Kind, NetPin};
 use bt_base::{PutFault, Sink};
@@ -17,7 +17,8 @@ fn bit_word(value: bool) -> &'static [u8]
 
 /// Writes the line `PASS`.
 pub fn put_pass<K: Sink>(line: &mut Line, out: &mut K) -> Result<(), PutFault>
-    ensures { Prints (K.shown out.old) (K.shown out.new) [] [] (line_of (codes "PASS" ∷ [])) result }
+    ensures { Prints (K.shown out.old) (K.shown out.new) [] [] (line_of (codes "PASS" ∷ []))
+        result }
 {
     put_line(&[b"PASS"], line, out)
 }
@@ -37,7 +38,8 @@ fn put_stuck_word<K: Sink>(
     line: &mut Line,
     out: &mut K,
 ) -> Result<(), PutFault>
-    ensures { Prints (K.shown out.old) (K.shown out.new) [] [] (line_of (codes "stuck " ∷ name.now ∷ codes " " ∷ word.now ∷ [])) result }
+    ensures { Prints (K.shown out.old) (K.shown out.new) [] []
+        (line_of (codes "stuck " ∷ name.now ∷ codes " " ∷ word.now ∷ [])) result }
 {
     put_line(&[b"stuck ".as_slice(), name, b" ", word], line, out)
 }
@@ -60,7 +62,10 @@ fn put_open_word<K: Sink>(
     line: &mut Line,
     out: &mut K,
 ) -> Result<(), PutFault>
-    ensures { Prints (K.shown out.old) (K.shown out.new) [] [] (line_of (codes "open " ∷ pin.now.part ∷ codes "." ∷ pin.now.pin ∷ codes " " ∷ word.now ∷ [])) result }
+    ensures { Prints (K.shown out.old) (K.shown out.new) [] []
+        (line_of
+        (codes "open " ∷ pin.now.part ∷ codes "." ∷ pin.now.pin ∷ codes " " ∷ word.now ∷ []))
+        result }
 {
     put_line(
         &[
@@ -83,7 +88,8 @@ pub fn put_open<K: Sink>(
     line: &mut Line,
     out: &mut K,
 ) -> Result<(), PutFault>
-    ensures { Prints (K.shown out.old) (K.shown out.new) [] [] (open_line (Some pin.now) value) result }
+    ensures { Prints (K.shown out.old) (K.shown out.new) [] [] (open_line (Some pin.now) value)
+        result }
 {
     put_open_word(pin, bit_word(value), line, out)
 }
@@ -95,7 +101,8 @@ fn put_pair<K: Sink>(
     line: &mut Line,
     out: &mut K,
 ) -> Result<(), PutFault>
-    ensures { Prints (K.shown out.old) (K.shown out.new) [] [] (pair_line word.now x.now y.now) result }
+    ensures { Prints (K.shown out.old) (K.shown out.new) [] []
+        (short_fault_line word.now x.now y.now) result }
 {
     put_line(&[b"short ".as_slice(), word, b" ", x, b" ", y], line, out)
 }
@@ -108,7 +115,8 @@ pub fn put_short<K: Sink>(
     line: &mut Line,
     out: &mut K,
 ) -> Result<(), PutFault>
-    ensures { Prints (K.shown out.old) (K.shown out.new) [] [] (short_line kind a.now b.now) result }
+    ensures { Prints (K.shown out.old) (K.shown out.new) [] [] (short_line kind a.now b.now)
+        result }
 {
     match kind {
         Kind::And => put_pair(b"AND", a, b, line, out),

@@ -3,9 +3,9 @@ ghost use Rattle.std.specs.Prelude.{◌≡◌, ◌++◌, ◌<◌, [], length, Al
 ghost use Rattle.std.specs.List.{flat_map};
 ghost use Rattle.bt_base.specs.Puts.{Puts};
 ghost use Rattle.line_printer.specs.Prints.{Prints};
-ghost use Rattle.board_defs.specs.Pins.{IsOnBoard, pin_at};
-ghost use Rattle.diagnoser.specs.Diagnosis.{IsNamed};
-ghost use Rattle.diagnoser.specs.DiagText.{net_name, fault_line, fail_line, diag_text};
+ghost use Rattle.board_defs.specs.Pins.{IsOnBoard, pin_at, net_name};
+ghost use Rattle.diagnoser.specs.Diagnosis.{IsFaultOnBoard};
+ghost use Rattle.diagnoser.specs.DiagText.{fault_line, fail_line, diag_text};
 
 use crate::lines::{put_fail, put_open, put_pass, put_short, put_stuck};
 use board_defs::{Board, NetPin, PinRef, Single};
@@ -35,7 +35,7 @@ fn put_fault<K: Sink>(
     line: &mut Line,
     out: &mut K,
 ) -> Result<(), PutFault>
-    requires { IsNamed board.now fault }
+    requires { IsFaultOnBoard board.now fault }
     ensures { Prints (K.shown out.old) (K.shown out.new) [] [] (fault_line board.now fault) result }
 {
     match fault {
@@ -53,8 +53,9 @@ fn put_faults<K: Sink>(
     line: &mut Line,
     out: &mut K,
 ) -> Result<(), PutFault>
-    requires { All (IsNamed board.now) faults.now }
-    ensures { Prints (K.shown out.old) (K.shown out.new) [] [] (flat_map (fault_line board.now) faults.now) result }
+    requires { All (IsFaultOnBoard board.now) faults.now }
+    ensures { Prints (K.shown out.old) (K.shown out.new) [] []
+        (flat_map (fault_line board.now) faults.now) result }
 {
     for fault in faults {
         put_fault(board, *fault, line, out)?;
@@ -69,8 +70,9 @@ fn put_list<K: Sink>(
     line: &mut Line,
     out: &mut K,
 ) -> Result<(), PutFault>
-    requires { All (IsNamed board.now) faults.now }
-    ensures { Prints (K.shown out.old) (K.shown out.new) [] [] (fail_line (length faults.now) ++ flat_map (fault_line board.now) faults.now) result }
+    requires { All (IsFaultOnBoard board.now) faults.now }
+    ensures { Prints (K.shown out.old) (K.shown out.new) [] []
+        (fail_line (length faults.now) ++ flat_map (fault_line board.now) faults.now) result }
 {
     put_fail(faults.len() as u64, line, out)?;
     put_faults(board, faults, line, out)
@@ -87,8 +89,9 @@ pub fn write_diagnosis<K: Sink>(
     line: &mut Line,
     out: &mut K,
 ) -> Result<(), PutFault>
-    requires { All (IsNamed board.now) faults.now }
-    ensures { Puts (K.shown out.old) (K.shown out.new) (diag_text board.now pass faults.now) result }
+    requires { All (IsFaultOnBoard board.now) faults.now }
+    ensures { Puts (K.shown out.old) (K.shown out.new) (diag_text board.now pass faults.now)
+        result }
 {
     if pass {
         put_pass(line, out)

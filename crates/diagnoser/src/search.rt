@@ -4,7 +4,7 @@ ghost use Rattle.std.specs.Option.{option_to_list};
 ghost use Rattle.board_defs.specs.Faults.{IsSingle};
 ghost use Rattle.tap_defs.specs.board.Explaining.{Explains};
 ghost use Rattle.fault_sim.specs.Places.{observes_fault};
-ghost use Rattle.diagnoser.specs.inner.Search.{IsSearch, Found};
+ghost use Rattle.diagnoser.specs.inner.Search.{IsSearch, AreFoundBetween};
 
 use crate::entered::Entered;
 use crate::workers::Workers;
@@ -30,7 +30,8 @@ pub struct Search<'a, 'b> {
 // Returns true only if the telling net rules the fault out. A single fault of the board that is ruled out does not explain the log.
 fn is_ruled_out(search: Search<'_, '_>, fault: Single) -> bool
     requires { IsSearch search }
-    ensures { result ≡ true → IsSingle search.entry.logged.now.test.board fault → Explains search.entry.logged.now.test.board fault search.entry.logged.now.log → ⊥ }
+    ensures { result ≡ true → IsSingle search.entry.logged.now.test.board fault
+        → Explains search.entry.logged.now.test.board fault search.entry.logged.now.log → ⊥ }
 {
     match search.telling {
         None => false,
@@ -43,8 +44,11 @@ fn is_ruled_out(search: Search<'_, '_>, fault: Single) -> bool
 // the entry of the gate so that no candidate is tried before the gate is entered.
 fn explains(search: Search<'_, '_>, fault: Single, _entered: &Entered) -> bool
     requires search { IsSearch search }
-    requires fault { observes_fault search.logged.now.test.plan fault ≡ true → IsSingle search.logged.now.test.board fault }
-    ensures { IsTrue result ↔ ((observes_fault search.entry.logged.now.test.plan fault ≡ true) × Explains search.entry.logged.now.test.board fault search.entry.logged.now.log) }
+    requires fault { observes_fault search.logged.now.test.plan fault ≡ true
+        → IsSingle search.logged.now.test.board fault }
+    ensures { IsTrue result
+        ↔ ((observes_fault search.entry.logged.now.test.plan fault ≡ true)
+        × Explains search.entry.logged.now.test.board fault search.entry.logged.now.log) }
 {
     if is_ruled_out(search, fault) {
         return false;
@@ -66,7 +70,7 @@ fn try_candidate<G: Gate>(
 ) -> Option<Single>
     requires search { IsSearch search }
     requires candidate { i < length search.suspects.now }
-    ensures { Found search.entry i (i + 1) (option_to_list result) }
+    ensures { AreFoundBetween search.entry i (i + 1) (option_to_list result) }
 {
     let _plan = search.logged.plan();
     let _rules = search.logged.board().raw();
@@ -100,7 +104,8 @@ fn search_piece<G: Gate>(
     requires search { IsSearch search }
     requires order { piece.first ≤ piece.end }
     requires within { piece.end ≤ length search.suspects.now }
-    ensures { IfOk result (λ faults. Found search.entry piece.first piece.end faults.items) }
+    ensures { IfOk result
+        (λ faults. AreFoundBetween search.entry piece.first piece.end faults.items) }
 {
     let mut faults = Vec::new(alloc);
     let mut near = 0;
@@ -121,12 +126,15 @@ pub fn search_pieces<R: Threads + Sync, G: Gate>(
     gate: &G,
 ) -> Result<Vec<Single>, AllocError>
     requires { IsSearch search }
-    ensures { IfOk result (λ faults. Found search.entry 0 (length search.entry.suspects.now) faults.items) }
+    ensures { IfOk result
+        (λ faults. AreFoundBetween search.entry 0 (length search.entry.suspects.now) faults.items) }
 {
     let count = search.suspects.count();
     let find = move |piece: Piece| -> Result<Vec<Single>, AllocError>
-        requires { IsSearch search × (piece.first ≤ piece.end) × (piece.end ≤ length search.suspects.now) }
-        ensures { IfOk result (λ faults. Found search.entry piece.first piece.end faults.items) }
+        requires { IsSearch search × (piece.first ≤ piece.end)
+            × (piece.end ≤ length search.suspects.now) }
+        ensures { IfOk result
+            (λ faults. AreFoundBetween search.entry piece.first piece.end faults.items) }
     { search_piece(alloc, search, piece, gate) };
     in_pieces(rt, alloc, count, workers.number(), &find)
 }

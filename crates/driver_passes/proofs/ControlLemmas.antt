@@ -35,12 +35,14 @@ pub insert_before : (c : Ctl) (setting : List Ctl) → ComeAfter c setting → i
 insert_before c [] after = refl
 insert_before c (d ∷ setting) after =
     let r : (precedes d c ≡ false) × (same_ctl c d ≡ false) × (same_ctl d c ≡ false) = after_is c d (after 0 d (omega arith)) in
-    ap (λ t. cond t (d ∷ inserted c setting) (cond (same_ctl c d) (d ∷ setting) (c ∷ d ∷ setting))) r.0 ∙ ap (λ t. cond t (d ∷ setting) (c ∷ d ∷ setting)) r.1
+    ap (λ t. cond t (d ∷ inserted c setting) (cond (same_ctl c d) (d ∷ setting) (c ∷ d ∷ setting)))
+    r.0 ∙ ap (λ t. cond t (d ∷ setting) (c ∷ d ∷ setting)) r.1
 
 -- inserting a control that is already at the front leaves the setting unchanged
 pub insert_front : (c : Ctl) (setting : List Ctl) → inserted c (c ∷ setting) ≡ c ∷ setting
 insert_front c setting =
-    ap (λ t. cond t (c ∷ inserted c setting) (cond (same_ctl c c) (c ∷ setting) (c ∷ c ∷ setting))) (itself_is c) ∙ ap (λ t. cond t (c ∷ setting) (c ∷ c ∷ setting)) (same_refl c)
+    ap (λ t. cond t (c ∷ inserted c setting) (cond (same_ctl c c) (c ∷ setting) (c ∷ c ∷ setting)))
+    (itself_is c) ∙ ap (λ t. cond t (c ∷ setting) (c ∷ c ∷ setting)) (same_refl c)
 
 -- a control that comes after the first control is inserted behind the first
 pub insert_behind : (c d : Ctl) (setting : List Ctl) → precedes d c ≡ true → inserted c (d ∷ setting) ≡ d ∷ inserted c setting
@@ -77,7 +79,9 @@ all_inserted p c (d ∷ setting) = by_order (all_inserted p c setting) (precedes
 -- what is true of all controls in a list is true of a control that the list holds
 pub holds_of : (P : Ctl → Type 0) (controls : List Ctl) (c : Ctl) → All P controls → holds controls c ≡ true → P c
 holds_of P [] c all h = cc h
-holds_of P (d ∷ controls) c all h = by_part (holds_of P controls c (λ k e less. all (suc k) e (omega (arith, less)))) (or_cases (same_ctl c d) (holds controls c) h)
+holds_of P (d ∷ controls) c all h =
+    by_part (holds_of P controls c (λ k e less. all (suc k) e (omega (arith, less))))
+    (or_cases (same_ctl c d) (holds controls c) h)
   where
     by_part : (holds controls c ≡ true → P c) → (same_ctl c d ≡ true) ⊎ (holds controls c ≡ true) → P c
     by_part rest (inl same) = subst P (sym (same_equal c d same)) (all 0 d (omega arith))
@@ -85,7 +89,8 @@ holds_of P (d ∷ controls) c all h = by_part (holds_of P controls c (λ k e les
 
 -- controls at different places of a list in control order are different
 
-pub other_place : (controls : List Ctl) (p q : ℕ) (c e : Ctl) → IsInControlOrder controls → slice_get controls p ≡ Some c → slice_get controls q ≡ Some e → p ≢ q → same_ctl e c ≡ false
+pub other_place : (controls : List Ctl) (p q : ℕ) (c e : Ctl) → IsInControlOrder controls
+    → slice_get controls p ≡ Some c → slice_get controls q ≡ Some e → p ≢ q → same_ctl e c ≡ false
 other_place controls p q c e order at at' differ = by_order (cases_order p q)
   where
     first : get_or controls p c ≡ c
@@ -96,5 +101,11 @@ other_place controls p q c e order at at' differ = by_order (cases_order p q)
 
     by_order : (p ≡ q) ⊎ ((p < q) ⊎ (q < p)) → same_ctl e c ≡ false
     by_order (inl same) = absurd (differ same)
-    by_order (inr (inl less)) = (after_is c e (sym (ap (λ d. precedes d e) first) ∙ sym (ap (precedes (get_or controls p c)) second) ∙ order p q c less (slice_get_within controls q e at'))).2
-    by_order (inr (inr less)) = (after_is e c (sym (ap (λ d. precedes d c) second) ∙ sym (ap (precedes (get_or controls q c)) first) ∙ order q p c less (slice_get_within controls p c at))).1
+    by_order (inr (inl less)) =
+        (after_is c e
+        (sym (ap (λ d. precedes d e) first) ∙ sym (ap (precedes (get_or controls p c)) second)
+        ∙ order p q c less (slice_get_within controls q e at'))).2
+    by_order (inr (inr less)) =
+        (after_is e c
+        (sym (ap (λ d. precedes d c) second) ∙ sym (ap (precedes (get_or controls q c)) first)
+        ∙ order q p c less (slice_get_within controls p c at))).1

@@ -8,7 +8,7 @@ use Rattle.board_defs.specs.declared.board.Ctl.{Ctl}
 use Rattle.board_defs.specs.declared.board.RawBoard.{RawBoard}
 use Rattle.board_defs.specs.Settings.{same_ctl, holds, inserted}
 use Rattle.board_defs.specs.Decided.{is_safe_alone, share_net, are_together}
-use Rattle.board_defs.specs.Passes.{useful_controls, fits}
+use Rattle.board_defs.specs.Passes.{useful_controls, joins_setting}
 use Rattle.board_defs.specs.Coverage.{IsUseful}
 use Rattle.board_defs.specs.Laws.{PassesAre, DecidesTerms}
 use Rattle.board_defs.proofs.ControlOrder.{same_refl}
@@ -41,7 +41,8 @@ number_any : (p : ℕ → Bool) (xs : List ℕ) → list_any p xs ≡ true → (
 number_any p [] h = cc h
 number_any p (x ∷ xs) h = by_part (number_any p xs) (or_cases (p x) (list_any p xs) h)
   where
-    by_part : (list_any p xs ≡ true → (n : ℕ) × Contains xs n × (p n ≡ true)) → (p x ≡ true) ⊎ (list_any p xs ≡ true) → (n : ℕ) × Contains (x ∷ xs) n × (p n ≡ true)
+    by_part : (list_any p xs ≡ true → (n : ℕ) × Contains xs n × (p n ≡ true))
+        → (p x ≡ true) ⊎ (list_any p xs ≡ true) → (n : ℕ) × Contains (x ∷ xs) n × (p n ≡ true)
     by_part rest (inl e) = (x, (0, omega arith, refl), e)
     by_part rest (inr e) = let r : (n : ℕ) × Contains xs n × (p n ≡ true) = rest e in (r.0, (suc r.1.0, omega (arith, r.1.1), r.1.2), r.2)
 
@@ -49,15 +50,21 @@ common_decided : (xs ys : List ℕ) → Decides (list_any (has_number ys) xs) (H
 common_decided xs ys = (there, back)
   where
     there : list_any (has_number ys) xs ≡ true → HaveCommon xs ys
-    there h = let r : (n : ℕ) × Contains xs n × (has_number ys n ≡ true) = number_any (has_number ys) xs h in (r.0, r.1, has_contains ys r.0 r.2)
+    there h =
+        let r : (n : ℕ) × Contains xs n
+        × (has_number ys n ≡ true) = number_any (has_number ys) xs h in
+        (r.0, r.1, has_contains ys r.0 r.2)
 
     back : HaveCommon xs ys → list_any (has_number ys) xs ≡ true
     back (n, (i, less, e), (j, below, f)) = any_number (has_number ys) xs n i less e (contains_has ys n j below f)
 
-share_is : (board : RawBoard) (c d : Ctl) → NetsAreShared → same_ctl c d ≡ false → share_net board c d ≡ list_any (has_number (shared_nets board d)) (shared_nets board c)
+share_is : (board : RawBoard) (c d : Ctl) → NetsAreShared → same_ctl c d ≡ false
+    → share_net board c d ≡ list_any (has_number (shared_nets board d)) (shared_nets board c)
 share_is board c d shared other =
     let says : SaysShared board c d = shared board c d in
-    one_answer (share_net board c d) (list_any (has_number (shared_nets board d)) (shared_nets board c)) (says.by_shared other) (common_decided (shared_nets board c) (shared_nets board d))
+    one_answer (share_net board c d)
+    (list_any (has_number (shared_nets board d)) (shared_nets board c)) (says.by_shared other)
+    (common_decided (shared_nets board c) (shared_nets board d))
 
 pub common_swap : (xs ys : List ℕ) → list_any (has_number ys) xs ≡ list_any (has_number xs) ys
 common_swap xs ys = one_answer (list_any (has_number ys) xs) (list_any (has_number xs) ys) (common_decided xs ys) (there, back)
@@ -69,9 +76,14 @@ common_swap xs ys = one_answer (list_any (has_number ys) xs) (list_any (has_numb
     back (n, one, two) = (common_decided ys xs).1 (n, two, one)
 
 -- two different controls that are safe alone are together if and only if they share no net
-pub together_is : (board : RawBoard) (c d : Ctl) → NetsAreShared → is_safe_alone board c ≡ true → is_safe_alone board d ≡ true → same_ctl c d ≡ false → are_together board c d ≡ not (list_any (has_number (shared_nets board d)) (shared_nets board c))
+pub together_is : (board : RawBoard) (c d : Ctl) → NetsAreShared → is_safe_alone board c ≡ true
+    → is_safe_alone board d ≡ true → same_ctl c d ≡ false
+    → are_together board c d
+    ≡ not (list_any (has_number (shared_nets board d)) (shared_nets board c))
 together_is board c d shared safe also other =
-    ap (λ v. v && is_safe_alone board d && (same_ctl c d || not (share_net board c d))) safe ∙ ap (λ v. v && (same_ctl c d || not (share_net board c d))) also ∙ ap (λ v. v || not (share_net board c d)) other ∙ ap not (share_is board c d shared other)
+    ap (λ v. v && is_safe_alone board d && (same_ctl c d || not (share_net board c d))) safe
+    ∙ ap (λ v. v && (same_ctl c d || not (share_net board c d))) also
+    ∙ ap (λ v. v || not (share_net board c d)) other ∙ ap not (share_is board c d shared other)
 
 pub holds_at : (controls : List Ctl) (i : ℕ) (c : Ctl) → slice_get controls i ≡ Some c → holds controls c ≡ true
 holds_at [] i c e = cc e
@@ -79,12 +91,17 @@ holds_at (d ∷ controls) zero c e = let same : d ≡ c = cc e in or_left (same_
 holds_at (d ∷ controls) (suc i) c e = or_right (same_ctl c d) (holds controls c) (holds_at controls i c e)
 
 -- a useful control is safe alone
-pub useful_safe : (board : RawBoard) (c : Ctl) → PassesAre board → DecidesTerms board → holds (useful_controls board) c ≡ true → is_safe_alone board c ≡ true
+pub useful_safe : (board : RawBoard) (c : Ctl) → PassesAre board → DecidesTerms board
+    → holds (useful_controls board) c ≡ true → is_safe_alone board c ≡ true
 useful_safe board c are decides h = let is : IsUseful board c = (are.said.useful c).0 h in (decides.safe c).1 is.0
 
 -- adding a control that is already in the draft leaves the setting unchanged
-pub held_nothing : (board : RawBoard) (held : List ℕ) (place : ℕ) (c : Ctl) (t : Bool) → PassesAre board → slice_get (useful_controls board) place ≡ Some c → is_in held place ≡ true → setting_of board held ≡ cond t (inserted c (setting_of board held)) (setting_of board held)
-held_nothing board held place c true are stands h = chosen_set (is_in held) (is_in held) 0 place place (useful_controls board) c are.said.useful_in_order (omega arith) (λ n. same n (cases_eq n place)) stands
+pub held_nothing : (board : RawBoard) (held : List ℕ) (place : ℕ) (c : Ctl) (t : Bool)
+    → PassesAre board → slice_get (useful_controls board) place ≡ Some c → is_in held place ≡ true
+    → setting_of board held ≡ cond t (inserted c (setting_of board held)) (setting_of board held)
+held_nothing board held place c true are stands h =
+    chosen_set (is_in held) (is_in held) 0 place place (useful_controls board) c
+    are.said.useful_in_order (omega arith) (λ n. same n (cases_eq n place)) stands
   where
     same : (n : ℕ) → (n ≡ place) ⊎ (n ≡ place → ⊥) → is_in held n ≡ (n == place || is_in held n)
     same n (inl one) = ap (is_in held) one ∙ h ∙ sym (or_left (n == place) (is_in held n) (eq-eqb n place one))
@@ -92,7 +109,10 @@ held_nothing board held place c true are stands h = chosen_set (is_in held) (is_
 held_nothing board held place c false are stands h = refl
 
 -- a control that cannot be added leaves the setting unchanged, since it is in the draft already or does not fit
-pub closed_nothing : (board : RawBoard) (held free : List ℕ) (place : ℕ) (c : Ctl) (t : Bool) → PassesAre board → IsDraft board held free → slice_get (useful_controls board) place ≡ Some c → is_in free place ≡ false → (fits board (setting_of board held) c ≡ false → t ≡ false) →
+pub closed_nothing : (board : RawBoard) (held free : List ℕ) (place : ℕ) (c : Ctl) (t : Bool)
+    → PassesAre board → IsDraft board held free → slice_get (useful_controls board) place ≡ Some c
+    → is_in free place ≡ false → (joins_setting board (setting_of board held) c ≡ false → t ≡ false)
+    →
     setting_of board held ≡ cond t (inserted c (setting_of board held)) (setting_of board held)
 closed_nothing board held free place c t are is stands closed only = by_test (is_in held place) refl
   where
@@ -101,8 +121,17 @@ closed_nothing board held free place c t are is stands closed only = by_test (is
 
     by_test : (h : Bool) → is_in held place ≡ h → s ≡ cond t (inserted c s) s
     by_test true e = held_nothing board held place c t are stands e
-    by_test false e = sym (ap (λ u. cond u (inserted c s) s) (only (ap (λ h. not h && fits board s c) (sym e) ∙ sym (is.free_are place c stands) ∙ closed)))
+    by_test false e =
+        sym
+        (ap (λ u. cond u (inserted c s) s)
+        (only
+        (ap (λ h. not h && joins_setting board s c) (sym e)
+        ∙ sym (is.free_are place c stands) ∙ closed)))
 
 -- if a control can be added to the draft, the control fits the draft's setting
-pub free_fits : (board : RawBoard) (held free : List ℕ) (place : ℕ) (c : Ctl) → IsDraft board held free → slice_get (useful_controls board) place ≡ Some c → is_in free place ≡ true → fits board (setting_of board held) c ≡ true
-free_fits board held free place c is stands can = (and_parts (not (is_in held place)) (fits board (setting_of board held) c) (sym (is.free_are place c stands) ∙ can)).1
+pub free_fits : (board : RawBoard) (held free : List ℕ) (place : ℕ) (c : Ctl)
+    → IsDraft board held free → slice_get (useful_controls board) place ≡ Some c
+    → is_in free place ≡ true → joins_setting board (setting_of board held) c ≡ true
+free_fits board held free place c is stands can =
+    (and_parts (not (is_in held place)) (joins_setting board (setting_of board held) c)
+    (sym (is.free_are place c stands) ∙ can)).1

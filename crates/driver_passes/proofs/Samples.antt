@@ -5,7 +5,7 @@ use Rattle.std.proofs.lemmas.Bool.{not-true}
 use Rattle.board_defs.proofs.Members.{all_has, has_range}
 use Rattle.driver_passes.specs.declared.blocks.Block.{Block}
 use Rattle.driver_passes.specs.declared.column.Column.{Column}
-use Rattle.driver_passes.specs.inner.NumberSets.{has_bit, is_in, is_of_word, IsFirst}
+use Rattle.driver_passes.specs.inner.NumberSets.{has_bit, is_in, is_of_word, IsFirstNumber}
 use Rattle.driver_passes.specs.inner.Blocks.{has_place}
 use Rattle.driver_passes.specs.inner.Shown.{IsColumn, words_at}
 
@@ -52,7 +52,9 @@ none_of_word = refl
 
 -- blocks with the bits 0 and 1 of word 0, no bit of word 1, and the bits 2 and 63 of word 2
 abbrev some_blocks : List Block
-some_blocks = record { word = 0; bits = 3 } ∷ record { word = 1; bits = 0 } ∷ record { word = 2; bits = 4 } ∷ record { word = 2; bits = 2 ^ 63 } ∷ []
+some_blocks =
+    record { word = 0; bits = 3 } ∷ record { word = 1; bits = 0 } ∷ record { word = 2; bits = 4 }
+    ∷ record { word = 2; bits = 2 ^ 63 } ∷ []
 
 of_blocks : filter (has_place some_blocks) (range_with_len 0 192) ≡ 0 ∷ 1 ∷ 130 ∷ 191 ∷ []
 of_blocks = refl
@@ -72,17 +74,24 @@ of_column : (column : Column) → column.number ≡ 1 → column.words.items ≡
 of_column column number words = words ∙ sym (ap (λ n. words_at n some_rows) number)
 
 -- if a computed check finds that no number in `from..end` satisfies the test, none of these numbers satisfies it
-none_by : (passes : ℕ → Bool) (from end : ℕ) → list_all (λ n. not (passes n)) (range_with_len from (end - from)) ≡ true → (n : ℕ) → from ≤ n → n < end → passes n ≡ false
-none_by passes from end none n least below = not-true _ (all_has (λ m. not (passes m)) (range_with_len from (end - from)) n none (has_range from (end - from) n least (omega (arith, least, below))))
+none_by : (passes : ℕ → Bool) (from end : ℕ)
+    → list_all (λ n. not (passes n)) (range_with_len from (end - from)) ≡ true → (n : ℕ) → from ≤ n
+    → n < end → passes n ≡ false
+none_by passes from end none n least below =
+    not-true _
+    (all_has (λ m. not (passes m)) (range_with_len from (end - from)) n none
+    (has_range from (end - from) n least (omega (arith, least, below))))
 
-first_by : (passes : ℕ → Bool) (from first : ℕ) → from ≤ first → passes first ≡ true → list_all (λ n. not (passes n)) (range_with_len from (first - from)) ≡ true → IsFirst passes from first
+first_by : (passes : ℕ → Bool) (from first : ℕ) → from ≤ first → passes first ≡ true
+    → list_all (λ n. not (passes n)) (range_with_len from (first - from)) ≡ true
+    → IsFirstNumber passes from first
 first_by passes from first least found none = record { least = least; found = found; earlier = none_by passes from first none }
 
 -- the word 9 has bits 0 and 3, so its first bit from place 0 on is bit 0
-first_from_0 : IsFirst (has_bit 9) 0 0
+first_from_0 : IsFirstNumber (has_bit 9) 0 0
 first_from_0 = first_by (has_bit 9) 0 0 (omega arith) refl refl
 
-first_from_1 : IsFirst (has_bit 9) 1 3
+first_from_1 : IsFirstNumber (has_bit 9) 1 3
 first_from_1 = first_by (has_bit 9) 1 3 (omega arith) refl refl
 
 none_from_4 : (n : ℕ) → 4 ≤ n → n < 64 → has_bit 9 n ≡ false
@@ -92,11 +101,11 @@ none_from_4 = none_by (has_bit 9) 4 64 refl
 abbrev late : List ℕ
 late = 0 ∷ 0 ∷ (2 ^ 63 + 9) ∷ []
 
-first_from_129 : IsFirst (is_in late) 129 131
+first_from_129 : IsFirstNumber (is_in late) 129 131
 unfolding is_in
 first_from_129 = first_by (is_in late) 129 131 (omega arith) refl refl
 
-first_from_132 : IsFirst (is_in late) 132 191
+first_from_132 : IsFirstNumber (is_in late) 132 191
 unfolding is_in
 first_from_132 = first_by (is_in late) 132 191 (omega arith) refl refl
 

@@ -18,10 +18,14 @@ use Rattle.driver_passes.proofs.BlockLemmas.{below_more}
 
 -- the place is added to the lists of these nets, and nothing else changes
 abbrev pub AreMarked : ℕ → List ℕ → List (List ℕ) → List (List ℕ) → Type 0
-AreMarked place nets before after = (n q : ℕ) → has_number (get_or after n []) q ≡ ((q == place && has_number nets n) || has_number (get_or before n []) q)
+AreMarked place nets before after =
+    (n q : ℕ)
+    → has_number (get_or after n []) q
+    ≡ ((q == place && has_number nets n) || has_number (get_or before n []) q)
 
 -- the nets that a control shares are nets of the board
-pub shared_within : (board : RawBoard) (c : Ctl) (nets : List ℕ) (most : ℕ) → nets ≡ shared_nets board c → most ≡ length board.nets → All (λ n. n < most) nets
+pub shared_within : (board : RawBoard) (c : Ctl) (nets : List ℕ) (most : ℕ)
+    → nets ≡ shared_nets board c → most ≡ length board.nets → All (λ n. n < most) nets
 shared_within board c nets most e f =
     let P : ℕ → Type 0 = λ n. n < most in
     let Q : List ℕ → Type 0 = λ v. All P v in
@@ -31,30 +35,52 @@ shared_within board c nets most e f =
     omega (arith, get_or-range_with_len 0 count k d within, within, f)))
 
 -- if the place `k` is added to the lists of the nets that control `k` shares, the lists have the places below `k + 1`
-pub sharers_more : (board : RawBoard) (k : ℕ) (d : Ctl) (nets : List ℕ) (before after : List (List ℕ)) → AreSharersBelow board k before → slice_get (useful_controls board) k ≡ Some d → nets ≡ shared_nets board d → length after ≡ length before → AreMarked k nets before after → AreSharersBelow board (k + 1) after
+pub sharers_more : (board : RawBoard) (k : ℕ) (d : Ctl) (nets : List ℕ)
+    (before after : List (List ℕ)) → AreSharersBelow board k before
+    → slice_get (useful_controls board) k ≡ Some d → nets ≡ shared_nets board d
+    → length after ≡ length before → AreMarked k nets before after
+    → AreSharersBelow board (k + 1) after
 sharers_more board k d nets before after are stands is size marked = record {
   sharers_length = size ∙ are.sharers_length;
-  sharers_are = λ place c at n. marked n place ∙ ap (λ t. (place == k && has_number nets n) || t) (are.sharers_are place c at n) ∙ ap (λ t. t || (ltb place k && has_number (shared_nets board c) n)) (same place c n at (cases_eq place k)) ∙ below_more (λ m. has_number (shared_nets board c) n) k place;
+  sharers_are =
+      λ place c at n. marked n place
+      ∙ ap (λ t. (place == k && has_number nets n) || t) (are.sharers_are place c at n)
+      ∙ ap (λ t. t || (ltb place k && has_number (shared_nets board c) n))
+      (same place c n at (cases_eq place k))
+      ∙ below_more (λ m. has_number (shared_nets board c) n) k place;
 }
   where
-    same : (place : ℕ) (c : Ctl) (n : ℕ) → slice_get (useful_controls board) place ≡ Some c → (place ≡ k) ⊎ (place ≡ k → ⊥) → (place == k && has_number nets n) ≡ (place == k && has_number (shared_nets board c) n)
+    same : (place : ℕ) (c : Ctl) (n : ℕ) → slice_get (useful_controls board) place ≡ Some c
+        → (place ≡ k) ⊎ (place ≡ k → ⊥)
+        → (place == k && has_number nets n) ≡ (place == k && has_number (shared_nets board c) n)
     same place c n at (inl one) =
         let found : Some d ≡ Some c = sym stands ∙ ap (slice_get (useful_controls board)) (sym one) ∙ at in
         let control : d ≡ c = cc found in
         ap (λ v. place == k && has_number v n) (is ∙ ap (shared_nets board) control)
-    same place c n at (inr other) = ap (λ t. t && has_number nets n) (ne_eqb place k other) ∙ sym (ap (λ t. t && has_number (shared_nets board c) n) (ne_eqb place k other))
+    same place c n at (inr other) =
+        ap (λ t. t && has_number nets n) (ne_eqb place k other)
+        ∙ sym (ap (λ t. t && has_number (shared_nets board c) n) (ne_eqb place k other))
 
 -- if each set has the places of its list, this is still true after a set and a list with the same places are appended
 
-pub sets_more : (sets : List (List Block)) (lists : List (List ℕ)) (set : List Block) (list : List ℕ) → length sets ≡ length lists → ((n q : ℕ) → has_place (get_or sets n []) q ≡ has_number (get_or lists n []) q) → ((q : ℕ) → has_place set q ≡ has_number list q) →
+pub sets_more : (sets : List (List Block)) (lists : List (List ℕ)) (set : List Block)
+    (list : List ℕ) → length sets ≡ length lists
+    → ((n q : ℕ) → has_place (get_or sets n []) q ≡ has_number (get_or lists n []) q)
+    → ((q : ℕ) → has_place set q ≡ has_number list q) →
     (n q : ℕ) → has_place (get_or (sets ++ set ∷ []) n []) q ≡ has_number (get_or (lists ++ list ∷ []) n []) q
 sets_more [] [] set list size same one zero q = one q
 sets_more [] [] set list size same one (suc n) q = refl
 sets_more [] (l ∷ lists) set list size same one n q = absurd (omega (arith, size))
 sets_more (s ∷ sets) [] set list size same one n q = absurd (omega (arith, size))
 sets_more (s ∷ sets) (l ∷ lists) set list size same one zero q = same 0 q
-sets_more (s ∷ sets) (l ∷ lists) set list size same one (suc n) q = sets_more sets lists set list (omega (arith, size)) (λ k. same (suc k)) one n q
+sets_more (s ∷ sets) (l ∷ lists) set list size same one (suc n) q =
+    sets_more sets lists set list (omega (arith, size)) (λ k. same (suc k)) one n q
 
-pub sharers_all : (board : RawBoard) (lists : List (List ℕ)) (sharers : List (List Block)) → AreSharersBelow board (length (useful_controls board)) lists →
+pub sharers_all : (board : RawBoard) (lists : List (List ℕ)) (sharers : List (List Block))
+    → AreSharersBelow board (length (useful_controls board)) lists →
     ((n q : ℕ) → has_place (get_or sharers n []) q ≡ has_number (get_or lists n []) q) → AreSharers board sharers
-sharers_all board lists sharers are same place c at n = same n place ∙ are.sharers_are place c at n ∙ ap (λ t. t && has_number (shared_nets board c) n) (lt-ltb place (length (useful_controls board)) (slice_get_within (useful_controls board) place c at))
+sharers_all board lists sharers are same place c at n =
+    same n place ∙ are.sharers_are place c at n
+    ∙ ap (λ t. t && has_number (shared_nets board c) n)
+    (lt-ltb place (length (useful_controls board))
+    (slice_get_within (useful_controls board) place c at))

@@ -5,7 +5,7 @@ ghost use Rattle.board_defs.specs.Coverage.{IsUseful};
 ghost use Rattle.board_defs.specs.Settings.{holds};
 ghost use Rattle.board_defs.specs.Passes.{useful_controls, with_driver};
 ghost use Rattle.net_classes.specs.inner.Pairs.{IsUsefulDriver};
-ghost use Rattle.driver_passes.specs.inner.Drafts.{chosen, drafted, with_control};
+ghost use Rattle.driver_passes.specs.inner.Drafts.{passing_controls, drafted, draft_with};
 ghost use Rattle.driver_passes.specs.inner.NumberSets.{is_in};
 ghost use Rattle.driver_passes.specs.inner.Shown.{AreShownBy};
 
@@ -59,7 +59,7 @@ impl<'a, 'b> Draft<'a, 'b> {
     /// Adds the useful control `c`, whose place among the useful controls is `place`.
     pub fn add(&mut self, place: usize, c: Ctl)
         requires { slice_get (useful_controls self.old.board) place ≡ Some c }
-        ensures { self.new ≡ with_control self.old c }
+        ensures { self.new ≡ draft_with self.old c }
     {
         let _laws = self.board.classes();
         self.held.insert_if(place, true);
@@ -79,7 +79,7 @@ impl<'a, 'b> Draft<'a, 'b> {
 
     fn add_control(&mut self, c: Ctl)
         requires { holds (useful_controls self.old.board) c ≡ true }
-        ensures { self.new ≡ with_control self.old c }
+        ensures { self.new ≡ draft_with self.old c }
     {
         if let Some(place) = self.board.classes().place_of(c) {
             self.add(place, c);
@@ -118,7 +118,8 @@ impl<'a, 'b> Draft<'a, 'b> {
 
 /// Returns the controls whose places are in the set.
 fn controls_at(alloc: Global, controls: &[Ctl], places: &NumberSet) -> Result<Vec<Ctl>, AllocError>
-    ensures { IfOk result (λ found. found.items ≡ chosen (is_in places.now) 0 controls.now) }
+    ensures { IfOk result
+        (λ found. found.items ≡ passing_controls (is_in places.now) 0 controls.now) }
 {
     let mut found = Vec::new(alloc);
     let mut place = places.first_from(0, controls.len());

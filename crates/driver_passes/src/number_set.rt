@@ -1,8 +1,8 @@
 // Sets of numbers. The numbers are the numbers of nets or the places of controls, and each number has a bit.
 ghost use Rattle.std.specs.Prelude.{◌≡◌, ◌≤◌, ◌<◌, ◌+◌, ◌*◌, ◌/◌, ◌==◌, ◌&&◌, ◌||◌, ℕ, Bool, not, false, true, length, replicate, slice_index_or, All, MatchOption, IfOk};
-ghost use Rattle.net_classes.specs.Pairs.{AreBitsOf};
+ghost use Rattle.net_classes.specs.Pairs.{AreWordBits};
 ghost use Rattle.driver_passes.specs.inner.Drafts.{has_number};
-ghost use Rattle.driver_passes.specs.inner.NumberSets.{IsFirst, has_bit, is_in, is_of_word};
+ghost use Rattle.driver_passes.specs.inner.NumberSets.{IsFirstNumber, has_bit, is_in, is_of_word};
 
 use std::alloc::{AllocError, Global};
 use std::marker::Model;
@@ -124,7 +124,7 @@ impl NumberSet {
     /// Returns the bits of the 64 numbers from `64 * number` on.
     pub fn word(&self, number: usize) -> u64
         ensures word { result ≡ slice_index_or self.now number 0 }
-        ensures bits { AreBitsOf (is_in self.now) number result }
+        ensures bits { AreWordBits (is_in self.now) number result }
     {
         word_at(&self.words, number)
     }
@@ -244,7 +244,7 @@ impl NumberSet {
 
     /// Returns the bits of the 64 numbers from `64 * number` on that are in this set and not in `others`.
     fn word_less(&self, others: &NumberSet, number: usize) -> u64
-        ensures { AreBitsOf (λ n. is_in self.now n && not (is_in others.now n)) number result }
+        ensures { AreWordBits (λ n. is_in self.now n && not (is_in others.now n)) number result }
     {
         self.word(number) & !others.word(number)
     }
@@ -265,7 +265,7 @@ fn lowest_from(word: u64, place: usize) -> Option<usize>
     requires { place < 64 }
     ensures { MatchOption result
         ((i : ℕ) → place ≤ i → i < 64 → has_bit word i ≡ false)
-        (λ i. IsFirst (has_bit word) place i × (i < 64)) }
+        (λ i. IsFirstNumber (has_bit word) place i × (i < 64)) }
 {
     let rest = word & (u64::MAX << place);
     if rest == 0 {
@@ -278,9 +278,9 @@ fn lowest_from(word: u64, place: usize) -> Option<usize>
 /// Returns the first number from `from` on whose bit is set in `word`, or None if there is none. `word` must be the
 /// word of `from`.
 pub fn next_in(word: u64, from: usize) -> Option<usize>
-    ensures { (passes : ℕ → Bool) → AreBitsOf passes (from / 64) word → MatchOption result
+    ensures { (passes : ℕ → Bool) → AreWordBits passes (from / 64) word → MatchOption result
         ((n : ℕ) → from ≤ n → n < 64 * (from / 64 + 1) → passes n ≡ false)
-        (λ n. IsFirst passes from n) }
+        (λ n. IsFirstNumber passes from n) }
 {
     match lowest_from(word, from % 64) {
         None => None,

@@ -1,9 +1,9 @@
 // Paired nets, and the tested drivers by which they are paired.
 ghost use Rattle.std.specs.Prelude.{◌≡◌, ◌<◌, ◌≤◌, ◌+◌, ◌*◌, ◌/◌, ℕ, false, find, length, All, IfSome, MatchOption};
 ghost use Rattle.board_defs.specs.Passes.{first_pair};
-ghost use Rattle.net_classes.specs.Pairs.{AreBitsOf, drivers_at, fit};
+ghost use Rattle.net_classes.specs.Pairs.{AreWordBits, drivers_at, fit};
 ghost use Rattle.net_classes.specs.inner.Pairs.{IsUsefulDriver};
-ghost use Rattle.driver_passes.specs.inner.NumberSets.{IsFirst};
+ghost use Rattle.driver_passes.specs.inner.NumberSets.{IsFirstNumber};
 ghost use Rattle.driver_passes.specs.inner.Pairs.{IsUsefulPair, is_wanted};
 
 use crate::number_set::{NumberSet, next_in};
@@ -43,7 +43,7 @@ pub fn first_pair(board: &BoardClasses<'_>, a: usize, b: usize) -> Option<(Drive
 
 /// Returns the nets in `left` that are paired with net `a`, for the 64 nets of the word that has net `net`.
 fn wanted_word(board: &BoardClasses<'_>, left: &NumberSet, a: usize, net: usize) -> u64
-    ensures { AreBitsOf (is_wanted board.now left.now a) (net / 64) result }
+    ensures { AreWordBits (is_wanted board.now left.now a) (net / 64) result }
 {
     let word = left.word(net / 64);
     if word == 0 {
@@ -63,7 +63,7 @@ pub fn next_wanted(
     ensures next { MatchOption result
         ((n : ℕ) → from ≤ n → n < length board.now.nets →
         is_wanted board.now left.now a n ≡ false)
-        (λ b. IsFirst (is_wanted board.now left.now a) from b) }
+        (λ b. IsFirstNumber (is_wanted board.now left.now a) from b) }
     ensures within { IfSome result (λ b. b < length board.now.nets) }
 {
     let nets = board.net_count();

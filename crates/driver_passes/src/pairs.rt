@@ -4,7 +4,7 @@ ghost use Rattle.board_defs.specs.Limits.{most_nets, most_pins};
 ghost use Rattle.board_defs.specs.Passes.{are_shown, drivers_by_net, pair_pass, pair_passes, useful_controls};
 ghost use Rattle.net_classes.specs.Pairs.{drivers_at};
 ghost use Rattle.driver_passes.specs.inner.Drafts.{drafted};
-ghost use Rattle.driver_passes.specs.inner.Pairs.{AreDone, ArePairing, IsDone, IsDoneTo, IsUsefulPair, LooksAt, StaysDone, observing, pairs_from};
+ghost use Rattle.driver_passes.specs.inner.Pairs.{AreDone, ArePairing, NeedsNoPass, IsDoneTo, IsUsefulPair, LooksAt, StaysDone, observing, pairs_from};
 ghost use Rattle.driver_passes.specs.inner.Progress.{EnableTested, IsProgress};
 ghost use Rattle.driver_passes.specs.Useful.{HoldUseful};
 
@@ -155,7 +155,7 @@ impl Pairing {
         ensures kept { OnOk result
             (StaysDone board.now self.old.passes.items self.new.passes.items) }
         ensures done { IfOk result (λ b. (n : ℕ) → from ≤ n → n < b →
-            IsDone board.now self.new.passes.items a n) }
+            NeedsNoPass board.now self.new.passes.items a n) }
         ensures few { IfOk result (λ b.
             length self.new.passes.items + from ≤ length self.old.passes.items + b) }
     {

@@ -77,26 +77,32 @@ agree_at_through : (o : Option Bool) (x y z : Bool) → AgreeAt o x y → AgreeA
 agree_at_through None x y z h k = tt
 agree_at_through (Some v) x y z h k = h ∙ k
 
-agree_through : (bits : List ScanBit) (xs ys zs : List Bool) → length bits ≡ length ys → AgreeWhereCompared bits xs ys → AgreeWhereCompared bits ys zs → AgreeWhereCompared bits xs zs
+agree_through : (bits : List ScanBit) (xs ys zs : List Bool) → length bits ≡ length ys
+    → AgreeWhereCompared bits xs ys → AgreeWhereCompared bits ys zs → AgreeWhereCompared bits xs zs
 agree_through [] xs ys zs l h k = tt
 agree_through (b ∷ bits) [] ys zs l h k = tt
 agree_through (b ∷ bits) (x ∷ xs) [] zs l h k = absurd (omega (arith, l))
 agree_through (b ∷ bits) (x ∷ xs) (y ∷ ys) [] l h k = tt
-agree_through (b ∷ bits) (x ∷ xs) (y ∷ ys) (z ∷ zs) l h k = (agree_at_through b.expect x y z h.0 k.0, agree_through bits xs ys zs (omega (arith, l)) h.1 k.1)
+agree_through (b ∷ bits) (x ∷ xs) (y ∷ ys) (z ∷ zs) l h k =
+    (agree_at_through b.expect x y z h.0 k.0, agree_through bits xs ys zs (omega (arith, l)) h.1 k.1)
 
 module _ (board : RawBoard) where
   abbrev AgreeEach : List RowScan → List (List Bool) → List (List Bool) → Type 0
   AgreeEach cs log other =
-      (x : ℕ) (scan : RowScan) (logged second : List Bool) → slice_get cs x ≡ Some scan → slice_get log x ≡ Some logged → slice_get other x ≡ Some second →
+      (x : ℕ) (scan : RowScan) (logged second : List Bool) → slice_get cs x ≡ Some scan
+      → slice_get log x ≡ Some logged → slice_get other x ≡ Some second →
       AgreeWhereCompared (joined (row_bits board scan)) logged second
 
   logs_compared : (cs : List RowScan) (log other : List (List Bool)) → IsDecided (AgreeEach cs log other)
   logs_compared [] log other = (true, (λ e x scan logged second c l o. cc c, λ h. refl))
   logs_compared (t ∷ cs) [] other = (true, (λ e x scan logged second c l o. cc l, λ h. refl))
   logs_compared (t ∷ cs) (row ∷ log) [] = (true, (λ e x scan logged second c l o. cc o, λ h. refl))
-  logs_compared (t ∷ cs) (row ∷ log) (next ∷ other) = same together apart (both (rows_agree (joined (row_bits board t)) row next) (logs_compared cs log other))
+  logs_compared (t ∷ cs) (row ∷ log) (next ∷ other) =
+      same together apart
+      (both (rows_agree (joined (row_bits board t)) row next) (logs_compared cs log other))
     where
-      together : AgreeWhereCompared (joined (row_bits board t)) row next × AgreeEach cs log other → AgreeEach (t ∷ cs) (row ∷ log) (next ∷ other)
+      together : AgreeWhereCompared (joined (row_bits board t)) row next × AgreeEach cs log other
+          → AgreeEach (t ∷ cs) (row ∷ log) (next ∷ other)
       together h zero scan logged second c l o =
           let first : t ≡ scan = cc c in
           let mine : row ≡ logged = cc l in
@@ -106,15 +112,24 @@ module _ (board : RawBoard) where
           (subst (λ (r : List Bool). AgreeWhereCompared (joined (row_bits board t)) row r) others h.0))
       together h (suc x) scan logged second c l o = h.1 x scan logged second c l o
 
-      apart : AgreeEach (t ∷ cs) (row ∷ log) (next ∷ other) → AgreeWhereCompared (joined (row_bits board t)) row next × AgreeEach cs log other
+      apart : AgreeEach (t ∷ cs) (row ∷ log) (next ∷ other)
+          → AgreeWhereCompared (joined (row_bits board t)) row next × AgreeEach cs log other
       apart h = (h 0 t row next refl refl refl, λ x. h (suc x))
 
   module _ (scans : List RowScan) (log : List (List Bool)) where
     shape_decided : IsDecided (HasShape board scans log)
     shape_decided =
         same (λ h. record { rows = h.0; bits = h.1 }) (λ s. (s.rows, s.bits))
-        (both (length log == count_by is_compared (board_scans board scans), Decides-eqb (length log) (count_by is_compared (board_scans board scans)))
-        (list_all long log, Decides-by_and long (λ (row : List Bool). length row ≡ data_bits board) (list_all long) (λ row. Decides-eqb (length row) (data_bits board)) refl (λ row rows. refl) log))
+        (both (
+          length log == count_by is_compared (board_scans board scans),
+          Decides-eqb (length log)
+              (count_by is_compared (board_scans board scans)),
+        ) (
+          list_all long log,
+          Decides-by_and long (λ (row : List Bool). length row ≡ data_bits board)
+              (list_all long) (λ row. Decides-eqb (length row) (data_bits board)) refl
+              (λ row rows. refl) log,
+        ))
       where
         long : List Bool → Bool
         long row = length row == data_bits board
@@ -126,7 +141,8 @@ module _ (board : RawBoard) where
 
     -- if the faults explain the log `other`, and `log` has the right shape and agrees with `other` on the compared bits, the faults explain
     -- `log`
-    module _ (rules : IsBoard board) (faults : FaultSet) (turn : AreInTurn board scans) (other : List (List Bool)) (explained : ExplainedBy board faults scans other) where
+    module _ (rules : IsBoard board) (faults : FaultSet) (turn : AreInTurn board scans)
+        (other : List (List Bool)) (explained : ExplainedBy board faults scans other) where
       explained_with : HasShape board scans log × AgreeOn board scans log other → ExplainedBy board faults scans log
       explained_with (shape, agree) = (explained_by_rows board rules faults scans turn.follow log).1 (shape, captures)
         where
@@ -134,8 +150,14 @@ module _ (board : RawBoard) where
           captures x scan logged choice e f =
               let second = item_there other x (omega (arith, slice_get_within log x logged f, shape.rows, explained.shape.rows)) in
               let long : length (second.0) ≡ data_bits board =
-              sym (ap (λ (row : List Bool). length row) (get_or_from_slice_get other x (second.0) [] second.1)) ∙ explained.shape.bits x [] (slice_get_within other x (second.0) second.1) in
-              agree_through (joined (row_bits board scan)) logged (second.0) (row_captured board faults scan.before choice) (length-row_bits board scan ∙ sym long) (agree x scan logged (second.0) e f second.1)
+              sym
+              (ap (λ (row : List Bool). length row)
+              (get_or_from_slice_get other x (second.0) [] second.1))
+              ∙ explained.shape.bits x [] (slice_get_within other x (second.0) second.1) in
+              agree_through (joined (row_bits board scan)) logged (second.0)
+              (row_captured board faults scan.before choice)
+              (length-row_bits board scan ∙ sym long)
+              (agree x scan logged (second.0) e f second.1)
               (((explained_by_rows board rules faults scans turn.follow other).0 explained).1 x scan (second.0) choice e second.1)
 
       one_decided : IsDecided (ExplainedBy board faults scans log)
@@ -150,7 +172,9 @@ module _ (board : RawBoard) (log : List (List Bool)) (rules : IsBoard board) whe
   single_decided : (single : Single) → IsSingle board single → IsDecided (Explains board single log)
   single_decided single is_single =
       let turn = own_in_turn board rules in
-      let response = some_log board rules (set_of single) (svf_row_scans board) turn.follow (single_observable board single is_single).is_set (single_no_open_shorted single) turn.safe in
+      let response = some_log board rules (set_of single) (svf_row_scans board) turn.follow
+      (single_observable board single is_single).is_set (single_no_open_shorted single)
+      turn.safe in
       one_decided board (svf_row_scans board) log rules (set_of single) turn (response.0) response.1
 
   listed : (single : Single) → Has (singles board) single → IsSingle board single
@@ -165,11 +189,19 @@ module _ (board : RawBoard) (log : List (List Bool)) (rules : IsBoard board) whe
 
   -- if a test decides for each single fault whether it explains the log, filtering the board's single faults by the test gives the faults
   -- that explain the log
-  pub explaining_picked : (test : Single → Bool) → ((single : Single) → IsSingle board single → Decides (test single) (Explains board single log)) → Picks Explaining (singles board) (filter test (singles board))
+  pub explaining_picked : (test : Single → Bool)
+      → ((single : Single) → IsSingle board single
+      → Decides (test single) (Explains board single log))
+      → Picks Explaining (singles board) (filter test (singles board))
   explaining_picked test decides = filter_picks Explaining test (singles board) (λ single has. decides single (listed single has))
 
 -- a log has at most one diagnosis
-pub one_diagnosis : (board : RawBoard) (log : List (List Bool)) (pass other_pass : Bool) (faults others : List Single) → IsDiagnosis board log pass faults → IsDiagnosis board log other_pass others →
+pub one_diagnosis : (board : RawBoard) (log : List (List Bool)) (pass other_pass : Bool)
+    (faults others : List Single) → IsDiagnosis board log pass faults
+    → IsDiagnosis board log other_pass others →
     (pass ≡ other_pass) × (faults ≡ others)
-one_diagnosis board log pass other_pass faults others h k =
-    (same_from_decides pass other_pass h.passes k.passes, one_picked (λ (single : Single). Explains board single log) (singles board) faults others h.list k.list)
+one_diagnosis board log pass other_pass faults others h k = (
+  same_from_decides pass other_pass h.passes k.passes,
+  one_picked (λ (single : Single). Explains board single log) (singles board) faults others
+      h.list k.list,
+)

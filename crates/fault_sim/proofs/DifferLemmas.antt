@@ -24,7 +24,7 @@ use Rattle.net_pins.specs.Enabled.{is_read_beside}
 use Rattle.plan_tables.specs.declared.tables.PlanTables.{PlanTables}
 use Rattle.scan_planner.specs.Plans.{IsPlanOf}
 use Rattle.response_log.specs.LogRows.{bit_in}
-use Rattle.fault_sim.specs.Effects.{driver_in, place_of_driver, readers_in, code_in}
+use Rattle.fault_sim.specs.Effects.{driver_in, place_of_driver, plan_readers, code_in}
 use Rattle.fault_sim.specs.declared.effect.Effect.TheVariants.{Plain}
 use Rattle.fault_sim.specs.Fits.{cell_shows, ShowBy, NetShows, ShowsOn, ShowsAll}
 use Rattle.fault_sim.specs.inner.Tested.{coded_nets}
@@ -48,7 +48,8 @@ module _ (board : RawBoard) (plan : PlanTables) (log : List (List Bool)) where
 
   -- If `nets` are the differing nets below `count`, and net `count` is appended to them if it differs, the result is the list of the
   -- differing nets below `count + 1`. `shown` is false if net `count` differs.
-  pub differ_more : (count : ℕ) (nets : List ℕ) (shown : Bool) → Decides shown (Expected count) → DifferBelow count nets → DifferBelow (count + 1) (nets ++ cond (not shown) (count ∷ []) [])
+  pub differ_more : (count : ℕ) (nets : List ℕ) (shown : Bool) → Decides shown (Expected count)
+      → DifferBelow count nets → DifferBelow (count + 1) (nets ++ cond (not shown) (count ∷ []) [])
   differ_more count nets true decides below = subst (λ (l : List ℕ). DifferBelow (count + 1) l) (sym (append-nil nets)) (record {
     rising = below.rising;
     each = λ n has. let e = below.each n has in (omega (arith, e.0), e.1);
@@ -73,7 +74,11 @@ module _ (board : RawBoard) (plan : PlanTables) (log : List (List Bool)) where
 
       by_part : (n : ℕ) → Has nets n ⊎ Has (count ∷ []) n → (n < count + 1) × (Expected n → ⊥)
       by_part n (inl has) = let e = below.each n has in (omega (arith, e.0), e.1)
-      by_part n (inr (inl same)) = (omega (arith, same), λ shows. let bad : false ≡ true = decides.1 (subst Expected (sym same) shows) in cc bad)
+      by_part n (inr (inl same)) = (
+        omega (arith, same),
+        λ shows. let bad : false ≡ true = decides.1 (subst Expected (sym same) shows) in
+            cc bad,
+      )
       by_part n (inr (inr none)) = absurd none
 
       by_net : (n : ℕ) → n < count + 1 → (n ≡ count) ⊎ (n ≡ count → ⊥) → Has (nets ++ count ∷ []) n ⊎ Expected n
@@ -116,22 +121,35 @@ not_among n [] e (inr p) = p
 not_among n (m ∷ nets) e s = absurd (omega (arith, e))
 
 -- if P is equivalent to the statement that all nets show the expected bits, P holds exactly if the list of differing nets is empty
-pub none_decides : (board : RawBoard) (plan : PlanTables) (log : List (List Bool)) (nets : List ℕ) → AreDiffering board plan log nets → (P : Type 0) → (P → ShowsAll board plan None log) → (ShowsAll board plan None log → P) → (r : Bool) → r ≡ (length nets == 0) → Decides r P
-none_decides board plan log [] differ P to back r is = (λ e. back (λ x less n within. not_among n [] refl (differ.others n within) x less), λ p. is)
-none_decides board plan log (n ∷ nets) differ P to back r is =
-    (λ e. absurd (both_ways r (is ∙ ne_eqb (length (n ∷ nets)) 0 (λ z. omega (arith, z))) e), λ p. let d = (differ.exactly n).0 (has_contains (n ∷ nets) n (inl refl)) in absurd (d.1 (λ x less. to p x less n d.0)))
+pub none_decides : (board : RawBoard) (plan : PlanTables) (log : List (List Bool)) (nets : List ℕ)
+    → AreDiffering board plan log nets → (P : Type 0) → (P → ShowsAll board plan None log)
+    → (ShowsAll board plan None log → P) → (r : Bool) → r ≡ (length nets == 0) → Decides r P
+none_decides board plan log [] differ P to back r is =
+    (λ e. back (λ x less n within. not_among n [] refl (differ.others n within) x less), λ p. is)
+none_decides board plan log (n ∷ nets) differ P to back r is = (
+  λ e. absurd (both_ways r (is ∙ ne_eqb (length (n ∷ nets)) 0 (λ z. omega (arith, z))) e),
+  λ p. let d = (differ.exactly n).0 (has_contains (n ∷ nets) n (inl refl)) in
+      absurd (d.1 (λ x less. to p x less n d.0)),
+)
 
 -- the place of a net among the nets that satisfy a test is the number of earlier nets that satisfy it
 place_in_filter : (g : Net → Bool) (a : ℕ) (nets : List Net) (n : ℕ) (net : Net) → slice_get nets n ≡ Some net → g net ≡ true →
-    slice_get (map (λ (m : Numbered). m.0) (filter (λ (m : Numbered). g m.1) (enumerate_from a nets))) (count_by g (take n nets)) ≡ Some (a + n)
+    slice_get
+    (map (λ (m : Numbered). m.0) (filter (λ (m : Numbered). g m.1) (enumerate_from a nets)))
+    (count_by g (take n nets)) ≡ Some (a + n)
 place_in_filter g a [] n net e on = cc e
 place_in_filter g a (v ∷ nets) zero net e on =
     let same : v ≡ net = cc e in
     let z : a ≡ a + 0 = omega arith in
-    ap (λ (b : Bool). slice_get (map (λ (m : Numbered). m.0) (cond b ((a, v) ∷ filter (λ (m : Numbered). g m.1) (enumerate_from (a + 1) nets)) (filter (λ (m : Numbered). g m.1) (enumerate_from (a + 1) nets)))) 0) (ap g same ∙ on)
+    ap
+    (λ (b : Bool). slice_get
+    (map (λ (m : Numbered). m.0)
+    (cond b ((a, v) ∷ filter (λ (m : Numbered). g m.1) (enumerate_from (a + 1) nets))
+    (filter (λ (m : Numbered). g m.1) (enumerate_from (a + 1) nets)))) 0) (ap g same ∙ on)
     ∙ ap (λ (i : ℕ). Some i) z
 place_in_filter g a (v ∷ nets) (suc n) net e on =
-    ap (λ (i : ℕ). slice_get (map (λ (m : Numbered). m.0) (cond (g v) ((a, v) ∷ rest) rest)) i) (sum_by-cons (λ (y : Net). cond (g y) 1 0) v (take n nets))
+    ap (λ (i : ℕ). slice_get (map (λ (m : Numbered). m.0) (cond (g v) ((a, v) ∷ rest) rest)) i)
+    (sum_by-cons (λ (y : Net). cond (g y) 1 0) v (take n nets))
     ∙ by_test (g v)
     ∙ place_in_filter g (a + 1) nets n net e on
     ∙ ap (λ (i : ℕ). Some i) next
@@ -142,44 +160,64 @@ place_in_filter g a (v ∷ nets) (suc n) net e on =
     next : a + 1 + n ≡ a + suc n
     next = omega arith
 
-    by_test : (b : Bool) → slice_get (map (λ (m : Numbered). m.0) (cond b ((a, v) ∷ rest) rest)) (cond b 1 0 + count_by g (take n nets)) ≡ slice_get (map (λ (m : Numbered). m.0) rest) (count_by g (take n nets))
-    by_test true = let one : 1 + count_by g (take n nets) ≡ suc (count_by g (take n nets)) = omega arith in ap (λ (i : ℕ). slice_get (a ∷ map (λ (m : Numbered). m.0) rest) i) one
-    by_test false = let none : 0 + count_by g (take n nets) ≡ count_by g (take n nets) = omega arith in ap (λ (i : ℕ). slice_get (map (λ (m : Numbered). m.0) rest) i) none
+    by_test : (b : Bool)
+        → slice_get (map (λ (m : Numbered). m.0) (cond b ((a, v) ∷ rest) rest))
+        (cond b 1 0 + count_by g (take n nets))
+        ≡ slice_get (map (λ (m : Numbered). m.0) rest) (count_by g (take n nets))
+    by_test true =
+        let one : 1 + count_by g (take n nets) ≡ suc (count_by g (take n nets)) = omega arith in
+        ap (λ (i : ℕ). slice_get (a ∷ map (λ (m : Numbered). m.0) rest) i) one
+    by_test false =
+        let none : 0 + count_by g (take n nets) ≡ count_by g (take n nets) = omega arith in
+        ap (λ (i : ℕ). slice_get (map (λ (m : Numbered). m.0) rest) i) none
 
 module _ (board : RawBoard) (rules : IsBoard board) (plan : PlanTables) (p : IsPlanOf board plan) (log : List (List Bool)) where
   -- a net that no pass observes shows the expected bits, whatever the log is
-  unobserved_shows : (n : ℕ) (net : Net) → slice_get board.nets n ≡ Some net → is_observed board plan.passes net ≡ false → ShowsOn board plan None log n
+  unobserved_shows : (n : ℕ) (net : Net) → slice_get board.nets n ≡ Some net
+      → is_observed board plan.passes net ≡ false → ShowsOn board plan None log n
   unobserved_shows n net is_net off x less =
       let pass = item_there plan.passes x less in
-      subst (λ (q : List Ctl). NetShows board plan None log (x * plan.width) q n) (sym (get_or_from_slice_get plan.passes x (pass.0) [] pass.1))
+      subst (λ (q : List Ctl). NetShows board plan None log (x * plan.width) q n)
+      (sym (get_or_from_slice_get plan.passes x (pass.0) [] pass.1))
       (by_driver (pass.0) pass.1 (driver_in plan (pass.0) n) refl)
     where
-      none_beside : (d : NetDriver) (readers : List ReaderCell) → is_read_beside readers d ≡ false → (i : ℕ) (r : ReaderCell) → slice_get readers i ≡ Some r → (r.place == d.place) ≡ true
+      none_beside : (d : NetDriver) (readers : List ReaderCell) → is_read_beside readers d ≡ false
+          → (i : ℕ) (r : ReaderCell) → slice_get readers i ≡ Some r → (r.place == d.place) ≡ true
       none_beside d readers e i r at = by_test (r.place == d.place) refl
         where
           by_test : (b : Bool) → (r.place == d.place) ≡ b → b ≡ true
           by_test true q = refl
-          by_test false q = absurd (both_ways (is_read_beside readers d) e (any_at (λ (y : ReaderCell). not (y.place == d.place)) readers i r at (ap not q)))
+          by_test false q =
+              absurd
+              (both_ways (is_read_beside readers d) e
+              (any_at (λ (y : ReaderCell). not (y.place == d.place)) readers i r at (ap not q)))
 
       by_driver : (pass : List Ctl) → slice_get plan.passes x ≡ Some pass → (o : Option NetDriver) → driver_in plan pass n ≡ o →
-          ShowBy log (x * plan.width) plan.width (code_in plan n) (readers_in plan n) Plain (place_of_driver o)
+          ShowBy log (x * plan.width) plan.width (code_in plan n) (plan_readers plan n) Plain (place_of_driver o)
       by_driver pass stands None e = tt
       by_driver pass stands (Some d) e = λ j less.
-          all_from (cell_shows log (x * plan.width + j) d.place Plain j (code_bit (code_in plan n) j)) (readers_in plan n)
-          (λ i r at. ap (λ (b : Bool). b || is_same (bit_in log (x * plan.width + j) r.position) (code_bit (code_in plan n) j)) (none_beside d (readers_in plan n) beside i r at))
+          all_from (cell_shows log (x * plan.width + j) d.place Plain j (code_bit (code_in plan n) j)) (plan_readers plan n)
+          (λ i r at. ap
+          (λ (b : Bool). b
+          || is_same (bit_in log (x * plan.width + j) r.position)
+          (code_bit (code_in plan n) j)) (none_beside d (plan_readers plan n) beside i r at))
         where
-          beside : is_read_beside (readers_in plan n) d ≡ false
-          beside = by_test (is_read_beside (readers_in plan n) d) refl
+          beside : is_read_beside (plan_readers plan n) d ≡ false
+          beside = by_test (is_read_beside (plan_readers plan n) d) refl
             where
-              by_test : (b : Bool) → is_read_beside (readers_in plan n) d ≡ b → b ≡ false
+              by_test : (b : Bool) → is_read_beside (plan_readers plan n) d ≡ b → b ≡ false
               by_test false q = refl
               by_test true q =
                   let observing : observing_driver board (holds pass) net ≡ Some d.place =
-                  observing_is board rules plan p n net is_net x pass stands (unguarded_by board rules plan p n net is_net pass d e) d e ∙ ap (λ (b : Bool). cond b (Some d.place) None) q in
+                  observing_is board rules plan p n net is_net x pass stands
+                  (unguarded_by board rules plan p n net is_net pass d e) d e
+                  ∙ ap (λ (b : Bool). cond b (Some d.place) None) q in
                   absurd (both_ways (is_observed board plan.passes net) off
-                  (any_at (λ (v : List Ctl). is_some (observing_driver board (holds v) net)) plan.passes x pass stands (ap (λ (o : Option ℕ). is_some o) observing)))
+                  (any_at (λ (v : List Ctl). is_some (observing_driver board (holds v) net))
+                  plan.passes x pass stands (ap (λ (o : Option ℕ). is_some o) observing)))
 
-  pub differing_observed : (n : ℕ) (net : Net) → slice_get board.nets n ≡ Some net → (ShowsOn board plan None log n → ⊥) → is_observed board plan.passes net ≡ true
+  pub differing_observed : (n : ℕ) (net : Net) → slice_get board.nets n ≡ Some net
+      → (ShowsOn board plan None log n → ⊥) → is_observed board plan.passes net ≡ true
   differing_observed n net is_net hidden = by_test (is_observed board plan.passes net) refl
     where
       by_test : (b : Bool) → is_observed board plan.passes net ≡ b → b ≡ true
@@ -187,10 +225,14 @@ module _ (board : RawBoard) (rules : IsBoard board) (plan : PlanTables) (p : IsP
       by_test false e = absurd (hidden (unobserved_shows n net is_net e))
 
   -- the nets that have a code are the nets that some pass observes
-  coded_observed : coded_nets plan (length board.nets) ≡ map (λ (m : Numbered). m.0) (filter (λ (m : Numbered). is_observed board plan.passes m.1) (enumerate_from 0 board.nets))
+  coded_observed : coded_nets plan (length board.nets)
+      ≡ map (λ (m : Numbered). m.0)
+      (filter (λ (m : Numbered). is_observed board plan.passes m.1) (enumerate_from 0 board.nets))
   coded_observed =
       filter_numbers (λ n. nat_lt 0 (code_in plan n)) (is_observed board plan.passes) 0 board.nets
-      (λ k net e. let z : 0 + k ≡ k = omega arith in subst (λ (i : ℕ). nat_lt 0 (code_in plan i) ≡ is_observed board plan.passes net) (sym z) (each k net e))
+      (λ k net e. let z : 0 + k ≡ k = omega arith in
+      subst (λ (i : ℕ). nat_lt 0 (code_in plan i) ≡ is_observed board plan.passes net) (sym z)
+      (each k net e))
     where
       above : (b : Bool) (k : ℕ) → nat_lt 0 (cond b (suc k) 0) ≡ b
       above true k = lt-ltb 0 (suc k) (omega arith)
@@ -210,6 +252,10 @@ module _ (board : RawBoard) (rules : IsBoard board) (plan : PlanTables) (p : IsP
     covered_there =
         let z : 0 + n ≡ n = omega arith in
         ap (λ (l : List ℕ). slice_get l (covered_place plan n)) coded_observed
-        ∙ ap (λ (i : ℕ). slice_get (map (λ (m : Numbered). m.0) (filter (λ (m : Numbered). is_observed board plan.passes m.1) (enumerate_from 0 board.nets))) i) place_is
+        ∙ ap
+        (λ (i : ℕ). slice_get
+        (map (λ (m : Numbered). m.0)
+        (filter (λ (m : Numbered). is_observed board plan.passes m.1)
+        (enumerate_from 0 board.nets))) i) place_is
         ∙ place_in_filter (is_observed board plan.passes) 0 board.nets n net is_net observed
         ∙ ap (λ (i : ℕ). Some i) z

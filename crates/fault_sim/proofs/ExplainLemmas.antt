@@ -34,11 +34,11 @@ use Rattle.scan_planner.specs.Plans.{IsPlanOf}
 use Rattle.fault_sim.specs.declared.effect.Effect.{Effect}
 use Rattle.fault_sim.specs.declared.effect.Effect.TheVariants.{Plain, Constant}
 use Rattle.fault_sim.specs.declared.fault_lists.FaultLists.{FaultLists}
-use Rattle.fault_sim.specs.Effects.{driver_in, place_of_driver, readers_in, code_in, open_effect, effect_of_short, effect_of, pull_in, first_net, second_net}
+use Rattle.fault_sim.specs.Effects.{driver_in, place_of_driver, plan_readers, code_in, open_effect, effect_of_short, effect_of, pull_in, first_net, second_net}
 use Rattle.fault_sim.specs.Fits.{ShowBy, Shows, ShowsOn, ShowsOwn, ShowsAll}
 use Rattle.fault_sim.specs.inner.Tested.{paired_in, coded_nets}
-use Rattle.fault_sim.specs.Places.{placed, number_places, listed_places, place_count, places_of, IsUniverse}
-use Rattle.fault_sim.specs.Starts.{AreStarts}
+use Rattle.fault_sim.specs.Places.{as_places, number_places, listed_places, place_count, places_of, IsUniverse}
+use Rattle.fault_sim.specs.Starts.{ArePairStarts}
 use Rattle.fault_sim.specs.Suspects.{suspect_count, AreDiffering, AreSuspects}
 use Rattle.fault_sim.specs.inner.Suspects.{two_from, four_from, first_open, first_short, pair_number, pair_suspects, pin_net, is_net, pin_suspects, net_suspects, covered_place, suspects_of}
 use Rattle.fault_sim.proofs.PlaceLemmas.{flat_at, length-flat, length-four, stuck_fault, open_fault, short_fault, no_fault, stuck_length, opens_length}
@@ -58,13 +58,18 @@ CanSuspect plan lists (m ∷ n ∷ o ∷ nets) = Unit {0}
 
 -- Place i has this fault. The place belongs to a stuck net, to an open pin or to a short.
 pub data PlaceOf (lists : FaultLists) (i : ℕ) (single : Single) : Type 0 where
-  at_stuck : (m r net : ℕ) (value : Bool) → slice_get lists.nets m ≡ Some net → r < 2 → i ≡ 2 * m + r → StuckNet net value ≡ single → PlaceOf lists i single
-  at_open : (m r : ℕ) (pin : PinRef) (value : Bool) → slice_get lists.pins m ≡ Some pin → r < 2 → i ≡ first_open lists + (2 * m + r) → OpenPin pin value ≡ single → PlaceOf lists i single
-  at_short : (a b r x y : ℕ) (kind : Kind) → a < b → slice_get lists.nets a ≡ Some x → slice_get lists.nets b ≡ Some y → r < 4 → i ≡ first_short lists + (4 * pair_number lists a b + r) → Short x y kind ≡ single →
+  at_stuck : (m r net : ℕ) (value : Bool) → slice_get lists.nets m ≡ Some net → r < 2
+      → i ≡ 2 * m + r → StuckNet net value ≡ single → PlaceOf lists i single
+  at_open : (m r : ℕ) (pin : PinRef) (value : Bool) → slice_get lists.pins m ≡ Some pin → r < 2
+      → i ≡ first_open lists + (2 * m + r) → OpenPin pin value ≡ single → PlaceOf lists i single
+  at_short : (a b r x y : ℕ) (kind : Kind) → a < b → slice_get lists.nets a ≡ Some x
+      → slice_get lists.nets b ≡ Some y → r < 4
+      → i ≡ first_short lists + (4 * pair_number lists a b + r) → Short x y kind ≡ single →
       PlaceOf lists i single
 
 -- if faults are placed in order, the fault at place i is fault i of the list
-placed_at : (faults : List Single) (i : ℕ) (single : Single) → slice_get (placed faults) i ≡ Some (Some single) → slice_get faults i ≡ Some single
+placed_at : (faults : List Single) (i : ℕ) (single : Single)
+    → slice_get (as_places faults) i ≡ Some (Some single) → slice_get faults i ≡ Some single
 placed_at [] i single e = cc e
 placed_at (fault ∷ faults) zero single e = let two : Some fault ≡ Some single = cc e in two
 placed_at (fault ∷ faults) (suc i) single e = placed_at faults i single e
@@ -82,12 +87,12 @@ rank_of (suc (suc zero)) less = refl
 rank_of (suc (suc (suc zero))) less = refl
 rank_of (suc (suc (suc (suc r)))) less = absurd (omega (arith, less))
 
-module _ (plan : PlanTables) (lists : FaultLists) (starts : AreStarts (length lists.nets) lists.starts) where
+module _ (plan : PlanTables) (lists : FaultLists) (starts : ArePairStarts (length lists.nets) lists.starts) where
   abbrev stuck : List (Option Single)
-  stuck = placed (flat_map stuck_faults lists.nets)
+  stuck = as_places (flat_map stuck_faults lists.nets)
 
   abbrev opens : List (Option Single)
-  opens = placed (flat_map open_faults lists.pins)
+  opens = as_places (flat_map open_faults lists.pins)
 
   abbrev shorts : List (Option Single)
   shorts = flat_map (number_places plan) (pairs_within lists.nets)
@@ -96,9 +101,13 @@ module _ (plan : PlanTables) (lists : FaultLists) (starts : AreStarts (length li
     by_stuck : i < 2 * length lists.nets → PlaceOf lists i single
     by_stuck less =
         let net = item_there lists.nets (i / 2) (omega (arith, less)) in
-        let here = placed_at (flat_map stuck_faults lists.nets) i single (sym (front_at stuck (opens ++ shorts) i (omega (arith, less, stuck_length plan lists))) ∙ at) in
+        let here = placed_at (flat_map stuck_faults lists.nets) i single
+        (sym (front_at stuck (opens ++ shorts) i (omega (arith, less, stuck_length plan lists)))
+        ∙ at) in
         let two : Some (StuckNet (net.0) ((i % 2) == 1)) ≡ Some single =
-        sym (flat_at stuck_faults 2 (λ n. refl) lists.nets (i / 2) (net.0) net.1 (i % 2) i (omega arith) (omega arith) ∙ stuck_fault (net.0) (i % 2) (omega arith)) ∙ here in
+        sym
+        (flat_at stuck_faults 2 (λ n. refl) lists.nets (i / 2) (net.0) net.1 (i % 2) i
+        (omega arith) (omega arith) ∙ stuck_fault (net.0) (i % 2) (omega arith)) ∙ here in
         at_stuck (i / 2) (i % 2) (net.0) ((i % 2) == 1) net.1 (omega arith) (omega arith) (cc two)
 
     by_open : 2 * length lists.nets ≤ i → i < 2 * length lists.nets + 2 * length lists.pins → PlaceOf lists i single
@@ -106,36 +115,66 @@ module _ (plan : PlanTables) (lists : FaultLists) (starts : AreStarts (length li
         let k : ℕ = i - 2 * length lists.nets in
         let pin = item_there lists.pins (k / 2) (omega (arith, less, above)) in
         let here = placed_at (flat_map open_faults lists.pins) k single
-        (sym (rest_at stuck (opens ++ shorts) k i (omega (arith, above, stuck_length plan lists)) ∙ front_at opens shorts k (omega (arith, less, above, opens_length plan lists))) ∙ at) in
+        (sym
+        (rest_at stuck (opens ++ shorts) k i
+        (omega (arith, above, stuck_length plan lists))
+        ∙ front_at opens shorts k
+        (omega (arith, less, above, opens_length plan lists))) ∙ at) in
         let two : Some (OpenPin (pin.0) ((k % 2) == 1)) ≡ Some single =
-        sym (flat_at open_faults 2 (λ n. refl) lists.pins (k / 2) (pin.0) pin.1 (k % 2) k (omega arith) (omega arith) ∙ open_fault (pin.0) (k % 2) (omega arith)) ∙ here in
+        sym
+        (flat_at open_faults 2 (λ n. refl) lists.pins (k / 2) (pin.0) pin.1 (k % 2) k
+        (omega arith) (omega arith) ∙ open_fault (pin.0) (k % 2) (omega arith)) ∙ here in
         at_open (k / 2) (k % 2) (pin.0) ((k % 2) == 1) pin.1 (omega arith) (omega (arith, above)) (cc two)
 
     by_short : 2 * length lists.nets + 2 * length lists.pins ≤ i → PlaceOf lists i single
     by_short above =
         let k : ℕ = i - (2 * length lists.nets + 2 * length lists.pins) in
         let here : slice_get shorts k ≡ Some (Some single) =
-        sym (rest_at stuck (opens ++ shorts) (2 * length lists.pins + k) i (omega (arith, above, stuck_length plan lists)) ∙ rest_at opens shorts k (2 * length lists.pins + k) (omega (arith, opens_length plan lists))) ∙ at in
+        sym
+        (rest_at stuck (opens ++ shorts) (2 * length lists.pins + k) i
+        (omega (arith, above, stuck_length plan lists))
+        ∙ rest_at opens shorts k (2 * length lists.pins + k)
+        (omega (arith, opens_length plan lists))) ∙ at in
         let within : k < length shorts = slice_get_within shorts k (Some single) here in
-        let pair = item_there (pairs_within lists.nets) (k / 4) (omega (arith, within, length-flat (number_places plan) 4 (length-four plan) (pairs_within lists.nets))) in
+        let pair = item_there (pairs_within lists.nets) (k / 4)
+        (omega (
+          arith,
+          within,
+          length-flat (number_places plan) 4 (length-four plan) (pairs_within lists.nets),
+        )) in
         let inside : slice_get (number_places plan (pair.0)) (k % 4) ≡ Some (Some single) =
-        sym (flat_at (number_places plan) 4 (length-four plan) (pairs_within lists.nets) (k / 4) (pair.0) pair.1 (k % 4) k (omega arith) (omega arith)) ∙ here in
-        by_pair k (omega (arith, above)) (pair.0) (pair_at lists.nets (k / 4) (pair.0) pair.1) (paired_in plan ((pair.0).0) ((pair.0).1)) inside
+        sym
+        (flat_at (number_places plan) 4 (length-four plan) (pairs_within lists.nets) (k / 4)
+        (pair.0) pair.1 (k % 4) k (omega arith) (omega arith)) ∙ here in
+        by_pair k (omega (arith, above)) (pair.0) (pair_at lists.nets (k / 4) (pair.0) pair.1)
+        (paired_in plan ((pair.0).0) ((pair.0).1)) inside
       where
         by_pair : (k : ℕ) → i ≡ first_short lists + k → (pair : ℕ × ℕ) → PairAt lists.nets (k / 4) pair → (b : Bool) →
-            slice_get (cond b (placed (short_faults (pair.0) (pair.1))) (None ∷ None ∷ None ∷ None ∷ [])) (k % 4) ≡ Some (Some single) → PlaceOf lists i single
+            slice_get
+            (cond b (as_places (short_faults (pair.0) (pair.1)))
+            (None ∷ None ∷ None ∷ None ∷ [])) (k % 4) ≡ Some (Some single)
+            → PlaceOf lists i single
         by_pair k place pair q false e = let bad : Some None ≡ Some (Some single) = sym (no_fault (k % 4) (omega arith)) ∙ e in cc bad
         by_pair k place pair q true e =
             let f = placed_at (short_faults (pair.0) (pair.1)) (k % 4) single e in
-            let two : Some (Short (pair.0) (pair.1) (kind_of (k % 4))) ≡ Some single = sym (short_fault (pair.0) (pair.1) (k % 4) (kind_of (k % 4)) (rank_of (k % 4) (omega arith))) ∙ f in
+            let two : Some (Short (pair.0) (pair.1) (kind_of (k % 4)))
+            ≡ Some single = sym
+            (short_fault (pair.0) (pair.1) (k % 4) (kind_of (k % 4))
+            (rank_of (k % 4) (omega arith))) ∙ f in
             let number : pair_number lists q.low q.high ≡ k / 4 =
-            ap (λ (n : ℕ). n + (q.high - suc q.low)) (starts.each q.low (omega (arith, slice_get_within lists.nets q.low (pair.0) q.low_is))) ∙ omega (arith, q.number_is, q.order) in
-            at_short q.low q.high (k % 4) (pair.0) (pair.1) (kind_of (k % 4)) q.order q.low_is q.high_is (omega arith) (omega (arith, place, number)) (cc two)
+            ap (λ (n : ℕ). n + (q.high - suc q.low))
+            (starts.each q.low
+            (omega (arith, slice_get_within lists.nets q.low (pair.0) q.low_is)))
+            ∙ omega (arith, q.number_is, q.order) in
+            at_short q.low q.high (k % 4) (pair.0) (pair.1) (kind_of (k % 4)) q.order q.low_is
+            q.high_is (omega arith) (omega (arith, place, number)) (cc two)
 
     pub place_of : PlaceOf lists i single
     place_of = by_first (cases_lt i (2 * length lists.nets))
       where
-        by_second : 2 * length lists.nets ≤ i → (i < 2 * length lists.nets + 2 * length lists.pins) ⊎ (2 * length lists.nets + 2 * length lists.pins ≤ i) → PlaceOf lists i single
+        by_second : 2 * length lists.nets ≤ i
+            → (i < 2 * length lists.nets + 2 * length lists.pins)
+            ⊎ (2 * length lists.nets + 2 * length lists.pins ≤ i) → PlaceOf lists i single
         by_second above (inl less) = by_open above less
         by_second above (inr more) = by_short more
 
@@ -144,15 +183,19 @@ module _ (plan : PlanTables) (lists : FaultLists) (starts : AreStarts (length li
         by_first (inr above) = by_second above (cases_lt i (2 * length lists.nets + 2 * length lists.pins))
 
 -- a number has only one place in a list of ascending numbers
-stands_once : (xs : List ℕ) → InOrder (λ (x y : ℕ). x < y) xs → (a b x y : ℕ) → slice_get xs a ≡ Some x → slice_get xs b ≡ Some y → x ≡ y → a ≡ b
+stands_once : (xs : List ℕ) → InOrder (λ (x y : ℕ). x < y) xs → (a b x y : ℕ)
+    → slice_get xs a ≡ Some x → slice_get xs b ≡ Some y → x ≡ y → a ≡ b
 stands_once [] order a b x y ea eb same = cc ea
 stands_once (z ∷ xs) order zero zero x y ea eb same = refl
-stands_once (z ∷ xs) order zero (suc b) x y ea eb same = let first : z ≡ x = cc ea in absurd (omega (arith, first, same, order.0 y (has_at xs b y eb)))
-stands_once (z ∷ xs) order (suc a) zero x y ea eb same = let first : z ≡ y = cc eb in absurd (omega (arith, first, same, order.0 x (has_at xs a x ea)))
+stands_once (z ∷ xs) order zero (suc b) x y ea eb same =
+    let first : z ≡ x = cc ea in absurd (omega (arith, first, same, order.0 y (has_at xs b y eb)))
+stands_once (z ∷ xs) order (suc a) zero x y ea eb same =
+    let first : z ≡ y = cc eb in absurd (omega (arith, first, same, order.0 x (has_at xs a x ea)))
 stands_once (z ∷ xs) order (suc a) (suc b) x y ea eb same = ap suc (stands_once xs order.1 a b x y ea eb same)
 
 -- in a list of ascending numbers, the number at a lower place is lower
-places_order : (xs : List ℕ) → InOrder (λ (x y : ℕ). x < y) xs → (a b x y : ℕ) → slice_get xs a ≡ Some x → slice_get xs b ≡ Some y → a < b → x < y
+places_order : (xs : List ℕ) → InOrder (λ (x y : ℕ). x < y) xs → (a b x y : ℕ)
+    → slice_get xs a ≡ Some x → slice_get xs b ≡ Some y → a < b → x < y
 places_order [] order a b x y ea eb less = cc ea
 places_order (z ∷ xs) order zero zero x y ea eb less = absurd (omega (arith, less))
 places_order (z ∷ xs) order zero (suc b) x y ea eb less = let first : z ≡ x = cc ea in omega (arith, first, order.0 y (has_at xs b y eb))
@@ -160,21 +203,33 @@ places_order (z ∷ xs) order (suc a) zero x y ea eb less = absurd (omega (arith
 places_order (z ∷ xs) order (suc a) (suc b) x y ea eb less = places_order xs order.1 a b x y ea eb (omega (arith, less))
 
 -- a fault has no effect on a net that is not one of the fault's own nets
-plain_effect : (board : RawBoard) (plan : PlanTables) (pass : List Ctl) (single : Single) (n : ℕ) → n ≢ first_net single → n ≢ second_net single → effect_of board plan pass single n ≡ Plain
+plain_effect : (board : RawBoard) (plan : PlanTables) (pass : List Ctl) (single : Single) (n : ℕ)
+    → n ≢ first_net single → n ≢ second_net single → effect_of board plan pass single n ≡ Plain
 plain_effect board plan pass (StuckNet net value) n a b = ap (λ (t : Bool). cond t (Constant value) Plain) (ne_eqb n net a)
-plain_effect board plan pass (OpenPin pin value) n a b = ap (λ (t : Bool). cond t (open_effect (place_of_driver (driver_in plan pass n)) pin.place value (pull_in board n)) Plain) (ne_eqb n pin.net a)
+plain_effect board plan pass (OpenPin pin value) n a b =
+    ap
+    (λ (t : Bool). cond t
+    (open_effect (place_of_driver (driver_in plan pass n)) pin.place value (pull_in board n))
+    Plain) (ne_eqb n pin.net a)
 plain_effect board plan pass (Short x y kind) n a b =
     ap (λ (t : Bool). cond (t || (n == y)) (effect_of_short board plan pass x y kind) Plain) (ne_eqb n x a)
     ∙ ap (λ (t : Bool). cond t (effect_of_short board plan pass x y kind) Plain) (ne_eqb n y b)
 
-pub others_show : (board : RawBoard) (plan : PlanTables) (log : List (List Bool)) (single : Single) (n : ℕ) → n < length board.nets → ShowsAll board plan (Some single) log → n ≢ first_net single → n ≢ second_net single →
+pub others_show : (board : RawBoard) (plan : PlanTables) (log : List (List Bool)) (single : Single)
+    (n : ℕ) → n < length board.nets → ShowsAll board plan (Some single) log → n ≢ first_net single
+    → n ≢ second_net single →
     ShowsOn board plan None log n
 others_show board plan log single n within show a b x less =
-    subst (λ (effect : Effect). ShowBy log (x * plan.width) plan.width (code_in plan n) (readers_in plan n) effect (place_of_driver (driver_in plan (get_or plan.passes x []) n)))
+    subst
+    (λ (effect : Effect). ShowBy log (x * plan.width) plan.width (code_in plan n)
+    (plan_readers plan n) effect
+    (place_of_driver (driver_in plan (get_or plan.passes x []) n)))
     (plain_effect board plan (get_or plan.passes x []) single n a b) (show x less n within)
 
 -- if only the fault's own nets differ, the log shows the fault on all nets exactly if it shows the fault on these nets
-module _ (board : RawBoard) (plan : PlanTables) (log : List (List Bool)) (single : Single) (a b : ℕ) (first : a ≡ first_net single) (second : b ≡ second_net single) (nets : List ℕ) (differ : AreDiffering board plan log nets) where
+module _ (board : RawBoard) (plan : PlanTables) (log : List (List Bool)) (single : Single) (a b : ℕ)
+    (first : a ≡ first_net single) (second : b ≡ second_net single) (nets : List ℕ)
+    (differ : AreDiffering board plan log nets) where
   is_one : ℕ → Bool
   is_one n = (n == a) || (n == b)
 
@@ -197,10 +252,18 @@ module _ (board : RawBoard) (plan : PlanTables) (log : List (List Bool)) (single
     where
       shown : n ≢ a → n ≢ b → Contains nets n ⊎ ShowsOn board plan None log n → Shows board plan (Some single) log x n
       shown not_a not_b (inl has) =
-          absurd (both_ways ((n == a) || (n == b)) (ap (λ (t : Bool). t || (n == b)) (ne_eqb n a not_a) ∙ ne_eqb n b not_b) (all_has (λ (m : ℕ). (m == a) || (m == b)) nets n own (contains_has nets n has)))
+          absurd
+          (both_ways ((n == a) || (n == b))
+          (ap (λ (t : Bool). t || (n == b)) (ne_eqb n a not_a) ∙ ne_eqb n b not_b)
+          (all_has (λ (m : ℕ). (m == a) || (m == b)) nets n own (contains_has nets n has)))
       shown not_a not_b (inr shows) =
-          subst (λ (effect : Effect). ShowBy log (x * plan.width) plan.width (code_in plan n) (readers_in plan n) effect (place_of_driver (driver_in plan (get_or plan.passes x []) n)))
-          (sym (plain_effect board plan (get_or plan.passes x []) single n (λ e. not_a (e ∙ sym first)) (λ e. not_b (e ∙ sym second)))) (shows x less)
+          subst
+          (λ (effect : Effect). ShowBy log (x * plan.width) plan.width (code_in plan n)
+          (plan_readers plan n) effect
+          (place_of_driver (driver_in plan (get_or plan.passes x []) n)))
+          (sym
+          (plain_effect board plan (get_or plan.passes x []) single n
+          (λ e. not_a (e ∙ sym first)) (λ e. not_b (e ∙ sym second)))) (shows x less)
 
       by_second : n ≢ a → (n ≡ b) ⊎ (n ≡ b → ⊥) → Shows board plan (Some single) log x n
       by_second not_a (inl e) = subst (λ (m : ℕ). Shows board plan (Some single) log x m) (sym (e ∙ second)) (shown_own x less).1
@@ -210,7 +273,9 @@ module _ (board : RawBoard) (plan : PlanTables) (log : List (List Bool)) (single
       by_first (inl e) = subst (λ (m : ℕ). Shows board plan (Some single) log x m) (sym (e ∙ first)) (shown_own x less).0
       by_first (inr not_a) = by_second not_a (cases_eq n b)
 
-module _ (board : RawBoard) (plan : PlanTables) (lists : FaultLists) (starts : AreStarts (length lists.nets) lists.starts) (rising : InOrder (λ (x y : ℕ). x < y) lists.nets) (log : List (List Bool))
+module _ (board : RawBoard) (plan : PlanTables) (lists : FaultLists)
+    (starts : ArePairStarts (length lists.nets) lists.starts)
+    (rising : InOrder (λ (x y : ℕ). x < y) lists.nets) (log : List (List Bool))
     (decided : (n : ℕ) → n < length board.nets → ShowsOn board plan None log n ⊎ (ShowsOn board plan None log n → ⊥))
     (there : (n : ℕ) → n < length board.nets → (ShowsOn board plan None log n → ⊥) → slice_get lists.nets (covered_place plan n) ≡ Some n)
     (unexplained : (single : Single) → ShowsAll board plan None log → Explains board single log → IsSingle board single → ⊥)
@@ -223,12 +288,17 @@ module _ (board : RawBoard) (plan : PlanTables) (lists : FaultLists) (starts : A
     stands n h = let e = (differ.exactly n).0 h in there n e.0 e.1
 
     -- each net that differs is one of the own nets of every fault that explains the log
-    is_of : (single : Single) → IsSingle board single → Explains board single log → (n : ℕ) → Contains nets n → (n ≡ first_net single) ⊎ (n ≡ second_net single)
+    is_of : (single : Single) → IsSingle board single → Explains board single log → (n : ℕ)
+        → Contains nets n → (n ≡ first_net single) ⊎ (n ≡ second_net single)
     is_of single is_single explains n h = by_first (cases_eq n (first_net single))
       where
-        by_second : n ≢ first_net single → (n ≡ second_net single) ⊎ (n ≡ second_net single → ⊥) → (n ≡ first_net single) ⊎ (n ≡ second_net single)
+        by_second : n ≢ first_net single → (n ≡ second_net single) ⊎ (n ≡ second_net single → ⊥)
+            → (n ≡ first_net single) ⊎ (n ≡ second_net single)
         by_second a (inl e) = inr e
-        by_second a (inr b) = let e = (differ.exactly n).0 h in absurd (e.1 (others_show board plan log single n e.0 (shown single is_single explains) a b))
+        by_second a (inr b) =
+            let e = (differ.exactly n).0 h in
+            absurd
+            (e.1 (others_show board plan log single n e.0 (shown single is_single explains) a b))
 
         by_first : (n ≡ first_net single) ⊎ (n ≡ first_net single → ⊥) → (n ≡ first_net single) ⊎ (n ≡ second_net single)
         by_first (inl e) = inl e
@@ -243,23 +313,37 @@ module _ (board : RawBoard) (plan : PlanTables) (lists : FaultLists) (starts : A
   can_suspect (m ∷ n ∷ []) differ =
       let at_m = stands (m ∷ n ∷ []) differ m (has_first m (n ∷ [])) in
       let at_n = stands (m ∷ n ∷ []) differ n (has_contains (m ∷ n ∷ []) n (inr (inl refl))) in
-      let less : m < n = differ.rising 0 1 0 (omega arith) (omega arith) in
-      (by_side less at_m at_n (cases_lt (covered_place plan m) (covered_place plan n)), slice_get_within lists.nets (covered_place plan n) n at_n)
+      let less : m < n = differ.rising 0 1 0 (omega arith) (omega arith) in (
+        by_side less at_m at_n (cases_lt (covered_place plan m) (covered_place plan n)),
+        slice_get_within lists.nets (covered_place plan n) n at_n,
+      )
     where
       by_side : m < n → slice_get lists.nets (covered_place plan m) ≡ Some m → slice_get lists.nets (covered_place plan n) ≡ Some n →
-          (covered_place plan m < covered_place plan n) ⊎ (covered_place plan n ≤ covered_place plan m) → covered_place plan m < covered_place plan n
+          (covered_place plan m < covered_place plan n)
+          ⊎ (covered_place plan n ≤ covered_place plan m)
+          → covered_place plan m < covered_place plan n
       by_side less at_m at_n (inl h) = h
       by_side less at_m at_n (inr h) = absurd (by_equal less at_m at_n h (cases_eq (covered_place plan n) (covered_place plan m)))
         where
-          by_equal : m < n → slice_get lists.nets (covered_place plan m) ≡ Some m → slice_get lists.nets (covered_place plan n) ≡ Some n → covered_place plan n ≤ covered_place plan m →
+          by_equal : m < n → slice_get lists.nets (covered_place plan m) ≡ Some m
+              → slice_get lists.nets (covered_place plan n) ≡ Some n
+              → covered_place plan n ≤ covered_place plan m →
               (covered_place plan n ≡ covered_place plan m) ⊎ (covered_place plan n ≡ covered_place plan m → ⊥) → ⊥
           by_equal less at_m at_n h (inl e) =
               let two : Some n ≡ Some m = sym at_n ∙ ap (λ (i : ℕ). slice_get lists.nets i) e ∙ at_m in
               let same : n ≡ m = cc two in
               omega (arith, same, less)
-          by_equal less at_m at_n h (inr ne) = omega (arith, less, places_order lists.nets rising (covered_place plan n) (covered_place plan m) n m at_n at_m (lower h ne))
+          by_equal less at_m at_n h (inr ne) =
+              omega (
+                arith,
+                less,
+                places_order lists.nets rising (covered_place plan n) (covered_place plan m) n m
+                    at_n at_m (lower h ne),
+              )
             where
-              lower : covered_place plan n ≤ covered_place plan m → (covered_place plan n ≡ covered_place plan m → ⊥) → covered_place plan n < covered_place plan m
+              lower : covered_place plan n ≤ covered_place plan m
+                  → (covered_place plan n ≡ covered_place plan m → ⊥)
+                  → covered_place plan n < covered_place plan m
               lower le ne = grind arith
   can_suspect (m ∷ n ∷ o ∷ nets) differ = tt
 
@@ -274,7 +358,9 @@ module _ (board : RawBoard) (plan : PlanTables) (lists : FaultLists) (starts : A
     none_differ : AreDiffering board plan log [] → ⊥
     none_differ differ = unexplained single (λ x less n within. by_decided n within (decided n within) x less) explains is_single
       where
-        by_decided : (n : ℕ) → n < length board.nets → ShowsOn board plan None log n ⊎ (ShowsOn board plan None log n → ⊥) → ShowsOn board plan None log n
+        by_decided : (n : ℕ) → n < length board.nets
+            → ShowsOn board plan None log n ⊎ (ShowsOn board plan None log n → ⊥)
+            → ShowsOn board plan None log n
         by_decided n within (inl show) = show
         by_decided n within (inr hidden) = absurd (contains_has [] n ((differ.exactly n).1 (within, hidden)))
 
@@ -301,14 +387,19 @@ module _ (board : RawBoard) (plan : PlanTables) (lists : FaultLists) (starts : A
         same_of net (inl e) = e
         same_of net (inr e) = e
 
-        by_short : (a b r x y : ℕ) → a < b → slice_get lists.nets a ≡ Some x → slice_get lists.nets b ≡ Some y → r < 4 → i ≡ first_short lists + (4 * pair_number lists a b + r) → (n ≡ x) ⊎ (n ≡ y) →
+        by_short : (a b r x y : ℕ) → a < b → slice_get lists.nets a ≡ Some x
+            → slice_get lists.nets b ≡ Some y → r < 4
+            → i ≡ first_short lists + (4 * pair_number lists a b + r) → (n ≡ x) ⊎ (n ≡ y) →
             Has (net_suspects lists n k) i
         by_short a b r x y order ea eb less e (inl same) =
             let here : k ≡ a = stands_once lists.nets rising k a n x k_is ea same in
-            has_later lists starts n k k_in b r i (omega (arith, order, here)) (slice_get_within lists.nets b y eb) less (e ∙ ap (λ (j : ℕ). first_short lists + (4 * pair_number lists j b + r)) (sym here))
+            has_later lists starts n k k_in b r i (omega (arith, order, here))
+            (slice_get_within lists.nets b y eb) less
+            (e ∙ ap (λ (j : ℕ). first_short lists + (4 * pair_number lists j b + r)) (sym here))
         by_short a b r x y order ea eb less e (inr same) =
             let here : k ≡ b = stands_once lists.nets rising k b n y k_is eb same in
-            has_earlier lists starts n k k_in a r i (omega (arith, order, here)) less (e ∙ ap (λ (j : ℕ). first_short lists + (4 * pair_number lists a j + r)) (sym here))
+            has_earlier lists starts n k k_in a r i (omega (arith, order, here)) less
+            (e ∙ ap (λ (j : ℕ). first_short lists + (4 * pair_number lists a j + r)) (sym here))
 
         by_place : PlaceOf lists i single → Has (net_suspects lists n k) i
         by_place (at_stuck m r net value em less e is) =
@@ -318,9 +409,11 @@ module _ (board : RawBoard) (plan : PlanTables) (lists : FaultLists) (starts : A
         by_place (at_open m r pin value em less e is) =
             let same = same_of pin.net (of_net pin.net pin.net (ap first_net is) (ap second_net is)) in
             has_open lists starts n k k_in m r i pin em (sym same) less e
-        by_place (at_short a b r x y kind order ea eb less e is) = by_short a b r x y order ea eb less e (of_net x y (ap first_net is) (ap second_net is))
+        by_place (at_short a b r x y kind order ea eb less e is) =
+            by_short a b r x y order ea eb less e (of_net x y (ap first_net is) (ap second_net is))
 
-    two_differ : (m n : ℕ) → AreDiffering board plan log (m ∷ n ∷ []) → Has (pair_suspects lists (covered_place plan m) (covered_place plan n)) i
+    two_differ : (m n : ℕ) → AreDiffering board plan log (m ∷ n ∷ [])
+        → Has (pair_suspects lists (covered_place plan m) (covered_place plan n)) i
     two_differ m n differ = by_place place
       where
         less : m < n
@@ -338,13 +431,17 @@ module _ (board : RawBoard) (plan : PlanTables) (lists : FaultLists) (starts : A
         of_n : (n ≡ first_net single) ⊎ (n ≡ second_net single)
         of_n = is_of (m ∷ n ∷ []) differ single is_single explains n (has_contains (m ∷ n ∷ []) n (inr (inl refl)))
 
-        one_net : (net : ℕ) → net ≡ first_net single → net ≡ second_net single → (m ≡ first_net single) ⊎ (m ≡ second_net single) → (n ≡ first_net single) ⊎ (n ≡ second_net single) → ⊥
+        one_net : (net : ℕ) → net ≡ first_net single → net ≡ second_net single
+            → (m ≡ first_net single) ⊎ (m ≡ second_net single)
+            → (n ≡ first_net single) ⊎ (n ≡ second_net single) → ⊥
         one_net net a b (inl e) (inl f) = omega (arith, less, a, b, e, f)
         one_net net a b (inl e) (inr f) = omega (arith, less, a, b, e, f)
         one_net net a b (inr e) (inl f) = omega (arith, less, a, b, e, f)
         one_net net a b (inr e) (inr f) = omega (arith, less, a, b, e, f)
 
-        both_nets : (x y : ℕ) → x < y → x ≡ first_net single → y ≡ second_net single → (m ≡ first_net single) ⊎ (m ≡ second_net single) → (n ≡ first_net single) ⊎ (n ≡ second_net single) → (m ≡ x) × (n ≡ y)
+        both_nets : (x y : ℕ) → x < y → x ≡ first_net single → y ≡ second_net single
+            → (m ≡ first_net single) ⊎ (m ≡ second_net single)
+            → (n ≡ first_net single) ⊎ (n ≡ second_net single) → (m ≡ x) × (n ≡ y)
         both_nets x y order a b (inl e) (inr f) = (e ∙ sym a, f ∙ sym b)
         both_nets x y order a b (inl e) (inl f) = absurd (omega (arith, less, e, f))
         both_nets x y order a b (inr e) (inl f) = absurd (omega (arith, less, order, a, b, e, f))
@@ -358,7 +455,10 @@ module _ (board : RawBoard) (plan : PlanTables) (lists : FaultLists) (starts : A
             let low : covered_place plan m ≡ a = stands_once lists.nets rising (covered_place plan m) a m x m_is ea same.0 in
             let high : covered_place plan n ≡ b = stands_once lists.nets rising (covered_place plan n) b n y n_is eb same.1 in
             has_pair lists starts (covered_place plan m) (covered_place plan n) r i l
-            (e ∙ ap (λ (j : ℕ). first_short lists + (4 * pair_number lists j b + r)) (sym low) ∙ ap (λ (j : ℕ). first_short lists + (4 * pair_number lists (covered_place plan m) j + r)) (sym high))
+            (e ∙ ap (λ (j : ℕ). first_short lists + (4 * pair_number lists j b + r)) (sym low)
+            ∙ ap
+            (λ (j : ℕ). first_short lists +
+            (4 * pair_number lists (covered_place plan m) j + r)) (sym high))
 
     more_differ : (m n o : ℕ) (nets : List ℕ) → AreDiffering board plan log (m ∷ n ∷ o ∷ nets) → ⊥
     more_differ m n o nets differ =
@@ -367,7 +467,9 @@ module _ (board : RawBoard) (plan : PlanTables) (lists : FaultLists) (starts : A
         (is_of (m ∷ n ∷ o ∷ nets) differ single is_single explains n (has_contains (m ∷ n ∷ o ∷ nets) n (inr (inl refl))))
         (is_of (m ∷ n ∷ o ∷ nets) differ single is_single explains o (has_contains (m ∷ n ∷ o ∷ nets) o (inr (inr (inl refl)))))
       where
-        no_room : m < n → n < o → (m ≡ first_net single) ⊎ (m ≡ second_net single) → (n ≡ first_net single) ⊎ (n ≡ second_net single) → (o ≡ first_net single) ⊎ (o ≡ second_net single) → ⊥
+        no_room : m < n → n < o → (m ≡ first_net single) ⊎ (m ≡ second_net single)
+            → (n ≡ first_net single) ⊎ (n ≡ second_net single)
+            → (o ≡ first_net single) ⊎ (o ≡ second_net single) → ⊥
         no_room mn after (inl a) (inl b) c = omega (arith, mn, a, b)
         no_room mn after (inr a) (inr b) c = omega (arith, mn, a, b)
         no_room mn after (inl a) (inr b) (inl c) = omega (arith, mn, after, a, c)
@@ -394,10 +496,15 @@ module _ (board : RawBoard) (plan : PlanTables) (lists : FaultLists) (starts : A
   suspects_below (m ∷ n ∷ o ∷ nets) can i h = absurd h
 
   -- the tested pins from pin `from` on give two suspects for each pin of net n
-  pins_counted : (n from count : ℕ) → from + count ≡ length lists.pins → length (flat_map (pin_suspects lists n) (range_with_len from count)) ≡ 2 * count_by (λ (pin : PinRef). pin.net == n) (drop from lists.pins)
+  pins_counted : (n from count : ℕ) → from + count ≡ length lists.pins
+      → length (flat_map (pin_suspects lists n) (range_with_len from count))
+      ≡ 2 * count_by (λ (pin : PinRef). pin.net == n) (drop from lists.pins)
   pins_counted n from zero e =
       let whole : from ≡ length lists.pins = omega (arith, e) in
-      sym (ap (λ (k : ℕ). 2 * count_by (λ (pin : PinRef). pin.net == n) (drop k lists.pins)) whole ∙ ap (λ (l : List PinRef). 2 * count_by (λ (pin : PinRef). pin.net == n) l) (drop_all (length lists.pins) lists.pins (omega arith)))
+      sym
+      (ap (λ (k : ℕ). 2 * count_by (λ (pin : PinRef). pin.net == n) (drop k lists.pins)) whole
+      ∙ ap (λ (l : List PinRef). 2 * count_by (λ (pin : PinRef). pin.net == n) l)
+      (drop_all (length lists.pins) lists.pins (omega arith)))
   pins_counted n from (suc count) e =
       let pin = item_there lists.pins from (omega (arith, e)) in
       let cut : drop from lists.pins ≡ (pin.0) ∷ drop (from + 1) lists.pins = cut_at (pin.0) pin.1 in
@@ -424,7 +531,13 @@ module _ (board : RawBoard) (plan : PlanTables) (lists : FaultLists) (starts : A
 
   pairs_counted : (f : ℕ → ℕ) (from count : ℕ) → length (flat_map (λ a. four_from (f a)) (range_with_len from count)) ≡ 4 * count
   pairs_counted f from zero = refl
-  pairs_counted f from (suc count) = omega (arith, length-append (four_from (f from)) (flat_map (λ a. four_from (f a)) (range_with_len (from + 1) count)), pairs_counted f (from + 1) count)
+  pairs_counted f from (suc count) =
+      omega (
+        arith,
+        length-append (four_from (f from))
+            (flat_map (λ a. four_from (f a)) (range_with_len (from + 1) count)),
+        pairs_counted f (from + 1) count,
+      )
 
   pub suspects_counted : (nets : List ℕ) → CanSuspect plan lists nets → length (suspects_of plan lists nets) ≡ suspect_count lists nets
   suspects_counted [] can = refl
@@ -459,15 +572,28 @@ module _ (board : RawBoard) (plan : PlanTables) (lists : FaultLists) (starts : A
       }
 
 -- for a log of a board's test, the places that `suspects_of` gives for the differing nets are the suspects of the log
-module _ (board : RawBoard) (rules : IsBoard board) (plan : PlanTables) (p : IsPlanOf board plan) (passes : plan.passes ≡ passes_of board) (log : List (List Bool))
+module _ (board : RawBoard) (rules : IsBoard board) (plan : PlanTables) (p : IsPlanOf board plan)
+    (passes : plan.passes ≡ passes_of board) (log : List (List Bool))
     (rows : length log ≡ length plan.passes * plan.width) (bits : All (λ row. length row ≡ data_bits board) log)
-    (compared : CompareRows (code_row board (passes_of board)) (code_width (observed_count board (passes_of board))) (passes_of board) (compared_scans board (svf_row_scans board)))
-    (shape : HasShape board (svf_row_scans board) log ↔ ((length log ≡ length (passes_of board) * code_width (observed_count board (passes_of board))) × All (λ row. length row ≡ data_bits board) log))
-    (kept : ArePasses board plan.passes) (observed : (n : ℕ) (net : Net) → slice_get board.nets n ≡ Some net → is_observed board plan.passes net ≡ is_covered board net)
-    (respond : (single : Single) → IsSingle board single → Explains board single log ↔ (HasShape board (svf_row_scans board) log × ShowsBits board (svf_row_scans board) (single_bit board single) log))
-    (expect : IsExpected board (svf_row_scans board) log ↔ (HasShape board (svf_row_scans board) log × ShowsBits board (svf_row_scans board) (λ row place expected. expected) log))
+    (compared : CompareRows (code_row board (passes_of board))
+    (code_width (observed_count board (passes_of board))) (passes_of board)
+    (compared_scans board (svf_row_scans board)))
+    (shape : HasShape board (svf_row_scans board) log
+    ↔ ((length log
+    ≡ length (passes_of board) * code_width (observed_count board (passes_of board)))
+    × All (λ row. length row ≡ data_bits board) log))
+    (kept : ArePasses board plan.passes)
+    (observed : (n : ℕ) (net : Net) → slice_get board.nets n ≡ Some net
+    → is_observed board plan.passes net ≡ is_covered board net)
+    (respond : (single : Single) → IsSingle board single
+    → Explains board single log
+    ↔ (HasShape board (svf_row_scans board) log
+    × ShowsBits board (svf_row_scans board) (single_bit board single) log))
+    (expect : IsExpected board (svf_row_scans board) log
+    ↔ (HasShape board (svf_row_scans board) log
+    × ShowsBits board (svf_row_scans board) (λ row place expected. expected) log))
     (none : (single : Single) → IsSingle board single → IsExpected board (svf_row_scans board) log → Explains board single log → ⊥)
-    (lists : FaultLists) (universe : IsUniverse board lists) (starts : AreStarts (length lists.nets) lists.starts)
+    (lists : FaultLists) (universe : IsUniverse board lists) (starts : ArePairStarts (length lists.nets) lists.starts)
     (nets : List ℕ) (differ : AreDiffering board plan log nets) where
   nets_same : lists.nets ≡ coded_nets plan (length board.nets)
   nets_same = universe.nets ∙ sym (nets_are board rules plan p kept observed)
@@ -475,7 +601,8 @@ module _ (board : RawBoard) (rules : IsBoard board) (plan : PlanTables) (p : IsP
   nets_rise : InOrder (λ (x y : ℕ). x < y) lists.nets
   nets_rise =
       subst (λ (l : List ℕ). InOrder (λ (x y : ℕ). x < y) l) (sym universe.nets)
-      (order_map (λ (x y : Numbered). x.0 < y.0) (λ (x y : ℕ). x < y) (λ (net : Numbered). net.0) (covered_nets board) (λ x y less. less) (covered_order board))
+      (order_map (λ (x y : Numbered). x.0 < y.0) (λ (x y : ℕ). x < y) (λ (net : Numbered). net.0)
+      (covered_nets board) (λ x y less. less) (covered_order board))
 
   there : (n : ℕ) → n < length board.nets → (ShowsOn board plan None log n → ⊥) → slice_get lists.nets (covered_place plan n) ≡ Some n
   there n within hidden =
@@ -493,6 +620,8 @@ module _ (board : RawBoard) (rules : IsBoard board) (plan : PlanTables) (p : IsP
   pub all_suspects : AreSuspects board plan lists log (suspects_of plan lists nets)
   all_suspects =
       are_suspects board plan lists starts nets_rise log decided there
-      (λ single show explains is. none single is ((expected_is board rules plan p passes log rows bits compared shape expect).1 show) explains)
+      (λ single show explains is. none single is
+      ((expected_is board rules plan p passes log rows bits compared shape expect).1 show)
+      explains)
       (λ single is explains. (explains_is board rules plan p passes log rows bits compared shape single is (respond single is)).0 explains)
       (listed_are board rules plan p kept lists universe) (place_single board rules) nets differ

@@ -30,7 +30,7 @@ use Rattle.scan_planner.specs.Plans.{IsPlanOf, scan_of_pass}
 use Rattle.plan_tables.proofs.LaidLemmas.{laid_at, length-laid, tdo_laid, mask_laid}
 use Rattle.response_log.specs.LogRows.{bit_in}
 use Rattle.fault_sim.specs.declared.effect.Effect.TheVariants.{Plain}
-use Rattle.fault_sim.specs.Effects.{readers_in, code_in, driver_in, place_of_driver}
+use Rattle.fault_sim.specs.Effects.{plan_readers, code_in, driver_in, place_of_driver}
 use Rattle.fault_sim.specs.Fits.{cell_shows, ShowBy, NetShows, ShowsOn}
 use Rattle.fault_sim.specs.Kept.{compared_in, expected_in}
 use Rattle.fault_sim.specs.inner.Marks.{HasExpected, MarkRows, AreMarks, are_marked}
@@ -40,7 +40,9 @@ use Rattle.fault_sim.proofs.ShowLemmas.{ComparedCell, compared_cell}
 masked_same : (a b mask k : ℕ) → bit_and (bit_xor a b) mask ≡ 0 → digit_bit mask k ≡ true → digit_bit a k ≡ digit_bit b k
 masked_same a b mask k none on =
     let one : bit_at mask k ≡ 1 = eqb-true (bit_at mask k) 1 on in
-    let zero_bit : min (bit_at (bit_xor a b) k) (bit_at mask k) ≡ 0 = sym (bit_at_and (bit_xor a b) mask k) ∙ ap (λ (n : ℕ). bit_at n k) none ∙ bit_at-zero k in
+    let zero_bit : min (bit_at (bit_xor a b) k) (bit_at mask k)
+    ≡ 0 = sym (bit_at_and (bit_xor a b) mask k) ∙ ap (λ (n : ℕ). bit_at n k) none
+    ∙ bit_at-zero k in
     let even : bit_at (bit_xor a b) k ≡ 0 = omega (arith, zero_bit, one) in
     let sum : (bit_at a k + bit_at b k) % 2 ≡ 0 = sym (bit_at_xor a b k) ∙ even in
     let same : bit_at a k ≡ bit_at b k = omega (arith, sum, bit_at-lt a k, bit_at-lt b k) in
@@ -48,7 +50,10 @@ masked_same a b mask k none on =
 
 -- if the bitwise or of two numbers is 0, both numbers are 0
 pub or_zeros : (a b : ℕ) → bit_or a b ≡ 0 → (a ≡ 0) × (b ≡ 0)
-or_zeros a b none = (same_from_bits a 0 (λ i. omega (arith, union i, bit_at-zero i)), same_from_bits b 0 (λ i. omega (arith, union i, bit_at-zero i)))
+or_zeros a b none = (
+  same_from_bits a 0 (λ i. omega (arith, union i, bit_at-zero i)),
+  same_from_bits b 0 (λ i. omega (arith, union i, bit_at-zero i)),
+)
   where
     union : (i : ℕ) → max (bit_at a i) (bit_at b i) ≡ 0
     union i = sym (bit_at_or a b i) ∙ ap (λ (n : ℕ). bit_at n i) none ∙ bit_at-zero i
@@ -56,14 +61,22 @@ or_zeros a b none = (same_from_bits a 0 (λ i. omega (arith, union i, bit_at-zer
 -- A loop over the digits has checked the first k digits and now checks digit k. Then each unmarked digit among the first k + 1 digits was
 -- unmarked at the start and has no wrong bit.
 module _ (start marks : List ℕ) (wrong : ℕ → ℕ) (k : ℕ) (left : (i : ℕ) → k ≤ i → get_or marks i 0 ≡ get_or start i 0) where
-  pub marked_more : k < length marks → ((i : ℕ) → i < k → get_or marks i 0 ≡ 0 → (get_or start i 0 ≡ 0) × (wrong i ≡ 0)) → (i : ℕ) → i < k + 1 → get_or (set marks k (bit_or (get_or marks k 0) (wrong k))) i 0 ≡ 0 →
+  pub marked_more : k < length marks
+      → ((i : ℕ) → i < k → get_or marks i 0 ≡ 0 → (get_or start i 0 ≡ 0) × (wrong i ≡ 0)) → (i : ℕ)
+      → i < k + 1 → get_or (set marks k (bit_or (get_or marks k 0) (wrong k))) i 0 ≡ 0 →
       (get_or start i 0 ≡ 0) × (wrong i ≡ 0)
   marked_more within done i less none = by_place (cases_eq i k)
     where
       by_place : (i ≡ k) ⊎ (i ≡ k → ⊥) → (get_or start i 0 ≡ 0) × (wrong i ≡ 0)
       by_place (inl same) =
-          let is : get_or (set marks k (bit_or (get_or marks k 0) (wrong k))) k 0 ≡ bit_or (get_or marks k 0) (wrong k) = get_or-set_same marks k (bit_or (get_or marks k 0) (wrong k)) 0 within in
-          let zeros = or_zeros (get_or marks k 0) (wrong k) (sym is ∙ sym (ap (λ (n : ℕ). get_or (set marks k (bit_or (get_or marks k 0) (wrong k))) n 0) same) ∙ none) in
+          let is : get_or (set marks k (bit_or (get_or marks k 0) (wrong k))) k 0
+          ≡ bit_or (get_or marks k 0) (wrong k) = get_or-set_same marks k
+          (bit_or (get_or marks k 0) (wrong k)) 0 within in
+          let zeros = or_zeros (get_or marks k 0) (wrong k)
+          (sym is
+          ∙ sym
+          (ap (λ (n : ℕ). get_or (set marks k (bit_or (get_or marks k 0) (wrong k))) n 0)
+          same) ∙ none) in
           (ap (λ (n : ℕ). get_or start n 0) same ∙ sym (left k (omega arith)) ∙ zeros.0, ap wrong same ∙ zeros.1)
       by_place (inr differ) = done i (lower differ) (sym (get_or-set_other marks k i (bit_or (get_or marks k 0) (wrong k)) 0 differ) ∙ none)
         where
@@ -90,26 +103,38 @@ module _ (board : RawBoard) (plan : PlanTables) where
 
   -- If the digit of position `at` has no wrong compared bit in row j of pass x, and the test compares this row at the position, the log has
   -- the expected bit there.
-  pub digit_expected : (log : List (List Bool)) (x j at : ℕ) (tdo mask : List Bool) (digits : List ℕ) → tdo ≡ expected_in board plan x j → mask ≡ compared_in board plan x j → AreRowDigits (get_or log (x * plan.width + j) []) digits → at < data_bits board →
+  pub digit_expected : (log : List (List Bool)) (x j at : ℕ) (tdo mask : List Bool)
+      (digits : List ℕ) → tdo ≡ expected_in board plan x j → mask ≡ compared_in board plan x j
+      → AreRowDigits (get_or log (x * plan.width + j) []) digits → at < data_bits board →
       length (get_or log (x * plan.width + j) []) ≡ data_bits board →
-      bit_and (bit_xor (get_or digits (at / 4) 0) (get_or (digits_of tdo) (at / 4) 0)) (get_or (digits_of mask) (at / 4) 0) ≡ 0 → HasExpected board plan log x j at
+      bit_and (bit_xor (get_or digits (at / 4) 0) (get_or (digits_of tdo) (at / 4) 0))
+      (get_or (digits_of mask) (at / 4) 0) ≡ 0 → HasExpected board plan log x j at
   digit_expected log x j at tdo mask digits tdo_is mask_is are within long none on =
       are.bits at (omega (arith, within, long))
       ∙ masked_same (get_or digits (at / 4) 0) (get_or (digits_of tdo) (at / 4) 0) (get_or (digits_of mask) (at / 4) 0) (at % 4) none
-      (digits_of-get mask at (omega (arith, within, ap length mask_is, length-compared x j)) ∙ ap (λ (l : List Bool). get_or l at false) mask_is ∙ on)
+      (digits_of-get mask at (omega (arith, within, ap length mask_is, length-compared x j))
+      ∙ ap (λ (l : List Bool). get_or l at false) mask_is ∙ on)
       ∙ digits_of-get tdo at (omega (arith, within, ap length tdo_is, length-expected x j))
       ∙ ap (λ (l : List Bool). get_or l at false) tdo_is
 
-module _ (board : RawBoard) (rules : IsBoard board) (plan : PlanTables) (p : IsPlanOf board plan) (log : List (List Bool)) (marks : List ℕ) (are : AreMarks board plan log (length plan.passes) marks) where
+module _ (board : RawBoard) (rules : IsBoard board) (plan : PlanTables) (p : IsPlanOf board plan)
+    (log : List (List Bool)) (marks : List ℕ)
+    (are : AreMarks board plan log (length plan.passes) marks) where
   -- if none of the digits of net n's cells is marked, each cell of the net that row j of pass x compares has bit j of the net's code
-  module _ (n : ℕ) (unmarked : are_marked marks (readers_in plan n) ≡ false) (x : ℕ) (less : x < length plan.passes) (net : Net) (is_net : slice_get board.nets n ≡ Some net) (pass : List Ctl) (stands : slice_get plan.passes x ≡ Some pass) (d : NetDriver) (enabled : driver_in plan pass n ≡ Some d) (j : ℕ) (j_less : j < plan.width) where
-    module _ (reader : ReaderCell) (has : Has (readers_in plan n) reader) (differs : (reader.place == d.place) ≡ false) where
+  module _ (n : ℕ) (unmarked : are_marked marks (plan_readers plan n) ≡ false) (x : ℕ)
+      (less : x < length plan.passes) (net : Net) (is_net : slice_get board.nets n ≡ Some net)
+      (pass : List Ctl) (stands : slice_get plan.passes x ≡ Some pass) (d : NetDriver)
+      (enabled : driver_in plan pass n ≡ Some d) (j : ℕ) (j_less : j < plan.width) where
+    module _ (reader : ReaderCell) (has : Has (plan_readers plan n) reader) (differs : (reader.place == d.place) ≡ false) where
       c : ComparedCell board plan pass j n net reader
       c = compared_cell board rules plan p x pass stands j n net is_net d enabled reader has differs
 
-      expects : expect_bit board (scan_of_pass board plan x (suc j)).before c.part c.device c.cell ≡ Some (net_code_bit board plan.passes j n)
+      expects : expect_bit board (scan_of_pass board plan x (suc j)).before c.part c.device c.cell
+          ≡ Some (net_code_bit board plan.passes j n)
       expects =
-          ap (λ (q : List Ctl). expect_bit board (code_row board plan.passes q j) c.part c.device c.cell) (get_or_from_slice_get plan.passes x pass [] stands) ∙ c.compared.expects
+          ap
+          (λ (q : List Ctl). expect_bit board (code_row board plan.passes q j) c.part c.device
+          c.cell) (get_or_from_slice_get plan.passes x pass [] stands) ∙ c.compared.expects
 
       inside : reader.position < data_bits board
       inside = omega (arith, c.position_is, (laid_at (λ q e b. false) board c.part c.device c.cell c.compared.is_device c.compared.below).0)
@@ -117,15 +142,23 @@ module _ (board : RawBoard) (rules : IsBoard board) (plan : PlanTables) (p : IsP
       compares : get_or (compared_in board plan x j) reader.position false ≡ true
       compares =
           ap (λ (i : ℕ). get_or (compared_in board plan x j) i false) c.position_is
-          ∙ ap (λ (l : List Bool). get_or l (first_position board c.part + c.cell) false) (mask_laid board (scan_of_pass board plan x (suc j)))
-          ∙ (laid_at (λ q e b. is_some (expect_bit board (scan_of_pass board plan x (suc j)).before q e b)) board c.part c.device c.cell c.compared.is_device c.compared.below).1
+          ∙ ap (λ (l : List Bool). get_or l (first_position board c.part + c.cell) false)
+          (mask_laid board (scan_of_pass board plan x (suc j)))
+          ∙ (laid_at
+          (λ q e b. is_some
+          (expect_bit board (scan_of_pass board plan x (suc j)).before q e b)) board c.part
+          c.device c.cell c.compared.is_device c.compared.below).1
           ∙ ap (λ (o : Option Bool). is_some o) expects
 
       wants : get_or (expected_in board plan x j) reader.position false ≡ net_code_bit board plan.passes j n
       wants =
           ap (λ (i : ℕ). get_or (expected_in board plan x j) i false) c.position_is
-          ∙ ap (λ (l : List Bool). get_or l (first_position board c.part + c.cell) false) (tdo_laid board (scan_of_pass board plan x (suc j)))
-          ∙ (laid_at (λ q e b. unwrap_or (expect_bit board (scan_of_pass board plan x (suc j)).before q e b) false) board c.part c.device c.cell c.compared.is_device c.compared.below).1
+          ∙ ap (λ (l : List Bool). get_or l (first_position board c.part + c.cell) false)
+          (tdo_laid board (scan_of_pass board plan x (suc j)))
+          ∙ (laid_at
+          (λ q e b. unwrap_or
+          (expect_bit board (scan_of_pass board plan x (suc j)).before q e b) false) board
+          c.part c.device c.cell c.compared.is_device c.compared.below).1
           ∙ ap (λ (o : Option Bool). unwrap_or o false) expects
 
       clear : get_or marks (reader.position / 4) 0 ≡ 0
@@ -134,43 +167,54 @@ module _ (board : RawBoard) (rules : IsBoard board) (plan : PlanTables) (p : IsP
           by_mark : (b : Bool) → (get_or marks (reader.position / 4) 0 == 0) ≡ b → get_or marks (reader.position / 4) 0 ≡ 0
           by_mark true e = eqb-true (get_or marks (reader.position / 4) 0) 0 e
           by_mark false e =
-              absurd (both_ways (are_marked marks (readers_in plan n)) unmarked (has_any (λ (r : ReaderCell). not (get_or marks (r.position / 4) 0 == 0)) (readers_in plan n) reader has (ap not e)))
+              absurd
+              (both_ways (are_marked marks (plan_readers plan n)) unmarked
+              (has_any (λ (r : ReaderCell). not (get_or marks (r.position / 4) 0 == 0))
+              (plan_readers plan n) reader has (ap not e)))
 
       bit_is : bit_in log (x * plan.width + j) reader.position ≡ code_bit (code_in plan n) j
       bit_is = are reader.position inside clear x less j j_less compares ∙ wants ∙ sym (ap (λ (k : ℕ). code_bit k j) c.code_is)
 
-    cells_expected : list_all (cell_shows log (x * plan.width + j) d.place Plain j (code_bit (code_in plan n) j)) (readers_in plan n) ≡ true
+    cells_expected : list_all
+        (cell_shows log (x * plan.width + j) d.place Plain j (code_bit (code_in plan n) j))
+        (plan_readers plan n) ≡ true
     cells_expected =
-        all_from (cell_shows log (x * plan.width + j) d.place Plain j (code_bit (code_in plan n) j)) (readers_in plan n)
-        (λ i y e. by_place y (has_at (readers_in plan n) i y e) (y.place == d.place) refl)
+        all_from (cell_shows log (x * plan.width + j) d.place Plain j (code_bit (code_in plan n) j)) (plan_readers plan n)
+        (λ i y e. by_place y (has_at (plan_readers plan n) i y e) (y.place == d.place) refl)
       where
-        by_place : (reader : ReaderCell) → Has (readers_in plan n) reader → (b : Bool) → (reader.place == d.place) ≡ b →
+        by_place : (reader : ReaderCell) → Has (plan_readers plan n) reader → (b : Bool) → (reader.place == d.place) ≡ b →
             (b || is_same (bit_in log (x * plan.width + j) reader.position) (code_bit (code_in plan n) j)) ≡ true
         by_place y has true e = refl
         by_place y has false e = is_same_of_same (bit_in log (x * plan.width + j) y.position) (code_bit (code_in plan n) j) (bit_is y has e)
 
   -- if net n is on the board and none of the digits of its cells is marked, the net shows the expected bits
-  unmarked_within : (n : ℕ) → n < length board.nets → are_marked marks (readers_in plan n) ≡ false → ShowsOn board plan None log n
+  unmarked_within : (n : ℕ) → n < length board.nets → are_marked marks (plan_readers plan n) ≡ false → ShowsOn board plan None log n
   unmarked_within n within unmarked x less =
       let net = item_there board.nets n within in
       let pass = item_there plan.passes x less in
-      subst (λ (q : List Ctl). NetShows board plan None log (x * plan.width) q n) (sym (get_or_from_slice_get plan.passes x pass.0 [] pass.1))
+      subst (λ (q : List Ctl). NetShows board plan None log (x * plan.width) q n)
+      (sym (get_or_from_slice_get plan.passes x pass.0 [] pass.1))
       (by_driver net.0 net.1 pass.0 pass.1 (driver_in plan pass.0 n) refl)
     where
-      by_driver : (net : Net) → slice_get board.nets n ≡ Some net → (pass : List Ctl) → slice_get plan.passes x ≡ Some pass → (o : Option NetDriver) → driver_in plan pass n ≡ o →
-          ShowBy log (x * plan.width) plan.width (code_in plan n) (readers_in plan n) Plain (place_of_driver o)
+      by_driver : (net : Net) → slice_get board.nets n ≡ Some net → (pass : List Ctl)
+          → slice_get plan.passes x ≡ Some pass → (o : Option NetDriver) → driver_in plan pass n ≡ o
+          →
+          ShowBy log (x * plan.width) plan.width (code_in plan n) (plan_readers plan n) Plain (place_of_driver o)
       by_driver net is_net pass stands None e = tt
       by_driver net is_net pass stands (Some d) e = λ j j_less. cells_expected n unmarked x less net is_net pass stands d e j j_less
 
   -- like `unmarked_within`, but n may also be a number that no net of the board has
-  pub unmarked_shows : (n : ℕ) → are_marked marks (readers_in plan n) ≡ false → ShowsOn board plan None log n
+  pub unmarked_shows : (n : ℕ) → are_marked marks (plan_readers plan n) ≡ false → ShowsOn board plan None log n
   unmarked_shows n unmarked = by_side (cases_lt n (length board.nets))
     where
       by_side : (n < length board.nets) ⊎ (length board.nets ≤ n) → ShowsOn board plan None log n
       by_side (inl within) x less = unmarked_within n within unmarked x less
       by_side (inr past) x less =
-          let none : readers_in plan n ≡ [] = get_or_past plan.nets.readers n [] (omega (arith, past, p.tables.readers_length)) in
-          subst (λ (l : List ReaderCell). ShowBy log (x * plan.width) plan.width (code_in plan n) l Plain (place_of_driver (driver_in plan (get_or plan.passes x []) n))) (sym none) (by_driver x (place_of_driver (driver_in plan (get_or plan.passes x []) n)))
+          let none : plan_readers plan n ≡ [] = get_or_past plan.nets.readers n [] (omega (arith, past, p.tables.readers_length)) in
+          subst
+          (λ (l : List ReaderCell). ShowBy log (x * plan.width) plan.width (code_in plan n) l
+          Plain (place_of_driver (driver_in plan (get_or plan.passes x []) n))) (sym none)
+          (by_driver x (place_of_driver (driver_in plan (get_or plan.passes x []) n)))
         where
           by_driver : (x : ℕ) (o : Option ℕ) → ShowBy log (x * plan.width) plan.width (code_in plan n) [] Plain o
           by_driver x None = tt
@@ -178,7 +222,9 @@ module _ (board : RawBoard) (rules : IsBoard board) (plan : PlanTables) (p : IsP
 
 -- if `old` has the right marks for the first x passes, and checking pass x changes the marks from `old` to `new`, then `new` has the right
 -- marks for the first x + 1 passes
-pub pass_more : (board : RawBoard) (plan : PlanTables) (log : List (List Bool)) (x : ℕ) (old new : List ℕ) → AreMarks board plan log x old → MarkRows board plan log x plan.width old new → AreMarks board plan log (x + 1) new
+pub pass_more : (board : RawBoard) (plan : PlanTables) (log : List (List Bool)) (x : ℕ)
+    (old new : List ℕ) → AreMarks board plan log x old
+    → MarkRows board plan log x plan.width old new → AreMarks board plan log (x + 1) new
 pass_more board plan log x old new are more at within unmarked pass less = by_pass (cases_eq pass x)
   where
     by_pass : (pass ≡ x) ⊎ (pass ≡ x → ⊥) → (j : ℕ) → j < plan.width → HasExpected board plan log pass j at

@@ -27,16 +27,28 @@ pub decides_as : {P Q : Type 0} (r : Bool) → Decides r P → (P → Q) → (Q 
 decides_as r decides to back = (λ e. to (decides.0 e), λ q. decides.1 (back q))
 
 -- the nets of a board's single fault are on the board
-pub nets_there : (board : RawBoard) (single : Single) → IsSingle board single → (first_net single < length board.nets) × (second_net single < length board.nets)
-nets_there board (StuckNet net value) (setting, safe, (v, en, o)) = (slice_get_within board.nets net v en, slice_get_within board.nets net v en)
-nets_there board (OpenPin pin value) (inl (setting, safe, (v, en, o))) = (slice_get_within board.nets pin.net v en, slice_get_within board.nets pin.net v en)
-nets_there board (OpenPin pin value) (inr (setting, safe, (v, q, driver, en, ep, reads, ne, o))) = (slice_get_within board.nets pin.net v en, slice_get_within board.nets pin.net v en)
-nets_there board (Short a b kind) (less, (ne, (setting, safe, ((one, ea, oa), (two, eb, ob))))) = (slice_get_within board.nets a one ea, slice_get_within board.nets b two eb)
+pub nets_there : (board : RawBoard) (single : Single) → IsSingle board single
+    → (first_net single < length board.nets) × (second_net single < length board.nets)
+nets_there board (StuckNet net value) (setting, safe, (v, en, o)) =
+    (slice_get_within board.nets net v en, slice_get_within board.nets net v en)
+nets_there board (OpenPin pin value) (inl (setting, safe, (v, en, o))) =
+    (slice_get_within board.nets pin.net v en, slice_get_within board.nets pin.net v en)
+nets_there board (OpenPin pin value) (inr (setting, safe, (v, q, driver, en, ep, reads, ne, o))) =
+    (slice_get_within board.nets pin.net v en, slice_get_within board.nets pin.net v en)
+nets_there board (Short a b kind) (less, (ne, (setting, safe, ((one, ea, oa), (two, eb, ob))))) =
+    (slice_get_within board.nets a one ea, slice_get_within board.nets b two eb)
 
-module _ (board : RawBoard) (rules : IsBoard board) (plan : PlanTables) (p : IsPlanOf board plan) (passes : plan.passes ≡ passes_of board) (log : List (List Bool))
+module _ (board : RawBoard) (rules : IsBoard board) (plan : PlanTables) (p : IsPlanOf board plan)
+    (passes : plan.passes ≡ passes_of board) (log : List (List Bool))
     (rows : length log ≡ length plan.passes * plan.width) (bits : All (λ row. length row ≡ data_bits board) log)
-    (compared : CompareRows (code_row board (passes_of board)) (code_width (observed_count board (passes_of board))) (passes_of board) (compared_scans board (svf_row_scans board)))
-    (shape : HasShape board (svf_row_scans board) log ↔ ((length log ≡ length (passes_of board) * code_width (observed_count board (passes_of board))) × All (λ row. length row ≡ data_bits board) log)) where
+    (compared : CompareRows (code_row board (passes_of board))
+    (code_width (observed_count board (passes_of board))) (passes_of board)
+    (compared_scans board (svf_row_scans board)))
+    (shape : HasShape board (svf_row_scans board) log
+    ↔ ((length log
+    ≡ length (passes_of board) * code_width
+    (observed_count board (passes_of board)))
+    × All (λ row. length row ≡ data_bits board) log)) where
   abbrev scans : List RowScan
   scans = svf_row_scans board
 
@@ -46,10 +58,18 @@ module _ (board : RawBoard) (rules : IsBoard board) (plan : PlanTables) (p : IsP
   pub plan_compared : CompareRows (code_row board plan.passes) plan.width plan.passes (compared_scans board scans)
   plan_compared =
       subst (λ (w : ℕ). CompareRows (code_row board plan.passes) w plan.passes (compared_scans board scans)) (sym width_is)
-      (subst (λ (l : List (List Ctl)). CompareRows (code_row board l) (code_width (observed_count board (passes_of board))) l (compared_scans board scans)) (sym passes) compared)
+      (subst
+      (λ (l : List (List Ctl)). CompareRows (code_row board l)
+      (code_width (observed_count board (passes_of board))) l (compared_scans board scans))
+      (sym passes) compared)
 
   pub shaped : HasShape board scans log
-  shaped = shape.1 (rows ∙ ap (λ (l : List (List Ctl)). length l * plan.width) passes ∙ ap (λ (w : ℕ). length (passes_of board) * w) width_is, bits)
+  shaped =
+      shape.1 (
+        rows ∙ ap (λ (l : List (List Ctl)). length l * plan.width) passes
+            ∙ ap (λ (w : ℕ). length (passes_of board) * w) width_is,
+        bits,
+      )
 
   module _ (fault : Option Single) (is_fault : IsFault board fault) where
     pub to_bits : ShowsAll board plan fault log → ShowsBits board scans (fault_bit board fault) log
@@ -58,9 +78,14 @@ module _ (board : RawBoard) (rules : IsBoard board) (plan : PlanTables) (p : IsP
     pub from_bits : ShowsBits board scans (fault_bit board fault) log → ShowsAll board plan fault log
     from_bits = all_shown board rules plan p fault is_fault log rows bits scans plan_compared
 
-  pub explains_is : (single : Single) → IsSingle board single → Explains board single log ↔ (HasShape board scans log × ShowsBits board scans (single_bit board single) log) →
+  pub explains_is : (single : Single) → IsSingle board single
+      → Explains board single log
+      ↔ (HasShape board scans log × ShowsBits board scans (single_bit board single) log) →
       Explains board single log ↔ ShowsAll board plan (Some single) log
-  explains_is single is_single law = (λ e. from_bits (Some single) is_single (law.0 e).1, λ show. law.1 (shaped, to_bits (Some single) is_single show))
+  explains_is single is_single law = (
+    λ e. from_bits (Some single) is_single (law.0 e).1,
+    λ show. law.1 (shaped, to_bits (Some single) is_single show),
+  )
 
   pub expected_is : IsExpected board scans log ↔ (HasShape board scans log × ShowsBits board scans (λ row place expected. expected) log) →
       IsExpected board scans log ↔ ShowsAll board plan None log

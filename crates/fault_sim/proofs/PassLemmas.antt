@@ -3,7 +3,7 @@ use Rattle.std.proofs.Common.{◌≡◌, ◌⊎◌, inl, inr, ℕ, suc, ◌+◌,
 use Rattle.std.proofs.lemmas.Bool.{cases_eq}
 use Rattle.std.proofs.lemmas.Nat.{mul-le}
 use Rattle.std.proofs.Math.Nat.{suc-mul}
-use Rattle.fault_sim.specs.Kept.{IsLogOf}
+use Rattle.fault_sim.specs.Kept.{IsLogOfTest}
 use Rattle.fault_sim.specs.Planned.{PlannedBoard}
 
 -- if P holds for pass x and for all passes before pass x, it holds for all passes before pass x + 1
@@ -18,5 +18,12 @@ passes_more P x before here k less = by_pass (cases_eq k x)
         lower ne = grind arith
 
 -- if a log has the rows of the test, and x is less than the number of passes, the log has all rows of pass x
-pub rows_within : (test : PlannedBoard) (log : List (List Bool)) (x : ℕ) → IsLogOf test log → x < length test.plan.passes → x * test.plan.width + test.plan.width ≤ length log
-rows_within test log x is less = omega (arith, is.rows, suc-mul x test.plan.width, mul-le (suc x) test.plan.width (length test.plan.passes) test.plan.width less (omega arith))
+pub rows_within : (test : PlannedBoard) (log : List (List Bool)) (x : ℕ) → IsLogOfTest test log
+    → x < length test.plan.passes → x * test.plan.width + test.plan.width ≤ length log
+rows_within test log x is less =
+    omega (
+      arith,
+      is.rows,
+      suc-mul x test.plan.width,
+      mul-le (suc x) test.plan.width (length test.plan.passes) test.plan.width less (omega arith),
+    )

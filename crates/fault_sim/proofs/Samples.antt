@@ -3,11 +3,11 @@
 use Rattle.std.proofs.Common.{◌≡◌, ◌≤◌, ℕ, zero, suc, [], ◌∷◌, get_or, refl, arith}
 use Rattle.fault_sim.specs.declared.fault_lists.FaultLists.{FaultLists}
 use Rattle.fault_sim.specs.Places.{place_count}
-use Rattle.fault_sim.specs.Starts.{AreStarts, pairs_before}
+use Rattle.fault_sim.specs.Starts.{ArePairStarts, pairs_before}
 use Rattle.fault_sim.specs.Suspects.{suspect_count}
 use Rattle.fault_sim.specs.inner.Suspects.{net_suspects, pair_suspects}
 
-two_starts : AreStarts 2 (0 ∷ 1 ∷ 1 ∷ [])
+two_starts : ArePairStarts 2 (0 ∷ 1 ∷ 1 ∷ [])
 two_starts = record { count = refl; each = each }
   where
     each : (a : ℕ) → a ≤ 2 → get_or (0 ∷ 1 ∷ 1 ∷ []) a 0 ≡ pairs_before 2 a
@@ -18,7 +18,17 @@ two_starts = record { count = refl; each = each }
 
 -- two covered nets, each with two tested pins
 abbrev two_nets : FaultLists
-two_nets = record { nets = 0 ∷ 1 ∷ []; pins = record { net = 0; place = 0 } ∷ record { net = 0; place = 1 } ∷ record { net = 1; place = 0 } ∷ record { net = 1; place = 1 } ∷ []; starts = 0 ∷ 1 ∷ 1 ∷ []; few = omega arith; few_pins = omega arith; starts_are = two_starts }
+two_nets =
+    record {
+      nets = 0 ∷ 1 ∷ [];
+      pins = record { net = 0; place = 0 } ∷ record { net = 0; place = 1 }
+          ∷ record { net = 1; place = 0 } ∷ record { net = 1; place = 1 } ∷ [];
+      starts = 0 ∷ 1 ∷ 1
+          ∷ [];
+      few = omega arith;
+      few_pins = omega arith;
+      starts_are = two_starts;
+    }
 
 two_nets_places : place_count two_nets ≡ 16
 two_nets_places = refl
@@ -44,7 +54,7 @@ both_differ_count = refl
 three_differ_count : suspect_count two_nets (0 ∷ 1 ∷ 2 ∷ []) ≡ 0
 three_differ_count = refl
 
-three_starts : AreStarts 3 (0 ∷ 2 ∷ 3 ∷ 3 ∷ [])
+three_starts : ArePairStarts 3 (0 ∷ 2 ∷ 3 ∷ 3 ∷ [])
 three_starts = record { count = refl; each = each }
   where
     each : (a : ℕ) → a ≤ 3 → get_or (0 ∷ 2 ∷ 3 ∷ 3 ∷ []) a 0 ≡ pairs_before 3 a
@@ -56,7 +66,16 @@ three_starts = record { count = refl; each = each }
 
 -- three covered nets, of which only the first has a tested pin; their pairs in order are 0 and 1, 0 and 2, 1 and 2
 abbrev three_nets : FaultLists
-three_nets = record { nets = 3 ∷ 5 ∷ 8 ∷ []; pins = record { net = 3; place = 1 } ∷ []; starts = 0 ∷ 2 ∷ 3 ∷ 3 ∷ []; few = omega arith; few_pins = omega arith; starts_are = three_starts }
+three_nets =
+    record {
+      nets = 3 ∷ 5 ∷ 8 ∷ [];
+      pins = record { net = 3; place = 1 } ∷ [];
+      starts = 0 ∷ 2 ∷ 3 ∷ 3
+          ∷ [];
+      few = omega arith;
+      few_pins = omega arith;
+      starts_are = three_starts;
+    }
 
 three_nets_starts : pairs_before 3 1 ≡ 2
 three_nets_starts = refl

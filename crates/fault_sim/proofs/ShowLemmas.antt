@@ -44,7 +44,7 @@ use Rattle.plan_tables.proofs.LaidLemmas.{laid_at}
 use Rattle.plan_tables.proofs.PinLemmas.{Standing, standing, on_self, reading_entry_is, Reads, reads_by}
 use Rattle.plan_tables.proofs.TableLemmas.{FirstOn, reader_is, is_reader}
 use Rattle.response_log.specs.LogRows.{bit_in}
-use Rattle.fault_sim.specs.Effects.{readers_in, code_in, driver_in, place_of_driver, effect_in, effect_bit}
+use Rattle.fault_sim.specs.Effects.{plan_readers, code_in, driver_in, place_of_driver, effect_in, effect_bit}
 use Rattle.fault_sim.specs.inner.Effects.{fault_bit}
 use Rattle.fault_sim.specs.Fits.{cell_shows, ShowBy, NetShows, Shows, ShowsAll}
 use Rattle.fault_sim.proofs.FeedLemmas.{drivers_are, readers_are, code_is, first_is, observing_is}
@@ -81,33 +81,43 @@ pub record ComparedCell (board : RawBoard) (plan : PlanTables) (pass : List Ctl)
   pub device : RawDevice
   pub cell : ℕ
   pub position_is : reader.position ≡ first_position board part + cell
-  pub compared : IsCompared board (code_row board plan.passes pass j) part device cell (record { number = n; net = net; place = reader.place }) (net_code_bit board plan.passes j n)
+  pub compared : IsCompared board (code_row board plan.passes pass j) part device cell
+      (record { number = n; net = net; place = reader.place }) (net_code_bit board plan.passes j n)
   pub code_is : code_in plan n ≡ code_of_net board plan.passes n
 
 module _ (board : RawBoard) (rules : IsBoard board) (plan : PlanTables) (p : IsPlanOf board plan) where
-  enabled_unguarded : (pass : List Ctl) (n : ℕ) (net : Net) → slice_get board.nets n ≡ Some net → (d : NetDriver) → driver_in plan pass n ≡ Some d → guarded board net ≡ false
+  enabled_unguarded : (pass : List Ctl) (n : ℕ) (net : Net) → slice_get board.nets n ≡ Some net
+      → (d : NetDriver) → driver_in plan pass n ≡ Some d → guarded board net ≡ false
   enabled_unguarded pass n net is_net d enabled = by_guard (guarded board net) refl
     where
       by_guard : (b : Bool) → guarded board net ≡ b → b ≡ false
       by_guard false e = refl
       by_guard true e =
           let bad : None ≡ Some d =
-          sym (ap (λ (l : List NetDriver). enabled_in (holds pass) l) (drivers_are board rules plan p n net is_net ∙ ap (λ (b : Bool). cond b [] (drivers_of_pins board net.pins)) e)) ∙ enabled in
+          sym
+          (ap (λ (l : List NetDriver). enabled_in (holds pass) l)
+          (drivers_are board rules plan p n net is_net
+          ∙ ap (λ (b : Bool). cond b [] (drivers_of_pins board net.pins)) e)) ∙ enabled in
           cc bad
 
-  module _ (x : ℕ) (pass : List Ctl) (stands : slice_get plan.passes x ≡ Some pass) (j : ℕ) (n : ℕ) (net : Net) (is_net : slice_get board.nets n ≡ Some net) (d : NetDriver) (enabled : driver_in plan pass n ≡ Some d)
-      (reader : ReaderCell) (has : Has (readers_in plan n) reader) (differs : (reader.place == d.place) ≡ false) where
+  module _ (x : ℕ) (pass : List Ctl) (stands : slice_get plan.passes x ≡ Some pass) (j : ℕ) (n : ℕ)
+      (net : Net) (is_net : slice_get board.nets n ≡ Some net) (d : NetDriver)
+      (enabled : driver_in plan pass n ≡ Some d)
+      (reader : ReaderCell) (has : Has (plan_readers plan n) reader) (differs : (reader.place == d.place) ≡ false) where
     q : IsReaderCell board net reader
     q = reader_is board net reader (subst (λ (l : List ReaderCell). Has l reader) (readers_are board rules plan p n net is_net) has)
 
     t : Standing board n net reader.place q.at
     t = standing board rules n net reader.place q.pin q.at is_net q.is_pin q.is_at
 
-    beside : is_read_beside (readers_in plan n) d ≡ true
-    beside = has_any (λ (y : ReaderCell). not (y.place == d.place)) (readers_in plan n) reader has (ap not differs)
+    beside : is_read_beside (plan_readers plan n) d ≡ true
+    beside = has_any (λ (y : ReaderCell). not (y.place == d.place)) (plan_readers plan n) reader has (ap not differs)
 
     observing : observing_driver board (holds pass) net ≡ Some d.place
-    observing = observing_is board rules plan p n net is_net x pass stands (enabled_unguarded pass n net is_net d enabled) d enabled ∙ ap (λ (b : Bool). cond b (Some d.place) None) beside
+    observing =
+        observing_is board rules plan p n net is_net x pass stands
+        (enabled_unguarded pass n net is_net d enabled) d enabled
+        ∙ ap (λ (b : Bool). cond b (Some d.place) None) beside
 
     same_device : q.device ≡ t.device
     same_device = let two : Some q.device ≡ Some t.device = sym q.is_device ∙ t.is_device in cc two
@@ -124,12 +134,21 @@ module _ (board : RawBoard) (rules : IsBoard board) (plan : PlanTables) (p : IsP
     entry_is : reading_entry t.device q.entry.num ≡ Some q.entry
     entry_is = reading_entry_is t.device t.read stands_in.0 q.entry entry_at parts.1
 
-    compared_is : IsCompared board (code_row board plan.passes pass j) q.at.part t.device q.entry.num (record { number = n; net = net; place = reader.place }) (net_code_bit board plan.passes j n)
+    compared_is : IsCompared board (code_row board plan.passes pass j) q.at.part t.device
+        q.entry.num (record { number = n; net = net; place = reader.place })
+        (net_code_bit board plan.passes j n)
     compared_is = record {
       is_device = t.is_device;
       below = t.read.num_below stands_in.0 q.entry entry_at;
-      reads = ap (λ (o : Option Cell). option_and_then (λ e. option_and_then (λ b. place_of (record { part = q.at.part; bit = b }) 0 board.nets) e.bit) o) entry_is
-          ∙ ap (λ (o : Option ℕ). option_and_then (λ b. place_of (record { part = q.at.part; bit = b }) 0 board.nets) o) (on_is q.at.bit q.entry.bit parts.0)
+      reads =
+          ap
+          (λ (o : Option Cell). option_and_then
+          (λ e. option_and_then
+          (λ b. place_of (record { part = q.at.part; bit = b }) 0 board.nets) e.bit) o) entry_is
+          ∙ ap
+          (λ (o : Option ℕ). option_and_then
+          (λ b. place_of (record { part = q.at.part; bit = b }) 0 board.nets) o)
+          (on_is q.at.bit q.entry.bit parts.0)
           ∙ t.is_place;
       expects =
           ap (λ (o : Option Cell). expect_entry board (code_row board plan.passes pass j) q.at.part o) entry_is
@@ -151,7 +170,8 @@ module _ (board : RawBoard) (rules : IsBoard board) (plan : PlanTables) (p : IsP
       code_is = code_is board rules plan p n net is_net x pass d.place stands observing;
     }
 
-module _ (board : RawBoard) (rules : IsBoard board) (plan : PlanTables) (p : IsPlanOf board plan) (fault : Option Single) (is_fault : IsFault board fault) (log : List (List Bool))
+module _ (board : RawBoard) (rules : IsBoard board) (plan : PlanTables) (p : IsPlanOf board plan)
+    (fault : Option Single) (is_fault : IsFault board fault) (log : List (List Bool))
     (rows : length log ≡ length plan.passes * plan.width) (bits : All (λ row. length row ≡ data_bits board) log)
     (scans : List RowScan) (compare : CompareRows (code_row board plan.passes) plan.width plan.passes (compared_scans board scans)) where
   -- row j of pass x
@@ -169,18 +189,33 @@ module _ (board : RawBoard) (rules : IsBoard board) (plan : PlanTables) (p : IsP
     scan_is = compare.each x pass j stands less
 
     row_there : number < length log
-    row_there = omega (arith, mul-add-lt x plan.width j (length plan.passes) (slice_get_within plan.passes x pass stands) less, rows, grind-times plan.width (length plan.passes))
+    row_there =
+        omega (
+          arith,
+          mul-add-lt x plan.width j (length plan.passes)
+              (slice_get_within plan.passes x pass stands) less,
+          rows,
+          grind-times plan.width (length plan.passes),
+        )
       where
         grind-times : (a b : ℕ) → a * b ≡ b * a
         grind-times a b = grind arith
 
     -- a cell of a part, and its position in this row of the log
-    module _ (logged : List Bool) (is_logged : slice_get log number ≡ Some logged) (part : ℕ) (device : RawDevice) (cell : ℕ) (is_device : device_at board part ≡ Some device) (below : cell < device.boundary) where
+    module _ (logged : List Bool) (is_logged : slice_get log number ≡ Some logged) (part : ℕ)
+        (device : RawDevice) (cell : ℕ) (is_device : device_at board part ≡ Some device)
+        (below : cell < device.boundary) where
       abbrev position : ℕ
       position = first_position board part + cell
 
       within : position < length logged
-      within = omega (arith, (laid_at (λ q e c. false) board part device cell is_device below).0, all_stands (λ (l : List Bool). length l ≡ data_bits board) log number logged is_logged bits)
+      within =
+          omega (
+            arith,
+            (laid_at (λ q e c. false) board part device cell is_device below).0,
+            all_stands (λ (l : List Bool). length l ≡ data_bits board) log number logged is_logged
+                bits,
+          )
 
       logged_is : slice_get logged position ≡ Some (bit_in log number position)
       logged_is =
@@ -188,13 +223,18 @@ module _ (board : RawBoard) (rules : IsBoard board) (plan : PlanTables) (p : IsP
           ∙ ap (λ (l : List Bool). Some (get_or l position false)) (sym (get_or_from_slice_get log number logged [] is_logged))
 
     -- net n and the driver that the pass enables on it
-    module _ (n : ℕ) (net : Net) (is_net : slice_get board.nets n ≡ Some net) (unguarded : guarded board net ≡ false) (d : NetDriver) (enabled : driver_in plan pass n ≡ Some d) where
+    module _ (n : ℕ) (net : Net) (is_net : slice_get board.nets n ≡ Some net)
+        (unguarded : guarded board net ≡ false) (d : NetDriver)
+        (enabled : driver_in plan pass n ≡ Some d) where
       module _ (place : ℕ) (other : place ≢ d.place) (expected : Bool) where
-        value_is : effect_bit (effect_in board plan pass fault n) j place expected ≡ fault_bit board fault row (record { number = n; net = net; place = place }) expected
+        value_is : effect_bit (effect_in board plan pass fault n) j place expected
+            ≡ fault_bit board fault row (record { number = n; net = net; place = place }) expected
         value_is = effect_is board rules plan p x pass stands n net is_net unguarded d enabled place other j expected fault is_fault
 
     -- if the log shows the fault on every net, each compared cell has the bit that the fault gives it
-    module _ (show : (n : ℕ) → n < length board.nets → Shows board plan fault log x n) (logged : List Bool) (is_logged : slice_get log number ≡ Some logged) (part : ℕ) (device : RawDevice) (cell : ℕ) (place : Place) (expected : Bool)
+    module _ (show : (n : ℕ) → n < length board.nets → Shows board plan fault log x n)
+        (logged : List Bool) (is_logged : slice_get log number ≡ Some logged) (part : ℕ)
+        (device : RawDevice) (cell : ℕ) (place : Place) (expected : Bool)
         (c : IsCompared board row part device cell place expected) where
       r : ReadsPlace board row part device cell place expected
       r = reads_place board row part device cell place expected c
@@ -220,7 +260,7 @@ module _ (board : RawBoard) (rules : IsBoard board) (plan : PlanTables) (p : IsP
       abbrev reader : ReaderCell
       reader = record { place = place.place; position = first_position board part + cell }
 
-      has_reader : Has (readers_in plan n) reader
+      has_reader : Has (plan_readers plan n) reader
       has_reader =
           let s = stands_at board at place 0 board.nets r.stands in
           let reads : Reads device cell r.entry = reads_by device cell r.entry r.reads in
@@ -245,7 +285,9 @@ module _ (board : RawBoard) (rules : IsBoard board) (plan : PlanTables) (p : IsP
           let same : net_code_bit board plan.passes j n ≡ expected = cc two in
           ap (λ (k : ℕ). code_bit k j) (code_is board rules plan p n net is_net x pass r.driver stands r.observing) ∙ same
 
-      by_enabled : (d : Option NetDriver) → driver_in plan pass n ≡ d → ShowBy log (x * plan.width) plan.width (code_in plan n) (readers_in plan n) (effect_in board plan pass fault n) (place_of_driver d) →
+      by_enabled : (d : Option NetDriver) → driver_in plan pass n ≡ d
+          → ShowBy log (x * plan.width) plan.width (code_in plan n) (plan_readers plan n)
+          (effect_in board plan pass fault n) (place_of_driver d) →
           slice_get logged (cell_position board part cell) ≡ Some (fault_bit board fault row place expected)
       by_enabled None e shown =
           let none = first_is board rules plan p n net is_net x pass stands o.unguarded in
@@ -254,18 +296,36 @@ module _ (board : RawBoard) (rules : IsBoard board) (plan : PlanTables) (p : IsP
           no_driver : Rattle.tap_defs.specs.board.TestRows.first_enabled board (holds pass) 0 net.pins ≡ None → ⊥
           no_driver z =
               let bad : None ≡ Some r.driver =
-              sym (ap (λ (b : Bool). cond b None (Rattle.tap_defs.specs.board.TestRows.observing_driver_by board net (Rattle.tap_defs.specs.board.TestRows.first_enabled board (holds pass) 0 net.pins))) o.unguarded
+              sym
+              (ap
+              (λ (b : Bool). cond b None
+              (Rattle.tap_defs.specs.board.TestRows.observing_driver_by board net
+              (Rattle.tap_defs.specs.board.TestRows.first_enabled board (holds pass) 0
+              net.pins))) o.unguarded
               ∙ ap (λ (q : Option ℕ). Rattle.tap_defs.specs.board.TestRows.observing_driver_by board net q) z) ∙ r.observing in
               cc bad
       by_enabled (Some d) e shown =
           let place_is : r.driver ≡ d.place = driver_place in
-          let differs : (place.place == d.place) ≡ false = eqb_swap d.place place.place (sym (ap (λ (i : ℕ). i == place.place) place_is) ∙ r.other) in
+          let differs : (place.place == d.place)
+          ≡ false = eqb_swap d.place place.place
+          (sym (ap (λ (i : ℕ). i == place.place) place_is) ∙ r.other) in
           let other : place.place ≢ d.place = λ q. both_ways (place.place == d.place) differs (eq-eqb place.place d.place q) in
           let cell_is : cell_shows log number d.place (effect_in board plan pass fault n) j (code_bit (code_in plan n) j) reader ≡ true =
-          all_has (cell_shows log number d.place (effect_in board plan pass fault n) j (code_bit (code_in plan n) j)) (readers_in plan n) reader (shown j less) has_reader in
+          all_has
+          (cell_shows log number d.place (effect_in board plan pass fault n) j
+          (code_bit (code_in plan n) j)) (plan_readers plan n) reader (shown j less) has_reader
+          in
           logged_is logged is_logged part device cell c.is_device c.below
-          ∙ ap Some (same_of_is_same (bit_in log number (first_position board part + cell)) (effect_bit (effect_in board plan pass fault n) j place.place (code_bit (code_in plan n) j))
-          (sym (ap (λ (t : Bool). t || is_same (bit_in log number (first_position board part + cell)) (effect_bit (effect_in board plan pass fault n) j place.place (code_bit (code_in plan n) j))) differs) ∙ cell_is)
+          ∙ ap Some
+          (same_of_is_same (bit_in log number (first_position board part + cell))
+          (effect_bit (effect_in board plan pass fault n) j place.place
+          (code_bit (code_in plan n) j))
+          (sym
+          (ap
+          (λ (t : Bool). t
+          || is_same (bit_in log number (first_position board part + cell))
+          (effect_bit (effect_in board plan pass fault n) j place.place
+          (code_bit (code_in plan n) j))) differs) ∙ cell_is)
           ∙ ap (λ (v : Bool). effect_bit (effect_in board plan pass fault n) j place.place v) expected_is
           ∙ value_is n net is_net o.unguarded d e place.place other expected)
         where
@@ -275,71 +335,112 @@ module _ (board : RawBoard) (rules : IsBoard board) (plan : PlanTables) (p : IsP
 
           driver_place : r.driver ≡ d.place
           driver_place =
-              sym (some_same (is_read_beside (readers_in plan n) d) (sym (observing_is board rules plan p n net is_net x pass stands o.unguarded d e) ∙ r.observing))
+              sym
+              (some_same (is_read_beside (plan_readers plan n) d)
+              (sym
+              (observing_is board rules plan p n net is_net x pass stands o.unguarded
+              d e) ∙ r.observing))
 
       pub compared_bit : slice_get logged (cell_position board part cell) ≡ Some (fault_bit board fault row place expected)
       compared_bit =
           by_enabled (driver_in plan pass n) refl
-          (subst (λ (q : List Ctl). NetShows board plan fault log (x * plan.width) q n) (get_or_from_slice_get plan.passes x pass [] stands) (show n (slice_get_within board.nets n net is_net)))
+          (subst (λ (q : List Ctl). NetShows board plan fault log (x * plan.width) q n)
+          (get_or_from_slice_get plan.passes x pass [] stands)
+          (show n (slice_get_within board.nets n net is_net)))
 
     -- if each compared cell has the bit that the fault gives it, the log shows the fault on every net
-    module _ (shows : ShowsBits board scans (fault_bit board fault) log) (n : ℕ) (net : Net) (is_net : slice_get board.nets n ≡ Some net) (d : NetDriver) (enabled : driver_in plan pass n ≡ Some d) where
-      module _ (reader : ReaderCell) (has : Has (readers_in plan n) reader) (differs : (reader.place == d.place) ≡ false) where
+    module _ (shows : ShowsBits board scans (fault_bit board fault) log) (n : ℕ) (net : Net)
+        (is_net : slice_get board.nets n ≡ Some net) (d : NetDriver)
+        (enabled : driver_in plan pass n ≡ Some d) where
+      module _ (reader : ReaderCell) (has : Has (plan_readers plan n) reader) (differs : (reader.place == d.place) ≡ false) where
         abbrev expected : Bool
         expected = net_code_bit board plan.passes j n
 
-        bit_is : bit_in log number reader.position ≡ effect_bit (effect_in board plan pass fault n) j reader.place (code_bit (code_in plan n) j)
+        bit_is : bit_in log number reader.position
+            ≡ effect_bit (effect_in board plan pass fault n) j reader.place
+            (code_bit (code_in plan n) j)
         bit_is =
-            let c : ComparedCell board plan pass j n net reader = compared_cell board rules plan p x pass stands j n net is_net d enabled reader has differs in
+            let c : ComparedCell board plan pass j n net reader = compared_cell board rules plan p x
+            pass stands j n net is_net d enabled reader has differs in
             let logged = item_there log number row_there in
-            let shown = shows number scan_here logged.0 c.part c.device c.cell (record { number = n; net = net; place = reader.place }) expected scan_is logged.1 c.compared in
+            let shown = shows number scan_here logged.0 c.part c.device c.cell
+            (record { number = n; net = net; place = reader.place }) expected scan_is logged.1
+            c.compared in
             let there = logged_is logged.0 logged.1 c.part c.device c.cell c.compared.is_device c.compared.below in
-            let two : Some (bit_in log number (first_position board c.part + c.cell)) ≡ Some (fault_bit board fault row (record { number = n; net = net; place = reader.place }) expected) = sym there ∙ shown in
-            let same : bit_in log number (first_position board c.part + c.cell) ≡ fault_bit board fault row (record { number = n; net = net; place = reader.place }) expected = cc two in
+            let two : Some (bit_in log number (first_position board c.part + c.cell))
+            ≡ Some
+            (fault_bit board fault row
+            (record { number = n; net = net; place = reader.place }) expected) = sym there
+            ∙ shown in
+            let same : bit_in log number (first_position board c.part + c.cell)
+            ≡ fault_bit board fault row (record { number = n; net = net; place = reader.place })
+            expected = cc two in
             let other : reader.place ≢ d.place = λ e. both_ways (reader.place == d.place) differs (eq-eqb reader.place d.place e) in
             ap (λ (i : ℕ). bit_in log number i) c.position_is ∙ same
-            ∙ sym (value_is n net is_net (enabled_unguarded board rules plan p pass n net is_net d enabled) d enabled reader.place other expected)
+            ∙ sym
+            (value_is n net is_net
+            (enabled_unguarded board rules plan p pass n net is_net d enabled) d enabled
+            reader.place other expected)
             ∙ sym (ap (λ (k : ℕ). effect_bit (effect_in board plan pass fault n) j reader.place (code_bit k j)) c.code_is)
 
-      pub cells_are_shown : list_all (cell_shows log number d.place (effect_in board plan pass fault n) j (code_bit (code_in plan n) j)) (readers_in plan n) ≡ true
+      pub cells_are_shown : list_all
+          (cell_shows log number d.place (effect_in board plan pass fault n) j
+          (code_bit (code_in plan n) j)) (plan_readers plan n) ≡ true
       cells_are_shown =
-          all_from (cell_shows log number d.place (effect_in board plan pass fault n) j (code_bit (code_in plan n) j)) (readers_in plan n)
-          (λ i y e. by_place y (has_at (readers_in plan n) i y e) (y.place == d.place) refl)
+          all_from (cell_shows log number d.place (effect_in board plan pass fault n) j (code_bit (code_in plan n) j)) (plan_readers plan n)
+          (λ i y e. by_place y (has_at (plan_readers plan n) i y e) (y.place == d.place) refl)
         where
-          by_place : (reader : ReaderCell) → Has (readers_in plan n) reader → (b : Bool) → (reader.place == d.place) ≡ b →
-              (b || is_same (bit_in log number reader.position) (effect_bit (effect_in board plan pass fault n) j reader.place (code_bit (code_in plan n) j))) ≡ true
+          by_place : (reader : ReaderCell) → Has (plan_readers plan n) reader → (b : Bool) → (reader.place == d.place) ≡ b →
+              (b
+              || is_same (bit_in log number reader.position)
+              (effect_bit (effect_in board plan pass fault n) j reader.place
+              (code_bit (code_in plan n) j))) ≡ true
           by_place y has true e = refl
           by_place y has false e =
-              is_same_of_same (bit_in log number y.position) (effect_bit (effect_in board plan pass fault n) j y.place (code_bit (code_in plan n) j)) (bit_is y has e)
+              is_same_of_same (bit_in log number y.position)
+              (effect_bit (effect_in board plan pass fault n) j y.place
+              (code_bit (code_in plan n) j)) (bit_is y has e)
 
   pub bits_shown : ShowsAll board plan fault log → ShowsBits board scans (fault_bit board fault) log
   bits_shown show y scan logged part device cell place expected at_scan at_log c =
-      let within : y < length plan.passes * plan.width = omega (arith, slice_get_within (compared_scans board scans) y scan at_scan, compare.count) in
+      let within : y
+      < length plan.passes * plan.width = omega
+      (arith, slice_get_within (compared_scans board scans) y scan at_scan, compare.count) in
       let r : RowOf (length plan.passes) plan.width y = row_of (length plan.passes) plan.width y within in
       let pass = item_there plan.passes r.pass r.pass_below in
       let two : Some scan ≡ Some (scan_here r.pass (pass.0) pass.1 r.bit r.bit_below) =
       sym at_scan ∙ ap (λ (i : ℕ). slice_get (compared_scans board scans) i) r.row_is ∙ scan_is r.pass (pass.0) pass.1 r.bit r.bit_below in
       let same : scan ≡ scan_here r.pass (pass.0) pass.1 r.bit r.bit_below = cc two in
       let compared = subst (λ (s : RowScan). IsCompared board s.before part device cell place expected) same c in
-      compared_bit r.pass (pass.0) pass.1 r.bit r.bit_below (show r.pass r.pass_below) logged (ap (λ (i : ℕ). slice_get log i) (sym r.row_is) ∙ at_log) part device cell place expected compared
+      compared_bit r.pass (pass.0) pass.1 r.bit r.bit_below (show r.pass r.pass_below) logged
+      (ap (λ (i : ℕ). slice_get log i) (sym r.row_is) ∙ at_log) part device cell place expected
+      compared
       ∙ sym (ap (λ (s : RowScan). Some (fault_bit board fault s.before place expected)) same)
 
   pub all_shown : ShowsBits board scans (fault_bit board fault) log → ShowsAll board plan fault log
   all_shown shows x x_less n n_less =
       let pass = item_there plan.passes x x_less in
       let net = item_there board.nets n n_less in
-      subst (λ (q : List Ctl). NetShows board plan fault log (x * plan.width) q n) (sym (get_or_from_slice_get plan.passes x (pass.0) [] pass.1))
+      subst (λ (q : List Ctl). NetShows board plan fault log (x * plan.width) q n)
+      (sym (get_or_from_slice_get plan.passes x (pass.0) [] pass.1))
       (by_driver (pass.0) pass.1 (net.0) net.1 (driver_in plan (pass.0) n) refl)
     where
-      by_driver : (pass : List Ctl) → slice_get plan.passes x ≡ Some pass → (net : Net) → slice_get board.nets n ≡ Some net → (o : Option NetDriver) → driver_in plan pass n ≡ o →
-          ShowBy log (x * plan.width) plan.width (code_in plan n) (readers_in plan n) (effect_in board plan pass fault n) (place_of_driver o)
+      by_driver : (pass : List Ctl) → slice_get plan.passes x ≡ Some pass → (net : Net)
+          → slice_get board.nets n ≡ Some net → (o : Option NetDriver) → driver_in plan pass n ≡ o →
+          ShowBy log (x * plan.width) plan.width (code_in plan n) (plan_readers plan n)
+          (effect_in board plan pass fault n) (place_of_driver o)
       by_driver pass stands v is_v None e = tt
       by_driver pass stands v is_v (Some d) e = λ j less. cells_are_shown x pass stands j less shows n v is_v d e
 
 -- Each cell that reads a net has a position in a data scan. No cell reads a net whose number is past the last net.
-pub readers_inside : (board : RawBoard) → IsBoard board → (plan : PlanTables) → IsPlanOf board plan → (n : ℕ) → All (λ r. r.position < data_bits board) (readers_in plan n)
+pub readers_inside : (board : RawBoard) → IsBoard board → (plan : PlanTables) → IsPlanOf board plan
+    → (n : ℕ) → All (λ r. r.position < data_bits board) (plan_readers plan n)
 readers_inside board rules plan p n = by_side (cases_lt n (length plan.nets.readers))
   where
-    by_side : (n < length plan.nets.readers) ⊎ (length plan.nets.readers ≤ n) → All (λ r. r.position < data_bits board) (readers_in plan n)
+    by_side : (n < length plan.nets.readers) ⊎ (length plan.nets.readers ≤ n)
+        → All (λ r. r.position < data_bits board) (plan_readers plan n)
     by_side (inl within) = readers_within board rules plan p n [] within
-    by_side (inr past) = subst (λ (l : List ReaderCell). All (λ r. r.position < data_bits board) l) (sym (get_or_past plan.nets.readers n [] past)) (All-nil (λ r. r.position < data_bits board))
+    by_side (inr past) =
+        subst (λ (l : List ReaderCell). All (λ r. r.position < data_bits board) l)
+        (sym (get_or_past plan.nets.readers n [] past))
+        (All-nil (λ r. r.position < data_bits board))

@@ -16,20 +16,33 @@ use Rattle.fault_sim.proofs.WordLemmas.{and_word, not_word, or_word}
 abbrev pub clashes : ShownWords → ℕ → ℕ
 clashes shown word = bit_or (bit_and shown.ones (4294967295 - word)) (bit_and shown.zeros word)
 
-clashes_is : (shown : ShownWords) (word j : ℕ) → word_bit (clashes shown word) j ≡ ((word_bit shown.ones j && word_bit (4294967295 - word) j) || (word_bit shown.zeros j && word_bit word j))
+clashes_is : (shown : ShownWords) (word j : ℕ)
+    → word_bit (clashes shown word) j
+    ≡ ((word_bit shown.ones j && word_bit (4294967295 - word) j)
+    || (word_bit shown.zeros j && word_bit word j))
 clashes_is shown word j =
     or_word (bit_and shown.ones (4294967295 - word)) (bit_and shown.zeros word) j
     ∙ ap (λ (b : Bool). b || word_bit (bit_and shown.zeros word) j) (and_word shown.ones (4294967295 - word) j)
     ∙ ap (λ (b : Bool). (word_bit shown.ones j && word_bit (4294967295 - word) j) || b) (and_word shown.zeros word j)
 
-clashes_there : (shown : ShownWords) (word j : ℕ) → word < 2 ^ 32 → j < 32 → word_bit (clashes shown word) j ≡ ((word_bit shown.ones j && not (word_bit word j)) || (word_bit shown.zeros j && word_bit word j))
+clashes_there : (shown : ShownWords) (word j : ℕ) → word < 2 ^ 32 → j < 32
+    → word_bit (clashes shown word) j
+    ≡ ((word_bit shown.ones j && not (word_bit word j))
+    || (word_bit shown.zeros j && word_bit word j))
 clashes_there shown word j fits less =
-    clashes_is shown word j ∙ ap (λ (b : Bool). (word_bit shown.ones j && b) || (word_bit shown.zeros j && word_bit word j)) (not_word word j fits less)
+    clashes_is shown word j
+    ∙ ap
+    (λ (b : Bool). (word_bit shown.ones j && b) || (word_bit shown.zeros j && word_bit word j))
+    (not_word word j fits less)
 
 pub agreeing : (shown : ShownWords) (word : ℕ) → word < 2 ^ 32 → clashes shown word ≡ 0 → AgreesWith shown word
-agreeing shown word fits none j less = by_bits (word_bit shown.ones j) (word_bit shown.zeros j) (word_bit word j) (sym (clashes_there shown word j fits less) ∙ ap (λ k. word_bit k j) none ∙ ap (λ k. k == 1) (bit_at-zero j))
+agreeing shown word fits none j less =
+    by_bits (word_bit shown.ones j) (word_bit shown.zeros j) (word_bit word j)
+    (sym (clashes_there shown word j fits less) ∙ ap (λ k. word_bit k j) none
+    ∙ ap (λ k. k == 1) (bit_at-zero j))
   where
-    by_bits : (one zeroed bit : Bool) → ((one && not bit) || (zeroed && bit)) ≡ false → (one ≡ true → bit ≡ true) × (zeroed ≡ true → bit ≡ false)
+    by_bits : (one zeroed bit : Bool) → ((one && not bit) || (zeroed && bit)) ≡ false
+        → (one ≡ true → bit ≡ true) × (zeroed ≡ true → bit ≡ false)
     by_bits one true true e = absurd (both_ways (one && false || true) e (either one))
       where
         either : (b : Bool) → ((b && false) || true) ≡ true
@@ -47,7 +60,8 @@ clashes_nowhere shown word fits agrees = same_from_bits (clashes shown word) 0 (
     none (suc zero) p e = absurd (both_ways true e refl)
     none (suc (suc b)) p e = absurd (omega (arith, p))
 
-    inside : (one zeroed bit : Bool) → (one ≡ true → bit ≡ true) → (zeroed ≡ true → bit ≡ false) → ((one && not bit) || (zeroed && bit)) ≡ false
+    inside : (one zeroed bit : Bool) → (one ≡ true → bit ≡ true) → (zeroed ≡ true → bit ≡ false)
+        → ((one && not bit) || (zeroed && bit)) ≡ false
     inside true true bit p q = absurd (both_ways bit (q refl) (p refl))
     inside true false true p q = refl
     inside true false false p q = sym (p refl)
@@ -64,16 +78,21 @@ clashes_nowhere shown word fits agrees = same_from_bits (clashes shown word) 0 (
     off : (j : ℕ) → (j < 32) ⊎ (32 ≤ j) → bit_at (clashes shown word) j ≡ 0
     off j (inl less) =
         none (bit_at (clashes shown word) j) (bit_at-lt (clashes shown word) j)
-        (clashes_there shown word j fits less ∙ inside (word_bit shown.ones j) (word_bit shown.zeros j) (word_bit word j) (agrees j less).0 (agrees j less).1)
+        (clashes_there shown word j fits less
+        ∙ inside (word_bit shown.ones j) (word_bit shown.zeros j) (word_bit word j)
+        (agrees j less).0 (agrees j less).1)
     off j (inr past) =
         none (bit_at (clashes shown word) j) (bit_at-lt (clashes shown word) j)
         (clashes_is shown word j
-        ∙ ap (λ k. (word_bit shown.ones j && (k == 1)) || (word_bit shown.zeros j && word_bit word j)) (bit_at_above (4294967295 - word) 32 j (omega arith) past)
+        ∙ ap
+        (λ k. (word_bit shown.ones j && (k == 1)) || (word_bit shown.zeros j && word_bit word j))
+        (bit_at_above (4294967295 - word) 32 j (omega arith) past)
         ∙ ap (λ k. (word_bit shown.ones j && false) || (word_bit shown.zeros j && (k == 1))) (bit_at_above word 32 j fits past)
         ∙ above (word_bit shown.ones j) (word_bit shown.zeros j))
 
 -- adding the bit of row j to the bits of the first j rows gives the bits of the first j + 1 rows
-pub row_more : (bits : ℕ → Bool) (i j : ℕ) (bit : Bool) → bits j ≡ bit → ((ltb i j && bits i) || ((i == j) && bit)) ≡ (ltb i (j + 1) && bits i)
+pub row_more : (bits : ℕ → Bool) (i j : ℕ) (bit : Bool) → bits j ≡ bit
+    → ((ltb i j && bits i) || ((i == j) && bit)) ≡ (ltb i (j + 1) && bits i)
 row_more bits i j bit is = by_place (cases_lt i j) (cases_eq i j)
   where
     by_place : (i < j) ⊎ (j ≤ i) → (i ≡ j) ⊎ (i ≡ j → ⊥) → ((ltb i j && bits i) || ((i == j) && bit)) ≡ (ltb i (j + 1) && bits i)
@@ -96,9 +115,12 @@ row_more bits i j bit is = by_place (cases_lt i j) (cases_eq i j)
 pub bit_is : (log : List (List Bool)) (row at : ℕ) (bit : Bool) → log_bit log row at ≡ Some bit → bit_in log row at ≡ bit
 bit_is log row at bit is = by_row (slice_get log row) refl is
   where
-    by_row : (o : Option (List Bool)) → slice_get log row ≡ o → option_and_then (λ bits. slice_get bits at) o ≡ Some bit → bit_in log row at ≡ bit
+    by_row : (o : Option (List Bool)) → slice_get log row ≡ o
+        → option_and_then (λ bits. slice_get bits at) o ≡ Some bit → bit_in log row at ≡ bit
     by_row None e found = let bad : None ≡ Some bit = found in cc bad
-    by_row (Some bits) e found = ap (λ (l : List Bool). get_or l at false) (get_or_from_slice_get log row bits [] e) ∙ get_or_from_slice_get bits at bit false found
+    by_row (Some bits) e found =
+        ap (λ (l : List Bool). get_or l at false) (get_or_from_slice_get log row bits [] e)
+        ∙ get_or_from_slice_get bits at bit false found
 
 -- if the net's only cell does not read the driver's pin, the cell shows 1 in a row of the pass exactly if its bit in this row is 1
 pub one_shown : (within same bit : Bool) → same ≡ false → (within && bit) ≡ (within && ((not same && is_same bit true) || false))
@@ -107,7 +129,8 @@ one_shown true true bit p = absurd (both_ways true p refl)
 one_shown true false true p = refl
 one_shown true false false p = refl
 
-pub zero_shown : (within same bit : Bool) → same ≡ false → (within && not (within && bit)) ≡ (within && ((not same && is_same bit false) || false))
+pub zero_shown : (within same bit : Bool) → same ≡ false
+    → (within && not (within && bit)) ≡ (within && ((not same && is_same bit false) || false))
 zero_shown false same bit p = refl
 zero_shown true true bit p = absurd (both_ways true p refl)
 zero_shown true false true p = refl

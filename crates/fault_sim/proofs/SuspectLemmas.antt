@@ -11,7 +11,7 @@ use Rattle.board_defs.proofs.Members.{Has, has_left, has_right, has_append, has_
 use Rattle.board_defs.proofs.Ordered.{InOrder, order_append, order_flat_map, order_range}
 use Rattle.fault_sim.specs.declared.fault_lists.FaultLists.{FaultLists}
 use Rattle.fault_sim.specs.Places.{place_count}
-use Rattle.fault_sim.specs.Starts.{pairs_before, AreStarts}
+use Rattle.fault_sim.specs.Starts.{pairs_before, ArePairStarts}
 use Rattle.fault_sim.specs.inner.Suspects.{two_from, four_from, first_open, first_short, pair_number, pair_suspects, pin_net, is_net, pin_suspects, net_suspects}
 use Rattle.fault_sim.proofs.PlaceLemmas.{before_more}
 
@@ -73,7 +73,8 @@ pub before_rises : (nets a b : ℕ) → a ≤ b → b ≤ nets → pairs_before 
 before_rises nets a zero le within = let e : a ≡ 0 = omega (arith, le) in omega (arith, ap (λ (i : ℕ). pairs_before nets i) e)
 before_rises nets a (suc b) le within = by_side (cases_eq a (suc b)) (λ below. before_rises nets a b below (omega (arith, within)))
   where
-    by_side : (a ≡ suc b) ⊎ (a ≡ suc b → ⊥) → (a ≤ b → pairs_before nets a ≤ pairs_before nets b) → pairs_before nets a ≤ pairs_before nets (suc b)
+    by_side : (a ≡ suc b) ⊎ (a ≡ suc b → ⊥) → (a ≤ b → pairs_before nets a ≤ pairs_before nets b)
+        → pairs_before nets a ≤ pairs_before nets (suc b)
     by_side (inl e) ih = omega (arith, ap (λ (i : ℕ). pairs_before nets i) e)
     by_side (inr differ) ih =
         let below : a ≤ b = lower differ in
@@ -120,10 +121,20 @@ pair_at {X} (x ∷ xs) k p e = by_side (cases_lt k (length xs)) (λ i h. pair_at
         (sym (slice_get-map (λ v. let q : X × X = (x, v) in q) xs k)
         ∙ sym (Rattle.tap_defs.proofs.board.ScanPlaceLemmas.front_at firsts (pairs_within xs) k (omega (arith, below, long))) ∙ e)
     by_side (inr above) ih =
-        let r = ih (k - length xs) (sym (Rattle.tap_defs.proofs.board.ScanPlaceLemmas.rest_at firsts (pairs_within xs) (k - length xs) k (omega (arith, above, long))) ∙ e) in
-        record { low = suc r.low; high = suc r.high; order = omega (arith, r.order); low_is = r.low_is; high_is = r.high_is; number_is = omega (arith, r.number_is, above) }
+        let r = ih (k - length xs)
+        (sym
+        (Rattle.tap_defs.proofs.board.ScanPlaceLemmas.rest_at firsts (pairs_within xs)
+        (k - length xs) k (omega (arith, above, long))) ∙ e) in
+        record {
+          low = suc r.low;
+          high = suc r.high;
+          order = omega (arith, r.order);
+          low_is = r.low_is;
+          high_is = r.high_is;
+          number_is = omega (arith, r.number_is, above);
+        }
 
-module _ (lists : FaultLists) (starts : AreStarts (length lists.nets) lists.starts) where
+module _ (lists : FaultLists) (starts : ArePairStarts (length lists.nets) lists.starts) where
   abbrev nets : ℕ
   nets = length lists.nets
 
@@ -141,7 +152,12 @@ module _ (lists : FaultLists) (starts : AreStarts (length lists.nets) lists.star
 
   numbers_rise : (a b c d : ℕ) → a < b → b < nets → c < d → d < nets → a < c → pair_number lists a b < pair_number lists c d
   numbers_rise a b c d ab b_in cd d_in ac =
-      omega (arith, number_high a b ab b_in, before_rises nets (suc a) c (omega (arith, ac)) (omega (arith, cd, d_in)), number_low c d cd d_in)
+      omega (
+        arith,
+        number_high a b ab b_in,
+        before_rises nets (suc a) c (omega (arith, ac)) (omega (arith, cd, d_in)),
+        number_low c d cd d_in,
+      )
 
   same_rise : (a b d : ℕ) → a < b → b < d → pair_number lists a b < pair_number lists a d
   same_rise a b d ab bd = omega (arith, ab, bd)
@@ -163,7 +179,8 @@ module _ (lists : FaultLists) (starts : AreStarts (length lists.nets) lists.star
     pin_has : (m i : ℕ) → Has (pin_suspects lists n m) i → (first_open lists + 2 * m ≤ i) × (i < first_open lists + 2 * m + 2)
     pin_has m i h = by_test (is_net n (pin_net (slice_get lists.pins m))) h
       where
-        by_test : (b : Bool) → Has (cond b (two_from (first_open lists + 2 * m)) []) i → (first_open lists + 2 * m ≤ i) × (i < first_open lists + 2 * m + 2)
+        by_test : (b : Bool) → Has (cond b (two_from (first_open lists + 2 * m)) []) i
+            → (first_open lists + 2 * m ≤ i) × (i < first_open lists + 2 * m + 2)
         by_test true h = two_has (first_open lists + 2 * m) i h
         by_test false h = absurd h
 
@@ -188,7 +205,8 @@ module _ (lists : FaultLists) (starts : AreStarts (length lists.nets) lists.star
 
     pins_order : InOrder Rises pins
     pins_order =
-        order_flat_map (λ (x y : ℕ). x < y) Rises (pin_suspects lists n) (range_with_len 0 (length lists.pins)) (order_range 0 (length lists.pins))
+        order_flat_map (λ (x y : ℕ). x < y) Rises (pin_suspects lists n)
+        (range_with_len 0 (length lists.pins)) (order_range 0 (length lists.pins))
         (λ m h. by_test m (is_net n (pin_net (slice_get lists.pins m))))
         (λ x z less a b ha hb. omega (arith, less, (pin_has x a ha).1, (pin_has z b hb).0))
       where
@@ -205,7 +223,9 @@ module _ (lists : FaultLists) (starts : AreStarts (length lists.nets) lists.star
         each : (from count : ℕ) → from + count ≤ k → InOrder Rises (flat_map (λ a. pair_suspects lists a k) (range_with_len from count))
         each from zero le = tt
         each from (suc count) le =
-            order_append Rises (pair_suspects lists from k) (flat_map (λ a. pair_suspects lists a k) (range_with_len (from + 1) count)) (four_order (place_of from k)) (each (from + 1) count (omega (arith, le)))
+            order_append Rises (pair_suspects lists from k)
+            (flat_map (λ a. pair_suspects lists a k) (range_with_len (from + 1) count))
+            (four_order (place_of from k)) (each (from + 1) count (omega (arith, le)))
             (λ i j hi hj.
             let r = flat_map_has (λ a. pair_suspects lists a k) (range_with_len (from + 1) count) j hj in
             let m = range_has (from + 1) count r.0 r.1 in
@@ -222,11 +242,18 @@ module _ (lists : FaultLists) (starts : AreStarts (length lists.nets) lists.star
         each : (from count : ℕ) → suc k ≤ from → InOrder Rises (flat_map (λ b. pair_suspects lists k b) (range_with_len from count))
         each from zero le = tt
         each from (suc count) le =
-            order_append Rises (pair_suspects lists k from) (flat_map (λ b. pair_suspects lists k b) (range_with_len (from + 1) count)) (four_order (place_of k from)) (each (from + 1) count (omega (arith, le)))
+            order_append Rises (pair_suspects lists k from)
+            (flat_map (λ b. pair_suspects lists k b) (range_with_len (from + 1) count))
+            (four_order (place_of k from)) (each (from + 1) count (omega (arith, le)))
             (λ i j hi hj.
             let r = flat_map_has (λ b. pair_suspects lists k b) (range_with_len (from + 1) count) j hj in
             let m = range_has (from + 1) count r.0 r.1 in
-            omega (arith, (four_has (place_of k from) i hi).1, (four_has (place_of k r.0) j r.2).0, same_rise k from r.0 (omega (arith, le)) (omega (arith, m.0))))
+            omega (
+              arith,
+              (four_has (place_of k from) i hi).1,
+              (four_has (place_of k r.0) j r.2).0,
+              same_rise k from r.0 (omega (arith, le)) (omega (arith, m.0)),
+            ))
 
     pub net_order : InOrder Rises (net_suspects lists n k)
     net_order =
@@ -236,7 +263,12 @@ module _ (lists : FaultLists) (starts : AreStarts (length lists.nets) lists.star
         (λ i j hi hj.
         let a = earlier_has i hi in
         let b = later_has j hj in
-        omega (arith, (four_has (place_of a.0 k) i a.2).1, (four_has (place_of k b.0) j b.3).0, numbers_rise a.0 k k b.0 a.1 k_in b.1 b.2 a.1)))
+        omega (
+          arith,
+          (four_has (place_of a.0 k) i a.2).1,
+          (four_has (place_of k b.0) j b.3).0,
+          numbers_rise a.0 k k b.0 a.1 k_in b.1 b.2 a.1,
+        )))
         (λ i j hi hj. omega (arith, (pins_within i hi).1, shorts_above j hj)))
         (λ i j hi hj. omega (arith, (two_has (2 * k) i hi).1, k_in, rest_above j hj))
       where
@@ -273,7 +305,8 @@ module _ (lists : FaultLists) (starts : AreStarts (length lists.nets) lists.star
     pub has_stuck : (r i : ℕ) → r < 2 → i ≡ 2 * k + r → Has (net_suspects lists n k) i
     has_stuck r i less e = has_left (two_from (2 * k)) (pins ++ (earlier ++ later)) i (has_two (2 * k) r i less e)
 
-    pub has_open : (m r i : ℕ) (pin : PinRef) → slice_get lists.pins m ≡ Some pin → pin.net ≡ n → r < 2 → i ≡ first_open lists + (2 * m + r) → Has (net_suspects lists n k) i
+    pub has_open : (m r i : ℕ) (pin : PinRef) → slice_get lists.pins m ≡ Some pin → pin.net ≡ n
+        → r < 2 → i ≡ first_open lists + (2 * m + r) → Has (net_suspects lists n k) i
     has_open m r i pin at same less e =
         has_right (two_from (2 * k)) (pins ++ (earlier ++ later)) i
         (has_left pins (earlier ++ later) i
@@ -291,12 +324,15 @@ module _ (lists : FaultLists) (starts : AreStarts (length lists.nets) lists.star
         (has_flat_map (λ c. pair_suspects lists c k) (range_with_len 0 k) a i (has_range 0 k a (omega arith) (omega (arith, below)))
         (has_four (place_of a k) r i less (omega (arith, e))))))
 
-    pub has_later : (b r i : ℕ) → k < b → b < nets → r < 4 → i ≡ first_short lists + (4 * pair_number lists k b + r) → Has (net_suspects lists n k) i
+    pub has_later : (b r i : ℕ) → k < b → b < nets → r < 4
+        → i ≡ first_short lists + (4 * pair_number lists k b + r) → Has (net_suspects lists n k) i
     has_later b r i above within less e =
         has_right (two_from (2 * k)) (pins ++ (earlier ++ later)) i
         (has_right pins (earlier ++ later) i
         (has_right earlier later i
-        (has_flat_map (λ c. pair_suspects lists k c) (range_with_len (suc k) (nets - suc k)) b i (has_range (suc k) (nets - suc k) b (omega (arith, above)) (omega (arith, within, above)))
+        (has_flat_map (λ c. pair_suspects lists k c) (range_with_len (suc k) (nets - suc k)) b i
+        (has_range (suc k) (nets - suc k) b (omega (arith, above))
+        (omega (arith, within, above)))
         (has_four (place_of k b) r i less (omega (arith, e))))))
 
   -- the suspects of two nets that differ are in ascending order
@@ -304,7 +340,12 @@ module _ (lists : FaultLists) (starts : AreStarts (length lists.nets) lists.star
   pair_order a b = four_order (first_short lists + 4 * pair_number lists a b)
 
   pub pair_below : (a b : ℕ) → a < b → b < nets → (i : ℕ) → Has (pair_suspects lists a b) i → i < place_count lists
-  pair_below a b order within i h = omega (arith, (four_has (first_short lists + 4 * pair_number lists a b) i h).1, number_below a b order within)
+  pair_below a b order within i h =
+      omega (
+        arith,
+        (four_has (first_short lists + 4 * pair_number lists a b) i h).1,
+        number_below a b order within,
+      )
 
   pub has_pair : (a b r i : ℕ) → r < 4 → i ≡ first_short lists + (4 * pair_number lists a b + r) → Has (pair_suspects lists a b) i
   has_pair a b r i less e = has_four (first_short lists + 4 * pair_number lists a b) r i less (omega (arith, e))

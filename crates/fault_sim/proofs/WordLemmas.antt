@@ -52,14 +52,18 @@ chosen_bit false false false = refl
 
 -- The formula for the common bit of two nets with an And short is right. `first` and `second` say whether each net is driven in the row,
 -- and a and b are the bits to which the nets are driven.
-pub and_bits : (first second a b : Bool) → cond (first || second) (Some (cond first a true && cond second b true)) None ≡ shorted And (cond first (Some a) None) (cond second (Some b) None)
+pub and_bits : (first second a b : Bool)
+    → cond (first || second) (Some (cond first a true && cond second b true)) None
+    ≡ shorted And (cond first (Some a) None) (cond second (Some b) None)
 and_bits true true a b = refl
 and_bits true false true b = refl
 and_bits true false false b = refl
 and_bits false true a b = refl
 and_bits false false a b = refl
 
-pub or_bits : (first second a b : Bool) → cond (first || second) (Some ((a && first) || (b && second))) None ≡ shorted Or (cond first (Some a) None) (cond second (Some b) None)
+pub or_bits : (first second a b : Bool)
+    → cond (first || second) (Some ((a && first) || (b && second))) None
+    ≡ shorted Or (cond first (Some a) None) (cond second (Some b) None)
 or_bits true true true true = refl
 or_bits true true true false = refl
 or_bits true true false true = refl

@@ -7,7 +7,7 @@ use Rattle.board_defs.specs.declared.fault.Single.{Single}
 use Rattle.board_defs.specs.declared.fault.Single.TheVariants.{StuckNet, OpenPin, Short}
 use Rattle.board_defs.specs.Pins.{is_same}
 use Rattle.board_defs.specs.Settings.{holds, same_ctl}
-use Rattle.tap_defs.specs.board.NetBits.{or_else}
+use Rattle.tap_defs.specs.board.NetBits.{bit_or_else}
 use Rattle.tap_defs.specs.board.TestRows.{code_bit}
 use Rattle.tap_defs.specs.board.SingleBits.{pulled_to, shorted}
 use Rattle.net_pins.specs.declared.nets.NetDriver.{NetDriver}
@@ -55,8 +55,8 @@ is_own own None = false
 is_own own (Some c) = same_ctl c own
 
 -- the compared cells of net n
-abbrev pub readers_in : PlanTables → ℕ → List ReaderCell
-readers_in plan n = readers_on plan.nets n
+abbrev pub plan_readers : PlanTables → ℕ → List ReaderCell
+plan_readers plan n = readers_on plan.nets n
 
 -- the code of net n
 abbrev pub code_in : PlanTables → ℕ → ℕ
@@ -73,12 +73,14 @@ place_of_driver driver = option_map (λ d. d.place) driver
 -- The bit of a driver's cell in a pass, if the cell does not carry the code of a net. It is the cell's bit in the quiet row, inverted if
 -- the pass holds the cell as a control.
 abbrev pub steady_in : PlanTables → List Ctl → NetDriver → Bool
-steady_in plan pass d = cond (holds pass d.own) (not (slice_index_or plan.quiet.bits d.position false)) (slice_index_or plan.quiet.bits d.position false)
+steady_in plan pass d =
+    cond (holds pass d.own) (not (slice_index_or plan.quiet.bits d.position false))
+    (slice_index_or plan.quiet.bits d.position false)
 
 -- The bits of the cell of driver d, which a pass enables on net n. If some cell reads another pin of the net, the pass observes the net,
 -- and the driver's cell carries the net's code. Otherwise the driver's cell has the same bit in all rows.
 abbrev pub source_in : PlanTables → List Ctl → ℕ → NetDriver → Source
-source_in plan pass n d = cond (is_read_beside (readers_in plan n) d) (Code (code_in plan n)) (Fixed (steady_in plan pass d))
+source_in plan pass n d = cond (is_read_beside (plan_readers plan n) d) (Code (code_in plan n)) (Fixed (steady_in plan pass d))
 
 -- The feed that enabled driver d gives net n, which has the pull `pull`. If d's own cell controls d, the driver is off whenever the cell
 -- has the bit to which the net is pulled.
@@ -118,7 +120,9 @@ effect_of_short board plan pass a b kind = shorted_effect kind (fed_net board pl
 -- the effect of a single fault on net n in the rows of a pass
 abbrev pub effect_of : RawBoard → PlanTables → List Ctl → Single → ℕ → Effect
 effect_of board plan pass (StuckNet net value) n = cond (n == net) (Constant value) Plain
-effect_of board plan pass (OpenPin pin value) n = cond (n == pin.net) (open_effect (place_of_driver (driver_in plan pass n)) pin.place value (pull_in board n)) Plain
+effect_of board plan pass (OpenPin pin value) n =
+    cond (n == pin.net)
+    (open_effect (place_of_driver (driver_in plan pass n)) pin.place value (pull_in board n)) Plain
 effect_of board plan pass (Short a b kind) n = cond ((n == a) || (n == b)) (effect_of_short board plan pass a b kind) Plain
 
 -- the effect of a fault on net n in the rows of a pass; without a fault, the cells have the expected bits
@@ -131,4 +135,5 @@ abbrev pub effect_bit : Effect → ℕ → ℕ → Bool → Bool
 effect_bit Plain j place expected = expected
 effect_bit (Constant bit) j place expected = bit
 effect_bit (AtPin other bit) j place expected = cond (place == other) bit expected
-effect_bit (Shorted kind first second pull) j place expected = unwrap_or (or_else (shorted kind (feed_bit first j) (feed_bit second j)) pull) expected
+effect_bit (Shorted kind first second pull) j place expected =
+    unwrap_or (bit_or_else (shorted kind (feed_bit first j) (feed_bit second j)) pull) expected

@@ -10,17 +10,21 @@ use Rattle.net_pins.specs.declared.nets.ReaderCell.{ReaderCell}
 use Rattle.plan_tables.specs.declared.tables.PlanTables.{PlanTables}
 use Rattle.response_log.specs.LogRows.{bit_in}
 use Rattle.fault_sim.specs.declared.effect.Effect.{Effect}
-use Rattle.fault_sim.specs.Effects.{driver_in, place_of_driver, readers_in, code_in, effect_in, effect_bit, first_net, second_net}
+use Rattle.fault_sim.specs.Effects.{driver_in, place_of_driver, plan_readers, code_in, effect_in, effect_bit, first_net, second_net}
 
 -- In row j of a pass, a cell of a net has the bit that the effect gives it. `row` is the number of this row in the log. A cell that reads
 -- the enabled driver's pin is not checked.
 abbrev pub cell_shows : List (List Bool) → ℕ → ℕ → Effect → ℕ → Bool → ReaderCell → Bool
-cell_shows log row driver effect j expected r = (r.place == driver) || is_same (bit_in log row r.position) (effect_bit effect j r.place expected)
+cell_shows log row driver effect j expected r =
+    (r.place == driver)
+    || is_same (bit_in log row r.position) (effect_bit effect j r.place expected)
 
 -- In every row of a pass, each of these cells has the bit that the effect gives it. The rows of the pass begin at row `first` of the log.
 -- Cells that read the enabled driver's pin are not checked.
 abbrev pub ShowRows : List (List Bool) → ℕ → ℕ → ℕ → List ReaderCell → Effect → ℕ → Type 0
-ShowRows log first width code readers effect driver = (j : ℕ) → j < width → list_all (cell_shows log (first + j) driver effect j (code_bit code j)) readers ≡ true
+ShowRows log first width code readers effect driver =
+    (j : ℕ) → j < width
+    → list_all (cell_shows log (first + j) driver effect j (code_bit code j)) readers ≡ true
 
 -- Like `ShowRows`, but `driver` is `None` if the pass enables no driver on the net. Then nothing is required.
 abbrev pub ShowBy : List (List Bool) → ℕ → ℕ → ℕ → List ReaderCell → Effect → Option ℕ → Type 0
@@ -29,13 +33,14 @@ ShowBy log first width code readers effect (Some driver) = ShowRows log first wi
 
 -- Pass x of the log shows an effect on net n. `driver` is the place of the enabled driver's pin, if the pass enables a driver on the net.
 abbrev pub ShowsEffect : PlanTables → List (List Bool) → ℕ → ℕ → Effect → Option ℕ → Type 0
-ShowsEffect plan log x n effect driver = ShowBy log (x * plan.width) plan.width (code_in plan n) (readers_in plan n) effect driver
+ShowsEffect plan log x n effect driver = ShowBy log (x * plan.width) plan.width (code_in plan n) (plan_readers plan n) effect driver
 
 -- This pass of the log shows the effect of the fault on net n. The rows of the pass begin at row `first` of the log. Without a fault, the
 -- cells must show the expected bits.
 abbrev pub NetShows : RawBoard → PlanTables → Option Single → List (List Bool) → ℕ → List Ctl → ℕ → Type 0
 NetShows board plan fault log first pass n =
-    ShowBy log first plan.width (code_in plan n) (readers_in plan n) (effect_in board plan pass fault n) (place_of_driver (driver_in plan pass n))
+    ShowBy log first plan.width (code_in plan n) (plan_readers plan n)
+    (effect_in board plan pass fault n) (place_of_driver (driver_in plan pass n))
 
 -- like `NetShows`, but takes the number of the pass
 abbrev pub Shows : RawBoard → PlanTables → Option Single → List (List Bool) → ℕ → ℕ → Type 0
@@ -43,7 +48,9 @@ Shows board plan fault log x n = NetShows board plan fault log (x * plan.width) 
 
 -- pass x of the log shows the effect of a single fault on the fault's own nets
 abbrev pub ShowsOwnIn : RawBoard → PlanTables → Single → List (List Bool) → ℕ → Type 0
-ShowsOwnIn board plan single log x = Shows board plan (Some single) log x (first_net single) × Shows board plan (Some single) log x (second_net single)
+ShowsOwnIn board plan single log x =
+    Shows board plan (Some single) log x (first_net single)
+    × Shows board plan (Some single) log x (second_net single)
 
 -- every pass of the log shows the effect of a single fault on the fault's own nets
 abbrev pub ShowsOwn : RawBoard → PlanTables → Single → List (List Bool) → Type 0

@@ -25,7 +25,7 @@ abbrev pub compared_in : RawBoard → PlanTables → ℕ → ℕ → List Bool
 compared_in board plan x j = mask_bits (joined (row_bits board (scan_of_pass board plan x (suc j))))
 
 -- `row` has the expected bits of row j of pass x, and the flags of the bits that the test compares there
-pub record IsRow (board : RawBoard) (plan : PlanTables) (x j : ℕ) (row : ComparedRow) : Type 0 where
+pub record IsComparedRow (board : RawBoard) (plan : PlanTables) (x j : ℕ) (row : ComparedRow) : Type 0 where
   pub tdo : row.tdo.bits ≡ expected_in board plan x j
   pub mask : row.mask.bits ≡ compared_in board plan x j
 
@@ -39,23 +39,27 @@ abbrev pub enabled_driver : PlanTables → List Ctl → ℕ → Option EnabledDr
 enabled_driver plan pass n = option_map (enabled_by plan pass n) (driver_in plan pass n)
 
 -- item j of `rows` has the expected bits of row j of pass x, and the flags of the bits that the test compares there
-abbrev pub AreRows : RawBoard → PlanTables → ℕ → List ComparedRow → Type 0
-AreRows board plan x rows = (j : ℕ) (row : ComparedRow) → slice_get rows j ≡ Some row → IsRow board plan x j row
+abbrev pub AreComparedRows : RawBoard → PlanTables → ℕ → List ComparedRow → Type 0
+AreComparedRows board plan x rows = (j : ℕ) (row : ComparedRow) → slice_get rows j ≡ Some row → IsComparedRow board plan x j row
 
 -- item n of `drivers` is the driver that the pass enables on net n, or `None` if it enables no driver on this net
 abbrev pub AreDrivers : PlanTables → List Ctl → List (Option EnabledDriver) → Type 0
-AreDrivers plan pass drivers = (n : ℕ) (driver : Option EnabledDriver) → slice_get drivers n ≡ Some driver → driver ≡ enabled_driver plan pass n
+AreDrivers plan pass drivers =
+    (n : ℕ) (driver : Option EnabledDriver) → slice_get drivers n ≡ Some driver
+    → driver ≡ enabled_driver plan pass n
 
 -- the rows of kept pass x are the first rows of the plan's pass x
 abbrev pub KeepRows : RawBoard → PlanTables → List KeptPass → Type 0
-KeepRows board plan kept = (x : ℕ) (pass : KeptPass) → slice_get kept x ≡ Some pass → AreRows board plan x pass.rows
+KeepRows board plan kept = (x : ℕ) (pass : KeptPass) → slice_get kept x ≡ Some pass → AreComparedRows board plan x pass.rows
 
 -- the drivers of kept pass x are the drivers that the plan's pass x enables on the first nets
 abbrev pub KeepDrivers : PlanTables → List KeptPass → Type 0
-KeepDrivers plan kept = (x : ℕ) (pass : KeptPass) → slice_get kept x ≡ Some pass → AreDrivers plan (slice_index_or plan.passes x []) pass.drivers
+KeepDrivers plan kept =
+    (x : ℕ) (pass : KeptPass) → slice_get kept x ≡ Some pass
+    → AreDrivers plan (slice_index_or plan.passes x []) pass.drivers
 
 -- the plan has the passes of the board, and the kept passes are those of the plan
-pub record IsBoardTest (test : PlannedBoard) (kept : List KeptPass) : Type 0 where
+pub record HasKeptPasses (test : PlannedBoard) (kept : List KeptPass) : Type 0 where
   pub passes : test.plan.passes ≡ passes_of test.board
   pub rows : KeepRows test.board test.plan kept
   pub drivers : KeepDrivers test.plan kept
@@ -64,8 +68,8 @@ pub record IsBoardTest (test : PlannedBoard) (kept : List KeptPass) : Type 0 whe
 pub record IsTestPass (pass : PlannedPass) (drivers : PlanPass) (rows : List ComparedRow) : Type 0 where
   pub passes : pass.test.plan.passes ≡ passes_of pass.test.board
   pub drivers_are : drivers ≡ plan_pass pass.test.plan (controls_of pass)
-  pub rows_are : AreRows pass.test.board pass.test.plan pass.number rows
+  pub rows_are : AreComparedRows pass.test.board pass.test.plan pass.number rows
 
 -- the log has `width` rows for each pass of the test, and each row is as long as a data scan
-abbrev pub IsLogOf : PlannedBoard → List (List Bool) → Type 0
-IsLogOf test log = HasSize (length test.plan.passes * test.plan.width) (data_bits test.board) log
+abbrev pub IsLogOfTest : PlannedBoard → List (List Bool) → Type 0
+IsLogOfTest test log = HasSize (length test.plan.passes * test.plan.width) (data_bits test.board) log

@@ -22,14 +22,16 @@ PlacesCounted = (board : RawBoard) (lists : FaultLists) → IsUniverse board lis
 -- suspects' places by `test` gives the same list as filtering all single faults of the board.
 abbrev pub SuspectsSuffice : Type 0
 SuspectsSuffice =
-    (board : RawBoard) (plan : PlanTables) (lists : FaultLists) (log : List (List Bool)) (suspects : List ℕ) → IsBoard board → AreSuspects board plan lists log suspects →
+    (board : RawBoard) (plan : PlanTables) (lists : FaultLists) (log : List (List Bool))
+    (suspects : List ℕ) → IsBoard board → AreSuspects board plan lists log suspects →
     (test : Single → Bool) → ((single : Single) → IsSingle board single → test single ≡ true → Explains board single log) →
     filter test (singles board) ≡ filter test (filter_map (fault_at board) suspects)
 
 -- each suspect is a place of the board
 abbrev pub SuspectsArePlaces : Type 0
 SuspectsArePlaces =
-    (board : RawBoard) (plan : PlanTables) (lists : FaultLists) (log : List (List Bool)) (suspects : List ℕ) → IsUniverse board lists → AreSuspects board plan lists log suspects →
+    (board : RawBoard) (plan : PlanTables) (lists : FaultLists) (log : List (List Bool))
+    (suspects : List ℕ) → IsUniverse board lists → AreSuspects board plan lists log suspects →
     All (λ i. i < length (places_of board)) suspects
 
 -- If single fault A comes before single fault B, then B does not come before A. So given faults have only one order.

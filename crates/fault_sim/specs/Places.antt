@@ -13,20 +13,22 @@ use Rattle.fault_sim.specs.Starts.{pairs_before}
 use Rattle.fault_sim.specs.inner.Tested.{paired_in}
 
 -- the places of a list of faults: one place for each fault, in the order of the list
-abbrev pub placed : List Single → List (Option Single)
-placed faults = map (λ fault. Some fault) faults
+abbrev pub as_places : List Single → List (Option Single)
+as_places faults = map (λ fault. Some fault) faults
 
 -- the four places of two covered nets, which have the shorts of the nets if the nets are paired, and otherwise no fault
 abbrev pub pair_places : RawBoard → Numbered × Numbered → List (Option Single)
-pair_places board pair = cond (are_paired board pair.0.1 pair.1.1) (placed (short_faults pair.0.0 pair.1.0)) (None ∷ None ∷ None ∷ None ∷ [])
+pair_places board pair =
+    cond (are_paired board pair.0.1 pair.1.1) (as_places (short_faults pair.0.0 pair.1.0))
+    (None ∷ None ∷ None ∷ None ∷ [])
 
 -- the places of stuck nets
 abbrev pub stuck_places : RawBoard → List (Option Single)
-stuck_places board = placed (flat_map (λ net. stuck_faults net.0) (covered_nets board))
+stuck_places board = as_places (flat_map (λ net. stuck_faults net.0) (covered_nets board))
 
 -- the places of open pins
 abbrev pub open_places : RawBoard → List (Option Single)
-open_places board = placed (flat_map open_faults (tested_pins board))
+open_places board = as_places (flat_map open_faults (tested_pins board))
 
 -- the places of shorts
 abbrev pub short_places : RawBoard → List (Option Single)
@@ -51,12 +53,14 @@ pub record IsUniverse (board : RawBoard) (lists : FaultLists) : Type 0 where
 
 -- The four places of two nets. They have the shorts of the nets if some pass of the plan observes both nets, and otherwise no fault.
 abbrev pub number_places : PlanTables → ℕ × ℕ → List (Option Single)
-number_places plan pair = cond (paired_in plan pair.0 pair.1) (placed (short_faults pair.0 pair.1)) (None ∷ None ∷ None ∷ None ∷ [])
+number_places plan pair = cond (paired_in plan pair.0 pair.1) (as_places (short_faults pair.0 pair.1)) (None ∷ None ∷ None ∷ None ∷ [])
 
 -- the places that follow from the lists of covered nets and tested pins, and from the plan
 abbrev pub listed_places : PlanTables → FaultLists → List (Option Single)
 listed_places plan lists =
-    placed (flat_map stuck_faults lists.nets) ++ (placed (flat_map open_faults lists.pins) ++ flat_map (number_places plan) (pairs_within lists.nets))
+    as_places (flat_map stuck_faults lists.nets)
+    ++ (as_places (flat_map open_faults lists.pins)
+    ++ flat_map (number_places plan) (pairs_within lists.nets))
 
 -- True if some pass observes all nets of a fault at a place. For a short, one pass must observe both nets. Any other fault at a place is on
 -- one covered net, and some pass observes each covered net.

@@ -41,8 +41,8 @@ abbrev pub pass_of_log : LoggedBoard → ℕ → PassOfLog
 pass_of_log logged number = record { logged = logged; number = number }
 
 -- the controls that the pass of the log holds
-abbrev pub controls_in : PassOfLog → List Ctl
-controls_in pass = slice_index_or pass.logged.test.plan.passes pass.number []
+abbrev pub held_controls : PassOfLog → List Ctl
+held_controls pass = slice_index_or pass.logged.test.plan.passes pass.number []
 
 -- a net in a pass of a log
 pub record NetInPass : Type 0 where

@@ -8,6 +8,6 @@ pairs_before (suc nets) zero = 0
 pairs_before (suc nets) (suc a) = nets + pairs_before nets a
 
 -- item a of `starts` is the number of the first pair of net a with a later net; the last item is the number of all pairs
-pub record AreStarts (nets : ℕ) (starts : List ℕ) : Type 0 where
+pub record ArePairStarts (nets : ℕ) (starts : List ℕ) : Type 0 where
   pub count : length starts ≡ suc nets
   pub each : (a : ℕ) → a ≤ nets → slice_index_or starts a 0 ≡ pairs_before nets a

@@ -23,10 +23,12 @@ suspect_count lists (m ∷ n ∷ []) = 4
 suspect_count lists (m ∷ n ∷ o ∷ nets) = 0
 
 -- The suspects of a log: places in ascending order. Each place whose single fault explains the log is among them.
-pub record AreSuspects (board : RawBoard) (plan : PlanTables) (lists : FaultLists) (log : List (List Bool)) (suspects : List ℕ) : Type 0 where
+pub record AreSuspects (board : RawBoard) (plan : PlanTables) (lists : FaultLists)
+    (log : List (List Bool)) (suspects : List ℕ) : Type 0 where
   pub rising : AllPairs (λ i j. i < j) suspects
   pub below : All (λ i. i < place_count lists) suspects
-  pub complete : (i : ℕ) (single : Single) → slice_get (places_of board) i ≡ Some (Some single) → Explains board single log → Contains suspects i
+  pub complete : (i : ℕ) (single : Single) → slice_get (places_of board) i ≡ Some (Some single)
+      → Explains board single log → Contains suspects i
   pub differing : List ℕ
   pub are_differing : AreDiffering board plan log differing
   pub count_is : length suspects ≡ suspect_count lists differing

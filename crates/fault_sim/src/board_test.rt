@@ -2,7 +2,7 @@
 ghost use Rattle.std.specs.Prelude.{◌≡◌, ◌<◌, length};
 ghost use Rattle.board_defs.specs.Passes.{passes_of};
 ghost use Rattle.scan_planner.specs.Plans.{IsPlanOf};
-ghost use Rattle.fault_sim.specs.Kept.{IsLogOf, KeepDrivers, KeepRows};
+ghost use Rattle.fault_sim.specs.Kept.{IsLogOfTest, KeepDrivers, KeepRows};
 ghost use Rattle.fault_sim.specs.Planned.{logged_board, pass_of_log, planned_board, planned_pass};
 
 use crate::kept::{KeptPass, kept_rows};
@@ -21,14 +21,14 @@ pub struct BoardTest<'a> {
 }
 
 impl<'a> Model for BoardTest<'a> {
-    ghost use Rattle.fault_sim.specs.Kept.{IsBoardTest};
+    ghost use Rattle.fault_sim.specs.Kept.{HasKeptPasses};
     ghost use Rattle.fault_sim.specs.Planned.{PlannedBoard};
 
     ghost Value = { PlannedBoard };
 
     ghost view = { λ a. a.planned };
 
-    ghost invariant = { λ a. IsBoardTest a.planned a.kept.now };
+    ghost invariant = { λ a. HasKeptPasses a.planned a.kept.now };
 }
 
 /// A log with its test. The model is the test and the log.
@@ -39,14 +39,14 @@ pub struct LoggedTest<'a> {
 }
 
 impl<'a> Model for LoggedTest<'a> {
-    ghost use Rattle.fault_sim.specs.Kept.{IsLogOf};
+    ghost use Rattle.fault_sim.specs.Kept.{IsLogOfTest};
     ghost use Rattle.fault_sim.specs.Planned.{LoggedBoard, logged_board};
 
     ghost Value = { LoggedBoard };
 
     ghost view = { λ a. logged_board a.test a.log.now };
 
-    ghost invariant = { λ a. IsLogOf a.test a.log.now };
+    ghost invariant = { λ a. IsLogOfTest a.test a.log.now };
 }
 
 impl<'a> BoardTest<'a> {
@@ -107,7 +107,7 @@ impl<'a> BoardTest<'a> {
 
     /// Returns a log of this test. The log must have the test's rows, each as long as a data scan.
     pub fn with_log(&self, log: &'a Log) -> LoggedTest<'a>
-        requires { IsLogOf self.now log.now }
+        requires { IsLogOfTest self.now log.now }
         ensures { result ≡ logged_board self.now log.now }
     {
         let test = self.with_kept(self.kept());
@@ -134,7 +134,7 @@ impl<'a> LoggedTest<'a> {
     pub fn of(board: &'a Board, plan: &'a Plan, log: &'a Log) -> LoggedTest<'a>
         requires plan { IsPlanOf board.now plan.now }
         requires passes { plan.now.passes ≡ passes_of board.now }
-        requires log { IsLogOf (planned_board board.now plan.now) log.now }
+        requires log { IsLogOfTest (planned_board board.now plan.now) log.now }
         ensures { result ≡ logged_board (planned_board board.now plan.now) log.now }
     {
         BoardTest::of(board, plan).with_log(log)
@@ -173,7 +173,7 @@ impl<'a> LoggedTest<'a> {
     /// Returns the log.
     pub fn log(&self) -> &'a Log
         ensures value { result.now ≡ self.now.log }
-        ensures rows { IsLogOf self.now.test self.now.log }
+        ensures rows { IsLogOfTest self.now.test self.now.log }
     {
         self.log
     }

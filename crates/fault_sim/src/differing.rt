@@ -17,8 +17,10 @@ use tap_defs::board_law;
 impl<'a> LoggedTest<'a> {
     // Returns whether a net shows the expected bits in every pass. If no digit of the net's cells is marked, the cells are not checked.
     fn shows_expected(&self, marks: &[u8], n: u32) -> bool
-        requires { AreMarks self.now.test.board self.now.test.plan self.now.log (length self.now.test.plan.passes) marks.now }
-        ensures { IsTrue result ↔ ShowsOn self.now.test.board self.now.test.plan None self.now.log n }
+        requires { AreMarks self.now.test.board self.now.test.plan self.now.log
+            (length self.now.test.plan.passes) marks.now }
+        ensures { IsTrue result
+            ↔ ShowsOn self.now.test.board self.now.test.plan None self.now.log n }
     {
         let _rules = self.board().raw();
         if !are_marked(marks, self.plan().readers(n)) {
@@ -30,7 +32,8 @@ impl<'a> LoggedTest<'a> {
     /// Returns the nets that differ in the log, in net order. A net differs if one of its compared cells has a bit other than the expected
     /// bit. Reads each row once, and then only the cells of nets that may differ. These are the nets that differ and few others.
     pub fn differing(&self, alloc: Global) -> Result<Vec<u32>, AllocError>
-        ensures { IfOk result (λ nets. AreDiffering self.now.test.board self.now.test.plan self.now.log nets.items) }
+        ensures { IfOk result
+            (λ nets. AreDiffering self.now.test.board self.now.test.plan self.now.log nets.items) }
     {
         let marks = self.marks(alloc)?;
         let mut nets = Vec::new(alloc);
@@ -43,7 +46,8 @@ impl<'a> LoggedTest<'a> {
     /// Returns whether every compared bit of the log is the expected bit. `nets` must be the nets that differ in the log.
     pub fn none_differs(&self, nets: &[u32]) -> bool
         requires { AreDiffering self.now.test.board self.now.test.plan self.now.log nets.now }
-        ensures { IsTrue result ↔ IsExpected self.now.test.board (svf_row_scans self.now.test.board) self.now.log }
+        ensures { IsTrue result
+            ↔ IsExpected self.now.test.board (svf_row_scans self.now.test.board) self.now.log }
     {
         let _plan = self.plan();
         let _log = self.log();

@@ -1,6 +1,6 @@
 // The effect of a single fault on the compared cells of a net in the rows of a pass.
 ghost use Rattle.std.specs.Prelude.{◌≡◌, ◌==◌, ◌||◌, unwrap_or};
-ghost use Rattle.tap_defs.specs.board.NetBits.{or_else};
+ghost use Rattle.tap_defs.specs.board.NetBits.{bit_or_else};
 ghost use Rattle.tap_defs.specs.board.SingleBits.{shorted};
 ghost use Rattle.fault_sim.specs.Effects.{open_effect, shorted_effect, effect_of_short, effect_of, effect_in, effect_bit, first_net, second_net};
 ghost use Rattle.fault_sim.specs.Planned.{controls_of};
@@ -107,13 +107,16 @@ fn shorted_effect(kind: Kind, first: FedNet, second: FedNet) -> Effect
 
 impl<'a> TestPass<'a> {
     fn effect_of_short(&self, a: u32, b: u32, kind: Kind) -> Effect
-        ensures { result ≡ effect_of_short self.now.test.board self.now.test.plan (controls_of self.now) a b kind }
+        ensures { result
+            ≡ effect_of_short self.now.test.board self.now.test.plan (controls_of self.now) a b
+            kind }
     {
         shorted_effect(kind, self.fed(a), self.fed(b))
     }
 
     fn effect_of(&self, fault: Single, n: u32) -> Effect
-        ensures { result ≡ effect_of self.now.test.board self.now.test.plan (controls_of self.now) fault n }
+        ensures { result
+            ≡ effect_of self.now.test.board self.now.test.plan (controls_of self.now) fault n }
     {
         match fault {
             Single::StuckNet { net, value } => {
@@ -143,7 +146,8 @@ impl<'a> TestPass<'a> {
 
     /// Returns the effect of a fault on net `n` in the rows of the pass. Without a fault, the cells have the expected bits.
     pub fn effect(&self, fault: Option<Single>, n: u32) -> Effect
-        ensures { result ≡ effect_in self.now.test.board self.now.test.plan (controls_of self.now) fault n }
+        ensures { result
+            ≡ effect_in self.now.test.board self.now.test.plan (controls_of self.now) fault n }
     {
         match fault {
             None => Effect::Plain,
@@ -161,7 +165,7 @@ fn short_bit(
     pull: Option<bool>,
     expected: bool,
 ) -> bool
-    ensures { result ≡ unwrap_or (or_else (shorted kind first second) pull) expected }
+    ensures { result ≡ unwrap_or (bit_or_else (shorted kind first second) pull) expected }
 {
     match shorted(kind, first, second) {
         None => pull.unwrap_or(expected),

@@ -1,7 +1,7 @@
 // The lists in which btest looks up the fault at a place of a universe.
 ghost use Rattle.std.specs.Prelude.{◌≤◌, length};
 ghost use Rattle.board_defs.specs.Limits.{most_nets, most_pins};
-ghost use Rattle.fault_sim.specs.Starts.{AreStarts};
+ghost use Rattle.fault_sim.specs.Starts.{ArePairStarts};
 
 use board_defs::{Items, PinRef};
 
@@ -14,5 +14,5 @@ pub struct FaultLists {
     pub starts: Items<u64>,
     ghost few: { length nets ≤ most_nets },
     ghost few_pins: { length pins ≤ most_pins },
-    ghost starts_are: { AreStarts (length nets) starts },
+    ghost starts_are: { ArePairStarts (length nets) starts },
 }

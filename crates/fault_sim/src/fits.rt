@@ -72,7 +72,9 @@ fn cells_show(
 impl<'a> NetRows<'a> {
     // Returns whether all cells have the bits of an effect in all rows. Cells that read the pin at the driver's place are not checked.
     fn show(&self, code: u32, effect: Effect, driver: u32) -> bool
-        ensures { IsTrue result ↔ ShowRows self.now.log self.now.first self.now.width code self.now.readers effect driver }
+        ensures { IsTrue result
+            ↔ ShowRows self.now.log self.now.first self.now.width code self.now.readers effect
+            driver }
     {
         for j in 0..self.width {
             let row = self.first + u64::from(j);
@@ -86,7 +88,9 @@ impl<'a> NetRows<'a> {
 
     // Like `show`, but `driver` is `None` if the pass enables no driver on the net. In this case the result is true.
     fn show_by(&self, code: u32, effect: Effect, driver: Option<u32>) -> bool
-        ensures { IsTrue result ↔ ShowBy self.now.log self.now.first self.now.width code self.now.readers effect driver }
+        ensures { IsTrue result
+            ↔ ShowBy self.now.log self.now.first self.now.width code self.now.readers effect
+            driver }
     {
         match driver {
             None => true,
@@ -106,14 +110,18 @@ impl<'a> LoggedPass<'a> {
     // Returns whether this pass of the log shows an effect on a net. `driver` is the place of the enabled driver's pin, if the pass enables
     // a driver on the net.
     fn shows_effect(&self, effect: Effect, driver: Option<u32>, net: u32) -> bool
-        ensures { IsTrue result ↔ ShowsEffect self.now.logged.test.plan self.now.logged.log self.now.number net effect driver }
+        ensures { IsTrue result
+            ↔ ShowsEffect self.now.logged.test.plan self.now.logged.log self.now.number net effect
+            driver }
     {
         self.net_rows(net).show_by(self.code(net), effect, driver)
     }
 
     /// Returns whether this pass of the log shows the effect of a fault on a net. Without a fault, checks for the expected bits.
     pub fn shows(&self, fault: Option<Single>, net: u32) -> bool
-        ensures { IsTrue result ↔ Shows self.now.logged.test.board self.now.logged.test.plan fault self.now.logged.log self.now.number net }
+        ensures { IsTrue result
+            ↔ Shows self.now.logged.test.board self.now.logged.test.plan fault self.now.logged.log
+            self.now.number net }
     {
         let effect = self.pass.effect(fault, net);
         self.shows_effect(effect, self.pass.driver_place(net), net)
@@ -121,14 +129,18 @@ impl<'a> LoggedPass<'a> {
 
     // Returns whether this pass of the log shows the effect of a fault on the fault's own nets.
     fn shows_own(&self, fault: Single) -> bool
-        ensures { IsTrue result ↔ ShowsOwnIn self.now.logged.test.board self.now.logged.test.plan fault self.now.logged.log self.now.number }
+        ensures { IsTrue result
+            ↔ ShowsOwnIn self.now.logged.test.board self.now.logged.test.plan fault
+            self.now.logged.log self.now.number }
     {
         self.shows(Some(fault), first_net(fault)) && self.shows(Some(fault), second_net(fault))
     }
 
     // Returns whether this pass of the log shows the effect of a fault on every net. Without a fault, checks for the expected bits.
     fn shows_all(&self, fault: Option<Single>) -> bool
-        ensures { IsTrue result ↔ ShowsIn self.now.logged.test.board self.now.logged.test.plan fault self.now.logged.log self.now.number }
+        ensures { IsTrue result
+            ↔ ShowsIn self.now.logged.test.board self.now.logged.test.plan fault
+            self.now.logged.log self.now.number }
     {
         for net in 0..net_count(self.pass.board()) {
             if !self.shows(fault, net) {
@@ -143,7 +155,8 @@ impl<'a> LoggedTest<'a> {
     /// Returns whether every pass of the log shows the effect of a fault on the fault's own nets. Checks both nets in one pass before the
     /// next pass, since a fault that does not explain the log usually fails in an early pass.
     pub(crate) fn shows_own(&self, fault: Single) -> bool
-        ensures { IsTrue result ↔ ShowsOwn self.now.test.board self.now.test.plan fault self.now.log }
+        ensures { IsTrue result
+            ↔ ShowsOwn self.now.test.board self.now.test.plan fault self.now.log }
     {
         for x in 0..self.pass_count() {
             let pass = self.pass(x);
@@ -156,7 +169,8 @@ impl<'a> LoggedTest<'a> {
 
     /// Returns whether every pass of the log shows the effect of a fault on a net. Without a fault, checks for the expected bits.
     pub(crate) fn shows_on(&self, fault: Option<Single>, net: u32) -> bool
-        ensures { IsTrue result ↔ ShowsOn self.now.test.board self.now.test.plan fault self.now.log net }
+        ensures { IsTrue result
+            ↔ ShowsOn self.now.test.board self.now.test.plan fault self.now.log net }
     {
         for x in 0..self.pass_count() {
             let pass = self.pass(x);
@@ -169,7 +183,8 @@ impl<'a> LoggedTest<'a> {
 
     /// Returns whether every pass of the log shows the effect of a fault on every net. Without a fault, checks for the expected bits.
     pub(crate) fn shows_all(&self, fault: Option<Single>) -> bool
-        ensures { IsTrue result ↔ ShowsAll self.now.test.board self.now.test.plan fault self.now.log }
+        ensures { IsTrue result
+            ↔ ShowsAll self.now.test.board self.now.test.plan fault self.now.log }
     {
         for x in 0..self.pass_count() {
             let pass = self.pass(x);

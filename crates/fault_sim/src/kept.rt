@@ -1,9 +1,9 @@
 // Keeps rows and drivers of a test's passes, so that many logs of the test can share them.
 ghost use Rattle.std.specs.Prelude.{◌≡◌, ◌<◌, ◌≤◌, length, slice_get, IfOk};
-ghost use Rattle.fault_sim.specs.Kept.{IsRow, AreRows, AreDrivers, KeepRows, KeepDrivers};
+ghost use Rattle.fault_sim.specs.Kept.{IsComparedRow, AreComparedRows, AreDrivers, KeepRows, KeepDrivers};
 ghost use Rattle.fault_sim.specs.Planned.{controls_of};
-ghost use Rattle.fault_sim.specs.inner.Kept.{kept_drivers, kept_rows};
-ghost use Rattle.fault_sim.specs.inner.Marks.{HaveRoom};
+ghost use Rattle.fault_sim.specs.inner.Kept.{kept_drivers, rows_of_kept};
+ghost use Rattle.fault_sim.specs.inner.Marks.{HasScanRoom};
 
 use crate::board_test::BoardTest;
 use crate::feed::EnabledDriver;
@@ -33,7 +33,7 @@ pub struct KeptPass {
 
 /// Returns an empty row with room for a data scan.
 pub fn empty_row(alloc: Global, board: &Board) -> Result<ComparedRow, AllocError>
-    ensures { IfOk result (HaveRoom board.now) }
+    ensures { IfOk result (HasScanRoom board.now) }
 {
     let room = board.dr_bits();
     Ok(ComparedRow {
@@ -46,7 +46,8 @@ impl<'a> TestPass<'a> {
     // Returns row `j` of the pass, in newly allocated memory.
     fn new_row(&self, alloc: Global, j: u32) -> Result<ComparedRow, AllocError>
         requires { j < self.now.test.plan.width }
-        ensures { IfOk result (IsRow self.now.test.board self.now.test.plan self.now.number j) }
+        ensures { IfOk result
+            (IsComparedRow self.now.test.board self.now.test.plan self.now.number j) }
     {
         let mut row = empty_row(alloc, self.board())?;
         self.fill_row(j, &mut row);
@@ -55,7 +56,9 @@ impl<'a> TestPass<'a> {
 
     // Returns all rows of the pass.
     fn new_rows(&self, alloc: Global) -> Result<Vec<ComparedRow>, AllocError>
-        ensures { IfOk result (λ rows. AreRows self.now.test.board self.now.test.plan self.now.number rows.items) }
+        ensures { IfOk result
+            (λ rows. AreComparedRows self.now.test.board self.now.test.plan self.now.number
+            rows.items) }
     {
         let mut rows = Vec::new(alloc);
         for j in 0..self.plan().width() {
@@ -66,7 +69,8 @@ impl<'a> TestPass<'a> {
 
     // Returns the driver that the pass enables on each of the first `nets` nets.
     fn drivers_of(&self, alloc: Global, nets: u32) -> Result<Vec<Option<EnabledDriver>>, AllocError>
-        ensures { IfOk result (λ drivers. AreDrivers self.now.test.plan (controls_of self.now) drivers.items) }
+        ensures { IfOk result
+            (λ drivers. AreDrivers self.now.test.plan (controls_of self.now) drivers.items) }
     {
         let mut drivers = Vec::with_capacity(alloc, nets as usize)?;
         for n in 0..nets {
@@ -77,8 +81,11 @@ impl<'a> TestPass<'a> {
 
     // Returns this pass as a kept pass, with all its rows and the driver of each net.
     fn keep(&self, alloc: Global) -> Result<KeptPass, AllocError>
-        ensures rows { IfOk result (λ pass. AreRows self.now.test.board self.now.test.plan self.now.number pass.rows) }
-        ensures drivers { IfOk result (λ pass. AreDrivers self.now.test.plan (controls_of self.now) pass.drivers) }
+        ensures rows { IfOk result
+            (λ pass. AreComparedRows self.now.test.board self.now.test.plan self.now.number
+            pass.rows) }
+        ensures drivers { IfOk result
+            (λ pass. AreDrivers self.now.test.plan (controls_of self.now) pass.drivers) }
     {
         let rows = self.new_rows(alloc)?;
         let drivers = self.drivers_of(alloc, net_count(self.board()))?;
@@ -126,7 +133,7 @@ impl<'a> BoardTest<'a> {
 
 /// Returns the kept rows of pass `x`, or no rows if the pass is not kept.
 pub fn kept_rows(kept: &[KeptPass], x: u32) -> &[ComparedRow]
-    ensures { result.now ≡ kept_rows kept.now x }
+    ensures { result.now ≡ rows_of_kept kept.now x }
 {
     match kept.get(x as usize) {
         None => &[],

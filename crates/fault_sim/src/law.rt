@@ -36,12 +36,19 @@ pub fn singles_have_one_order()
 
 /// Each log of a board has exactly one diagnosis.
 pub fn logs_have_one_diagnosis()
-    ensures some { (board : RawBoard) (log : List (List Bool)) → IsBoard board → (pass : Bool) × (faults : List Single) × IsDiagnosis board log pass faults }
-    ensures one { (board : RawBoard) (log : List (List Bool)) (pass other_pass : Bool) (faults others : List Single) → IsDiagnosis board log pass faults → IsDiagnosis board log other_pass others → (pass ≡ other_pass) × (faults ≡ others) }
+    ensures some { (board : RawBoard) (log : List (List Bool)) → IsBoard board
+        → (pass : Bool) × (faults : List Single) × IsDiagnosis board log pass faults }
+    ensures one { (board : RawBoard) (log : List (List Bool)) (pass other_pass : Bool)
+        (faults others : List Single) → IsDiagnosis board log pass faults
+        → IsDiagnosis board log other_pass others → (pass ≡ other_pass) × (faults ≡ others) }
 {}
 
 /// If a test decides for each single fault of a board whether the fault explains a log, filtering the board's single faults by the test
 /// gives the faults of the log's diagnosis, in order.
 pub fn filters_pick()
-    ensures { (board : RawBoard) (log : List (List Bool)) (test : Single → Bool) → IsBoard board → ((single : Single) → IsSingle board single → (IsTrue (test single) ↔ Explains board single log)) → Picks (λ single. Explains board single log) (singles board) (filter test (singles board)) }
+    ensures { (board : RawBoard) (log : List (List Bool)) (test : Single → Bool) → IsBoard board
+        → ((single : Single) → IsSingle board single
+        → (IsTrue (test single) ↔ Explains board single log))
+        → Picks (λ single. Explains board single log) (singles board)
+        (filter test (singles board)) }
 {}

@@ -3,8 +3,8 @@ ghost use Rattle.std.specs.Prelude.{◌≡◌, ℕ, ◌<◌, length, slice_index
 ghost use Rattle.std.specs.Int.Bits.{bit_and, bit_xor};
 ghost use Rattle.board_defs.specs.Pins.{data_bits};
 ghost use Rattle.bt_bits.specs.Hex.{digit_count};
-ghost use Rattle.fault_sim.specs.Kept.{IsRow};
-ghost use Rattle.fault_sim.specs.inner.Marks.{HaveRoom, MarkRow, MarkRows, AreMarks, are_marked};
+ghost use Rattle.fault_sim.specs.Kept.{IsComparedRow};
+ghost use Rattle.fault_sim.specs.inner.Marks.{HasScanRoom, MarkRow, MarkRows, AreMarks, are_marked};
 
 use crate::board_test::LoggedTest;
 use crate::kept::{ComparedRow, empty_row};
@@ -17,7 +17,10 @@ fn mark_digits(marks: &mut [u8], log: &[u8], expected: &[u8], compared: &[u8])
     requires log { length log.now ≡ length marks.old }
     requires expected { length expected.now ≡ length marks.old }
     requires compared { length compared.now ≡ length marks.old }
-    ensures { (k : ℕ) → k < length marks.old → slice_index_or marks.new k 0 ≡ 0 → (slice_index_or marks.old k 0 ≡ 0) × (bit_and (bit_xor (slice_index_or log.now k 0) (slice_index_or expected.now k 0)) (slice_index_or compared.now k 0) ≡ 0) }
+    ensures { (k : ℕ) → k < length marks.old → slice_index_or marks.new k 0 ≡ 0
+        → (slice_index_or marks.old k 0 ≡ 0)
+        × (bit_and (bit_xor (slice_index_or log.now k 0) (slice_index_or expected.now k 0))
+        (slice_index_or compared.now k 0) ≡ 0) }
 {
     for k in 0..marks.len() {
         marks[k] |= (log[k] ^ expected[k]) & compared[k];
@@ -30,8 +33,10 @@ impl<'a> LoggedPass<'a> {
     fn mark_by(&self, marks: &mut [u8], j: u32, row: &ComparedRow)
         requires row { j < self.now.logged.test.plan.width }
         requires count { length marks.old ≡ digit_count (data_bits self.now.logged.test.board) }
-        requires compared { IsRow self.now.logged.test.board self.now.logged.test.plan self.now.number j row.now }
-        ensures { MarkRow self.now.logged.test.board self.now.logged.test.plan self.now.logged.log self.now.number j marks.old marks.new }
+        requires compared { IsComparedRow self.now.logged.test.board self.now.logged.test.plan
+            self.now.number j row.now }
+        ensures { MarkRow self.now.logged.test.board self.now.logged.test.plan self.now.logged.log
+            self.now.number j marks.old marks.new }
     {
         let number = self.pass.first_row() + u64::from(j);
         mark_digits(
@@ -46,9 +51,10 @@ impl<'a> LoggedPass<'a> {
     fn mark_row(&self, marks: &mut [u8], spare: &mut ComparedRow, j: u32)
         requires row { j < self.now.logged.test.plan.width }
         requires count { length marks.old ≡ digit_count (data_bits self.now.logged.test.board) }
-        requires room { HaveRoom self.now.logged.test.board spare.old }
-        ensures marks { MarkRow self.now.logged.test.board self.now.logged.test.plan self.now.logged.log self.now.number j marks.old marks.new }
-        ensures room { HaveRoom self.now.logged.test.board spare.new }
+        requires room { HasScanRoom self.now.logged.test.board spare.old }
+        ensures marks { MarkRow self.now.logged.test.board self.now.logged.test.plan
+            self.now.logged.log self.now.number j marks.old marks.new }
+        ensures room { HasScanRoom self.now.logged.test.board spare.new }
     {
         match self.pass.kept_rows().get(j as usize) {
             Some(row) => self.mark_by(marks, j, row),
@@ -63,9 +69,11 @@ impl<'a> LoggedPass<'a> {
     // kept.
     fn mark(&self, marks: &mut [u8], spare: &mut ComparedRow)
         requires count { length marks.old ≡ digit_count (data_bits self.now.logged.test.board) }
-        requires room { HaveRoom self.now.logged.test.board spare.old }
-        ensures marks { MarkRows self.now.logged.test.board self.now.logged.test.plan self.now.logged.log self.now.number self.now.logged.test.plan.width marks.old marks.new }
-        ensures room { HaveRoom self.now.logged.test.board spare.new }
+        requires room { HasScanRoom self.now.logged.test.board spare.old }
+        ensures marks { MarkRows self.now.logged.test.board self.now.logged.test.plan
+            self.now.logged.log self.now.number self.now.logged.test.plan.width marks.old
+            marks.new }
+        ensures room { HasScanRoom self.now.logged.test.board spare.new }
     {
         for j in 0..self.width() {
             self.mark_row(marks, spare, j);
@@ -83,7 +91,9 @@ impl<'a> LoggedTest<'a> {
     /// Returns a mark for each hexadecimal digit of a row. If the mark of a digit is 0, every compared bit of this digit is the expected
     /// bit in all rows of the log. Reads each row once.
     pub(crate) fn marks(&self, alloc: Global) -> Result<Vec<u8>, AllocError>
-        ensures { IfOk result (λ marks. AreMarks self.now.test.board self.now.test.plan self.now.log (length self.now.test.plan.passes) marks.items) }
+        ensures { IfOk result
+            (λ marks. AreMarks self.now.test.board self.now.test.plan self.now.log
+            (length self.now.test.plan.passes) marks.items) }
     {
         let board = self.board();
         let mut spare = empty_row(alloc, board)?;

@@ -52,7 +52,8 @@ fn are_of(nets: &[u32], a: u32, b: u32) -> bool
 impl<'a> LoggedTest<'a> {
     /// Like the function `is_pass`, for this test and log.
     pub fn is_pass(&self) -> bool
-        ensures { IsTrue result ↔ IsExpected self.now.test.board (svf_row_scans self.now.test.board) self.now.log }
+        ensures { IsTrue result
+            ↔ IsExpected self.now.test.board (svf_row_scans self.now.test.board) self.now.log }
     {
         let _plan = self.plan();
         let _log = self.log();
@@ -83,7 +84,8 @@ impl<'a> LoggedTest<'a> {
     /// Like `matches`, but also takes the nets that differ in the log. With them, only the cells of the fault's own nets need a check.
     pub fn matches_by(&self, fault: Single, nets: &[u32]) -> bool
         requires fault { IsSingle self.now.test.board fault }
-        requires differing { AreDiffering self.now.test.board self.now.test.plan self.now.log nets.now }
+        requires differing { AreDiffering self.now.test.board self.now.test.plan self.now.log
+            nets.now }
         ensures { IsTrue result ↔ Explains self.now.test.board fault self.now.log }
     {
         let _plan = self.plan();

@@ -3,9 +3,9 @@ ghost use Rattle.std.specs.Prelude.{◌≡◌, ◌*◌, ◌<◌, ◌^◌, ◌&&�
 ghost use Rattle.board_defs.specs.Passes.{passes_of};
 ghost use Rattle.scan_planner.specs.Plans.{IsPlanOf};
 ghost use Rattle.fault_sim.specs.Effects.{code_in, driver_in, fed_net, place_of_driver, pull_in};
-ghost use Rattle.fault_sim.specs.Kept.{AreRows, IsLogOf, IsRow, KeepDrivers, enabled_driver};
+ghost use Rattle.fault_sim.specs.Kept.{AreComparedRows, IsLogOfTest, IsComparedRow, KeepDrivers, enabled_driver};
 ghost use Rattle.fault_sim.specs.Planned.{controls_of, plan_pass};
-ghost use Rattle.fault_sim.specs.inner.Marks.{HaveRoom};
+ghost use Rattle.fault_sim.specs.inner.Marks.{HasScanRoom};
 ghost use Rattle.fault_sim.specs.inner.Telling.{AreWordsIn};
 ghost use Rattle.fault_sim.specs.inner.Tested.{observes_in};
 
@@ -69,7 +69,9 @@ impl<'a> PassDrivers<'a> {
 
     /// Returns whether the pass observes both nets.
     pub fn observes_both(&self, a: u32, b: u32) -> bool
-        ensures { result ≡ (observes_in self.now.plan self.now.pass a && observes_in self.now.plan self.now.pass b) }
+        ensures { result
+            ≡ (observes_in self.now.plan self.now.pass a
+            && observes_in self.now.plan self.now.pass b) }
     {
         self.observes(a) && self.observes(b)
     }
@@ -129,7 +131,8 @@ impl<'a> TestPass<'a> {
 
     /// Returns the place of the pin of the driver that the pass enables on a net, if there is one.
     pub fn driver_place(&self, net: u32) -> Option<u32>
-        ensures { result ≡ place_of_driver (driver_in self.now.test.plan (controls_of self.now) net) }
+        ensures { result
+            ≡ place_of_driver (driver_in self.now.test.plan (controls_of self.now) net) }
     {
         match self.driver(net) {
             None => None,
@@ -146,14 +149,16 @@ impl<'a> TestPass<'a> {
 
     /// Returns a net in this pass: the feed of the net's enabled driver, and the net's pull.
     pub fn fed(&self, net: u32) -> FedNet
-        ensures { result ≡ fed_net self.now.test.board self.now.test.plan (controls_of self.now) net }
+        ensures { result
+            ≡ fed_net self.now.test.board self.now.test.plan (controls_of self.now) net }
     {
         net_fed_by(self.driver(net), self.pull(net))
     }
 
     /// Returns the kept rows of the pass, which are the first rows of the pass.
     pub fn kept_rows(&self) -> &'a [ComparedRow]
-        ensures { AreRows self.now.test.board self.now.test.plan self.now.number result.now }
+        ensures { AreComparedRows self.now.test.board self.now.test.plan self.now.number
+            result.now }
     {
         self.rows
     }
@@ -161,9 +166,10 @@ impl<'a> TestPass<'a> {
     /// Fills `row` with the bits that the test expects in row `j` of the pass, and with the mask of the compared bits.
     pub fn fill_row(&self, j: u32, row: &mut ComparedRow)
         requires row { j < self.now.test.plan.width }
-        requires room { HaveRoom self.now.test.board row.old }
-        ensures row { IsRow self.now.test.board self.now.test.plan self.now.number j row.new }
-        ensures room { HaveRoom self.now.test.board row.new }
+        requires room { HasScanRoom self.now.test.board row.old }
+        ensures row { IsComparedRow self.now.test.board self.now.test.plan self.now.number j
+            row.new }
+        ensures room { HasScanRoom self.now.test.board row.new }
     {
         self.pass.fill_compared(j, &mut row.tdo, &mut row.mask);
     }
@@ -177,14 +183,14 @@ pub struct LoggedPass<'a> {
 }
 
 impl<'a> Model for LoggedPass<'a> {
-    ghost use Rattle.fault_sim.specs.Kept.{IsLogOf};
+    ghost use Rattle.fault_sim.specs.Kept.{IsLogOfTest};
     ghost use Rattle.fault_sim.specs.Planned.{PassOfLog, logged_board, pass_of_log};
 
     ghost Value = { PassOfLog };
 
     ghost view = { λ a. pass_of_log (logged_board a.pass.test a.log.now) a.pass.number };
 
-    ghost invariant = { λ a. IsLogOf a.pass.test a.log.now };
+    ghost invariant = { λ a. IsLogOfTest a.pass.test a.log.now };
 }
 
 impl<'a> LoggedPass<'a> {
@@ -194,7 +200,7 @@ impl<'a> LoggedPass<'a> {
         ensures pass { self.now.number < length self.now.logged.test.plan.passes }
         ensures plan { IsPlanOf self.now.logged.test.board self.now.logged.test.plan }
         ensures passes { self.now.logged.test.plan.passes ≡ passes_of self.now.logged.test.board }
-        ensures log { IsLogOf self.now.logged.test self.now.logged.log }
+        ensures log { IsLogOfTest self.now.logged.test self.now.logged.log }
     {
         let _plan = self.pass.plan();
         let _row = self.pass.first_row();

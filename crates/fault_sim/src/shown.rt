@@ -48,8 +48,10 @@ fn with_row(word: u32, j: u32, bit: bool) -> u32
 
 // Returns the rows in which a cell of `one` or a cell of `other` shows 1, and the rows in which such a cell shows 0.
 fn joined(one: ShownWords, other: ShownWords) -> ShownWords
-    ensures ones { (j : ℕ) → word_bit result.ones j ≡ (word_bit one.ones j || word_bit other.ones j) }
-    ensures zeros { (j : ℕ) → word_bit result.zeros j ≡ (word_bit one.zeros j || word_bit other.zeros j) }
+    ensures ones { (j : ℕ)
+        → word_bit result.ones j ≡ (word_bit one.ones j || word_bit other.ones j) }
+    ensures zeros { (j : ℕ)
+        → word_bit result.zeros j ≡ (word_bit one.zeros j || word_bit other.zeros j) }
 {
     ShownWords {
         ones: one.ones | other.ones,
@@ -61,7 +63,9 @@ impl<'a> NetRows<'a> {
     // Returns the bits of the cell at position `at` in the rows of the pass, as a word.
     fn cell_word(&self, at: u32) -> u32
         requires { All (λ row. at < length row) self.now.log }
-        ensures { (j : ℕ) → j < 32 → word_bit result j ≡ (nat_lt j self.now.width && bit_in self.now.log (self.now.first + j) at) }
+        ensures { (j : ℕ) → j < 32
+            → word_bit result j
+            ≡ (nat_lt j self.now.width && bit_in self.now.log (self.now.first + j) at) }
     {
         let mut word = 0;
         for j in 0..self.width {
@@ -73,7 +77,8 @@ impl<'a> NetRows<'a> {
     // Returns the rows in which one cell shows 1, and the rows in which it shows 0. Both words are 0 if the cell reads the driver's pin.
     fn cell_words(&self, reader: ReaderCell, driver: u32) -> ShownWords
         requires { All (λ row. reader.position < length row) self.now.log }
-        ensures { AreShown (rows_of_net self.now.log self.now.first self.now.width (reader ∷ [])) (Some driver) result }
+        ensures { AreShown (rows_of_net self.now.log self.now.first self.now.width (reader ∷ []))
+            (Some driver) result }
     {
         if reader.place == driver {
             return ShownWords { ones: 0, zeros: 0 };

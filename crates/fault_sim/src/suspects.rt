@@ -90,7 +90,10 @@ fn push_pin(places: &mut Vec<u64>, lists: &FaultLists, n: u32, i: usize) -> Resu
 }
 
 fn push_pins(places: &mut Vec<u64>, lists: &FaultLists, n: u32) -> Result<(), AllocError>
-    ensures { OnOk result (places.new.items ≡ places.old.items ++ flat_map (pin_suspects lists.now n) (range_with_len 0 (length lists.now.pins))) }
+    ensures { OnOk result
+        (places.new.items
+        ≡ places.old.items
+        ++ flat_map (pin_suspects lists.now n) (range_with_len 0 (length lists.now.pins))) }
 {
     for i in 0..lists.pins.len() {
         push_pin(places, lists, n, i)?;
@@ -100,7 +103,9 @@ fn push_pins(places: &mut Vec<u64>, lists: &FaultLists, n: u32) -> Result<(), Al
 
 // Adds the places of all shorts of the covered net at place `k` with an earlier covered net.
 fn push_earlier(places: &mut Vec<u64>, lists: &FaultLists, k: u32) -> Result<(), AllocError>
-    ensures { OnOk result (places.new.items ≡ places.old.items ++ flat_map (λ a. pair_suspects lists.now a k) (range_with_len 0 k)) }
+    ensures { OnOk result
+        (places.new.items
+        ≡ places.old.items ++ flat_map (λ a. pair_suspects lists.now a k) (range_with_len 0 k)) }
 {
     for a in 0..k {
         push_pair(places, lists, a, k)?;
@@ -110,7 +115,11 @@ fn push_earlier(places: &mut Vec<u64>, lists: &FaultLists, k: u32) -> Result<(),
 
 // Adds the places of all shorts of the covered net at place `k` with a later covered net.
 fn push_later(places: &mut Vec<u64>, lists: &FaultLists, k: u32) -> Result<(), AllocError>
-    ensures { OnOk result (places.new.items ≡ places.old.items ++ flat_map (λ b. pair_suspects lists.now k b) (range_with_len (suc k) (length lists.now.nets - suc k))) }
+    ensures { OnOk result
+        (places.new.items
+        ≡ places.old.items
+        ++ flat_map (λ b. pair_suspects lists.now k b)
+        (range_with_len (suc k) (length lists.now.nets - suc k))) }
 {
     for b in k.saturating_add(1)..lists.nets.len() as u32 {
         push_pair(places, lists, k, b)?;
@@ -132,7 +141,8 @@ fn net_suspects(
     lists: &FaultLists,
     n: u32,
 ) -> Result<Vec<u64>, AllocError>
-    ensures { IfOk result (λ places. places.items ≡ net_suspects lists.now n (covered_place plan.now n)) }
+    ensures { IfOk result
+        (λ places. places.items ≡ net_suspects lists.now n (covered_place plan.now n)) }
 {
     let k = covered_place(plan, n);
     let mut places = Vec::new(alloc);
@@ -151,7 +161,9 @@ fn pair_suspects(
     m: u32,
     n: u32,
 ) -> Result<Vec<u64>, AllocError>
-    ensures { IfOk result (λ places. places.items ≡ pair_suspects lists.now (covered_place plan.now m) (covered_place plan.now n)) }
+    ensures { IfOk result
+        (λ places. places.items
+        ≡ pair_suspects lists.now (covered_place plan.now m) (covered_place plan.now n)) }
 {
     let mut places = Vec::new(alloc);
     push_pair(
@@ -196,7 +208,8 @@ impl Suspects {
         requires universe { IsUniverse board.now universe.now }
         requires rows { length log.now ≡ length plan.now.passes * plan.now.width }
         requires bits { All (λ row. length row ≡ data_bits board.now) log.now }
-        ensures { IfOk result (λ suspects. AreSuspects board.now plan.now universe.now log.now suspects) }
+        ensures { IfOk result
+            (λ suspects. AreSuspects board.now plan.now universe.now log.now suspects) }
     {
         let logged = LoggedTest::of(board, plan, log);
         let nets = logged.differing(alloc)?;
@@ -236,8 +249,11 @@ impl<'a> LoggedTest<'a> {
         nets: &[u32],
     ) -> Result<Suspects, AllocError>
         requires universe { IsUniverse self.now.test.board universe.now }
-        requires differing { AreDiffering self.now.test.board self.now.test.plan self.now.log nets.now }
-        ensures { IfOk result (λ suspects. AreSuspects self.now.test.board self.now.test.plan universe.now self.now.log suspects) }
+        requires differing { AreDiffering self.now.test.board self.now.test.plan self.now.log
+            nets.now }
+        ensures { IfOk result
+            (λ suspects. AreSuspects self.now.test.board self.now.test.plan universe.now
+            self.now.log suspects) }
     {
         let plan = self.plan();
         let _log = self.log();

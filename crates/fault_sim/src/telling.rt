@@ -73,7 +73,8 @@ impl<'a> TellingNet<'a> {
 
     /// Returns true only if the pass shows that a single fault of the board does not explain the log. Rules out only shorts of this net.
     pub fn rules_out(&self, fault: Single) -> bool
-        ensures { result ≡ true → IsSingle self.now.pass.logged.test.board fault → Explains self.now.pass.logged.test.board fault self.now.pass.logged.log → ⊥ }
+        ensures { result ≡ true → IsSingle self.now.pass.logged.test.board fault
+            → Explains self.now.pass.logged.test.board fault self.now.pass.logged.log → ⊥ }
     {
         let _rules = self.pass.board().raw();
         self.pass.laws();

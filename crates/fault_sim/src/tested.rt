@@ -4,7 +4,7 @@ ghost use Rattle.std.specs.List.{list_all};
 ghost use Rattle.board_defs.specs.Limits.{most_pins};
 ghost use Rattle.fault_sim.specs.Kept.{KeepDrivers};
 ghost use Rattle.fault_sim.specs.Places.{observes_fault};
-ghost use Rattle.fault_sim.specs.inner.Tested.{coded_nets, paired_in, marked_readers, marked_by, marked_in, tested_flags, pin_where, flagged_pins, pin_count, net_pins, all_pins};
+ghost use Rattle.fault_sim.specs.inner.Tested.{coded_nets, paired_in, marked_readers, marked_by, marked_in, tested_flags, pin_where, flagged_pins, pin_count, tested_pins_of, all_pins};
 
 use crate::fits::net_count;
 use crate::kept::KeptPass;
@@ -148,7 +148,8 @@ fn push_pins(
     net: u32,
     pins: &mut Vec<PinRef>,
 ) -> Result<(), AllocError>
-    ensures { OnOk result (pins.new.items ≡ pins.old.items ++ net_pins board.now plan.now net) }
+    ensures { OnOk result
+        (pins.new.items ≡ pins.old.items ++ tested_pins_of board.now plan.now net) }
 {
     let _rules = board.raw();
     let flags = tested_flags(alloc, plan, pin_count(board, net), net)?;
@@ -157,7 +158,8 @@ fn push_pins(
 
 /// Returns the pins of the board that some pass tests, as a driver or as a receiver, in pin order.
 pub fn tested_pins(alloc: Global, board: &Board, plan: &Plan) -> Result<Vec<PinRef>, AllocError>
-    ensures { IfOk result (λ pins. pins.items ≡ all_pins board.now plan.now (length board.now.nets)) }
+    ensures { IfOk result
+        (λ pins. pins.items ≡ all_pins board.now plan.now (length board.now.nets)) }
 {
     let mut pins = Vec::new(alloc);
     for net in 0..net_count(board) {

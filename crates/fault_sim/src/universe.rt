@@ -9,7 +9,7 @@ ghost use Rattle.board_defs.specs.Passes.{passes_of, pairs_within};
 ghost use Rattle.scan_planner.specs.Plans.{IsPlanOf};
 ghost use Rattle.plan_tables.specs.declared.tables.PlanTables.{PlanTables};
 ghost use Rattle.fault_sim.specs.Places.{IsUniverse, place_count, number_places, listed_at, listed_places, observes_fault, places_of, where_observed};
-ghost use Rattle.fault_sim.specs.Starts.{AreStarts, pairs_before};
+ghost use Rattle.fault_sim.specs.Starts.{ArePairStarts, pairs_before};
 
 use crate::board_test::BoardTest;
 use crate::fault_lists::FaultLists;
@@ -40,7 +40,7 @@ impl Model for Universe {
 // pairs.
 fn pair_starts(alloc: Global, nets: u32) -> Result<Vec<u64>, AllocError>
     requires { nets ≤ most_nets }
-    ensures { IfOk result (λ starts. AreStarts nets starts.items) }
+    ensures { IfOk result (λ starts. ArePairStarts nets starts.items) }
 {
     let mut starts = Vec::new(alloc);
     let mut start = 0u64;
@@ -202,7 +202,9 @@ fn kind_at(k: u64) -> Kind
 // Returns short `k` in the list of the shorts of all pairs of covered nets. Each pair has four shorts. The short is returned even if no
 // pass observes both nets.
 fn short_at(lists: &FaultLists, k: u64, near: &mut usize) -> Option<Single>
-    ensures { (plan : PlanTables) → listed_at (flat_map (number_places plan) (pairs_within lists.now.nets)) k ≡ where_observed plan result }
+    ensures { (plan : PlanTables)
+        → listed_at (flat_map (number_places plan) (pairs_within lists.now.nets)) k
+        ≡ where_observed plan result }
 {
     let pair = pair_at(lists, k / 4, near)?;
     let (a, b) = pair;
@@ -212,7 +214,8 @@ fn short_at(lists: &FaultLists, k: u64, near: &mut usize) -> Option<Single>
 
 // Returns the fault at place `i`. A short is returned even if no pass observes both of its nets.
 fn place_at(lists: &FaultLists, i: u64, near: &mut usize) -> Option<Single>
-    ensures { (plan : PlanTables) → listed_at (listed_places plan lists.now) i ≡ where_observed plan result }
+    ensures { (plan : PlanTables)
+        → listed_at (listed_places plan lists.now) i ≡ where_observed plan result }
 {
     let stuck = 2 * lists.nets.len() as u64;
     let open = 2 * lists.pins.len() as u64;
@@ -281,7 +284,9 @@ impl Universe {
     /// of covered nets and no pass observes both. The universe must be built with this plan. Allocates nothing.
     pub fn at(&self, plan: &Plan, i: u64) -> Option<Single>
         requires { i < place_count self.now }
-        ensures { (board : RawBoard) → IsBoard board → IsPlanOf board plan.now → plan.now.passes ≡ passes_of board → IsUniverse board self.now → slice_get (places_of board) i ≡ Some result }
+        ensures { (board : RawBoard) → IsBoard board → IsPlanOf board plan.now
+            → plan.now.passes ≡ passes_of board → IsUniverse board self.now
+            → slice_get (places_of board) i ≡ Some result }
     {
         law::passes_kept();
         let mut near = 0;
@@ -293,7 +298,8 @@ impl Universe {
     /// pair sets this variable to the place of the pair's first net among the covered nets. If the places are looked up in ascending order,
     /// nearly every look-up then needs no search. Allocates nothing.
     pub fn candidate(&self, i: u64, near: &mut usize) -> Option<Single>
-        ensures { (plan : PlanTables) → listed_at (listed_places plan self.now) i ≡ where_observed plan result }
+        ensures { (plan : PlanTables)
+            → listed_at (listed_places plan self.now) i ≡ where_observed plan result }
     {
         place_at(self.lists(), i, near)
     }

@@ -33,7 +33,8 @@ fn all_rows(bit: bool) -> u32
 // Returns the word that has the bits of `inside` in `rows`, and the bits of `outside` in the other rows.
 #[inline]
 fn choose(rows: u32, inside: u32, outside: u32) -> u32
-    ensures { (j : ℕ) → j < 32 → word_bit result j ≡ (if word_bit rows j then word_bit inside j else word_bit outside j) }
+    ensures { (j : ℕ) → j < 32
+        → word_bit result j ≡ (if word_bit rows j then word_bit inside j else word_bit outside j) }
 {
     inside & rows | outside & !rows
 }
@@ -53,7 +54,9 @@ fn source_word(source: Source) -> u32
 // driver off, or `None` if the driver is always on.
 #[inline]
 fn rows_on(off: Option<bool>, value: u32) -> u32
-    ensures { (j : ℕ) → j < 32 → (if word_bit result j then Some (word_bit value j) else None) ≡ unless_off off (word_bit value j) }
+    ensures { (j : ℕ) → j < 32
+        → (if word_bit result j then Some (word_bit value j) else None)
+        ≡ unless_off off (word_bit value j) }
 {
     match off {
         None => u32::MAX,
@@ -95,7 +98,9 @@ pub fn fed_words(fed: FedNet) -> FedWords
 // Returns the common bits of two shorted nets. In rows in which neither net is driven, the result has no meaning.
 #[inline]
 fn shorted_value(kind: Kind, first: FeedWords, second: FeedWords) -> u32
-    ensures { (j : ℕ) → j < 32 → (if word_bit first.driven j || word_bit second.driven j then Some (word_bit result j) else None) ≡ shorted kind (driven_bit first j) (driven_bit second j) }
+    ensures { (j : ℕ) → j < 32
+        → (if word_bit first.driven j || word_bit second.driven j then Some (word_bit result j)
+        else None) ≡ shorted kind (driven_bit first j) (driven_bit second j) }
 {
     match kind {
         Kind::And => choose(first.driven, first.value, u32::MAX)
@@ -109,7 +114,8 @@ fn shorted_value(kind: Kind, first: FeedWords, second: FeedWords) -> u32
 // Returns the rows in which at least one of two shorted nets is driven, and the bits to which both nets are driven in these rows.
 #[inline]
 fn shorted_words(kind: Kind, first: FeedWords, second: FeedWords) -> FeedWords
-    ensures { (j : ℕ) → j < 32 → driven_bit result j ≡ shorted kind (driven_bit first j) (driven_bit second j) }
+    ensures { (j : ℕ) → j < 32
+        → driven_bit result j ≡ shorted kind (driven_bit first j) (driven_bit second j) }
 {
     FeedWords {
         driven: first.driven | second.driven,

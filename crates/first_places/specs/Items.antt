@@ -5,14 +5,16 @@ use Rattle.std.specs.Prelude.{◌≡◌, ℕ, zero, suc, ◌+◌, ◌<◌, List,
 -- items `before` are counted as well. `breaks` gets the items before an item, and the item.
 abbrev pub first_from : {A : Type 0} → (List A → A → Bool) → List A → List A → Option ℕ
 first_from breaks before [] = None
-first_from breaks before (item ∷ items) = if breaks before item then Some (length before + 1) else first_from breaks (before ++ item ∷ []) items
+first_from breaks before (item ∷ items) =
+    if breaks before item then Some (length before + 1)
+    else first_from breaks (before ++ item ∷ []) items
 
 abbrev pub first_break : {A : Type 0} → (List A → A → Bool) → List A → Option ℕ
 first_break breaks items = first_from breaks [] items
 
 -- no item of the list breaks the rule
-abbrev pub Holds : {A : Type 0} → (List A → A → Bool) → List A → Type 0
-Holds {A} breaks items = (front : List A) (item : A) (back : List A) → items ≡ front ++ item ∷ back → breaks front item ≡ false
+abbrev pub KeepsRule : {A : Type 0} → (List A → A → Bool) → List A → Type 0
+KeepsRule {A} breaks items = (front : List A) (item : A) (back : List A) → items ≡ front ++ item ∷ back → breaks front item ≡ false
 
 -- item `number`, counted from 1, breaks the rule, and no item before it does
 pub record BreaksFirst {A : Type 0} (breaks : List A → A → Bool) (items : List A) (number : ℕ) : Type 0 where
@@ -22,12 +24,12 @@ pub record BreaksFirst {A : Type 0} (breaks : List A → A → Bool) (items : Li
   pub split : items ≡ before ++ item ∷ after
   pub place : number ≡ length before + 1
   pub breaks_it : breaks before item ≡ true
-  pub held : Holds breaks before
+  pub held : KeepsRule breaks before
 
 -- if there is a number, it is the number of the first item that breaks the rule; if there is none,
 -- no item breaks the rule
 abbrev pub IsFound : {A : Type 0} → (List A → A → Bool) → List A → Option ℕ → Type 0
-IsFound breaks items None = Holds breaks items
+IsFound breaks items None = KeepsRule breaks items
 IsFound breaks items (Some number) = BreaksFirst breaks items number
 
 -- the lowest of the `count` numbers from `from` on that has the property, or None if none of them

@@ -8,4 +8,7 @@ pub at_most_nine : (xs : List ℕ) → IsTrue (is_integer xs) → length xs ≤ 
 at_most_nine xs h = grind (arith, nat_tests)
 
 pub below_limit : (number index len : ℕ) → number < 10 ^ index → index < len → len ≤ 9 → number < 100_000_000
-below_limit number index len below within short = let p : 10 ^ index ≤ 10 ^ 8 = pow-le-pow_right {n = 10} (lit< tt) {i = index} {j = 8} (omega arith) in omega (arith, p)
+below_limit number index len below within short =
+    let p : 10 ^ index
+    ≤ 10 ^ 8 = pow-le-pow_right {n = 10} (lit< tt) {i = index} {j = 8} (omega arith) in
+    omega (arith, p)

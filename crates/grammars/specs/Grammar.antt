@@ -25,11 +25,11 @@ production_of (in_turn p q) = production.in_turn (production_of p) (λ a. produc
 production_of (turns turn before) = production.turns (λ s. production_of (turn s)) before
 
 -- the reader of the grammar
-abbrev pub reader_of : {T A : Type 0} → Grammar T A → Reader T A
-reader_of (place value) = reader.place value
-reader_of (done a) = reader.done a
-reader_of (in_turn p q) = reader.in_turn (reader_of p) (λ a. reader_of (q a))
-reader_of (turns turn before) = reader.turns (λ s. reader_of (turn s)) before
+abbrev pub reader_of_grammar : {T A : Type 0} → Grammar T A → Reader T A
+reader_of_grammar (place value) = reader.place value
+reader_of_grammar (done a) = reader.done a
+reader_of_grammar (in_turn p q) = reader.in_turn (reader_of_grammar p) (λ a. reader_of_grammar (q a))
+reader_of_grammar (turns turn before) = reader.turns (λ s. reader_of_grammar (turn s)) before
 
 infixl 10 ◌>>=◌
 abbrev pub ◌>>=◌ : {T A B : Type 0} → Grammar T A → (A → Grammar T B) → Grammar T B

@@ -18,7 +18,10 @@ list_of entry goes_on = turns (list_turn entry goes_on) []
 -- follows
 abbrev pub Fronts : {T A : Type 0} → Grammar T A → Grammar T Bool → ℕ → List T → Type 0
 Fronts entry goes_on zero tokens = Unit {0}
-Fronts entry goes_on (suc n) tokens = Follows (production_of entry) (λ one mid. Follows (production_of goes_on) (λ more rest. (more ≡ true) × Fronts entry goes_on n rest) mid) tokens
+Fronts entry goes_on (suc n) tokens =
+    Follows (production_of entry)
+    (λ one mid. Follows (production_of goes_on)
+    (λ more rest. (more ≡ true) × Fronts entry goes_on n rest) mid) tokens
 
 -- The tokens are not a list, and go wrong at entry `number`, counted from 1. All earlier entries
 -- are whole, and the mark after each of them says that another entry follows.

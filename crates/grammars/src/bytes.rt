@@ -31,7 +31,8 @@ pub fn decimal_of(digits: &[u8]) -> u32
 }
 
 fn each_agrees(bytes: &[u8], name: &[u8]) -> bool
-    ensures { result ≡ list_all (λ pair. nat_eq (to_ascii_uppercase pair.0) pair.1) (zip bytes.now name.now) }
+    ensures { result
+        ≡ list_all (λ pair. nat_eq (to_ascii_uppercase pair.0) pair.1) (zip bytes.now name.now) }
 {
     bytes
         .iter()

@@ -3,7 +3,7 @@ use Rattle.std.specs.Prelude.{◌≡◌, ◌≢◌, ◌⊎◌, ℕ, List, None, 
 use Rattle.std.specs.declared.alloc.Global.{Global}
 use Rattle.bt_base.specs.Counts.{Rose}
 use Rattle.bt_base.specs.Puts.{Shown}
-use Rattle.command_line.specs.Words.{Text, command_of, names_of}
+use Rattle.command_line.specs.Words.{Text, command_of, names_in_command}
 use Rattle.refusal_lines.specs.Refusals.{usage_line, write_line, memory_line}
 use Rattle.btest_cli.specs.declared.status.Status.{Status}
 use Rattle.btest_cli.specs.declared.status.Status.TheVariants.{Done, Refused, Usage, ReadFault, WriteFault, NoMemory}
@@ -12,7 +12,8 @@ use Rattle.btest_cli.specs.Texts.{Held}
 use Rattle.btest_cli.specs.Outcome.{AsksSome, ForCommand, IsComplete, IsCutShort, IsDone, IsNotRead, IsRefused, SomeRose, TookOrCut}
 
 -- The words were run on this store, with these sinks for the text and for the line of refusal. `number` is the exit number of the status.
-pub record IsEndOf (words : List (String Global)) (held : Held) (before now : Text → ℕ) (asked asked' : List Text) (out out' notes notes' : Shown) (number : ℕ) : Type 0 where
+pub record IsEndOf (words : List (String Global)) (held : Held) (before now : Text → ℕ)
+    (asked asked' : List Text) (out out' notes notes' : Shown) (number : ℕ) : Type 0 where
   pub ended : Status
   pub exits : number ≡ exit_number ended
   pub usage : ended ≡ Usage → command_of (map string_bytes words) ≡ None
@@ -29,4 +30,4 @@ pub record IsEndOf (words : List (String Global)) (held : Held) (before now : Te
   pub memory_noted : ended ≡ NoMemory → TookOrCut notes notes' memory_line
   pub memory_asks : ended ≡ NoMemory → ForCommand words (λ c. AsksSome c asked asked')
   pub untouched : ended ≢ Done → ended ≢ WriteFault → out' ≡ out
-  pub complete : ForCommand words (λ c. IsComplete held c (SomeRose before now (names_of c)) (Rose out.faults out'.faults) ended)
+  pub complete : ForCommand words (λ c. IsComplete held c (SomeRose before now (names_in_command c)) (Rose out.faults out'.faults) ended)

@@ -43,8 +43,10 @@ fn end_with<R: Threads + Sync, S: Store, K: Sink, N: Sink>(
 
 // Ends a run for which the system gave no words, and returns the exit status. If memory ran out, writes nothing.
 fn end_without<N: Sink>(error: &io::Error, notes: &mut N) -> u8
-    ensures no_words { error_kind error.now ≢ ErrorKind.OutOfMemory → (result ≡ 2) × TookOrCut (N.shown notes.old) (N.shown notes.new) usage_line }
-    ensures no_memory { error_kind error.now ≡ ErrorKind.OutOfMemory → (result ≡ 5) × (N.shown notes.new ≡ N.shown notes.old) }
+    ensures no_words { error_kind error.now ≢ ErrorKind.OutOfMemory
+        → (result ≡ 2) × TookOrCut (N.shown notes.old) (N.shown notes.new) usage_line }
+    ensures no_memory { error_kind error.now ≡ ErrorKind.OutOfMemory
+        → (result ≡ 5) × (N.shown notes.new ≡ N.shown notes.old) }
 {
     if error.kind() == ErrorKind::OutOfMemory {
         return Status::NoMemory.number();
@@ -72,7 +74,8 @@ fn end_of<R: Threads + Sync, S: Store, K: Sink, N: Sink>(
         → (result ≡ 2) × TookOrCut (N.shown notes.old) (N.shown notes.new) usage_line) }
     ensures no_memory { IfErr words.now (λ error. error_kind error ≡ ErrorKind.OutOfMemory
         → (result ≡ 5) × (N.shown notes.new ≡ N.shown notes.old)) }
-    ensures nothing_else { IsErr words.now → (store.new ≡ store.old) × (K.shown out.new ≡ K.shown out.old) }
+    ensures nothing_else { IsErr words.now
+        → (store.new ≡ store.old) × (K.shown out.new ≡ K.shown out.old) }
 {
     match words {
         Ok(words) => end_with(rt, alloc, words, store, out, notes),

@@ -8,7 +8,7 @@ use Rattle.board_defs.specs.declared.device.Symbol.TheVariants.{Zero, One, Any}
 use Rattle.board_defs.specs.declared.board.PartKind.TheVariants.{Described}
 use Rattle.board_defs.specs.declared.device.RawDevice.{RawDevice}
 use Rattle.tap_defs.specs.declared.tap.TapState.TheVariants.{RunTestIdle}
-use Rattle.tap_defs.specs.chain.TestLogic.{TestLogic, Instruction, Extest, Sample, Bypass, Idcode, Other, all_ones, is_code, instruction_of}
+use Rattle.tap_defs.specs.chain.TestLogic.{TestLogic, Instruction, Extest, Sample, Bypass, Idcode, Other, all_ones, has_these_bits, instruction_of}
 use Rattle.tap_defs.specs.board.OnBoard.{reset_by, test_logic}
 use Rattle.tap_defs.specs.chain.Part.{FreeBits}
 use Rattle.tap_defs.specs.chain.Chain.{ChainPart, logics, IsChainOf}
@@ -16,7 +16,7 @@ use Rattle.tap_defs.specs.chain.Run.{Clock, Wiring, Choices, choices_after, run,
 use Rattle.tap_defs.specs.chain.Scan.{ScanBit, Scan, joined}
 use Rattle.tap_defs.specs.chain.Text.{AllSized}
 use Rattle.tap_defs.specs.chain.Clocks.{sdr_clocks, head_clocks, test_clocks}
-use Rattle.tap_defs.specs.chain.ChainRegisters.{dr_capture, dr_captures, data_captured, pins_at, AllIn, AllSelectingIn}
+use Rattle.tap_defs.specs.chain.ChainRegisters.{dr_capture, dr_captures, data_captured, bits_at_pins, AllIn, AllSelectingIn}
 use Rattle.tap_defs.specs.chain.Transport.{scan_passes}
 use Rattle.tap_defs.proofs.chain.ListLemmas.{cons_path, length-joined}
 use Rattle.tap_defs.proofs.chain.RunLemmas.{two_pass, scan_passes-append}
@@ -24,13 +24,13 @@ use Rattle.tap_defs.proofs.chain.DataLemmas.{data_transport}
 use Rattle.tap_defs.proofs.chain.HeadLemmas.{run_logics, head_idles, scans_decide}
 use Rattle.tap_defs.proofs.chain.MeaningLemmas.{text_means}
 use Rattle.ident_test.specs.Patterns.{wanted, symbol_bit, register_pattern, ident_bits, ident_scan, ident_text}
-use Rattle.ident_test.specs.CodedParts.{IsCoded, AreCoded, fits, code_fits, part_fits, all_fit, coded_by, coded_parts, HasCode}
+use Rattle.ident_test.specs.CodedParts.{IsCoded, AreCoded, symbol_fits, code_fits, part_fits, all_fit, coded_by, coded_parts, HasCode}
 use Rattle.ident_test.specs.IdentTest.{ArePatterns, IsIdentTest, EachRunTells}
 use Rattle.ident_test.proofs.LengthLemmas.{AllWhole, whole_by, bits_least, bits_most}
 use Rattle.ident_test.proofs.ResetLemmas.{AllSelected, head_selects}
 
 -- the comparison of a bit at TDO passes if and only if the bit fits the symbol
-bit_fits : (symbol : Symbol) (bit : Bool) → bit_passes (wanted symbol) bit ≡ fits symbol bit
+bit_fits : (symbol : Symbol) (bit : Bool) → bit_passes (wanted symbol) bit ≡ symbol_fits symbol bit
 bit_fits Zero true = refl
 bit_fits Zero false = refl
 bit_fits One true = refl
@@ -43,7 +43,7 @@ code_passes [] code = refl
 code_passes (symbol ∷ pattern) [] = refl
 code_passes (symbol ∷ pattern) (bit ∷ code) =
     ap (λ (b : Bool). b && scan_passes (map symbol_bit pattern) code) (bit_fits symbol bit)
-    ∙ ap (λ (b : Bool). fits symbol bit && b) (code_passes pattern code)
+    ∙ ap (λ (b : Bool). symbol_fits symbol bit && b) (code_passes pattern code)
 
 -- the instruction that a part selects after a reset: IDCODE if it has a pattern, and BYPASS
 -- otherwise
@@ -62,7 +62,8 @@ no_other None i e h = let z : Bypass ≡ Other = sym e ∙ h in cc z
 
 -- if each part of a chain is coded and has the instruction that it selects after a reset, each part
 -- selects a register that the model of the chain has
-selecting : (patterns : List (Option (List Symbol))) (ps : List ChainPart) → AllIn RunTestIdle ps → AllSelected ps → AreCoded patterns (logics ps) →
+selecting : (patterns : List (Option (List Symbol))) (ps : List ChainPart) → AllIn RunTestIdle ps
+    → AllSelected ps → AreCoded patterns (logics ps) →
     AllSelectingIn RunTestIdle ps
 selecting [] [] idle selected coded = tt
 selecting [] (p ∷ ps) idle selected coded = absurd coded
@@ -108,7 +109,8 @@ and_turned true false = refl
 and_turned false true = refl
 and_turned false false = refl
 
-chain_loads : (patterns : List (Option (List Symbol))) (ps : List ChainPart) (pins : ℕ → List Bool) (free : ℕ → FreeBits) → AllWhole patterns →
+chain_loads : (patterns : List (Option (List Symbol))) (ps : List ChainPart) (pins : ℕ → List Bool)
+    (free : ℕ → FreeBits) → AllWhole patterns →
     AllSelected ps → AreCoded patterns (logics ps) →
     ChainLoads patterns (logics ps) (dr_captures pins free ps)
 chain_loads [] [] pins free whole selected coded = record { sizes = refl; passes = refl }
@@ -119,7 +121,8 @@ chain_loads (pattern ∷ patterns) (p ∷ ps) pins free whole selected coded =
     let bits : List ScanBit = map symbol_bit (register_pattern pattern) in
     let loaded : List Bool = dr_capture p.logic (pins 0) (free 0) p.state.current (length p.state.boundary) in
     let others : List (List Bool) = dr_captures (λ k. pins (suc k)) (λ k. free (suc k)) ps in
-    let rest : ChainLoads patterns (logics ps) others = chain_loads patterns ps (λ k. pins (suc k)) (λ k. free (suc k)) wholes.1 selected.1 coded.1 in
+    let rest : ChainLoads patterns (logics ps) others = chain_loads patterns ps (λ k. pins (suc k))
+    (λ k. free (suc k)) wholes.1 selected.1 coded.1 in
     let is : p.state.current ≡ selects pattern = selected.0 (selects pattern) (coded_at pattern p.logic coded.0) in
     let one : Loads pattern p.logic loaded =
     subst (λ (i : Instruction). Loads pattern p.logic (dr_capture p.logic (pins 0) (free 0) i (length p.state.boundary))) (sym is)
@@ -171,7 +174,9 @@ module _ (patterns : List (Option (List Symbol))) (are : ArePatterns patterns) w
     captured = data_captured wiring f6 headed
 
     loads : ChainLoads patterns (logics headed) captured
-    loads = chain_loads patterns headed (pins_at wiring (f6 2) headed) (f6 2).parts whole (head_selects wiring choices chain) headed_coded
+    loads =
+        chain_loads patterns headed (bits_at_pins wiring (f6 2) headed) (f6 2).parts whole
+        (head_selects wiring choices chain) headed_coded
 
     all_selecting : AllSelectingIn RunTestIdle headed
     all_selecting = selecting patterns headed (head_idles wiring choices chain) (head_selects wiring choices chain) headed_coded
@@ -209,7 +214,9 @@ devices_coded (device ∷ devices) codes sizes =
 
 -- the part of a device has the code that is assigned to it, and the registers and instruction codes
 -- of the device
-coded_alone : (pattern : Option (List Symbol)) (device : RawDevice) (code : List Bool) → device.idcode ≡ pattern → HasCode device code (coded_by pattern code (test_logic (Described device)))
+coded_alone : (pattern : Option (List Symbol)) (device : RawDevice) (code : List Bool)
+    → device.idcode ≡ pattern
+    → HasCode device code (coded_by pattern code (test_logic (Described device)))
 coded_alone (Some pattern) device code is = record {
   ir_length = refl;
   boundary_length = refl;
@@ -229,16 +236,30 @@ pub codes_assigned : (devices : List RawDevice) (codes : ℕ → List Bool) (k :
     (part : TestLogic) × (slice_get (coded_parts devices codes) k ≡ Some part) × HasCode device (codes k) part
 codes_assigned [] codes k device is = absurd cc
 codes_assigned (first ∷ devices) codes zero device is =
-    let same : first ≡ device = cc in
-    (coded_by first.idcode (codes 0) (test_logic (Described first)), refl, subst (λ (d : RawDevice). HasCode d (codes 0) (coded_by first.idcode (codes 0) (test_logic (Described first)))) same (coded_alone first.idcode first (codes 0) refl))
+    let same : first ≡ device = cc in (
+      coded_by first.idcode (codes 0) (test_logic (Described first)),
+      refl,
+      subst
+          (λ (d : RawDevice). HasCode d (codes 0)
+          (coded_by first.idcode (codes 0) (test_logic (Described first)))) same
+          (coded_alone first.idcode first (codes 0) refl),
+    )
 codes_assigned (first ∷ devices) codes (suc k) device is = codes_assigned devices (λ n. codes (suc n)) k device is
 
 -- the identification code of a part does not change what an instruction code means to the part
-pub codes_keep_instructions : (device : RawDevice) (code : List Bool) (part : TestLogic) → HasCode device code part → (bits : List Bool) → instruction_of part bits ≡ instruction_of (test_logic (Described device)) bits
+pub codes_keep_instructions : (device : RawDevice) (code : List Bool) (part : TestLogic)
+    → HasCode device code part → (bits : List Bool)
+    → instruction_of part bits ≡ instruction_of (test_logic (Described device)) bits
 codes_keep_instructions device code part has bits =
     let given = test_logic (Described device) in
-    ap (λ (extest : Option (List Bool)). cond (all_ones bits) Bypass (cond (is_code extest bits) Extest (cond (is_code part.preload bits) Sample Other))) has.extest
-    ∙ ap (λ (preload : Option (List Bool)). cond (all_ones bits) Bypass (cond (is_code given.extest bits) Extest (cond (is_code preload bits) Sample Other))) has.preload
+    ap
+    (λ (extest : Option (List Bool)). cond (all_ones bits) Bypass
+    (cond (has_these_bits extest bits) Extest
+    (cond (has_these_bits part.preload bits) Sample Other))) has.extest
+    ∙ ap
+    (λ (preload : Option (List Bool)). cond (all_ones bits) Bypass
+    (cond (has_these_bits given.extest bits) Extest
+    (cond (has_these_bits preload bits) Sample Other))) has.preload
 
 -- if the text is an identity test for these patterns, each run of it passes if and only if all
 -- codes fit
@@ -249,5 +270,9 @@ each_run_tells patterns text test clocks wiring parts chain choices means coded 
     same = let both : Some test.clocks ≡ Some clocks = sym test.means ∙ means in cc
 
     by_fit : (fit : Bool) → all_fit patterns parts ≡ fit → run_passes clocks (tdos wiring clocks choices chain) ≡ fit
-    by_fit true is = subst (λ (cs : List Clock). run_passes cs (tdos wiring cs choices chain) ≡ true) same (test.passes wiring parts coded is chain choices start)
-    by_fit false is = subst (λ (cs : List Clock). run_passes cs (tdos wiring cs choices chain) ≡ false) same (test.fails wiring parts coded is chain choices start)
+    by_fit true is =
+        subst (λ (cs : List Clock). run_passes cs (tdos wiring cs choices chain) ≡ true) same
+        (test.passes wiring parts coded is chain choices start)
+    by_fit false is =
+        subst (λ (cs : List Clock). run_passes cs (tdos wiring cs choices chain) ≡ false) same
+        (test.fails wiring parts coded is chain choices start)

@@ -10,7 +10,8 @@ AllWhole [] = Unit {0}
 AllWhole (None ∷ patterns) = AllWhole patterns
 AllWhole (Some pattern ∷ patterns) = (length pattern ≡ 32) × AllWhole patterns
 
-pub whole_by : (patterns : List (Option (List Symbol))) → All (λ pattern. IfSome pattern (λ code. length code ≡ 32)) patterns → AllWhole patterns
+pub whole_by : (patterns : List (Option (List Symbol)))
+    → All (λ pattern. IfSome pattern (λ code. length code ≡ 32)) patterns → AllWhole patterns
 whole_by [] h = tt
 whole_by (None ∷ patterns) h = whole_by patterns (λ k d lt. h (suc k) d (omega (arith, lt)))
 whole_by (Some pattern ∷ patterns) h = (h 0 None (omega arith), whole_by patterns (λ k d lt. h (suc k) d (omega (arith, lt))))
@@ -32,10 +33,12 @@ bits_most (None ∷ patterns) h = omega (arith, length-ident_bits None patterns,
 bits_most (Some pattern ∷ patterns) h = omega (arith, length-ident_bits (Some pattern) patterns, h.0, bits_most patterns h.1)
 
 -- if there are at most 255 parts and each pattern has 32 symbols, the scan has at most 8,160 bits
-pub room_of : (patterns : List (Option (List Symbol))) → All (λ pattern. IfSome pattern (λ code. length code ≡ 32)) patterns → length patterns ≤ 255 →
+pub room_of : (patterns : List (Option (List Symbol)))
+    → All (λ pattern. IfSome pattern (λ code. length code ≡ 32)) patterns → length patterns ≤ 255 →
     length (ident_bits patterns) ≤ 8160
 room_of patterns each few = omega (arith, bits_most patterns (whole_by patterns each), few)
 
-pub some_of : (patterns : List (Option (List Symbol))) → All (λ pattern. IfSome pattern (λ code. length code ≡ 32)) patterns → 0 < length patterns →
+pub some_of : (patterns : List (Option (List Symbol)))
+    → All (λ pattern. IfSome pattern (λ code. length code ≡ 32)) patterns → 0 < length patterns →
     0 < length (ident_bits patterns)
 some_of patterns each some = omega (arith, bits_least patterns (whole_by patterns each), some)

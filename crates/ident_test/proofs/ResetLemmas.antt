@@ -9,7 +9,7 @@ use Rattle.tap_defs.specs.chain.Part.{FreeBits, old_state_acts, part_tdo}
 use Rattle.tap_defs.specs.chain.Chain.{ChainPart, chain_after}
 use Rattle.tap_defs.specs.chain.Run.{Wiring, Choice, Choices, clock_tdi, run}
 use Rattle.tap_defs.specs.chain.Clocks.{plain, reset_clocks, head_clocks}
-use Rattle.tap_defs.specs.chain.ChainRegisters.{pins_at, AllIn}
+use Rattle.tap_defs.specs.chain.ChainRegisters.{bits_at_pins, AllIn}
 use Rattle.tap_defs.proofs.board.CalmLemmas.{reset_current}
 use Rattle.tap_defs.proofs.chain.HeadLemmas.{part_tap, run_resets}
 use Rattle.tap_defs.proofs.chain.MoveLemmas.{moved_to, chain_moves}
@@ -43,7 +43,8 @@ unfolding run
 reset_selects wiring choices ps =
     let before : List ChainPart = run wiring (plain true ∷ plain true ∷ plain true ∷ plain true ∷ []) choices ps in
     let choice : Choice = choices 4 in
-    chain_selects before (pins_at wiring choice before) choice.parts true (clock_tdi (plain true) choice) (run_resets wiring choices ps)
+    chain_selects before (bits_at_pins wiring choice before) choice.parts true
+    (clock_tdi (plain true) choice) (run_resets wiring choices ps)
 
 -- after the six clocks of the head, each part still has this instruction, since the sixth clock
 -- changes no instruction
@@ -53,6 +54,6 @@ head_selects wiring choices ps =
     let reset : List ChainPart = run wiring reset_clocks choices ps in
     let choice : Choice = choices 5 in
     let moved : run wiring head_clocks choices ps ≡ map (moved_to RunTestIdle) reset =
-    chain_moves TestLogicReset reset (pins_at wiring choice reset) choice.parts false (clock_tdi (plain false) choice)
+    chain_moves TestLogicReset reset (bits_at_pins wiring choice reset) choice.parts false (clock_tdi (plain false) choice)
     (run_resets wiring choices ps) refl refl in
     subst AllSelected (sym moved) (moved_selected RunTestIdle reset (reset_selects wiring choices ps))

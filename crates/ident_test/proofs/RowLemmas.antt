@@ -6,23 +6,31 @@ use Rattle.board_defs.specs.declared.device.Symbol.{Symbol}
 use Rattle.tap_defs.specs.chain.Scan.{ScanBit, tdi_bits}
 use Rattle.tap_defs.specs.chain.Text.{svf_text, scan_text, head_text, tail_text}
 use Rattle.ident_test.specs.Patterns.{symbol_bit, register_pattern, ident_bits, ident_scan, ident_text}
-use Rattle.ident_test.specs.inner.Rows.{placed}
+use Rattle.ident_test.specs.inner.Rows.{with_values}
 use Rattle.ident_test.proofs.LengthLemmas.{length-ident_bits}
 
 -- the scan has as many bits as the registers of all parts together
-pub bits_are : (patterns : List (Option (List Symbol))) → sum_by (λ part. length (register_pattern part)) patterns ≡ length (ident_bits patterns)
+pub bits_are : (patterns : List (Option (List Symbol)))
+    → sum_by (λ part. length (register_pattern part)) patterns ≡ length (ident_bits patterns)
 bits_are [] = refl
-bits_are (part ∷ patterns) = omega (arith, sum_by-cons (λ (part : Option (List Symbol)). length (register_pattern part)) part patterns, bits_are patterns, length-ident_bits part patterns)
+bits_are (part ∷ patterns) =
+    omega (
+      arith,
+      sum_by-cons (λ (part : Option (List Symbol)). length (register_pattern part)) part patterns,
+      bits_are patterns,
+      length-ident_bits part patterns,
+    )
 
 -- writing an empty list of values changes nothing
-pub placed_nothing : (at : ℕ) (bits : List Bool) → placed at [] bits ≡ bits
+pub placed_nothing : (at : ℕ) (bits : List Bool) → with_values at [] bits ≡ bits
 placed_nothing at bits =
     let here : at + 0 ≡ at = omega arith in
     ap (λ n. take at bits ++ drop n bits) here ∙ take-append-drop at bits
 
 -- writing the values `vs` and then `v` at the place after them has the same result as writing `vs`
 -- followed by `v`
-pub placed_more : (at : ℕ) (vs bits : List Bool) (v : Bool) → at + length vs < length bits → set (placed at vs bits) (at + length vs) v ≡ placed at (vs ++ v ∷ []) bits
+pub placed_more : (at : ℕ) (vs bits : List Bool) (v : Bool) → at + length vs < length bits
+    → set (with_values at vs bits) (at + length vs) v ≡ with_values at (vs ++ v ∷ []) bits
 placed_more at vs bits v lt =
     let front : List Bool = take at bits in
     let k : ℕ = at + length vs in
@@ -39,29 +47,32 @@ placed_more at vs bits v lt =
 
 -- if the bits of the first `i` symbols are written, and the bit of symbol `i` is written after
 -- them, the bits of the first `i + 1` symbols are written
-pub symbol_more : (g : ScanBit → Bool) (pattern : List Symbol) (i at position : ℕ) (now was : List Bool) (d : Symbol) (bit : Bool) → i < length pattern →
-    at + length pattern ≤ length was → position ≡ at + i → now ≡ placed at (map g (map symbol_bit (take i pattern))) was →
+pub symbol_more : (g : ScanBit → Bool) (pattern : List Symbol) (i at position : ℕ)
+    (now was : List Bool) (d : Symbol) (bit : Bool) → i < length pattern →
+    at + length pattern ≤ length was → position ≡ at + i → now ≡ with_values at (map g (map symbol_bit (take i pattern))) was →
     bit ≡ g (symbol_bit (get_or pattern i d)) →
-    set now position bit ≡ placed at (map g (map symbol_bit (take (i + 1) pattern))) was
+    set now position bit ≡ with_values at (map g (map symbol_bit (take (i + 1) pattern))) was
 symbol_more g pattern i at position now was d bit lt room is_at so_far is_bit =
     let front : List Symbol = take i pattern in
     let next : Symbol = get_or pattern i d in
     let vs : List Bool = map g (map symbol_bit front) in
-    let size : length vs ≡ i = length-map (map symbol_bit front) g ∙ length-map front symbol_bit ∙ length-take-le i pattern (omega (arith, lt)) in
+    let size : length vs
+    ≡ i = length-map (map symbol_bit front) g ∙ length-map front symbol_bit
+    ∙ length-take-le i pattern (omega (arith, lt)) in
     let there : position ≡ at + length vs = omega (arith, is_at, size) in
     let values : map g (map symbol_bit (take (i + 1) pattern)) ≡ vs ++ g (symbol_bit next) ∷ [] =
     ap (λ t. map g (map symbol_bit t)) (take_more pattern i d lt)
     ∙ ap (map g) (map-append symbol_bit front (next ∷ []))
     ∙ map-append g (map symbol_bit front) (symbol_bit next ∷ []) in
     ap (λ t. set t position bit) so_far
-    ∙ ap (λ n. set (placed at vs was) n bit) there
+    ∙ ap (λ n. set (with_values at vs was) n bit) there
     ∙ placed_more at vs was bit (omega (arith, size, lt, room))
-    ∙ ap (λ b. placed at (vs ++ b ∷ []) was) is_bit
-    ∙ ap (λ t. placed at t was) (sym values)
+    ∙ ap (λ b. with_values at (vs ++ b ∷ []) was) is_bit
+    ∙ ap (λ t. with_values at t was) (sym values)
 
 -- writing values over the first of the zeros that follow `done` replaces these zeros by the values
 placed_zeros : (done vs : List Bool) (at zeros : ℕ) → length done ≡ at → length vs ≤ zeros →
-    placed at vs (done ++ replicate zeros false) ≡ (done ++ vs) ++ replicate (zeros - length vs) false
+    with_values at vs (done ++ replicate zeros false) ≡ (done ++ vs) ++ replicate (zeros - length vs) false
 placed_zeros done vs at zeros is_at few =
     let bits : List Bool = done ++ replicate zeros false in
     ap (λ t. t ++ (vs ++ drop (at + length vs) bits)) (take_at done (replicate zeros false) at is_at)
@@ -72,7 +83,8 @@ placed_zeros done vs at zeros is_at few =
     ∙ sym (append_assoc done vs (replicate (zeros - length vs) false))
 
 -- the parts from part `i - 1` on are part `i - 1` followed by the parts from part `i` on
-pub part_before : (parts : List (Option (List Symbol))) (i : ℕ) (part : Option (List Symbol)) → 0 < i → i ≤ length parts → part ≡ get_or parts (i - 1) part →
+pub part_before : (parts : List (Option (List Symbol))) (i : ℕ) (part : Option (List Symbol))
+    → 0 < i → i ≤ length parts → part ≡ get_or parts (i - 1) part →
     drop (i - 1) parts ≡ part ∷ drop i parts
 part_before parts i part some within is =
     let next : i - 1 + 1 ≡ i = omega arith in
@@ -91,11 +103,14 @@ drop_bits (part ∷ parts) (suc i) = omega (arith, drop_bits parts i, length-ide
 pub record WritesMore (parts : List (Option (List Symbol))) (i at : ℕ) (pattern : List Symbol) : Type 0 where
   pub next : at + length pattern ≡ length (ident_bits (drop (i - 1) parts))
   pub room : at + length pattern ≤ length (ident_bits parts)
-  pub row : (g : ScanBit → Bool) (bits : List Bool) → bits ≡ map g (ident_bits (drop i parts)) ++ replicate (length (ident_bits parts) - at) false →
-      placed at (map g (map symbol_bit pattern)) bits
+  pub row : (g : ScanBit → Bool) (bits : List Bool)
+      → bits ≡ map g (ident_bits (drop i parts)) ++ replicate (length (ident_bits parts) - at) false
+      →
+      with_values at (map g (map symbol_bit pattern)) bits
       ≡ map g (ident_bits (drop (i - 1) parts)) ++ replicate (length (ident_bits parts) - (at + length pattern)) false
 
-pub writes_more : (parts : List (Option (List Symbol))) (i at : ℕ) (part : Option (List Symbol)) (pattern : List Symbol) → 0 < i → i ≤ length parts →
+pub writes_more : (parts : List (Option (List Symbol))) (i at : ℕ) (part : Option (List Symbol))
+    (pattern : List Symbol) → 0 < i → i ≤ length parts →
     part ≡ get_or parts (i - 1) part → pattern ≡ register_pattern part → at ≡ length (ident_bits (drop i parts)) →
     WritesMore parts i at pattern
 writes_more parts i at part pattern some within is is_pattern is_at = record { next = next; room = room; row = row }
@@ -108,13 +123,21 @@ writes_more parts i at part pattern some within is is_pattern is_at = record { n
 
     next : at + length pattern ≡ length (ident_bits (drop (i - 1) parts))
     next =
-        omega (arith, ap length bits_before, length-append (ident_bits (drop i parts)) (map symbol_bit pattern), length-map pattern symbol_bit, is_at)
+        omega (
+          arith,
+          ap length bits_before,
+          length-append (ident_bits (drop i parts)) (map symbol_bit pattern),
+          length-map pattern symbol_bit,
+          is_at,
+        )
 
     room : at + length pattern ≤ length (ident_bits parts)
     room = omega (arith, next, drop_bits parts (i - 1))
 
-    row : (g : ScanBit → Bool) (bits : List Bool) → bits ≡ map g (ident_bits (drop i parts)) ++ replicate (length (ident_bits parts) - at) false →
-        placed at (map g (map symbol_bit pattern)) bits
+    row : (g : ScanBit → Bool) (bits : List Bool)
+        → bits
+        ≡ map g (ident_bits (drop i parts)) ++ replicate (length (ident_bits parts) - at) false →
+        with_values at (map g (map symbol_bit pattern)) bits
         ≡ map g (ident_bits (drop (i - 1) parts)) ++ replicate (length (ident_bits parts) - (at + length pattern)) false
     row g bits so_far =
         let vs : List Bool = map g (map symbol_bit pattern) in
@@ -122,13 +145,13 @@ writes_more parts i at part pattern some within is is_pattern is_at = record { n
         let total : ℕ = length (ident_bits parts) in
         let size : length vs ≡ length pattern = length-map (map symbol_bit pattern) g ∙ length-map pattern symbol_bit in
         let less : total - at - length vs ≡ total - (at + length pattern) = omega (arith, size, room) in
-        ap (placed at vs) so_far
+        ap (with_values at vs) so_far
         ∙ placed_zeros done vs at (total - at) (length-map (ident_bits (drop i parts)) g ∙ sym is_at) (omega (arith, size, room))
         ∙ ap (λ n. (done ++ vs) ++ replicate n false) less
         ∙ ap (λ t. t ++ replicate (total - (at + length pattern)) false)
         (sym (ap (map g) bits_before ∙ map-append g (ident_bits (drop i parts)) (map symbol_bit pattern)))
 
-pub length-placed : (at : ℕ) (vs bits : List Bool) → at + length vs ≤ length bits → length (placed at vs bits) ≡ length bits
+pub length-placed : (at : ℕ) (vs bits : List Bool) → at + length vs ≤ length bits → length (with_values at vs bits) ≡ length bits
 length-placed at vs bits le =
     omega (
       arith,

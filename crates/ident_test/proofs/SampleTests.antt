@@ -110,7 +110,15 @@ zeros = replicate 32 off
 -- if the code does not fit the pattern.
 coded_whatever : AreCoded (Some known_part ∷ Some known_part ∷ None ∷ None ∷ [])
     (coded zeros
-    ∷ record { ir_length = 2; boundary_length = 9; extest = Some (off ∷ off ∷ []); preload = Some (on ∷ off ∷ []); at_reset = Some Idcode; idcode = zeros }
+    ∷ record {
+      ir_length = 2;
+      boundary_length = 9;
+      extest = Some (off ∷ off ∷ []);
+      preload = Some
+          (on ∷ off ∷ []);
+      at_reset = Some Idcode;
+      idcode = zeros;
+    }
     ∷ bypassed
     ∷ record { ir_length = 1; boundary_length = 7; extest = Some (off ∷ []); preload = None; at_reset = Some Bypass; idcode = zeros } ∷ [])
 coded_whatever = ((refl, refl), ((refl, refl), (refl, (refl, tt))))

@@ -21,14 +21,14 @@ AreCoded (pattern ∷ patterns) [] = ⊥
 AreCoded (pattern ∷ patterns) (part ∷ parts) = IsCoded pattern part × AreCoded patterns parts
 
 -- the bit fits the symbol; each bit fits X
-abbrev pub fits : Symbol → Bool → Bool
-fits Zero bit = not bit
-fits One bit = bit
-fits Any bit = true
+abbrev pub symbol_fits : Symbol → Bool → Bool
+symbol_fits Zero bit = not bit
+symbol_fits One bit = bit
+symbol_fits Any bit = true
 
 -- Each bit of the code fits its symbol. The first bit and the first symbol are nearest TDO.
 abbrev pub code_fits : List Symbol → List Bool → Bool
-code_fits (symbol ∷ pattern) (bit ∷ code) = fits symbol bit && code_fits pattern code
+code_fits (symbol ∷ pattern) (bit ∷ code) = symbol_fits symbol bit && code_fits pattern code
 code_fits _ _ = true
 
 -- the code of the part fits the part's pattern, if the part has a pattern
@@ -50,7 +50,9 @@ coded_by None code part = part
 -- the parts of a chain of described devices; if device `k` has a pattern, part `k` has code `k`
 abbrev pub coded_parts : List RawDevice → (ℕ → List Bool) → List TestLogic
 coded_parts [] codes = []
-coded_parts (device ∷ devices) codes = coded_by device.idcode (codes 0) (test_logic (Described device)) ∷ coded_parts devices (λ k. codes (suc k))
+coded_parts (device ∷ devices) codes =
+    coded_by device.idcode (codes 0) (test_logic (Described device))
+    ∷ coded_parts devices (λ k. codes (suc k))
 
 -- The part has the register lengths and the instruction codes of the device. If the device has a
 -- pattern, the part has this code.

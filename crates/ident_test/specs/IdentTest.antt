@@ -28,5 +28,7 @@ pub record IsIdentTest (patterns : List (Option (List Symbol))) (text : List ℕ
 -- codes fit
 abbrev pub EachRunTells : List (Option (List Symbol)) → List ℕ → Type 0
 EachRunTells patterns text =
-    (clocks : List Clock) (wiring : Wiring) (parts : List TestLogic) (chain : List ChainPart) (choices : Choices) → meaning text ≡ Some clocks → AreCoded patterns parts → IsChainOf parts chain →
+    (clocks : List Clock) (wiring : Wiring) (parts : List TestLogic) (chain : List ChainPart)
+    (choices : Choices) → meaning text ≡ Some clocks → AreCoded patterns parts
+    → IsChainOf parts chain →
     run_passes clocks (tdos wiring clocks choices chain) ≡ all_fit patterns parts

@@ -6,7 +6,7 @@ ghost use Rattle.tap_defs.specs.chain.Scan.{tdo_bits, mask_bits};
 ghost use Rattle.tap_defs.specs.chain.ScanRows.{AreSameRows, EachHasRoom, HoldBits};
 ghost use Rattle.tap_defs.specs.chain.Text.{scan_text};
 ghost use Rattle.ident_test.specs.Patterns.{wanted, symbol_bit, register_pattern, ident_bits, ident_scan, ident_text};
-ghost use Rattle.ident_test.specs.inner.Rows.{placed};
+ghost use Rattle.ident_test.specs.inner.Rows.{with_values};
 
 use board_defs::{Code, Symbol};
 use bt_base::{PutFault, Sink};
@@ -70,8 +70,10 @@ fn set_register(at: u32, pattern: &[Symbol], tdo: &mut Row, mask: &mut Row)
     requires few { at + length pattern.now ≤ most_bits }
     requires tdo { at + length pattern.now ≤ length tdo.old.bits }
     requires mask { at + length pattern.now ≤ length mask.old.bits }
-    ensures tdo { tdo.new.bits ≡ placed at (tdo_bits (map symbol_bit pattern.now)) tdo.old.bits }
-    ensures mask { mask.new.bits ≡ placed at (mask_bits (map symbol_bit pattern.now)) mask.old.bits }
+    ensures tdo { tdo.new.bits
+        ≡ with_values at (tdo_bits (map symbol_bit pattern.now)) tdo.old.bits }
+    ensures mask { mask.new.bits
+        ≡ with_values at (mask_bits (map symbol_bit pattern.now)) mask.old.bits }
     ensures tdo_kept { tdo.new.room ≡ tdo.old.room }
     ensures mask_kept { mask.new.room ≡ mask.old.room }
 {
@@ -128,7 +130,8 @@ fn put_scan<K: Sink>(
     requires few { length parts.now ≤ most_parts }
     requires whole { All (λ part. IfSome part (λ code. length code ≡ 32)) parts.now }
     requires room { EachHasRoom (λ room. length (ident_bits parts.now) ≤ room) rows.old }
-    ensures text { Puts (K.shown out.old) (K.shown out.new) (scan_text (ident_scan parts.now)) result }
+    ensures text { Puts (K.shown out.old) (K.shown out.new) (scan_text (ident_scan parts.now))
+        result }
     ensures kept { AreSameRows rows.old rows.new }
 {
     fill_rows(parts, rows);

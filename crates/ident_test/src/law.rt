@@ -14,36 +14,49 @@ ghost use Rattle.ident_test.specs.Patterns.{ident_text};
 /// on each chain with a code that does not fit. The chain may be in any state, and the pins may
 /// capture anything.
 pub fn ident_tests()
-    ensures { (patterns : List (Option (List Symbol))) → ArePatterns patterns → IsIdentTest patterns (ident_text patterns) }
+    ensures { (patterns : List (Option (List Symbol))) → ArePatterns patterns
+        → IsIdentTest patterns (ident_text patterns) }
 {}
 
 /// If each code has 32 bits, the parts of described devices with these codes are coded with the
 /// patterns of the devices.
 pub fn parts_coded()
-    ensures { (devices : List RawDevice) (codes : ℕ → List Bool) → ((k : ℕ) → length (codes k) ≡ 32) → AreCoded (map (λ device. device.idcode) devices) (coded_parts devices codes) }
+    ensures { (devices : List RawDevice) (codes : ℕ → List Bool) → ((k : ℕ) → length (codes k) ≡ 32)
+        → AreCoded (map (λ device. device.idcode) devices) (coded_parts devices codes) }
 {}
 
 /// Each run of an identity test for these patterns passes if and only if all codes fit.
 pub fn each_run_tells()
-    ensures { (patterns : List (Option (List Symbol))) (text : List ℕ) → IsIdentTest patterns text → EachRunTells patterns text }
+    ensures { (patterns : List (Option (List Symbol))) (text : List ℕ) → IsIdentTest patterns text
+        → EachRunTells patterns text }
 {}
 
 /// If codes are assigned to described devices, part `k` has the register lengths and the
 /// instruction codes of device `k`. If device `k` has a pattern, part `k` has code `k`.
 pub fn codes_assigned()
-    ensures { (devices : List RawDevice) (codes : ℕ → List Bool) (k : ℕ) (device : RawDevice) → slice_get devices k ≡ Some device → (part : TestLogic) × (slice_get (coded_parts devices codes) k ≡ Some part) × HasCode device (codes k) part }
+    ensures { (devices : List RawDevice) (codes : ℕ → List Bool) (k : ℕ) (device : RawDevice)
+        → slice_get devices k ≡ Some device
+        → (part : TestLogic) × (slice_get (coded_parts devices codes) k ≡ Some part)
+        × HasCode device (codes k) part }
 {}
 
 /// A part with a code interprets each instruction code like the part of its device without the
 /// code.
 pub fn codes_keep_instructions()
-    ensures { (device : RawDevice) (code : List Bool) (part : TestLogic) → HasCode device code part → (bits : List Bool) → instruction_of part bits ≡ instruction_of (test_logic (Described device)) bits }
+    ensures { (device : RawDevice) (code : List Bool) (part : TestLogic) → HasCode device code part
+        → (bits : List Bool)
+        → instruction_of part bits ≡ instruction_of (test_logic (Described device)) bits }
 {}
 
 /// A part with a code has registers of the same lengths as the part of its device. If the device
 /// has a pattern, the part has the code.
 pub fn codes_keep_lengths()
-    ensures instruction { (device : RawDevice) (code : List Bool) (part : TestLogic) → HasCode device code part → part.ir_length ≡ (test_logic (Described device)).ir_length }
-    ensures boundary { (device : RawDevice) (code : List Bool) (part : TestLogic) → HasCode device code part → part.boundary_length ≡ (test_logic (Described device)).boundary_length }
-    ensures code { (device : RawDevice) (code : List Bool) (part : TestLogic) (pattern : List Symbol) → HasCode device code part → device.idcode ≡ Some pattern → part.idcode ≡ code }
+    ensures instruction { (device : RawDevice) (code : List Bool) (part : TestLogic)
+        → HasCode device code part → part.ir_length ≡ (test_logic (Described device)).ir_length }
+    ensures boundary { (device : RawDevice) (code : List Bool) (part : TestLogic)
+        → HasCode device code part
+        → part.boundary_length ≡ (test_logic (Described device)).boundary_length }
+    ensures code { (device : RawDevice) (code : List Bool) (part : TestLogic)
+        (pattern : List Symbol) → HasCode device code part → device.idcode ≡ Some pattern
+        → part.idcode ≡ code }
 {}

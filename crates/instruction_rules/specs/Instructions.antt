@@ -40,17 +40,17 @@ abbrev pub first_of : List (List Symbol) → Option (List Symbol)
 first_of [] = None
 first_of (code ∷ codes) = Some code
 
-abbrev pub opcode : List ℕ → List Opcode → Option Opcode
-opcode name ops = find (is_called name) ops
+abbrev pub opcode_called : List ℕ → List Opcode → Option Opcode
+opcode_called name ops = find (is_called name) ops
 
 abbrev pub first_code : List ℕ → List Opcode → Option (List Symbol)
-first_code name ops = option_and_then (λ op. first_of op.codes) (opcode name ops)
+first_code name ops = option_and_then (λ op. first_of op.codes) (opcode_called name ops)
 
 -- the first code of PRELOAD if the description follows the 2001 edition and lists PRELOAD, or
 -- otherwise the first code of SAMPLE
-abbrev pub preload_code : Edition → List Opcode → Option (List Symbol)
-preload_code Old ops = first_code (codes "SAMPLE") ops
-preload_code Of2001 ops = or_else (first_code (codes "PRELOAD") ops) (first_code (codes "SAMPLE") ops)
+abbrev pub listed_preload_code : Edition → List Opcode → Option (List Symbol)
+listed_preload_code Old ops = first_code (codes "SAMPLE") ops
+listed_preload_code Of2001 ops = or_else (first_code (codes "PRELOAD") ops) (first_code (codes "SAMPLE") ops)
 
 abbrev pub is_all_ones : List Symbol → Bool
 is_all_ones code = list_all bit_of code
@@ -73,14 +73,14 @@ same_bit false bit = not bit
 abbrev pub same_code : List Symbol → List Symbol → Bool
 same_code a b = (length a == length b) && list_all (λ pair. same_bit (bit_of pair.0) (bit_of pair.1)) (zip a b)
 
-abbrev pub is_same : List Symbol → Option (List Symbol) → Bool
-is_same code None = false
-is_same code (Some other) = same_code code other
+abbrev pub is_given_code : List Symbol → Option (List Symbol) → Bool
+is_given_code code None = false
+is_given_code code (Some other) = same_code code other
 
 -- there is an EXTEST code, some symbol of it counts as 0, and it is not the preload code
 abbrev pub may_extest : Option (List Symbol) → Option (List Symbol) → Bool
 may_extest None preload = false
-may_extest (Some code) preload = not (is_all_ones code) && not (is_same code preload)
+may_extest (Some code) preload = not (is_all_ones code) && not (is_given_code code preload)
 
 -- the instruction is not listed, or all symbols of one of its codes pass the test `fits`
 abbrev pub has_code : (Symbol → Bool) → Option Opcode → Bool
@@ -88,15 +88,15 @@ has_code fits None = true
 has_code fits (Some op) = list_any (λ code. list_all fits code) op.codes
 
 abbrev pub extest_holds : Edition → List Opcode → Bool
-extest_holds Old ops = has_code fits_zero (opcode (codes "EXTEST") ops)
-extest_holds Of2001 ops = may_extest (first_code (codes "EXTEST") ops) (preload_code Of2001 ops)
+extest_holds Old ops = has_code fits_zero (opcode_called (codes "EXTEST") ops)
+extest_holds Of2001 ops = may_extest (first_code (codes "EXTEST") ops) (listed_preload_code Of2001 ops)
 
 -- V6: the first instruction without a usable code: 1 for the preload instruction, 2 for EXTEST, and 3 for BYPASS
 unfoldable pub v6 : Edition → List Opcode → Option ℕ
 v6 edition ops =
-    if not (may_preload edition (preload_code edition ops)) then Some 1 else
+    if not (may_preload edition (listed_preload_code edition ops)) then Some 1 else
     if not (extest_holds edition ops) then Some 2 else
-    if has_code fits_one (opcode (codes "BYPASS") ops) then None else Some 3
+    if has_code fits_one (opcode_called (codes "BYPASS") ops) then None else Some 3
 
 -- the two symbols nearest TDO are 01
 abbrev pub ends_in_01 : List Symbol → Bool
@@ -126,7 +126,7 @@ settled_code (Some code) = map settled code
 
 -- the preload code, with 0 in place of each X
 unfoldable pub preload : Edition → List Opcode → List Symbol
-preload edition ops = settled_code (preload_code edition ops)
+preload edition ops = settled_code (listed_preload_code edition ops)
 
 -- The EXTEST code, with 0 in place of each X. In the old edition it has only zeros. In the 2001
 -- edition it is the first code that the description lists.

@@ -4,7 +4,7 @@ ghost use Rattle.std.specs.Option.{option_copied};
 ghost use Rattle.std.specs.List.{list_all, list_any};
 ghost use Rattle.board_defs.specs.declared.device.Symbol.TheVariants.{Zero};
 ghost use Rattle.board_defs.specs.DeviceRules.{bit_of};
-ghost use Rattle.instruction_rules.specs.Instructions.{has_length, v5, fits_one, fits_zero, opcode as the_opcode, first_code as the_first_code, preload_code, is_all_ones, may_preload, same_bit, same_code, may_extest, has_code, extest_holds, v6, ends_in_01, may_be_idcode, v7, settled, settled_code, preload, extest};
+ghost use Rattle.instruction_rules.specs.Instructions.{has_length, v5, fits_one, fits_zero, opcode_called as the_opcode, first_code as the_first_code, listed_preload_code, is_all_ones, may_preload, same_bit, same_code, may_extest, has_code, extest_holds, v6, ends_in_01, may_be_idcode, v7, settled, settled_code, preload, extest};
 
 use board_defs::{Code, Edition, Symbol};
 use bsdl_strings::Opcode;
@@ -48,7 +48,7 @@ fn first_code<'a>(ops: &'a [Opcode], name: &[u8]) -> Option<&'a Code>
 }
 
 fn preload_code(edition: Edition, ops: &[Opcode]) -> Option<&Code>
-    ensures { option_copied result ≡ preload_code edition ops.now }
+    ensures { option_copied result ≡ listed_preload_code edition ops.now }
 {
     match edition {
         Edition::Old => first_code(ops, b"SAMPLE"),
@@ -90,7 +90,8 @@ fn are_same(a: Symbol, b: Symbol) -> bool
 }
 
 fn agree(a: &[Symbol], b: &[Symbol]) -> bool
-    ensures { result ≡ list_all (λ pair. same_bit (bit_of pair.0) (bit_of pair.1)) (zip a.now b.now) }
+    ensures { result
+        ≡ list_all (λ pair. same_bit (bit_of pair.0) (bit_of pair.1)) (zip a.now b.now) }
 {
     a.iter().zip(b).all(|(x, y)| are_same(*x, *y))
 }

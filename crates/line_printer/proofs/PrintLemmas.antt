@@ -6,13 +6,16 @@ use Rattle.bt_base.specs.Puts.{Puts, Shown, Takes}
 use Rattle.bt_base.proofs.Cuts.{rose_after, takes_twice, take-append-past, take-append-least, takes_same}
 use Rattle.line_printer.specs.Prints.{Prints, Moves, whole}
 
-pub prints_same : {T E : Type 0} {old new : Shown} {p l a b : List ℕ} {r : Result T E} → a ≡ b → Prints old new p l a r → Prints old new p l b r
+pub prints_same : {T E : Type 0} {old new : Shown} {p l a b : List ℕ} {r : Result T E} → a ≡ b
+    → Prints old new p l a r → Prints old new p l b r
 prints_same {T} {E} {old} {new} {p} {l} {a} {b} {r} same prints = subst (λ t. Prints old new p l t r) same prints
 
-pub prints_from : {T E : Type 0} {old new : Shown} {p q l a : List ℕ} {r : Result T E} → p ≡ q → Prints old new p l a r → Prints old new q l a r
+pub prints_from : {T E : Type 0} {old new : Shown} {p q l a : List ℕ} {r : Result T E} → p ≡ q
+    → Prints old new p l a r → Prints old new q l a r
 prints_from {T} {E} {old} {new} {p} {q} {l} {a} {r} same prints = subst (λ t. Prints old new t l a r) same prints
 
-pub prints_to : {T E : Type 0} {old new : Shown} {p l m a : List ℕ} {r : Result T E} → l ≡ m → Prints old new p l a r → Prints old new p m a r
+pub prints_to : {T E : Type 0} {old new : Shown} {p l m a : List ℕ} {r : Result T E} → l ≡ m
+    → Prints old new p l a r → Prints old new p m a r
 prints_to {T} {E} {old} {new} {p} {l} {m} {a} {r} same prints = subst (λ t. Prints old new p t a r) same prints
 
 -- if nothing is put and the text is appended to the line, the contract of printing the text holds,
@@ -32,7 +35,8 @@ move_still u m l p a b first second = ap (λ t. u ++ t) second ∙ sym (append_a
 
 -- if the text `a` and then the text `b` go through the line, `a ++ b` goes through the line
 moves_twice : {old mid new : Shown} (p m l a b : List ℕ) → Moves old mid p m a → Moves mid new m l b → Moves old new p l (a ++ b)
-moves_twice {old} {mid} {new} p m l a b (inl (same, holds)) (inl (same', holds')) = inl (same' ∙ same, holds' ∙ ap (λ t. t ++ b) holds ∙ append_assoc p a b)
+moves_twice {old} {mid} {new} p m l a b (inl (same, holds)) (inl (same', holds')) =
+    inl (same' ∙ same, holds' ∙ ap (λ t. t ++ b) holds ∙ append_assoc p a b)
 moves_twice {old} {mid} {new} p m l a b (inl (same, holds)) (inr (v, takes, holds')) =
     inr (v, subst (λ s. Takes s new v) same takes, still_move m v l p a b holds holds')
 moves_twice {old} {mid} {new} p m l a b (inr (u, takes, holds)) (inl (same, holds')) =
@@ -41,15 +45,24 @@ moves_twice {old} {mid} {new} p m l a b (inr (u, takes, holds)) (inr (v, takes',
     inr (u ++ v, takes_twice takes takes', two_moves u m v l p a b holds holds')
 
 -- if `a` goes through the line and the put of `b` is cut short, the put of `a ++ b` is cut short
-cut_second : {old mid new : Shown} (p m a b : List ℕ) (k : ℕ) → Moves old mid p m a → Takes mid new (take k (m ++ b)) → (n : ℕ) × Takes old new (take n (p ++ (a ++ b)))
+cut_second : {old mid new : Shown} (p m a b : List ℕ) (k : ℕ) → Moves old mid p m a
+    → Takes mid new (take k (m ++ b)) → (n : ℕ) × Takes old new (take n (p ++ (a ++ b)))
 cut_second {old} {mid} {new} p m a b k (inl (same, holds)) takes =
     (k, takes_same (ap (take k) (ap (λ t. t ++ b) holds ∙ append_assoc p a b)) (subst (λ s. Takes s new (take k (m ++ b))) same takes))
-cut_second {old} {mid} {new} p m a b k (inr (u, first, holds)) takes =
-    (length u + k, takes_same (take-append-past k u (m ++ b) ∙ ap (take (length u + k)) (sym (append_assoc u m b) ∙ ap (λ t. t ++ b) holds ∙ append_assoc p a b)) (takes_twice first takes))
+cut_second {old} {mid} {new} p m a b k (inr (u, first, holds)) takes = (
+  length u + k,
+  takes_same
+      (take-append-past k u (m ++ b)
+      ∙ ap (take (length u + k))
+      (sym (append_assoc u m b) ∙ ap (λ t. t ++ b) holds ∙ append_assoc p a b))
+      (takes_twice first takes),
+)
 
 -- if a first call prints `a` and returns Ok, and a second call prints `b`, both calls together
 -- print `a ++ b`
-pub prints_ok : {T U E F : Type 0} {old mid new : Shown} {p m l a b : List ℕ} {r : Result T E} {x : T} {s : Result U F} → Prints old mid p m a r → r ≡ Ok x → Prints mid new m l b s → Prints old new p l (a ++ b) s
+pub prints_ok : {T U E F : Type 0} {old mid new : Shown} {p m l a b : List ℕ} {r : Result T E}
+    {x : T} {s : Result U F} → Prints old mid p m a r → r ≡ Ok x → Prints mid new m l b s
+    → Prints old new p l (a ++ b) s
 prints_ok {T} {U} {E} {F} {old} {mid} {new} {p} {m} {l} {a} {b} {r} {x} {s} first ok second = after s second
   where
     moves : Moves old mid p m a
@@ -71,7 +84,9 @@ prints_ok {T} {U} {E} {F} {old} {mid} {new} {p} {m} {l} {a} {b} {r} {x} {s} firs
 
 -- if the call that prints `a` returns Err, and the whole call also returns Err, the whole call
 -- meets the contract of printing `a ++ b`
-pub prints_err : {T U E F : Type 0} {old new : Shown} {p m l a : List ℕ} {r : Result T E} {e : E} {s : Result U F} → (b : List ℕ) → Prints old new p m a r → r ≡ Err e → IsErr s → Prints old new p l (a ++ b) s
+pub prints_err : {T U E F : Type 0} {old new : Shown} {p m l a : List ℕ} {r : Result T E} {e : E}
+    {s : Result U F} → (b : List ℕ) → Prints old new p m a r → r ≡ Err e → IsErr s
+    → Prints old new p l (a ++ b) s
 prints_err {T} {U} {E} {F} {old} {new} {p} {m} {l} {a} {r} {e} {s} b first err is = by s is
   where
     cut : Prints {T = T} {E = E} old new p m a (Err e)
@@ -81,13 +96,19 @@ prints_err {T} {U} {E} {F} {old} {new} {p} {m} {l} {a} {r} {e} {s} b first err i
     by (Ok y) is = let bad : false ≡ true = is in absurd cc
     by (Err f) is = record {
       whole = tt;
-      cut = (min cut.cut.0 (length (p ++ a)), takes_same (take-append-least cut.cut.0 (p ++ a) b ∙ ap (take (min cut.cut.0 (length (p ++ a)))) (append_assoc p a b)) cut.cut.1);
+      cut = (
+        min cut.cut.0 (length (p ++ a)),
+        takes_same
+            (take-append-least cut.cut.0 (p ++ a) b
+            ∙ ap (take (min cut.cut.0 (length (p ++ a)))) (append_assoc p a b)) cut.cut.1,
+      );
       later = cut.later;
       cause = cut.cause;
     }
 
 -- if a call prints a text and returns Ok, the contract also holds for an Ok with any other value
-pub prints_done : {T U E F : Type 0} {old new : Shown} {p l a : List ℕ} {r : Result T E} {x : T} {y : U} → Prints old new p l a r → r ≡ Ok x → Prints {T = U} {E = F} old new p l a (Ok y)
+pub prints_done : {T U E F : Type 0} {old new : Shown} {p l a : List ℕ} {r : Result T E} {x : T}
+    {y : U} → Prints old new p l a r → r ≡ Ok x → Prints {T = U} {E = F} old new p l a (Ok y)
 prints_done {T} {U} {E} {F} {old} {new} {p} {l} {a} {r} {x} {y} prints ok = record {
   whole = (subst (λ (q : Result T E). Prints old new p l a q) ok prints).whole;
   cut = tt;
@@ -97,7 +118,8 @@ prints_done {T} {U} {E} {F} {old} {new} {p} {l} {a} {r} {x} {y} prints ok = reco
 
 -- if a call puts the line's content followed by the text, and the line is then empty, the call
 -- prints the text
-pub prints_put : {T E : Type 0} {old new : Shown} {p l a b : List ℕ} {r : Result T E} → Puts old new b r → b ≡ p ++ a → l ≡ [] → Prints old new p l a r
+pub prints_put : {T E : Type 0} {old new : Shown} {p l a b : List ℕ} {r : Result T E}
+    → Puts old new b r → b ≡ p ++ a → l ≡ [] → Prints old new p l a r
 prints_put {T} {E} {old} {new} {p} {l} {a} {b} {r} put same empty = by r put
   where
     by : (r : Result T E) → Puts old new b r → Prints old new p l a r
@@ -116,7 +138,8 @@ prints_put {T} {E} {old} {new} {p} {l} {a} {b} {r} put same empty = by r put
 
 -- if a call prints a text that is not empty, and the line is empty before and after it, the call
 -- puts the text
-pub puts_of : {T E : Type 0} {old new : Shown} {c : ℕ} {a : List ℕ} {r : Result T E} → Prints old new [] [] (c ∷ a) r → Puts old new (c ∷ a) r
+pub puts_of : {T E : Type 0} {old new : Shown} {c : ℕ} {a : List ℕ} {r : Result T E}
+    → Prints old new [] [] (c ∷ a) r → Puts old new (c ∷ a) r
 puts_of {T} {E} {old} {new} {c} {a} {r} prints = by r prints
   where
     moved : Moves old new [] [] (c ∷ a) → Takes old new (c ∷ a)
@@ -140,18 +163,27 @@ pub whole-more : (pieces : List (Bor (List ℕ))) (i : ℕ) (d : Bor (List ℕ))
     → whole (map (λ p. p.now) (take i pieces)) ++ (get_or pieces i d).now ≡ whole (map (λ p. p.now) (take (i + 1) pieces))
 whole-more pieces i d within =
     ap (λ t. whole (map (λ p. p.now) (take i pieces)) ++ t) (sym (append-nil (get_or pieces i d).now))
-    ∙ sym (ap (λ l. whole (map (λ p. p.now) l)) (take_more pieces i d within) ∙ ap whole (lent-append (take i pieces) (get_or pieces i d ∷ []))
+    ∙ sym
+    (ap (λ l. whole (map (λ p. p.now) l)) (take_more pieces i d within) ∙ ap whole
+    (lent-append (take i pieces) (get_or pieces i d ∷ []))
     ∙ whole-append (map (λ p. p.now) (take i pieces)) ((get_or pieces i d).now ∷ []))
 
 -- the first `i` pieces, piece `i` and the pieces after it are all pieces
 pub whole-split : (pieces : List (Bor (List ℕ))) (i : ℕ) (d : Bor (List ℕ)) → i < length pieces
-    → whole (map (λ p. p.now) (take i pieces)) ++ ((get_or pieces i d).now ++ whole (map (λ p. p.now) (drop (i + 1) pieces))) ≡ whole (map (λ p. p.now) pieces)
+    → whole (map (λ p. p.now) (take i pieces))
+    ++ ((get_or pieces i d).now ++ whole (map (λ p. p.now) (drop (i + 1) pieces)))
+    ≡ whole (map (λ p. p.now) pieces)
 whole-split pieces i d within =
-    let cut : pieces ≡ take i pieces ++ get_or pieces i d ∷ drop (i + 1) pieces = sym (take-append-drop i pieces) ∙ ap (λ l. take i pieces ++ l) (drop_more pieces i d within) in
+    let cut : pieces
+    ≡ take i pieces
+    ++ get_or pieces i d ∷ drop (i + 1) pieces = sym (take-append-drop i pieces)
+    ∙ ap (λ l. take i pieces ++ l) (drop_more pieces i d within) in
     sym (ap (λ l. whole (map (λ p. p.now) l)) cut ∙ ap whole (lent-append (take i pieces) (get_or pieces i d ∷ drop (i + 1) pieces))
     ∙ whole-append (map (λ p. p.now) (take i pieces)) ((get_or pieces i d).now ∷ map (λ p. p.now) (drop (i + 1) pieces)))
 
 -- the first `at` bytes of a text followed by its next `count` bytes are its first `at + count`
 -- bytes
 pub taken_more : (at count : ℕ) (text : List ℕ) → take at text ++ take (at + count - at) (drop at text) ≡ take (at + count) text
-taken_more at count text = let same : at + count - at ≡ count = omega arith in ap (λ n. take at text ++ take n (drop at text)) same ∙ sym (take-add at count text)
+taken_more at count text =
+    let same : at + count - at ≡ count = omega arith in
+    ap (λ n. take at text ++ take n (drop at text)) same ∙ sym (take-add at count text)

@@ -1,8 +1,13 @@
 -- The contract of a call that prints a text, which goes through a line to a sink.
-use Rattle.std.specs.Prelude.{◌≡◌, ◌⊎◌, ℕ, ◌≤◌, List, [], ◌∷◌, ◌++◌, take, Result, OnOk, OnErr}
+use Rattle.std.specs.Prelude.{◌≡◌, ◌⊎◌, ℕ, ◌≤◌, List, [], ◌∷◌, ◌++◌, take, Result, OnOk, OnErr, Bool, true, false, codes}
 use Rattle.std.specs.List.{flat_map}
 use Rattle.bt_base.specs.Counts.{Rose}
 use Rattle.bt_base.specs.Puts.{Shown, Takes}
+
+-- the digit of a bit
+abbrev pub bit_word : Bool → List ℕ
+bit_word false = codes "0"
+bit_word true = codes "1"
 
 -- the bytes of all pieces, in order
 abbrev pub whole : List (List ℕ) → List ℕ

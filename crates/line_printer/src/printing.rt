@@ -50,7 +50,8 @@ pub fn print<K: Sink>(text: &[u8], line: &mut Line, out: &mut K) -> Result<(), P
 
 /// Appends pieces to the line in order, each like `print`.
 pub fn print_all<K: Sink>(pieces: &[&[u8]], line: &mut Line, out: &mut K) -> Result<(), PutFault>
-    ensures { Prints (K.shown out.old) (K.shown out.new) line.old line.new (whole (map (λ p. p.now) pieces.now)) result }
+    ensures { Prints (K.shown out.old) (K.shown out.new) line.old line.new
+        (whole (map (λ p. p.now) pieces.now)) result }
 {
     for piece in pieces {
         print(piece, line, out)?;
@@ -60,7 +61,8 @@ pub fn print_all<K: Sink>(pieces: &[&[u8]], line: &mut Line, out: &mut K) -> Res
 
 /// Begins a new line with these pieces. The old content of the line is lost.
 pub fn begin_line<K: Sink>(pieces: &[&[u8]], line: &mut Line, out: &mut K) -> Result<(), PutFault>
-    ensures { Prints (K.shown out.old) (K.shown out.new) [] line.new (whole (map (λ p. p.now) pieces.now)) result }
+    ensures { Prints (K.shown out.old) (K.shown out.new) [] line.new
+        (whole (map (λ p. p.now) pieces.now)) result }
 {
     line.clear();
     print_all(pieces, line, out)
@@ -78,7 +80,8 @@ pub fn end_line<K: Sink>(line: &mut Line, out: &mut K) -> Result<(), PutFault>
 /// Writes a line that consists of these pieces and a line feed. If the line has at most `MAX_LINE`
 /// bytes, writes it in one put. The old content of `line` is lost.
 pub fn put_line<K: Sink>(pieces: &[&[u8]], line: &mut Line, out: &mut K) -> Result<(), PutFault>
-    ensures { Prints (K.shown out.old) (K.shown out.new) [] [] (line_of (map (λ p. p.now) pieces.now)) result }
+    ensures { Prints (K.shown out.old) (K.shown out.new) [] []
+        (line_of (map (λ p. p.now) pieces.now)) result }
 {
     begin_line(pieces, line, out)?;
     end_line(line, out)

@@ -19,7 +19,8 @@ pub map-map : {X Y Z : Type 0} (f : X → Y) (g : Y → Z) (xs : List X) → map
 map-map f g [] = refl
 map-map {Z = Z} f g (x ∷ xs) = ap (λ (zs : List Z). g (f x) ∷ zs) (map-map f g xs)
 
-pub position_from-map : {X Y : Type 0} (f : X → Y) (p : Y → Bool) (n : ℕ) (xs : List X) → position_from (λ x. p (f x)) n xs ≡ position_from p n (map f xs)
+pub position_from-map : {X Y : Type 0} (f : X → Y) (p : Y → Bool) (n : ℕ) (xs : List X)
+    → position_from (λ x. p (f x)) n xs ≡ position_from p n (map f xs)
 position_from-map f p n [] = refl
 position_from-map f p n (x ∷ xs) = ap (cond (p (f x)) (Some n)) (position_from-map f p (n + 1) xs)
 
@@ -45,10 +46,15 @@ none_of_zeros (suc n) = none_of_zeros n
 -- the `n + 1` numbers from `a` on are the `n` numbers from `a` on followed by `a + n`
 pub range_with_len_more : (a n : ℕ) → range_with_len a (suc n) ≡ range_with_len a n ++ (a + n) ∷ []
 range_with_len_more a zero = ap (λ k. k ∷ []) (omega arith)
-range_with_len_more a (suc n) = ap (λ ks. a ∷ ks) (range_with_len_more (a + 1) n ∙ ap (λ k. range_with_len (a + 1) n ++ k ∷ []) (omega arith))
+range_with_len_more a (suc n) =
+    ap (λ ks. a ∷ ks)
+    (range_with_len_more (a + 1) n ∙ ap (λ k. range_with_len (a + 1) n ++ k ∷ []) (omega arith))
 
 pub below_more : (n : ℕ) → range_with_len 0 (suc n) ≡ range_with_len 0 n ++ n ∷ []
 below_more n = range_with_len_more 0 n ∙ ap (λ k. range_with_len 0 n ++ k ∷ []) (omega arith)
 
-pub filter_below_more : (p : ℕ → Bool) (n : ℕ) → filter p (range_with_len 0 (n + 1)) ≡ filter p (range_with_len 0 n) ++ cond (p n) (n ∷ []) []
-filter_below_more p n = ap (λ k. filter p (range_with_len 0 k)) (add-one n) ∙ ap (filter p) (below_more n) ∙ filter-append p (range_with_len 0 n) (n ∷ [])
+pub filter_below_more : (p : ℕ → Bool) (n : ℕ)
+    → filter p (range_with_len 0 (n + 1)) ≡ filter p (range_with_len 0 n) ++ cond (p n) (n ∷ []) []
+filter_below_more p n =
+    ap (λ k. filter p (range_with_len 0 k)) (add-one n) ∙ ap (filter p) (below_more n)
+    ∙ filter-append p (range_with_len 0 n) (n ∷ [])

@@ -14,7 +14,9 @@ pub noted_get : {A : Type 0} (rows : List (List A)) (place : Option ℕ) (item :
 noted_get rows None item k less = sym (append-nil (get_or rows k []))
 noted_get {A} rows (Some b) item k less = by_place (cases_eq k b)
   where
-    by_place : (k ≡ b) ⊎ (k ≡ b → ⊥) → get_or (set rows b (get_or rows b [] ++ item ∷ [])) k [] ≡ get_or rows k [] ++ cond (b == k) (item ∷ []) []
+    by_place : (k ≡ b) ⊎ (k ≡ b → ⊥)
+        → get_or (set rows b (get_or rows b [] ++ item ∷ [])) k []
+        ≡ get_or rows k [] ++ cond (b == k) (item ∷ []) []
     by_place (inl e) =
         ap (λ (n : ℕ). get_or (set rows n (get_or rows n [] ++ item ∷ [])) k []) (sym e)
         ∙ get_or-set_same rows k (get_or rows k [] ++ item ∷ []) [] less

@@ -39,7 +39,8 @@ shares board c d differ = same_truth (drives_some board (shared_nets board c) d)
         let r : (n : ℕ) × Has (shared_nets board c) n × (drives n ≡ true) = any_has drives (shared_nets board c) h in
         let s : (net : Net) × (slice_get board.nets r.0 ≡ Some net) × (is_contended board c net ≡ true) = has_shares board c r.0 r.1 in
         any_at (λ (net : Net). drives_net board c net && drives_net board d net) board.nets r.0 s.0 s.1
-        (and_from (drives_net board c s.0) (drives_net board d s.0) (and_left (drives_net board c s.0) _ s.2) (sym (ap (drives_there board d) s.1) ∙ r.2))
+        (and_from (drives_net board c s.0) (drives_net board d s.0)
+        (and_left (drives_net board c s.0) _ s.2) (sym (ap (drives_there board d) s.1) ∙ r.2))
 
     back : share_net board c d ≡ true → list_any drives (shared_nets board c) ≡ true
     back h =
@@ -51,11 +52,14 @@ shares board c d differ = same_truth (drives_some board (shared_nets board c) d)
 abbrev may_fit : RawBoard → Ctl → Drive → Bool
 may_fit board c d = is_by c (Some d) || not (is_by_one (drives_some board (shared_nets board c)) d)
 
-fit_is : (board : RawBoard) (c : Ctl) (d : Drive) → is_safe_alone board c ≡ true → can_enable board (Some d) ≡ true → fit board (By c) d ≡ may_fit board c d
+fit_is : (board : RawBoard) (c : Ctl) (d : Drive) → is_safe_alone board c ≡ true
+    → can_enable board (Some d) ≡ true → fit board (By c) d ≡ may_fit board c d
 fit_is board c AlwaysOn safe h = safe
 fit_is board c OneSided safe h = cc h
 fit_is board c (By d) safe h =
-    ap (λ t. t && is_safe_alone board d && (same_ctl c d || not (share_net board c d))) safe ∙ ap (λ t. t && (same_ctl c d || not (share_net board c d))) h ∙ by_same (same_ctl c d) refl (same_ctl d c) refl
+    ap (λ t. t && is_safe_alone board d && (same_ctl c d || not (share_net board c d))) safe
+    ∙ ap (λ t. t && (same_ctl c d || not (share_net board c d))) h
+    ∙ by_same (same_ctl c d) refl (same_ctl d c) refl
   where
     some : Bool
     some = drives_some board (shared_nets board c) d
@@ -71,7 +75,8 @@ any_on p q [] h = refl
 any_on p q (x ∷ xs) h = ap (λ t. t || list_any p xs) (h x (inl refl)) ∙ ap (λ t. q x || t) (any_on p q xs (λ y k. h y (inr k)))
 
 -- some driver satisfies `own` or fails `one`, if and only if it is not the case that all drivers satisfy `one` and none satisfies `own`
-each_kept : (own one : Drive → Bool) (ds : List Drive) → list_any (λ d. own d || not (one d)) ds ≡ not (list_all one ds && not (list_any own ds))
+each_kept : (own one : Drive → Bool) (ds : List Drive)
+    → list_any (λ d. own d || not (one d)) ds ≡ not (list_all one ds && not (list_any own ds))
 each_kept own one [] = refl
 each_kept own one (d ∷ ds) = by_driver (own d) (one d) (each_kept own one ds)
   where
@@ -79,7 +84,10 @@ each_kept own one (d ∷ ds) = by_driver (own d) (one d) (each_kept own one ds)
     none true = refl
     none false = refl
 
-    by_driver : (s t : Bool) → list_any (λ d. own d || not (one d)) ds ≡ not (list_all one ds && not (list_any own ds)) → ((s || not t) || list_any (λ d. own d || not (one d)) ds) ≡ not ((t && list_all one ds) && not (s || list_any own ds))
+    by_driver : (s t : Bool)
+        → list_any (λ d. own d || not (one d)) ds ≡ not (list_all one ds && not (list_any own ds))
+        → ((s || not t) || list_any (λ d. own d || not (one d)) ds)
+        ≡ not ((t && list_all one ds) && not (s || list_any own ds))
     by_driver true t rest = none (t && list_all one ds)
     by_driver false true rest = rest
     by_driver false false rest = refl
@@ -88,8 +96,12 @@ kept : (own one : Drive → Bool) → (Ctl → Bool) → (ds : List Drive) → B
 kept own one p [] = false
 kept own one p (d ∷ ds) = not (list_all one (d ∷ ds) && not (list_any own (d ∷ ds)))
 
-all_kept : (own : Drive → Bool) (p : Ctl → Bool) (ds : List Drive) → list_any (λ d. own d || not (is_by_one p d)) ds ≡ (nat_lt 0 (length ds) && not (are_by_some p ds && not (list_any own ds)))
-all_kept own p [] = let least : nat_lt 0 0 ≡ false = grind arith in sym (ap (λ t. t && not (are_by_some p [] && not (list_any own []))) least)
+all_kept : (own : Drive → Bool) (p : Ctl → Bool) (ds : List Drive)
+    → list_any (λ d. own d || not (is_by_one p d)) ds
+    ≡ (nat_lt 0 (length ds) && not (are_by_some p ds && not (list_any own ds)))
+all_kept own p [] =
+    let least : nat_lt 0 0 ≡ false = grind arith in
+    sym (ap (λ t. t && not (are_by_some p [] && not (list_any own []))) least)
 all_kept own p (d ∷ ds) =
     let some : nat_lt 0 (length (d ∷ ds)) ≡ true = grind arith in
     each_kept own (is_by_one p) (d ∷ ds) ∙ sym (ap (λ t. t && not (are_by_some p (d ∷ ds) && not (list_any own (d ∷ ds)))) some)
@@ -107,7 +119,9 @@ stands_filter q xs n = same_truth (stands_in (filter q xs) n) (stands_in xs n &&
     back : (stands_in xs n && q n) ≡ true → stands_in (filter q xs) n ≡ true
     back h =
         let r : (k : ℕ) × Has xs k × ((k == n) ≡ true) = any_has (λ k. k == n) xs (and_left (stands_in xs n) (q n) h) in
-        has_any (λ k. k == n) (filter q xs) r.0 (has_filter q xs r.0 r.1 (ap q (eqb-true r.0 n r.2) ∙ and_right (stands_in xs n) (q n) h)) r.2
+        has_any (λ k. k == n) (filter q xs) r.0
+        (has_filter q xs r.0 r.1
+        (ap q (eqb-true r.0 n r.2) ∙ and_right (stands_in xs n) (q n) h)) r.2
 
 stands_contains : (xs : List ℕ) (n : ℕ) (b : Bool) → Decides b (Contains xs n) → stands_in xs n ≡ b
 stands_contains xs n b d = same_truth (stands_in xs n) b there back
@@ -127,43 +141,67 @@ can_there board (Some net) d has = tested_can_drive board net d (tested_has boar
 
 -- If control `c` is safe alone, the nets that a safe setting with `c` observes are the covered nets without the closed nets on which `c`
 -- has no tested driver.
-row_fits : (board : RawBoard) (c : Ctl) (closed : List ℕ) (n : ℕ) → is_safe_alone board c ≡ true → AreClosed board (shared_nets board c) closed →
+row_fits : (board : RawBoard) (c : Ctl) (closed : List ℕ) (n : ℕ) → is_safe_alone board c ≡ true
+    → AreClosed board (shared_nets board c) closed →
     (fits_at board AlwaysOn n && not (stands_in (filter (λ n. not (owns_at board c n)) closed) n)) ≡ fits_at board (By c) n
 row_fits board c closed n safe are =
     let ds : List Drive = drivers_at board n in
     let own : Drive → Bool = λ d. is_by c (Some d) in
     let p : Ctl → Bool = drives_some board (shared_nets board c) in
-    ap (λ t. fits_at board AlwaysOn n && not t) (stands_filter (λ k. not (owns_at board c k)) closed n ∙ ap (λ t. t && not (owns_at board c n)) (stands_contains closed n (is_closed_by board (shared_nets board c) n) (are n))) ∙
+    ap (λ t. fits_at board AlwaysOn n && not t)
+    (stands_filter (λ k. not (owns_at board c k)) closed n
+    ∙ ap (λ t. t && not (owns_at board c n))
+    (stands_contains closed n (is_closed_by board (shared_nets board c) n) (are n))) ∙
     ap (λ t. t && not (are_by_some p ds && not (list_any own ds))) (sym (covered_bit board n)) ∙ sym (all_kept own p ds) ∙
     sym (any_on (fit board (By c)) (may_fit board c) ds (λ d has. fit_is board c d safe (can_there board (slice_get board.nets n) d has)))
 
-pub row_made : (board : RawBoard) (c : Ctl) (closed failing row : List ℕ) → is_safe_alone board c ≡ true → AreClosed board (shared_nets board c) closed → failing ≡ filter (λ n. not (owns_at board c n)) closed → AreRowBits (λ n. fits_at board AlwaysOn n && not (stands_in failing n)) row → AreRowBits (fits_at board (By c)) row
-row_made board c closed failing row safe are e bits = same_row (λ n. fits_at board AlwaysOn n && not (stands_in failing n)) (fits_at board (By c)) (λ n. ap (λ v. fits_at board AlwaysOn n && not (stands_in v n)) e ∙ row_fits board c closed n safe are) row bits
+pub row_made : (board : RawBoard) (c : Ctl) (closed failing row : List ℕ)
+    → is_safe_alone board c ≡ true → AreClosed board (shared_nets board c) closed
+    → failing ≡ filter (λ n. not (owns_at board c n)) closed
+    → AreRowBits (λ n. fits_at board AlwaysOn n && not (stands_in failing n)) row
+    → AreRowBits (fits_at board (By c)) row
+row_made board c closed failing row safe are e bits =
+    same_row (λ n. fits_at board AlwaysOn n && not (stands_in failing n)) (fits_at board (By c))
+    (λ n. ap (λ v. fits_at board AlwaysOn n && not (stands_in v n)) e
+    ∙ row_fits board c closed n safe are) row bits
 
-pub none_fail : (board : RawBoard) (failing row : List ℕ) → failing ≡ [] → AreRowBits (fits_at board AlwaysOn) row → AreRowBits (λ n. fits_at board AlwaysOn n && not (stands_in failing n)) row
-none_fail board failing row e bits = same_row (fits_at board AlwaysOn) (λ n. fits_at board AlwaysOn n && not (stands_in failing n)) (λ n. sym (and-true (fits_at board AlwaysOn n)) ∙ sym (ap (λ v. fits_at board AlwaysOn n && not (stands_in v n)) e)) row bits
+pub none_fail : (board : RawBoard) (failing row : List ℕ) → failing ≡ []
+    → AreRowBits (fits_at board AlwaysOn) row
+    → AreRowBits (λ n. fits_at board AlwaysOn n && not (stands_in failing n)) row
+none_fail board failing row e bits =
+    same_row (fits_at board AlwaysOn) (λ n. fits_at board AlwaysOn n && not (stands_in failing n))
+    (λ n. sym (and-true (fits_at board AlwaysOn n))
+    ∙ sym (ap (λ v. fits_at board AlwaysOn n && not (stands_in v n)) e)) row bits
 
 -- if a list of nets closes net number `n`, then `n` is less than the number of nets
 closed_within : (board : RawBoard) (nets : List ℕ) (n : ℕ) → is_closed_by board nets n ≡ true → n < length board.nets
 closed_within board nets n h = by_net (slice_get board.nets n) refl h
   where
-    by_net : (net : Option Net) → slice_get board.nets n ≡ net → are_by_some (drives_some board nets) (drivers_there board net) ≡ true → n < length board.nets
+    by_net : (net : Option Net) → slice_get board.nets n ≡ net
+        → are_by_some (drives_some board nets) (drivers_there board net) ≡ true
+        → n < length board.nets
     by_net None e k = cc k
     by_net (Some net) e k = slice_get_within board.nets n net e
 
-pub room_for : (board : RawBoard) (nets closed failing : List ℕ) (q : ℕ → Bool) (size : ℕ) → AreClosed board nets closed → failing ≡ filter q closed → size ≡ length board.nets / 64 + 1 → All (λ n. n / 64 < size) failing
+pub room_for : (board : RawBoard) (nets closed failing : List ℕ) (q : ℕ → Bool) (size : ℕ)
+    → AreClosed board nets closed → failing ≡ filter q closed → size ≡ length board.nets / 64 + 1
+    → All (λ n. n / 64 < size) failing
 room_for board nets closed failing q size are e room k d less =
     let n : ℕ = slice_index_or failing k d in
     let P : List ℕ → Type 0 = λ v. Has v n in
     let has : Has failing n = has_at failing k n (slice_get-get_or failing k d less) in
-    let within : n < length board.nets = closed_within board nets n ((are n).1 (has_contains closed n (filter_has q closed n (subst P e has)).0)) in
+    let within : n
+    < length board.nets = closed_within board nets n
+    ((are n).1 (has_contains closed n (filter_has q closed n (subst P e has)).0)) in
     omega (arith, within, room)
 
 pub useful_safe : (board : RawBoard) (c : Ctl) → is_useful board c ≡ true → is_safe_alone board c ≡ true
 useful_safe board c h = and_left (is_safe_alone board c) (list_any (tests_by board c) board.nets) h
 
 -- if a useful control shares no net, its row is the row of the covered nets
-pub row_free : (board : RawBoard) (c : Ctl) (row : List ℕ) → is_useful board c ≡ true → shared_nets board c ≡ [] → AreRowBits (fits_at board AlwaysOn) row → AreRowBits (fits_at board (By c)) row
+pub row_free : (board : RawBoard) (c : Ctl) (row : List ℕ) → is_useful board c ≡ true
+    → shared_nets board c ≡ [] → AreRowBits (fits_at board AlwaysOn) row
+    → AreRowBits (fits_at board (By c)) row
 row_free board c row useful e bits =
     let P : List ℕ → Type 0 = λ v. AreClosed board v [] in
     row_made board c [] [] row (useful_safe board c useful) (subst P (sym e) (nothing_closed board)) refl (none_fail board [] row refl bits)

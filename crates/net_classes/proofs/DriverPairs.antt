@@ -31,12 +31,16 @@ fit_found board ds es = by_found (first_pair board ds es) refl
         let y : Has ds pair.0 × Has es pair.1 = pairs_of_has ds es pair x.0 in
         has_any (fits_some board es) ds pair.0 y.0 (has_any (fit board pair.0) es pair.1 y.1 x.1)
 
-pub there_are : (board : RawBoard) (a b : Option Net) → pair_there board a b ≡ some_fit board (drivers_there board a) (drivers_there board b)
+pub there_are : (board : RawBoard) (a b : Option Net)
+    → pair_there board a b ≡ some_fit board (drivers_there board a) (drivers_there board b)
 there_are board None b = refl
 there_are board (Some a) None = sym (false_from_ne_true (some_fit board (tested_drivers board a) []) (λ h.
-    let x : (d : Drive) × Has (tested_drivers board a) d × (fits_some board [] d ≡ true) = any_has (fits_some board []) (tested_drivers board a) h in
+    let x : (d : Drive) × Has (tested_drivers board a) d
+    × (fits_some board [] d ≡ true) = any_has (fits_some board []) (tested_drivers board a) h in
     cc x.2))
 there_are board (Some a) (Some b) = sym (pairs_are board a b)
 
 pub pairs_found : (board : RawBoard) (a b : ℕ) → pairs_with board a b ≡ is_some (first_pair board (drivers_at board a) (drivers_at board b))
-pairs_found board a b = there_are board (slice_get board.nets a) (slice_get board.nets b) ∙ fit_found board (drivers_at board a) (drivers_at board b)
+pairs_found board a b =
+    there_are board (slice_get board.nets a) (slice_get board.nets b)
+    ∙ fit_found board (drivers_at board a) (drivers_at board b)

@@ -21,11 +21,18 @@ use Rattle.net_classes.specs.NetRows.{AreRowBits, stands_in}
 use Rattle.net_classes.proofs.WordLemmas.{same_row}
 
 -- if a row has the numbers that satisfy `passes`, it also has those that satisfy `passes` and are not in the empty list
-pub nothing_out : (passes : ℕ → Bool) (row less : List ℕ) → less ≡ row → AreRowBits passes row → AreRowBits (λ n. passes n && not (stands_in [] n)) less
-nothing_out passes row less e are = same_row passes (λ n. passes n && not (stands_in [] n)) (λ n. sym (and-true (passes n))) less (subst (AreRowBits passes) (sym e) are)
+pub nothing_out : (passes : ℕ → Bool) (row less : List ℕ) → less ≡ row → AreRowBits passes row
+    → AreRowBits (λ n. passes n && not (stands_in [] n)) less
+nothing_out passes row less e are =
+    same_row passes (λ n. passes n && not (stands_in [] n)) (λ n. sym (and-true (passes n))) less
+    (subst (AreRowBits passes) (sym e) are)
 
-stands_more : (nets : List ℕ) (i n : ℕ) → i < length nets → stands_in (take (i + 1) nets) n ≡ (stands_in (take i nets) n || ((get_or nets i 0 == n) || false))
-stands_more nets i n less = ap (list_any (λ k. k == n)) (take_more nets i 0 less) ∙ list_any-append (λ k. k == n) (take i nets) (get_or nets i 0 ∷ [])
+stands_more : (nets : List ℕ) (i n : ℕ) → i < length nets
+    → stands_in (take (i + 1) nets) n
+    ≡ (stands_in (take i nets) n || ((get_or nets i 0 == n) || false))
+stands_more nets i n less =
+    ap (list_any (λ k. k == n)) (take_more nets i 0 less)
+    ∙ list_any-append (λ k. k == n) (take i nets) (get_or nets i 0 ∷ [])
 
 or_right_true : (s : Bool) → (s || (true || false)) ≡ true
 or_right_true true = refl
@@ -35,14 +42,26 @@ or_right_false : (s : Bool) → (s || (false || false)) ≡ s
 or_right_false true = refl
 or_right_false false = refl
 
-pub out_now : (passes : ℕ → Bool) (nets : List ℕ) (i : ℕ) → i < length nets → (passes (get_or nets i 0) && not (stands_in (take (i + 1) nets) (get_or nets i 0))) ≡ false
+pub out_now : (passes : ℕ → Bool) (nets : List ℕ) (i : ℕ) → i < length nets
+    → (passes (get_or nets i 0) && not (stands_in (take (i + 1) nets) (get_or nets i 0))) ≡ false
 out_now passes nets i less =
     let net : ℕ = get_or nets i 0 in
-    ap (λ t. passes net && not t) (stands_more nets i net less ∙ ap (λ t. stands_in (take i nets) net || (t || false)) (eqb_refl net) ∙ or_right_true (stands_in (take i nets) net)) ∙ and-false (passes net)
+    ap (λ t. passes net && not t)
+    (stands_more nets i net less
+    ∙ ap (λ t. stands_in (take i nets) net || (t || false)) (eqb_refl net)
+    ∙ or_right_true (stands_in (take i nets) net)) ∙ and-false (passes net)
 
-pub out_still : (passes : ℕ → Bool) (nets : List ℕ) (i : ℕ) → i < length nets → (n : ℕ) → n ≢ get_or nets i 0 → (passes n && not (stands_in (take (i + 1) nets) n)) ≡ (passes n && not (stands_in (take i nets) n))
+pub out_still : (passes : ℕ → Bool) (nets : List ℕ) (i : ℕ) → i < length nets → (n : ℕ)
+    → n ≢ get_or nets i 0
+    → (passes n && not (stands_in (take (i + 1) nets) n))
+    ≡ (passes n && not (stands_in (take i nets) n))
 out_still passes nets i less n other =
-    ap (λ t. passes n && not t) (stands_more nets i n less ∙ ap (λ t. stands_in (take i nets) n || (t || false)) (false_from_ne_true (get_or nets i 0 == n) (λ h. other (sym (eqb-true (get_or nets i 0) n h)))) ∙ or_right_false (stands_in (take i nets) n))
+    ap (λ t. passes n && not t)
+    (stands_more nets i n less
+    ∙ ap (λ t. stands_in (take i nets) n || (t || false))
+    (false_from_ne_true (get_or nets i 0 == n)
+    (λ h. other (sym (eqb-true (get_or nets i 0) n h))))
+    ∙ or_right_false (stands_in (take i nets) n))
 
 -- a net is covered if and only if it has a tested driver
 pub covered_bit : (board : RawBoard) (n : ℕ) → nat_lt 0 (length (drivers_at board n)) ≡ fits_at board AlwaysOn n
@@ -52,7 +71,9 @@ covered_bit board n = by_net (slice_get board.nets n)
     by_drivers net [] e = refl
     by_drivers net (d ∷ ds) e =
         let P : List Drive → Type 0 = λ v. Has v d in
-        let enabled : can_enable board (Some d) ≡ true = tested_can_drive board net d (tested_has board net d (subst P (sym e) (inl refl))) in
+        let enabled : can_enable board (Some d)
+        ≡ true = tested_can_drive board net d
+        (tested_has board net d (subst P (sym e) (inl refl))) in
         let some : nat_lt 0 (suc (length ds)) ≡ true = grind arith in
         some ∙ sym (ap (λ t. t || list_any (fit board AlwaysOn) ds) enabled)
 
@@ -73,12 +94,19 @@ below_still passes k n other = let same : nat_lt n (k + 1) ≡ nat_lt n k = grin
 fits_there : (board : RawBoard) (d : Drive) (n : ℕ) → fits_at board d n ≡ true → n < length board.nets
 fits_there board d n h = by_net (slice_get board.nets n) refl h
   where
-    by_net : (net : Option Net) → slice_get board.nets n ≡ net → list_any (fit board d) (drivers_there board net) ≡ true → n < length board.nets
+    by_net : (net : Option Net) → slice_get board.nets n ≡ net
+        → list_any (fit board d) (drivers_there board net) ≡ true → n < length board.nets
     by_net None e k = cc k
     by_net (Some net) e k = slice_get_within board.nets n net e
 
-pub all_below : (board : RawBoard) (d : Drive) (count n : ℕ) → length board.nets ≤ count → (nat_lt n count && fits_at board d n) ≡ fits_at board d n
-all_below board d count n most = same_truth (nat_lt n count && fits_at board d n) (fits_at board d n) (and_right (nat_lt n count) (fits_at board d n)) back
+pub all_below : (board : RawBoard) (d : Drive) (count n : ℕ) → length board.nets ≤ count
+    → (nat_lt n count && fits_at board d n) ≡ fits_at board d n
+all_below board d count n most =
+    same_truth (nat_lt n count && fits_at board d n) (fits_at board d n)
+    (and_right (nat_lt n count) (fits_at board d n)) back
   where
     back : fits_at board d n ≡ true → (nat_lt n count && fits_at board d n) ≡ true
-    back h = let less : n < length board.nets = fits_there board d n h in let below : nat_lt n count ≡ true = grind arith in ap (λ t. t && fits_at board d n) below ∙ h
+    back h =
+        let less : n < length board.nets = fits_there board d n h in
+        let below : nat_lt n count ≡ true = grind arith in
+        ap (λ t. t && fits_at board d n) below ∙ h

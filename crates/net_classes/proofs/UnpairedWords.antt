@@ -21,7 +21,7 @@ use Rattle.board_defs.proofs.PassesKept.{Tested, has_tested, tested_can_drive, t
 use Rattle.board_defs.proofs.Places.{FoundBelow, below_at, below_place}
 use Rattle.net_classes.specs.declared.pair_rows.PairRows.{PairRows}
 use Rattle.net_classes.specs.Kept.{ArePairRows}
-use Rattle.net_classes.specs.Pairs.{AreBitsOf, covered_there, drivers_at, drivers_there, fit, fits_at, fits_some, pairs_with, unpaired_with}
+use Rattle.net_classes.specs.Pairs.{AreWordBits, covered_there, drivers_at, drivers_there, fit, fits_at, fits_some, pairs_with, unpaired_with}
 use Rattle.net_classes.specs.inner.PairRows.{drive_word}
 use Rattle.net_classes.proofs.DriverPairs.{there_are}
 use Rattle.net_classes.proofs.PairWords.{driver_word}
@@ -39,7 +39,9 @@ covered_fits board net = same_truth (is_covered board net) (list_any (fit board 
 
     back : list_any (fit board AlwaysOn) (tested_drivers board net) ≡ true → is_covered board net ≡ true
     back h =
-        let x : (d : Drive) × Has (tested_drivers board net) d × (fit board AlwaysOn d ≡ true) = any_has (fit board AlwaysOn) (tested_drivers board net) h in
+        let x : (d : Drive) × Has (tested_drivers board net) d
+        × (fit board AlwaysOn d ≡ true) = any_has (fit board AlwaysOn)
+        (tested_drivers board net) h in
         let s : Tested board net x.0 = tested_has board net x.0 x.1 in
         below_at (length net.pins) (is_tested_driver board net) s.place (tested_below board net s.place s.tested) s.tested
 
@@ -52,12 +54,21 @@ covered_says board n = by_net (slice_get board.nets n)
 
 -- If the bits of the nets that are paired with net `n` are cleared in a word of the row of the covered nets, the result has the covered
 -- nets that are not paired with net `n`.
-pub unpaired_bits : (board : RawBoard) (pairs : PairRows) (n w word other : ℕ) → ArePairRows board pairs → word ≡ drive_word pairs AlwaysOn w → other < 2 ^ 64 → AreBitsOf (pairs_with board n) w other → AreBitsOf (unpaired_with board n) w (bit_and word (bit_not w64 other))
+pub unpaired_bits : (board : RawBoard) (pairs : PairRows) (n w word other : ℕ)
+    → ArePairRows board pairs → word ≡ drive_word pairs AlwaysOn w → other < 2 ^ 64
+    → AreWordBits (pairs_with board n) w other
+    → AreWordBits (unpaired_with board n) w (bit_and word (bit_not w64 other))
 unpaired_bits board pairs n w word other are e within paired i less =
     let m : ℕ = 64 * w + i in
-    let covered : bit_at word i ≡ cond (covered_there board (slice_get board.nets m)) 1 0 = ap (λ v. bit_at v i) e ∙ are.covered w i less ∙ ap (λ t. cond t 1 0) (covered_says board m) in
-    let unset : bit_at (bit_not w64 other) i ≡ 1 - cond (pairs_with board n m) 1 0 = bit_at_not w64 other i within less ∙ ap (λ b. 1 - b) (paired i less) in
-    bit_at_and word (bit_not w64 other) i ∙ ap (λ b. min b (bit_at (bit_not w64 other) i)) covered ∙ ap (min (cond (covered_there board (slice_get board.nets m)) 1 0)) unset ∙ by_bits (covered_there board (slice_get board.nets m)) (pairs_with board n m)
+    let covered : bit_at word i
+    ≡ cond (covered_there board (slice_get board.nets m)) 1 0 = ap (λ v. bit_at v i) e
+    ∙ are.covered w i less ∙ ap (λ t. cond t 1 0) (covered_says board m) in
+    let unset : bit_at (bit_not w64 other) i
+    ≡ 1 - cond (pairs_with board n m) 1 0 = bit_at_not w64 other i within less
+    ∙ ap (λ b. 1 - b) (paired i less) in
+    bit_at_and word (bit_not w64 other) i ∙ ap (λ b. min b (bit_at (bit_not w64 other) i)) covered
+    ∙ ap (min (cond (covered_there board (slice_get board.nets m)) 1 0)) unset
+    ∙ by_bits (covered_there board (slice_get board.nets m)) (pairs_with board n m)
   where
     by_bits : (s t : Bool) → min (cond s 1 0) (1 - cond t 1 0) ≡ cond (s && not t) 1 0
     by_bits true true = refl
@@ -66,7 +77,9 @@ unpaired_bits board pairs n w word other are e within paired i less =
     by_bits false false = refl
 
 -- if the row of a tested driver of net `n` is the row of the covered nets, every covered net is paired with net `n`
-pub all_paired : (board : RawBoard) (pairs : PairRows) (n : ℕ) (ds : List Drive) (i : ℕ) (d : Drive) → IsBoard board → ArePairRows board pairs → ds ≡ drivers_at board n → i < length ds → d ≡ get_or ds i d →
+pub all_paired : (board : RawBoard) (pairs : PairRows) (n : ℕ) (ds : List Drive) (i : ℕ) (d : Drive)
+    → IsBoard board → ArePairRows board pairs → ds ≡ drivers_at board n → i < length ds
+    → d ≡ get_or ds i d →
     ((w : ℕ) → drive_word pairs d w ≡ drive_word pairs AlwaysOn w) → (other : ℕ) → unpaired_with board n other ≡ false
 all_paired board pairs n ds i d rules are e less this same m = by_covered (covered_there board (slice_get board.nets m)) refl
   where
@@ -81,8 +94,10 @@ all_paired board pairs n ds i d rules are e less this same m = by_covered (cover
 
     bits : ◌≡◌ {A = ℕ} (cond (fits_at board d m) 1 0) (cond (fits_at board AlwaysOn m) 1 0)
     bits =
-        ap (λ k. cond (fits_at board d k) 1 0) (sym here) ∙ sym (driver_word board pairs n (m / 64) d rules are has (m % 64) (omega arith)) ∙
-        ap (λ v. bit_at v (m % 64)) (same (m / 64)) ∙ are.covered (m / 64) (m % 64) (omega arith) ∙ ap (λ k. cond (fits_at board AlwaysOn k) 1 0) here
+        ap (λ k. cond (fits_at board d k) 1 0) (sym here)
+        ∙ sym (driver_word board pairs n (m / 64) d rules are has (m % 64) (omega arith)) ∙
+        ap (λ v. bit_at v (m % 64)) (same (m / 64)) ∙ are.covered (m / 64) (m % 64) (omega arith)
+        ∙ ap (λ k. cond (fits_at board AlwaysOn k) 1 0) here
 
     from_bits : (s t : Bool) → ◌≡◌ {A = ℕ} (cond s 1 0) (cond t 1 0) → t ≡ true → s ≡ true
     from_bits true t f h = refl

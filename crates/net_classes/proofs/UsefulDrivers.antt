@@ -17,14 +17,22 @@ use Rattle.net_classes.specs.Pairs.{drivers_at, drivers_there}
 use Rattle.net_classes.specs.inner.Pairs.{IsUsefulDriver}
 
 -- if a tested driver of net `n` has a control, this control is among the useful controls
-net_useful : (board : RawBoard) (n : ℕ) (net : Net) (drivers : List Drive) → PassesAre board → DecidesTerms board → slice_get board.nets n ≡ Some net → drivers ≡ tested_drivers board net → All (IsUsefulDriver board) drivers
+net_useful : (board : RawBoard) (n : ℕ) (net : Net) (drivers : List Drive) → PassesAre board
+    → DecidesTerms board → slice_get board.nets n ≡ Some net → drivers ≡ tested_drivers board net
+    → All (IsUsefulDriver board) drivers
 net_useful board n net drivers are decides e f k d less c by = (are.said.useful c).1 (useful (tested.0 here))
   where
-    tested : (Contains (tested_drivers board net) (get_or drivers k d) → HasTestedDriver board n net (get_or drivers k d)) × (HasTestedDriver board n net (get_or drivers k d) → Contains (tested_drivers board net) (get_or drivers k d))
+    tested :
+        (Contains (tested_drivers board net) (get_or drivers k d)
+        → HasTestedDriver board n net (get_or drivers k d))
+        × (HasTestedDriver board n net (get_or drivers k d)
+        → Contains (tested_drivers board net) (get_or drivers k d))
     tested = are.said.drivers n net (get_or drivers k d) e
 
     here : Contains (tested_drivers board net) (get_or drivers k d)
-    here = let P : List Drive → Type 0 = λ v. Contains v (get_or drivers k d) in subst P f (k, less, get_or_default drivers k (get_or drivers k d) d less)
+    here =
+        let P : List Drive → Type 0 = λ v. Contains v (get_or drivers k d) in
+        subst P f (k, less, get_or_default drivers k (get_or drivers k d) d less)
 
     useful : HasTestedDriver board n net (get_or drivers k d) → IsUseful board c
     useful has = (safe, n, net, has.place, has.pin, has.stands.on_board, has.stands.in_net, has.drives ∙ ap Some by, has.tested)
@@ -33,12 +41,22 @@ net_useful board n net drivers are decides e f k d less c by = (are.said.useful 
         tests = (decides.tested_driver n net has.place e).1 has.tested
 
         enables : can_enable board (place_drive board net has.place) ≡ true
-        enables = (and_parts (not (guarded board net)) (can_enable board (place_drive board net has.place)) (and_parts (not (guarded board net) && can_enable board (place_drive board net has.place)) (any_other (receives board) has.place net.pins) tests).0).1
+        enables =
+            (and_parts (not (guarded board net))
+            (can_enable board (place_drive board net has.place))
+            (and_parts
+            (not (guarded board net) && can_enable board (place_drive board net has.place))
+            (any_other (receives board) has.place net.pins) tests).0).1
 
         safe : IsSafe board (just c)
-        safe = (decides.safe c).0 (sym (ap (can_enable board) (ap (drive_in board net) has.stands.in_net ∙ has.drives ∙ ap Some by)) ∙ enables)
+        safe =
+            (decides.safe c).0
+            (sym
+            (ap (can_enable board)
+            (ap (drive_in board net) has.stands.in_net ∙ has.drives ∙ ap Some by)) ∙ enables)
 
-pub tested_useful : (board : RawBoard) (n : ℕ) (drivers : List Drive) → PassesAre board → DecidesTerms board → drivers ≡ drivers_at board n → All (IsUsefulDriver board) drivers
+pub tested_useful : (board : RawBoard) (n : ℕ) (drivers : List Drive) → PassesAre board
+    → DecidesTerms board → drivers ≡ drivers_at board n → All (IsUsefulDriver board) drivers
 tested_useful board n drivers are decides e = by_net (slice_get board.nets n) refl
   where
     by_net : (net : Option Net) → slice_get board.nets n ≡ net → All (IsUsefulDriver board) drivers

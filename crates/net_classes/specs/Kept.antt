@@ -7,7 +7,7 @@ use Rattle.board_defs.specs.declared.board.Drive.TheVariants.{AlwaysOn, By}
 use Rattle.board_defs.specs.Pins.{IsCell}
 use Rattle.board_defs.specs.Decided.{is_useful}
 use Rattle.board_defs.specs.Passes.{useful_controls}
-use Rattle.net_facts.specs.Cells.{item_of, table}
+use Rattle.net_facts.specs.Cells.{item_of_cell, table}
 use Rattle.net_facts.specs.Kept.{control_class_of, net_class_of, shared_nets}
 use Rattle.net_classes.specs.declared.classes.Classes.{Classes}
 use Rattle.net_classes.specs.declared.pair_rows.PairRows.{PairRows}
@@ -19,8 +19,8 @@ or_none None = 0
 or_none (Some n) = n
 
 -- the number of the row of control `c`
-abbrev pub number_in : PairRows → Ctl → ℕ
-number_in pairs c = or_none (item_of (table pairs.numbers.items) c)
+abbrev pub row_number : PairRows → Ctl → ℕ
+row_number pairs c = or_none (item_of_cell (table pairs.numbers.items) c)
 
 -- the words of row number `k`
 abbrev pub row_in : PairRows → ℕ → List ℕ
@@ -29,12 +29,12 @@ row_in pairs k = slice_index_or pairs.rows.items k []
 -- Row 0 has a 1 for each covered net. The row of a useful control `c` has a 1 for each net that some safe setting with `c` observes.
 pub record ArePairRows (board : RawBoard) (pairs : PairRows) : Type 0 where
   pub covered : AreRowBits (fits_at board AlwaysOn) (row_in pairs 0)
-  pub each : (c : Ctl) → IsCell board c → is_useful board c ≡ true → AreRowBits (fits_at board (By c)) (row_in pairs (number_in pairs c))
+  pub each : (c : Ctl) → IsCell board c → is_useful board c ≡ true → AreRowBits (fits_at board (By c)) (row_in pairs (row_number pairs c))
 
 -- `classes` has the classes of the board
 pub record AreClasses (board : RawBoard) (classes : Classes) : Type 0 where
   pub nets_are : classes.nets.items ≡ map (net_class_of board) board.nets
-  pub controls_are : (c : Ctl) → IsCell board c → item_of (table classes.controls.items) c ≡ Some (control_class_of board c)
+  pub controls_are : (c : Ctl) → IsCell board c → item_of_cell (table classes.controls.items) c ≡ Some (control_class_of board c)
   pub useful_are : classes.useful.items ≡ useful_controls board
-  pub shared_are : (c : Ctl) → IsCell board c → item_of (table classes.shared.items) c ≡ Some (shared_nets board c)
+  pub shared_are : (c : Ctl) → IsCell board c → item_of_cell (table classes.shared.items) c ≡ Some (shared_nets board c)
   pub pairs_are : ArePairRows board classes.pairs

@@ -32,4 +32,6 @@ NetsAreShared = (board : RawBoard) (a b : Ctl) → SaysShared board a b
 
 -- two nets, given by their numbers, are paired if and only if one safe setting enables a tested driver of each
 abbrev pub PairsHaveDrivers : Type 0
-PairsHaveDrivers = (board : RawBoard) (a b : ℕ) → pairs_with board a b ≡ is_some (first_pair board (drivers_at board a) (drivers_at board b))
+PairsHaveDrivers =
+    (board : RawBoard) (a b : ℕ)
+    → pairs_with board a b ≡ is_some (first_pair board (drivers_at board a) (drivers_at board b))

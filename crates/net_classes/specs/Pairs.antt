@@ -49,5 +49,5 @@ abbrev pub unpaired_with : RawBoard → ℕ → ℕ → Bool
 unpaired_with board a b = covered_there board (slice_get board.nets b) && not (pairs_with board a b)
 
 -- bit `i` of the word is 1 if and only if `passes` is true of `64 * number + i`
-abbrev pub AreBitsOf : (ℕ → Bool) → ℕ → ℕ → Type 0
-AreBitsOf passes number word = (i : ℕ) → i < 64 → bit_at word i ≡ cond (passes (64 * number + i)) 1 0
+abbrev pub AreWordBits : (ℕ → Bool) → ℕ → ℕ → Type 0
+AreWordBits passes number word = (i : ℕ) → i < 64 → bit_at word i ≡ cond (passes (64 * number + i)) 1 0

@@ -18,7 +18,8 @@ use net_facts::{NetNumbers, PinFacts, copy_of, push_if};
 use std::alloc::{AllocError, Global};
 
 fn add_drive(set: &mut ControlSet, drive: Option<Drive>) -> Result<(), AllocError>
-    ensures { (board : RawBoard) (passes : Ctl → Bool) → IsSet board passes set.old → OnOk result (IsSet board (λ c. passes c || is_by c drive) set.new) }
+    ensures { (board : RawBoard) (passes : Ctl → Bool) → IsSet board passes set.old
+        → OnOk result (IsSet board (λ c. passes c || is_by c drive) set.new) }
 {
     match drive {
         Some(Drive::By(c)) => set.insert(c),
@@ -27,7 +28,9 @@ fn add_drive(set: &mut ControlSet, drive: Option<Drive>) -> Result<(), AllocErro
 }
 
 fn add_pins(set: &mut ControlSet, pins: &[PinFacts]) -> Result<(), AllocError>
-    ensures { (board : RawBoard) (passes : Ctl → Bool) → IsSet board passes set.old → OnOk result (IsSet board (λ c. passes c || list_any (λ pin. is_by c pin.drive) pins.now) set.new) }
+    ensures { (board : RawBoard) (passes : Ctl → Bool) → IsSet board passes set.old
+        → OnOk result
+        (IsSet board (λ c. passes c || list_any (λ pin. is_by c pin.drive) pins.now) set.new) }
 {
     for pin in pins {
         add_drive(set, pin.drive)?;
@@ -37,7 +40,8 @@ fn add_pins(set: &mut ControlSet, pins: &[PinFacts]) -> Result<(), AllocError>
 
 /// Makes `set` the set of the controls with a driver on one of `nets`.
 fn gather(set: &mut ControlSet, known: &Known<'_>, nets: &[u32]) -> Result<(), AllocError>
-    ensures { (passes : Ctl → Bool) → IsSet known.now.board passes set.old → OnOk result (IsSet known.now.board (drives_some known.now.board nets.now) set.new) }
+    ensures { (passes : Ctl → Bool) → IsSet known.now.board passes set.old
+        → OnOk result (IsSet known.now.board (drives_some known.now.board nets.now) set.new) }
 {
     set.clear();
     for net in nets {
@@ -66,7 +70,10 @@ fn add_other(
     set: &ControlSet,
     drive: Option<Drive>,
 ) -> Result<(), AllocError>
-    ensures { (board : RawBoard) (passes : Ctl → Bool) → IsSet board passes others.old → OnOk result (IsSet board (λ c. passes c || (is_by c drive && not (has_control set.now c))) others.new) }
+    ensures { (board : RawBoard) (passes : Ctl → Bool) → IsSet board passes others.old
+        → OnOk result
+        (IsSet board (λ c. passes c || (is_by c drive && not (has_control set.now c)))
+        others.new) }
 {
     match drive {
         Some(Drive::By(c)) => add_outside(others, set, c),
@@ -76,7 +83,9 @@ fn add_other(
 
 /// Adds the control to `others` unless it is in `set`.
 fn add_outside(others: &mut ControlSet, set: &ControlSet, c: Ctl) -> Result<(), AllocError>
-    ensures { (board : RawBoard) (passes : Ctl → Bool) → IsSet board passes others.old → OnOk result (IsSet board (λ d. passes d || (same_ctl c d && not (has_control set.now d))) others.new) }
+    ensures { (board : RawBoard) (passes : Ctl → Bool) → IsSet board passes others.old
+        → OnOk result
+        (IsSet board (λ d. passes d || (same_ctl c d && not (has_control set.now d))) others.new) }
 {
     if set.has(c) {
         return Ok(());
@@ -90,7 +99,12 @@ fn add_other_pins(
     set: &ControlSet,
     pins: &[PinFacts],
 ) -> Result<(), AllocError>
-    ensures { (board : RawBoard) (passes : Ctl → Bool) → IsSet board passes others.old → OnOk result (IsSet board (λ c. passes c || list_any (λ pin. is_by c pin.drive && not (has_control set.now c)) pins.now) others.new) }
+    ensures { (board : RawBoard) (passes : Ctl → Bool) → IsSet board passes others.old
+        → OnOk result
+        (IsSet board
+        (λ c. passes c
+        || list_any (λ pin. is_by c pin.drive && not (has_control set.now c)) pins.now)
+        others.new) }
 {
     for pin in pins {
         add_other(others, set, pin.drive)?;
@@ -108,7 +122,8 @@ fn gather_others(
     nets: &[u32],
 ) -> Result<(), AllocError>
     requires { IsSet known.now.board (drives_some known.now.board (core ∷ [])) set.now }
-    ensures { (passes : Ctl → Bool) → IsSet known.now.board passes others.old → OnOk result (AreOthers known.now.board set.now nets.now others.new) }
+    ensures { (passes : Ctl → Bool) → IsSet known.now.board passes others.old
+        → OnOk result (AreOthers known.now.board set.now nets.now others.new) }
 {
     others.clear();
     for net in nets {
@@ -165,7 +180,10 @@ fn closed_by_both(
     others: &ControlSet,
     known: &Known<'_>,
 ) -> Result<NetNumbers, AllocError>
-    ensures { IfOk result (λ nets. nets ≡ closed.now ++ flat_map (closed_beside known.now set.now others.now) others.now.members.items) }
+    ensures { IfOk result
+        (λ nets. nets
+        ≡ closed.now
+        ++ flat_map (closed_beside known.now set.now others.now) others.now.members.items) }
 {
     let mut nets = copy_of(alloc, closed)?;
     for c in &others.members {
@@ -200,7 +218,8 @@ fn add_closed(
     known: &Known<'_>,
     c: Ctl,
 ) -> Result<(), AllocError>
-    ensures { OnOk result (nets.new ≡ nets.old ++ filter (closes known.now.board set.now c) (driven_in known.now c)) }
+    ensures { OnOk result
+        (nets.new ≡ nets.old ++ filter (closes known.now.board set.now c) (driven_in known.now c)) }
 {
     for net in known.driven(c) {
         push_if(nets, *net, closes(set, known, c, *net))?;
@@ -225,8 +244,10 @@ fn closed_nets(
     known: &Known<'_>,
     nets: &[u32],
 ) -> Result<NetNumbers, AllocError>
-    ensures closed { (passes : Ctl → Bool) → IsSet known.now.board passes set.old → IfOk result (λ closed. AreClosed known.now.board nets.now closed) }
-    ensures set { (passes : Ctl → Bool) → IsSet known.now.board passes set.old → OnOk result (IsSet known.now.board (drives_some known.now.board nets.now) set.new) }
+    ensures closed { (passes : Ctl → Bool) → IsSet known.now.board passes set.old
+        → IfOk result (λ closed. AreClosed known.now.board nets.now closed) }
+    ensures set { (passes : Ctl → Bool) → IsSet known.now.board passes set.old
+        → OnOk result (IsSet known.now.board (drives_some known.now.board nets.now) set.new) }
 {
     known.laws();
     gather(set, known, nets)?;

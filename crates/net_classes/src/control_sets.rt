@@ -4,7 +4,7 @@ ghost use Rattle.board_defs.specs.declared.board.Ctl.{Ctl};
 ghost use Rattle.board_defs.specs.declared.board.RawBoard.{RawBoard};
 ghost use Rattle.board_defs.specs.Pins.{IsCell};
 ghost use Rattle.board_defs.specs.Settings.{same_ctl};
-ghost use Rattle.net_facts.specs.Cells.{item_of, table};
+ghost use Rattle.net_facts.specs.Cells.{item_of_cell, table};
 ghost use Rattle.net_classes.specs.inner.ControlSets.{IsSet, has_control, put_all};
 
 use board_defs::Ctl;
@@ -29,7 +29,9 @@ fn unmark(marks: &mut [Vec<bool>], members: &[Ctl])
 impl ControlSet {
     /// Returns the empty set, with a mark for each cell of a table.
     pub(crate) fn new<S>(alloc: Global, rows: &[Vec<S>]) -> Result<ControlSet, AllocError>
-        ensures { (board : RawBoard) → ((c : Ctl) → IsCell board c → is_some (item_of (table rows.now) c) ≡ true) → IfOk result (λ set. IsSet board (λ c. false) set) }
+        ensures { (board : RawBoard)
+            → ((c : Ctl) → IsCell board c → is_some (item_of_cell (table rows.now) c) ≡ true)
+            → IfOk result (λ set. IsSet board (λ c. false) set) }
     {
         Ok(ControlSet {
             marks: filled_table(alloc, rows, false)?,
@@ -48,7 +50,8 @@ impl ControlSet {
     }
 
     pub(crate) fn insert(&mut self, c: Ctl) -> Result<(), AllocError>
-        ensures { (board : RawBoard) (passes : Ctl → Bool) → IsSet board passes self.old → OnOk result (IsSet board (λ d. passes d || same_ctl c d) self.new) }
+        ensures { (board : RawBoard) (passes : Ctl → Bool) → IsSet board passes self.old
+            → OnOk result (IsSet board (λ d. passes d || same_ctl c d) self.new) }
     {
         if !self.has(c) {
             put_at(&mut self.marks, c, true);
@@ -58,7 +61,8 @@ impl ControlSet {
     }
 
     pub(crate) fn clear(&mut self)
-        ensures { (board : RawBoard) (passes : Ctl → Bool) → IsSet board passes self.old → IsSet board (λ c. false) self.new }
+        ensures { (board : RawBoard) (passes : Ctl → Bool) → IsSet board passes self.old
+            → IsSet board (λ c. false) self.new }
     {
         unmark(&mut self.marks, &self.members);
         self.members.clear();

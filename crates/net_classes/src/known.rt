@@ -7,7 +7,7 @@ ghost use Rattle.board_defs.specs.Passes.{useful_controls};
 ghost use Rattle.board_defs.specs.Pins.{IsCell};
 ghost use Rattle.net_classes.specs.inner.Known.{IsKnown, driven_in, pins_there};
 ghost use Rattle.net_classes.specs.Pairs.{drivers_at};
-ghost use Rattle.net_facts.specs.Cells.{item_of, table};
+ghost use Rattle.net_facts.specs.Cells.{item_of_cell, table};
 ghost use Rattle.net_facts.specs.Kept.{AreBoardFacts, net_class_of, shared_nets};
 
 use board_defs::{Board, Ctl, Drive};
@@ -104,7 +104,8 @@ impl<'a> Known<'a> {
 
     /// Returns a table with an item for each cell of the board.
     pub fn cells(&self) -> &[Vec<NetNumbers>]
-        ensures { (c : Ctl) → IsCell self.now.board c → is_some (item_of (table result.now) c) ≡ true }
+        ensures { (c : Ctl) → IsCell self.now.board c
+            → is_some (item_of_cell (table result.now) c) ≡ true }
     {
         &self.facts.shared
     }

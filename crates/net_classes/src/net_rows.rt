@@ -49,7 +49,8 @@ impl NetRow {
     /// Sets the bit of the net if `on` is true, and clears it if not.
     pub(crate) fn put(&mut self, net: u32, on: bool)
         requires { net / 64 < length self.old }
-        ensures bits { (before after : ℕ → Bool) → AreRowBits before self.old → after net ≡ on → ((n : ℕ) → n ≢ net → after n ≡ before n) → AreRowBits after self.new }
+        ensures bits { (before after : ℕ → Bool) → AreRowBits before self.old → after net ≡ on
+            → ((n : ℕ) → n ≢ net → after n ≡ before n) → AreRowBits after self.new }
         ensures size { length self.new ≡ length self.old }
     {
         let number = (net / 64) as usize;

@@ -6,11 +6,11 @@ ghost use Rattle.board_defs.specs.declared.board.Ctl.{Ctl};
 ghost use Rattle.board_defs.specs.Pins.{IsCell};
 ghost use Rattle.board_defs.specs.Decided.{is_useful};
 ghost use Rattle.net_classes.specs.inner.Closed.{AreClosed, AreClosedNets};
-ghost use Rattle.net_facts.specs.Cells.{item_of, table};
+ghost use Rattle.net_facts.specs.Cells.{item_of_cell, table};
 ghost use Rattle.net_facts.specs.Kept.{shared_nets};
 ghost use Rattle.net_classes.specs.NetRows.{AreRowBits, stands_in};
 ghost use Rattle.net_classes.specs.inner.PairRows.{AddsRow, HasCovered, IsRowFor, drive_word, number_for, owns_at};
-ghost use Rattle.net_classes.specs.Kept.{ArePairRows, number_in, row_in};
+ghost use Rattle.net_classes.specs.Kept.{ArePairRows, row_number, row_in};
 ghost use Rattle.net_classes.specs.Pairs.{fits_at};
 
 use crate::closed_nets::ClosedNets;
@@ -32,7 +32,7 @@ pub struct PairRows {
 
 impl PairRows {
     fn number(&self, c: Ctl) -> usize
-        ensures { result ≡ number_in self.now c }
+        ensures { result ≡ row_number self.now c }
     {
         match item_at(&self.numbers, c) {
             None => 0,
@@ -63,7 +63,8 @@ impl PairRows {
 
     /// Returns true only if the driver's row is the row of the covered nets.
     pub(crate) fn fits_all(&self, d: Drive) -> bool
-        ensures { result ≡ true → (w : ℕ) → drive_word self.now d w ≡ drive_word self.now AlwaysOn w }
+        ensures { result ≡ true → (w : ℕ)
+            → drive_word self.now d w ≡ drive_word self.now AlwaysOn w }
     {
         match d {
             Drive::AlwaysOn => true,
@@ -86,7 +87,8 @@ fn failing_nets(
     closed: &[u32],
     c: Ctl,
 ) -> Result<NetNumbers, AllocError>
-    ensures { IfOk result (λ failing. failing ≡ filter (λ n. not (owns_at known.now.board c n)) closed.now) }
+    ensures { IfOk result
+        (λ failing. failing ≡ filter (λ n. not (owns_at known.now.board c n)) closed.now) }
 {
     let mut failing = Items::none(alloc);
     for net in closed {
@@ -98,7 +100,9 @@ fn failing_nets(
 /// Returns a copy of the row without these nets.
 fn row_without(row: &NetRow, nets: &[u32]) -> Result<NetRow, AllocError>
     requires { All (λ n. n / 64 < length row.now) nets.now }
-    ensures { IfOk result (λ less. (passes : ℕ → Bool) → AreRowBits passes row.now → AreRowBits (λ n. passes n && not (stands_in nets.now n)) less) }
+    ensures { IfOk result
+        (λ less. (passes : ℕ → Bool) → AreRowBits passes row.now
+        → AreRowBits (λ n. passes n && not (stands_in nets.now n)) less) }
 {
     let mut less = row.copy()?;
     for net in nets {
@@ -197,7 +201,7 @@ fn add_control(
 /// Returns a table with a row number for each cell of the board. Each number is 0, the number of the first row.
 fn first_numbers(alloc: Global, known: &Known<'_>) -> Result<Vec<Vec<usize>>, AllocError>
     ensures { IfOk result (λ numbers. (c : Ctl) → IsCell known.now.board c →
-        is_some (item_of (table numbers.items) c) ≡ true) }
+        is_some (item_of_cell (table numbers.items) c) ≡ true) }
 {
     let numbers = filled_table(alloc, known.cells(), 0)?;
     Ok(numbers)

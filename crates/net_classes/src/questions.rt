@@ -7,12 +7,12 @@ ghost use Rattle.board_defs.specs.Settings.{holds, same_ctl};
 ghost use Rattle.board_defs.specs.Coverage.{AreTogether, ArePaired, IsCovered, IsReason, IsTestedDriver, IsTestedReceiver, IsUseful};
 ghost use Rattle.board_defs.specs.Decided.{are_paired, are_together, is_covered, is_tested_driver, is_tested_receiver, is_useful, reason_of, share_net};
 ghost use Rattle.board_defs.specs.Passes.{useful_controls};
-ghost use Rattle.net_classes.specs.Pairs.{AreBitsOf, drivers_at, fit, pairs_with, unpaired_with};
+ghost use Rattle.net_classes.specs.Pairs.{AreWordBits, drivers_at, fit, pairs_with, unpaired_with};
 ghost use Rattle.net_classes.specs.inner.Pairs.{IsByCell, IsUsefulDriver};
 ghost use Rattle.net_classes.specs.Laws.{KeepsLaws};
 ghost use Rattle.net_classes.specs.Kept.{AreClasses};
 ghost use Rattle.net_facts.specs.Kept.{control_class_of, net_class_of, pin_class_of, shared_nets};
-ghost use Rattle.net_classes.specs.inner.Kept.{OfNet};
+ghost use Rattle.net_classes.specs.inner.Kept.{HoldsOfNet};
 
 use crate::classes::Classes;
 use crate::known::drivers_in;
@@ -92,7 +92,7 @@ impl<'a> BoardClasses<'a> {
     /// Returns the class of the net.
     fn net(&self, net: u32) -> &'a NetClass
         requires { net < length self.now.nets }
-        ensures { OfNet self.now net (λ found. result.now ≡ net_class_of self.now found) }
+        ensures { HoldsOfNet self.now net (λ found. result.now ≡ net_class_of self.now found) }
     {
         &self.classes.nets[net as usize]
     }
@@ -100,7 +100,8 @@ impl<'a> BoardClasses<'a> {
     /// Returns what the pin is on its net, and whether some safe setting tests it.
     pub fn pin(&self, pin: PinRef) -> PinClass
         requires { IsOnBoard self.now pin }
-        ensures { OfNet self.now pin.net (λ net. result ≡ pin_class_of self.now net pin.place) }
+        ensures { HoldsOfNet self.now pin.net
+            (λ net. result ≡ pin_class_of self.now net pin.place) }
     {
         self.net(pin.net).pins.as_slice()[pin.place as usize]
     }
@@ -108,7 +109,7 @@ impl<'a> BoardClasses<'a> {
     /// Returns the first reason why the net is not covered, or None if it is covered.
     pub fn reason(&self, net: u32) -> Option<Reason>
         requires { net < length self.now.nets }
-        ensures { OfNet self.now net (λ found. result ≡ reason_of self.now found) }
+        ensures { HoldsOfNet self.now net (λ found. result ≡ reason_of self.now found) }
     {
         self.net(net).reason
     }
@@ -116,7 +117,7 @@ impl<'a> BoardClasses<'a> {
     /// Returns whether the net is covered.
     pub fn is_covered(&self, net: u32) -> bool
         requires { net < length self.now.nets }
-        ensures { OfNet self.now net (λ found. result ≡ is_covered self.now found) }
+        ensures { HoldsOfNet self.now net (λ found. result ≡ is_covered self.now found) }
     {
         self.reason(net).is_none()
     }
@@ -196,7 +197,7 @@ impl<'a> BoardClasses<'a> {
     /// Returns the nets that are paired with `net` among the 64 nets from `64 * word` on: bit `i` is for net
     /// `64 * word + i`. The bit of `net` itself is set if `net` is covered. A bit past the last net is 0.
     pub fn paired_word(&self, net: usize, word: usize) -> u64
-        ensures { AreBitsOf (pairs_with self.now net) word result }
+        ensures { AreWordBits (pairs_with self.now net) word result }
     {
         let _rules = self.board.raw();
         let mut bits = 0;
@@ -208,7 +209,7 @@ impl<'a> BoardClasses<'a> {
 
     /// Like `paired_word`, but returns the covered nets that are not paired with `net`.
     pub fn unpaired_word(&self, net: usize, word: usize) -> u64
-        ensures { AreBitsOf (unpaired_with self.now net) word result }
+        ensures { AreWordBits (unpaired_with self.now net) word result }
     {
         let covered = self.classes.pairs.word(Drive::AlwaysOn, word);
         covered & !self.paired_word(net, word)
@@ -236,8 +237,10 @@ impl Classes {
     pub fn reason(&self, board: &Board, net: u32) -> Option<Reason>
         requires classes { AreClasses board.now self.now }
         requires net { net < length board.now.nets }
-        ensures decided { OfNet board.now net (λ found. result ≡ reason_of board.now found) }
-        ensures meant { OfNet board.now net (λ found. MatchOption result (IsCovered board.now net) (λ reason. IsReason board.now net found reason)) }
+        ensures decided { HoldsOfNet board.now net (λ found. result ≡ reason_of board.now found) }
+        ensures meant { HoldsOfNet board.now net
+            (λ found. MatchOption result (IsCovered board.now net)
+            (λ reason. IsReason board.now net found reason)) }
     {
         law::terms_decided();
         let _rules = board.raw();
@@ -274,7 +277,8 @@ impl Classes {
     pub fn driver_tested(&self, board: &Board, pin: PinRef) -> bool
         requires classes { AreClasses board.now self.now }
         requires pin { IsOnBoard board.now pin }
-        ensures decided { OfNet board.now pin.net (λ net. result ≡ is_tested_driver board.now net pin.place) }
+        ensures decided { HoldsOfNet board.now pin.net
+            (λ net. result ≡ is_tested_driver board.now net pin.place) }
         ensures meant { IsTrue result ↔ IsTestedDriver board.now pin.net pin.place }
     {
         law::terms_decided();
@@ -286,7 +290,8 @@ impl Classes {
     pub fn receiver_tested(&self, board: &Board, pin: PinRef) -> bool
         requires classes { AreClasses board.now self.now }
         requires pin { IsOnBoard board.now pin }
-        ensures decided { OfNet board.now pin.net (λ net. result ≡ is_tested_receiver board.now net pin.place) }
+        ensures decided { HoldsOfNet board.now pin.net
+            (λ net. result ≡ is_tested_receiver board.now net pin.place) }
         ensures meant { IsTrue result ↔ IsTestedReceiver board.now pin.net pin.place }
     {
         law::terms_decided();
@@ -299,7 +304,9 @@ impl Classes {
         requires classes { AreClasses board.now self.now }
         requires first { a < length board.now.nets }
         requires second { b < length board.now.nets }
-        ensures decided { a ≢ b → OfNet board.now a (λ one. OfNet board.now b (λ two. result ≡ are_paired board.now one two)) }
+        ensures decided { a ≢ b
+            → HoldsOfNet board.now a
+            (λ one. HoldsOfNet board.now b (λ two. result ≡ are_paired board.now one two)) }
         ensures meant { IsTrue result ↔ ArePaired board.now a b }
     {
         law::terms_decided();

@@ -19,15 +19,19 @@ use Rattle.net_facts.specs.Facts.{pin_facts_of, net_facts_of}
 use Rattle.net_facts.specs.inner.Facts.{drive_from, drive_where_in, pin_facts_in, pins_in, net_facts_in}
 use Rattle.net_facts.proofs.Answered.{map_same}
 
-drive_from_is : (board : RawBoard) (net : Net) (part : ℕ) (cell : Cell) (ctl : Option Control) → drive_from (guarded board net) net.pull part cell ctl ≡ drive_by board net part cell ctl
+drive_from_is : (board : RawBoard) (net : Net) (part : ℕ) (cell : Cell) (ctl : Option Control)
+    → drive_from (guarded board net) net.pull part cell ctl ≡ drive_by board net part cell ctl
 drive_from_is board net part cell None = refl
 drive_from_is board net part cell (Some control) = refl
 
-drive_is : (board : RawBoard) (net : Net) (at : Option PinAt) → drive_where_in board (guarded board net) net.pull at ≡ drive_where board net at
+drive_is : (board : RawBoard) (net : Net) (at : Option PinAt)
+    → drive_where_in board (guarded board net) net.pull at ≡ drive_where board net at
 drive_is board net None = refl
 drive_is board net (Some at) = by_entry (entry_at board at)
   where
-    by_entry : (entry : Option Cell) → option_map (λ cell. drive_from (guarded board net) net.pull at.part cell cell.ctl) entry ≡ option_map (λ cell. drive_by board net at.part cell cell.ctl) entry
+    by_entry : (entry : Option Cell)
+        → option_map (λ cell. drive_from (guarded board net) net.pull at.part cell cell.ctl) entry
+        ≡ option_map (λ cell. drive_by board net at.part cell cell.ctl) entry
     by_entry None = refl
     by_entry (Some cell) = ap Some (drive_from_is board net at.part cell cell.ctl)
 
@@ -43,11 +47,15 @@ any_either f g (x ∷ xs) = turn (f x) (g x) (list_any f xs) (list_any g xs) ∙
 
 -- If some item satisfies `f`, then `s` is true or some item satisfies `f` or `g`. So testing this condition first does not change whether
 -- some item satisfies `f`. The same is true for `g`.
-any_guarded : {X : Type 0} (s : Bool) (f g : X → Bool) (xs : List X) → ((s || list_any (λ x. f x || g x) xs) && list_any f xs ≡ list_any f xs) × ((s || list_any (λ x. f x || g x) xs) && list_any g xs ≡ list_any g xs)
+any_guarded : {X : Type 0} (s : Bool) (f g : X → Bool) (xs : List X)
+    → ((s || list_any (λ x. f x || g x) xs) && list_any f xs ≡ list_any f xs)
+    × ((s || list_any (λ x. f x || g x) xs) && list_any g xs ≡ list_any g xs)
 any_guarded true f g xs = (refl, refl)
 any_guarded false f g xs =
-    let any = any_either f g xs in
-    (ap (λ t. t && list_any f xs) (sym any) ∙ first (list_any f xs) (list_any g xs), ap (λ t. t && list_any g xs) (sym any) ∙ second (list_any f xs) (list_any g xs))
+    let any = any_either f g xs in (
+      ap (λ t. t && list_any f xs) (sym any) ∙ first (list_any f xs) (list_any g xs),
+      ap (λ t. t && list_any g xs) (sym any) ∙ second (list_any f xs) (list_any g xs),
+    )
   where
     first : (a b : Bool) → ((a || b) && a) ≡ a
     first true b = refl
@@ -60,9 +68,14 @@ any_guarded false f g xs =
     second false false = refl
 
 pins_are : (board : RawBoard) (net : Net) → pins_in board (guarded board net) net ≡ map (pin_facts_of board net) net.pins
-pins_are board net = map_same (pin_facts_in board (guarded board net) net.pull) (pin_facts_of board net) (λ p. same p.at _ _ (receives board p) (drive_is board net p.at)) net.pins
+pins_are board net =
+    map_same (pin_facts_in board (guarded board net) net.pull) (pin_facts_of board net)
+    (λ p. same p.at _ _ (receives board p) (drive_is board net p.at)) net.pins
   where
-    same : (at : Option PinAt) (d e : Option Drive) (r : Bool) → d ≡ e → let x : PinFacts = record { at = at; drive = d; receives = r } in let y : PinFacts = record { at = at; drive = e; receives = r } in x ≡ y
+    same : (at : Option PinAt) (d e : Option Drive) (r : Bool) → d ≡ e → let x : PinFacts =
+        record { at = at; drive = d; receives = r } in
+        let y : PinFacts = record { at = at; drive = e; receives = r } in
+        x ≡ y
     same at d e r h = cc
 
 pub facts_are : (board : RawBoard) (net : Net) → net_facts_in board (guarded board net) net ≡ net_facts_of board net
@@ -71,26 +84,52 @@ facts_are board net =
     same _ _ _ _ _ _ _ _
     any.0
     any.1
-    (ap (λ ps. guarded board net || list_any on ps) (pins_are board net) ∙ ap (λ t. guarded board net || t) (list_any-map (pin_facts_of board net) on net.pins))
+    (ap (λ ps. guarded board net || list_any on ps) (pins_are board net)
+    ∙ ap (λ t. guarded board net || t) (list_any-map (pin_facts_of board net) on net.pins))
     (pins_are board net)
   where
     on : PinFacts → Bool
     on pin = is_always_on pin.drive
 
     same : (t t' d d' k k' : Bool) (pins pins' : List PinFacts) → t ≡ t' → d ≡ d' → k ≡ k' → pins ≡ pins' →
-        let x : NetFacts = record { supply = net.supply; pull = net.pull; test_port = t; dark = d; guarded = guarded board net; closed = k; pins = pins } in
-        let y : NetFacts = record { supply = net.supply; pull = net.pull; test_port = t'; dark = d'; guarded = guarded board net; closed = k'; pins = pins' } in x ≡ y
+        let x : NetFacts = record {
+          supply = net.supply;
+          pull = net.pull;
+          test_port = t;
+          dark = d;
+          guarded = guarded board
+              net;
+          closed = k;
+          pins = pins;
+        } in
+        let y : NetFacts = record {
+          supply = net.supply;
+          pull = net.pull;
+          test_port = t';
+          dark = d';
+          guarded = guarded
+              board net;
+          closed = k';
+          pins = pins';
+        } in
+        x ≡ y
     same t t' d d' k k' pins pins' e f h i = cc
 
 -- if `before` has the facts about the first `n` nets, appending the facts about net `n` gives the facts about the first `n + 1` nets
-pub facts_more : (board : RawBoard) (nets : List Net) (n : ℕ) (net : Net) (flag : Bool) (before : List NetFacts) → nets ≡ board.nets → n < length nets → net ≡ get_or nets n net → flag ≡ guarded_at board n →
-    before ≡ map (net_facts_of board) (take n board.nets) → before ++ net_facts_in board flag net ∷ [] ≡ map (net_facts_of board) (take (n + 1) board.nets)
+pub facts_more : (board : RawBoard) (nets : List Net) (n : ℕ) (net : Net) (flag : Bool)
+    (before : List NetFacts) → nets ≡ board.nets → n < length nets → net ≡ get_or nets n net
+    → flag ≡ guarded_at board n →
+    before ≡ map (net_facts_of board) (take n board.nets)
+    → before ++ net_facts_in board flag net ∷ []
+    ≡ map (net_facts_of board) (take (n + 1) board.nets)
 facts_more board nets n net flag before same less is guards done =
     let at : slice_get board.nets n ≡ Some net = ap (λ l. slice_get l n) (sym same) ∙ slice_get-get_or nets n net less ∙ ap Some (sym is) in
     let flagged : flag ≡ guarded board net = guards ∙ ap (guarded_of board) at in
     let facts : net_facts_in board flag net ≡ net_facts_of board net = ap (λ t. net_facts_in board t net) flagged ∙ facts_are board net in
     let taken : take (n + 1) board.nets ≡ take n board.nets ++ net ∷ [] =
-    ap (take (n + 1)) (sym same) ∙ take_more nets n net less ∙ ap (λ l. take n l ++ get_or nets n net ∷ []) same ∙ ap (λ x. take n board.nets ++ x ∷ []) (sym is) in
+    ap (take (n + 1)) (sym same) ∙ take_more nets n net less
+    ∙ ap (λ l. take n l ++ get_or nets n net ∷ []) same
+    ∙ ap (λ x. take n board.nets ++ x ∷ []) (sym is) in
     ap (λ l. l ++ net_facts_in board flag net ∷ []) done
     ∙ ap (λ f. map (net_facts_of board) (take n board.nets) ++ f ∷ []) facts
     ∙ sym (map-append (net_facts_of board) (take n board.nets) (net ∷ []))

@@ -16,7 +16,8 @@ update_past i f [] h = refl
 update_past zero f (x ∷ xs) h = absurd (omega arith)
 update_past (suc i) f (x ∷ xs) h = ap (λ ys. x ∷ ys) (update_past i f xs (omega arith))
 
-pub set_is_update : {X : Type 0} (i : ℕ) (f : X → X) (xs : List X) (x : X) → i < length xs → x ≡ get_or xs i x → set xs i (f x) ≡ update_at i f xs
+pub set_is_update : {X : Type 0} (i : ℕ) (f : X → X) (xs : List X) (x : X) → i < length xs
+    → x ≡ get_or xs i x → set xs i (f x) ≡ update_at i f xs
 set_is_update i f [] x h e = absurd (omega arith)
 set_is_update zero f (y ∷ xs) x h e = ap (λ z. f z ∷ xs) e
 set_is_update (suc i) f (y ∷ xs) x h e = ap (λ ys. y ∷ ys) (set_is_update i f xs x (omega arith) e)
@@ -25,7 +26,9 @@ pub on_ok_map : {T E : Type 0} (r : Result T E) (P Q : Type 0) → (P → Q) →
 on_ok_map (Ok x) P Q f h = f h
 on_ok_map (Err e) P Q f h = h
 
-pub set_row : {X : Type 0} (rows : List (Vec X Global)) (i : ℕ) (d new : Vec X Global) (f : List X → List X) → i < length rows → new.items ≡ f (get_or rows i d).items → table (set rows i new) ≡ update_at i f (table rows)
+pub set_row : {X : Type 0} (rows : List (Vec X Global)) (i : ℕ) (d new : Vec X Global)
+    (f : List X → List X) → i < length rows → new.items ≡ f (get_or rows i d).items
+    → table (set rows i new) ≡ update_at i f (table rows)
 set_row [] i d new f h k = absurd (omega arith)
 set_row (y ∷ rows) zero d new f h k = ap (λ z. z ∷ table rows) k
 set_row (y ∷ rows) (suc i) d new f h k = ap (λ ys. y.items ∷ ys) (set_row rows i d new f (omega arith) k)
@@ -34,10 +37,15 @@ pub length_table : {X : Type 0} (rows : List (Vec X Global)) → length (table r
 length_table [] = refl
 length_table (y ∷ rows) = ap (λ n. suc n) (length_table rows)
 
-pub note_nets_more : (nets : List NetFacts) (i : ℕ) (x : NetFacts) (rows : List (List ControlClass)) → i < length nets → x ≡ get_or nets i x → note_nets nets (i + 1) rows ≡ note_pins i x.closed (note_nets nets i rows) x.pins
+pub note_nets_more : (nets : List NetFacts) (i : ℕ) (x : NetFacts) (rows : List (List ControlClass))
+    → i < length nets → x ≡ get_or nets i x
+    → note_nets nets (i + 1) rows ≡ note_pins i x.closed (note_nets nets i rows) x.pins
 note_nets_more nets i x rows h e =
     let got : slice_get nets i ≡ Some x = slice_get-get_or nets i x h ∙ ap Some (sym e) in
-    ap (λ k. note_nets nets k rows) (add-one i) ∙ (let F : Option NetFacts → List (List ControlClass) = λ w. note_net i w (note_nets nets i rows) in ap F got)
+    ap (λ k. note_nets nets k rows) (add-one i)
+    ∙ (let F : Option NetFacts
+    → List (List ControlClass) = λ w. note_net i w (note_nets nets i rows) in
+    ap F got)
 
 -- if an item is appended to a list, the items before it stay the same
 get_front : {X : Type 0} (xs : List X) (x : X) (k : ℕ) → k < length xs → slice_get (xs ++ x ∷ []) k ≡ slice_get xs k
@@ -65,10 +73,13 @@ copies_get x (suc n) k h = by_last (k == n) refl (copies_get x n k)
   where
     by_last : (t : Bool) → (k == n) ≡ t → (k < n → slice_get (copies x n) k ≡ Some x) → slice_get (copies x n ++ x ∷ []) k ≡ Some x
     by_last true e rest = get_end (copies x n) x k (eqb-true k n e ∙ sym (copies_length x n))
-    by_last false e rest = let less : k < n = grind arith in get_front (copies x n) x k (let l = copies_length x n in omega arith) ∙ rest less
+    by_last false e rest =
+        let less : k < n = grind arith in
+        get_front (copies x n) x k (let l = copies_length x n in omega arith) ∙ rest less
 
 -- if `new` is `f` of the item at place `i`, writing `new` at place `i` gives the same list as `update_at i f`
-pub set_value : {X : Type 0} (i : ℕ) (f : X → X) (xs : List X) (d new : X) → i < length xs → new ≡ f (get_or xs i d) → set xs i new ≡ update_at i f xs
+pub set_value : {X : Type 0} (i : ℕ) (f : X → X) (xs : List X) (d new : X) → i < length xs
+    → new ≡ f (get_or xs i d) → set xs i new ≡ update_at i f xs
 set_value i f [] d new h e = absurd (omega arith)
 set_value zero f (y ∷ xs) d new h e = ap (λ z. z ∷ xs) e
 set_value (suc i) f (y ∷ xs) d new h e = ap (λ ys. y ∷ ys) (set_value i f xs d new (omega arith) e)
@@ -78,6 +89,10 @@ table_end : {Y : Type 0} (made : List (Vec Y Global)) (row : Vec Y Global) → t
 table_end [] row = refl
 table_end (first ∷ made) row = ap (λ ys. first.items ∷ ys) (table_end made row)
 
-pub table_more : {X Y : Type 0} (f : X → List Y) (rows : List X) (i : ℕ) (x : X) (made after : List (Vec Y Global)) (row : Vec Y Global) → i < length rows → x ≡ get_or rows i x → table made ≡ map f (take i rows) → row.items ≡ f x → after ≡ made ++ row ∷ [] → table after ≡ map f (take (i + 1) rows)
+pub table_more : {X Y : Type 0} (f : X → List Y) (rows : List X) (i : ℕ) (x : X)
+    (made after : List (Vec Y Global)) (row : Vec Y Global) → i < length rows → x ≡ get_or rows i x
+    → table made ≡ map f (take i rows) → row.items ≡ f x → after ≡ made ++ row ∷ []
+    → table after ≡ map f (take (i + 1) rows)
 table_more f rows i x made after row less at before is e =
-    ap table e ∙ table_end made row ∙ ap (λ ys. ys ++ row.items ∷ []) before ∙ ap (λ y. map f (take i rows) ++ y ∷ []) (is ∙ ap f at) ∙ sym (map_more f rows i x less)
+    ap table e ∙ table_end made row ∙ ap (λ ys. ys ++ row.items ∷ []) before
+    ∙ ap (λ y. map f (take i rows) ++ y ∷ []) (is ∙ ap f at) ∙ sym (map_more f rows i x less)

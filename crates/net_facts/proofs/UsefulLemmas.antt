@@ -28,9 +28,12 @@ cells_are part (Bypass n) = refl
 abbrev pub cells_upto : List Part → ℕ → List Ctl
 cells_upto chain k = flat_map (λ part. cells_of part.0 part.1.kind) (enumerate_from 0 (take k chain))
 
-enumerate_end : {X : Type 0} (n : ℕ) (xs : List X) (x : X) → enumerate_from n (xs ++ x ∷ []) ≡ enumerate_from n xs ++ (n + length xs, x) ∷ []
+enumerate_end : {X : Type 0} (n : ℕ) (xs : List X) (x : X)
+    → enumerate_from n (xs ++ x ∷ []) ≡ enumerate_from n xs ++ (n + length xs, x) ∷ []
 enumerate_end n [] x = ap (λ k. (k, x) ∷ []) (omega arith)
-enumerate_end n (y ∷ xs) x = ap (λ zs. (n, y) ∷ zs) (enumerate_end (n + 1) xs x ∙ ap (λ k. enumerate_from (n + 1) xs ++ (k, x) ∷ []) (omega arith))
+enumerate_end n (y ∷ xs) x =
+    ap (λ zs. (n, y) ∷ zs)
+    (enumerate_end (n + 1) xs x ∙ ap (λ k. enumerate_from (n + 1) xs ++ (k, x) ∷ []) (omega arith))
 
 pub cells_more : (p : Ctl → Bool) (chain : List Part) (i : ℕ) (part : Part) → i < length chain → part ≡ get_or chain i part →
     filter p (cells_upto chain (i + 1)) ≡ filter p (cells_upto chain i) ++ filter p (cells_of i part.kind)
@@ -39,8 +42,12 @@ cells_more p chain i part h e =
     let n = length-take-le i chain (omega arith) in
     let l : 0 + length (take i chain) ≡ i = omega (arith, n) in
     ap (λ xs. filter p (flat_map f (enumerate_from 0 xs))) (take_more chain i part h ∙ ap (λ x. take i chain ++ x ∷ []) (sym e)) ∙
-    ap (λ xs. filter p (flat_map f xs)) (enumerate_end 0 (take i chain) part ∙ ap (λ k. enumerate_from 0 (take i chain) ++ (k, part) ∷ []) l) ∙
-    ap (filter p) (flat_map-append f (enumerate_from 0 (take i chain)) ((i, part) ∷ []) ∙ ap (λ ys. cells_upto chain i ++ ys) (append-nil (cells_of i part.kind))) ∙
+    ap (λ xs. filter p (flat_map f xs))
+    (enumerate_end 0 (take i chain) part
+    ∙ ap (λ k. enumerate_from 0 (take i chain) ++ (k, part) ∷ []) l) ∙
+    ap (filter p)
+    (flat_map-append f (enumerate_from 0 (take i chain)) ((i, part) ∷ [])
+    ∙ ap (λ ys. cells_upto chain i ++ ys) (append-nil (cells_of i part.kind))) ∙
     filter-append p (cells_upto chain i) (cells_of i part.kind)
 
 joined : (xs ys zs : List Ctl) → (xs ++ ys) ++ zs ≡ xs ++ (ys ++ zs)
@@ -49,15 +56,21 @@ joined (x ∷ xs) ys zs = ap (λ v. x ∷ v) (joined xs ys zs)
 
 -- If `before` ends with the cells of the part below `cell` that satisfy `p`, and cell `cell` is appended if it satisfies `p`, then `after`
 -- ends with the cells below `cell + 1` that satisfy `p`.
-pub cell_more : (p : Ctl → Bool) (part cell : ℕ) (initial before after : List Ctl) (t : Bool) → before ≡ initial ++ filter p (map (cell_in part) (range_with_len 0 cell)) → t ≡ p (cell_in part cell) → after ≡ before ++ cond t (cell_in part cell ∷ []) [] →
+pub cell_more : (p : Ctl → Bool) (part cell : ℕ) (initial before after : List Ctl) (t : Bool)
+    → before ≡ initial ++ filter p (map (cell_in part) (range_with_len 0 cell))
+    → t ≡ p (cell_in part cell) → after ≡ before ++ cond t (cell_in part cell ∷ []) [] →
     after ≡ initial ++ filter p (map (cell_in part) (range_with_len 0 (cell + 1)))
 cell_more p part cell initial before after t e f g =
     let kept : List Ctl = filter p (map (cell_in part) (range_with_len 0 cell)) in
-    g ∙ ap (λ v. v ++ cond t (cell_in part cell ∷ []) []) e ∙ ap (λ b. (initial ++ kept) ++ cond b (cell_in part cell ∷ []) []) f ∙ joined initial kept (cond (p (cell_in part cell)) (cell_in part cell ∷ []) []) ∙
+    g ∙ ap (λ v. v ++ cond t (cell_in part cell ∷ []) []) e
+    ∙ ap (λ b. (initial ++ kept) ++ cond b (cell_in part cell ∷ []) []) f
+    ∙ joined initial kept (cond (p (cell_in part cell)) (cell_in part cell ∷ []) []) ∙
     ap (λ v. initial ++ v) (sym (filter_of_map_range_with_len_more p (cell_in part) 0 cell cell (omega arith)))
 
 pub cells_whole : (board : RawBoard) (k : ℕ) → length board.chain ≤ k → cells_upto board.chain k ≡ all_cells board
-cells_whole board k h = ap (λ xs. flat_map (λ (part : ℕ × Part). cells_of part.0 part.1.kind) (enumerate_from 0 xs)) (take_all k board.chain h)
+cells_whole board k h =
+    ap (λ xs. flat_map (λ (part : ℕ × Part). cells_of part.0 part.1.kind) (enumerate_from 0 xs))
+    (take_all k board.chain h)
 
 -- each item in the list of all cells is a boundary cell of a described part
 pub has_cell : (board : RawBoard) (c : Ctl) → Has (all_cells board) c → IsCell board c
@@ -83,9 +96,14 @@ has_cell board c h =
 
 pub filter_on : {X : Type 0} (p q : X → Bool) (xs : List X) → ((x : X) → Has xs x → p x ≡ q x) → filter p xs ≡ filter q xs
 filter_on p q [] h = refl
-filter_on p q (x ∷ xs) h = ap (λ t. cond t (x ∷ filter p xs) (filter p xs)) (h x (inl refl)) ∙ ap (λ ys. cond (q x) (x ∷ ys) ys) (filter_on p q xs (λ y k. h y (inr k)))
+filter_on p q (x ∷ xs) h =
+    ap (λ t. cond t (x ∷ filter p xs) (filter p xs)) (h x (inl refl))
+    ∙ ap (λ ys. cond (q x) (x ∷ ys) ys) (filter_on p q xs (λ y k. h y (inr k)))
 
 pub useful_cells : (board : RawBoard) (useful : List Ctl) → useful ≡ useful_controls board → All (IsCell board) useful
 useful_cells board useful e k d less =
     let P : List Ctl → Type 0 = λ v. Has v (slice_index_or useful k d) in
-    has_cell board (slice_index_or useful k d) (filter_has (is_useful board) (all_cells board) (slice_index_or useful k d) (subst P e (has_at useful k (slice_index_or useful k d) (slice_get-get_or useful k d less)))).0
+    has_cell board (slice_index_or useful k d)
+    (filter_has (is_useful board) (all_cells board) (slice_index_or useful k d)
+    (subst P e
+    (has_at useful k (slice_index_or useful k d) (slice_get-get_or useful k d less)))).0

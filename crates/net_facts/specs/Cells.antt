@@ -8,8 +8,8 @@ abbrev pub table : {X : Type 0} → List (Vec X Global) → List (List X)
 table rows = map (λ row. row.items) rows
 
 -- the item of a cell, if the table has one
-abbrev pub item_of : {X : Type 0} → List (List X) → Ctl → Option X
-item_of rows c = option_and_then (λ row. slice_get row c.cell) (slice_get rows c.part)
+abbrev pub item_of_cell : {X : Type 0} → List (List X) → Ctl → Option X
+item_of_cell rows c = option_and_then (λ row. slice_get row c.cell) (slice_get rows c.part)
 
 -- there is a flag, and it is set
 abbrev pub holds_there : Option Bool → Bool
@@ -31,5 +31,5 @@ abbrev pub put : {X : Type 0} → X → X → X
 put item before = item
 
 -- the table `rows` with every item replaced by `item`
-abbrev pub filled : {X Y : Type 0} → Y → List (List X) → List (List Y)
-filled item rows = map (λ row. map (λ before. item) row) rows
+abbrev pub filled_with : {X Y : Type 0} → Y → List (List X) → List (List Y)
+filled_with item rows = map (λ row. map (λ before. item) row) rows

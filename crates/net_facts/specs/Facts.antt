@@ -14,4 +14,15 @@ abbrev pub pin_facts_of : RawBoard → Net → NetPin → PinFacts
 pin_facts_of board net pin = record { at = pin.at; drive = drive board net pin; receives = receives board pin }
 
 abbrev pub net_facts_of : RawBoard → Net → NetFacts
-net_facts_of board net = record { supply = net.supply; pull = net.pull; test_port = list_any (is_test_pin board) net.pins; dark = list_any (is_dark board) net.pins; guarded = guarded board net; closed = is_closed board net; pins = map (pin_facts_of board net) net.pins }
+net_facts_of board net =
+    record {
+      supply = net.supply;
+      pull = net.pull;
+      test_port = list_any (is_test_pin board) net.pins;
+      dark
+          = list_any (is_dark board) net.pins;
+      guarded = guarded board net;
+      closed = is_closed board
+          net;
+      pins = map (pin_facts_of board net) net.pins;
+    }

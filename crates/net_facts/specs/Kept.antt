@@ -15,7 +15,7 @@ use Rattle.net_facts.specs.declared.classes.PinClass.{PinClass}
 use Rattle.net_facts.specs.declared.classes.NetClass.{NetClass}
 use Rattle.net_facts.specs.declared.classes.ControlClass.{ControlClass}
 use Rattle.net_facts.specs.declared.classes.BoardFacts.{BoardFacts}
-use Rattle.net_facts.specs.Cells.{item_of, table}
+use Rattle.net_facts.specs.Cells.{item_of_cell, table}
 use Rattle.net_facts.specs.Facts.{net_facts_of}
 
 -- there is a net, and control `c` enables a driver on it
@@ -49,11 +49,25 @@ shared_nets board c = filter (λ n. contends_there board c (slice_get board.nets
 
 -- the class of the pin at `place` of the net
 abbrev pub pin_class_of : RawBoard → Net → ℕ → PinClass
-pin_class_of board net place = record { driver_tested = is_tested_driver board net place; receiver_tested = is_tested_receiver board net place; drives = is_some (place_drive board net place); receives = receives_of board (slice_get net.pins place) }
+pin_class_of board net place =
+    record {
+      driver_tested = is_tested_driver board net place;
+      receiver_tested = is_tested_receiver board
+          net place;
+      drives = is_some (place_drive board net place);
+      receives = receives_of board
+          (slice_get net.pins place);
+    }
 
 -- the class of a net
 abbrev pub net_class_of : RawBoard → Net → NetClass
-net_class_of board net = record { reason = reason_of board net; drivers = tested_drivers board net; pins = map (pin_class_of board net) (range_with_len 0 (length net.pins)) }
+net_class_of board net =
+    record {
+      reason = reason_of board net;
+      drivers = tested_drivers board net;
+      pins = map
+          (pin_class_of board net) (range_with_len 0 (length net.pins));
+    }
 
 -- the class of a control
 abbrev pub control_class_of : RawBoard → Ctl → ControlClass
@@ -63,6 +77,6 @@ control_class_of board c = record { nets = driven_nets board c; safe = is_safe_a
 pub record AreBoardFacts (board : RawBoard) (known : BoardFacts) : Type 0 where
   pub facts_are : known.facts.items ≡ map (net_facts_of board) board.nets
   pub nets_are : known.nets.items ≡ map (net_class_of board) board.nets
-  pub controls_are : (c : Ctl) → IsCell board c → item_of (table known.controls.items) c ≡ Some (control_class_of board c)
+  pub controls_are : (c : Ctl) → IsCell board c → item_of_cell (table known.controls.items) c ≡ Some (control_class_of board c)
   pub useful_are : known.useful.items ≡ useful_controls board
-  pub shared_are : (c : Ctl) → IsCell board c → item_of (table known.shared.items) c ≡ Some (shared_nets board c)
+  pub shared_are : (c : Ctl) → IsCell board c → item_of_cell (table known.shared.items) c ≡ Some (shared_nets board c)

@@ -1,13 +1,13 @@
 // Tables with one item for each boundary cell of each part.
 ghost use Rattle.std.specs.Prelude.{◌≡◌, map, IfOk};
-ghost use Rattle.net_facts.specs.Cells.{item_of, table, filled, put, at_control, update_at};
+ghost use Rattle.net_facts.specs.Cells.{item_of_cell, table, filled_with, put, at_control, update_at};
 
 use board_defs::Ctl;
 use std::alloc::{AllocError, Global};
 
 /// Returns the item of the cell, or None if the table has no such cell.
 pub fn item_at<T: Copy>(rows: &[Vec<T>], c: Ctl) -> Option<T>
-    ensures { result ≡ item_of (table rows.now) c }
+    ensures { result ≡ item_of_cell (table rows.now) c }
 {
     match rows.get(c.part as usize) {
         None => None,
@@ -46,7 +46,7 @@ pub fn filled_table<S, T: Copy>(
     rows: &[Vec<S>],
     item: T,
 ) -> Result<Vec<Vec<T>>, AllocError>
-    ensures { IfOk result (λ made. table made.items ≡ filled item (table rows.now)) }
+    ensures { IfOk result (λ made. table made.items ≡ filled_with item (table rows.now)) }
 {
     let mut made = Vec::with_capacity(alloc, rows.len())?;
     for row in rows {

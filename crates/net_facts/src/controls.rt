@@ -3,10 +3,10 @@
 ghost use Rattle.std.specs.Prelude.{◌≡◌, ◌<◌, ◌≤◌, length, fold, map, OnOk, IfOk};
 ghost use Rattle.board_defs.specs.Limits.{most_bits, most_nets};
 ghost use Rattle.board_defs.specs.Pins.{cell_count, described};
-ghost use Rattle.board_defs.specs.Decided.{own_control, port_bits};
+ghost use Rattle.board_defs.specs.Decided.{own_control, count_port_bits};
 ghost use Rattle.net_facts.specs.Cells.{table, at_control, update_at};
 ghost use Rattle.net_facts.specs.Facts.{net_facts_of};
-ghost use Rattle.net_facts.specs.inner.Rows.{added, block_bits, block_parts, block_where, ends_with, copies, fresh, fresh_rows, made_rows, mark_drive, mark_nets, note_drive, note_nets, note_pins, unsafe_too, useful_too};
+ghost use Rattle.net_facts.specs.inner.Rows.{with_one_driver, block_bits, block_parts, block_where, ends_with, copies, fresh, fresh_rows, made_rows, mark_drive, mark_nets, note_drive, note_nets, note_pins, unsafe_too, useful_too};
 
 use crate::classes::{ControlClass, NetClass};
 use crate::facts::{NetFacts, PinFacts};
@@ -27,7 +27,7 @@ fn is_last(nets: &[u32], net: u32) -> bool
 /// Notes that the control has one more driver, on net number `net`. `closed` says that no control may enable a driver
 /// of this net.
 fn add(row: &mut ControlClass, net: u32, closed: bool) -> Result<(), AllocError>
-    ensures { OnOk result (row.new ≡ added net closed row.old) }
+    ensures { OnOk result (row.new ≡ with_one_driver net closed row.old) }
 {
     if is_last(row.nets.as_slice(), net) {
         row.safe = false;
@@ -44,7 +44,8 @@ fn add_in_part(
     net: u32,
     closed: bool,
 ) -> Result<(), AllocError>
-    ensures { OnOk result (row.new.items ≡ update_at cell (added net closed) row.old.items) }
+    ensures { OnOk result
+        (row.new.items ≡ update_at cell (with_one_driver net closed) row.old.items) }
 {
     if (cell as usize) < row.len() {
         add(&mut row[cell as usize], net, closed)
@@ -54,7 +55,8 @@ fn add_in_part(
 }
 
 fn add_at(rows: &mut [Vec<ControlClass>], c: Ctl, net: u32, closed: bool) -> Result<(), AllocError>
-    ensures { OnOk result (table rows.new ≡ at_control c (added net closed) (table rows.old)) }
+    ensures { OnOk result
+        (table rows.new ≡ at_control c (with_one_driver net closed) (table rows.old)) }
 {
     if (c.part as usize) < rows.len() {
         add_in_part(&mut rows[c.part as usize], c.cell, net, closed)
@@ -198,8 +200,9 @@ fn fresh_table(alloc: Global, chain: &[Part]) -> Result<Vec<Vec<ControlClass>>, 
 
 /// If the driver of the port bit is one-sided, marks its control as unsafe.
 fn block_pin(rows: &mut [Vec<ControlClass>], board: &PulledBoard<'_, '_>, at: PinAt)
-    requires { at.bit < port_bits board.now at.part }
-    ensures { table rows.new ≡ block_where board.now at (own_control board.now at) (table rows.old) }
+    requires { at.bit < count_port_bits board.now at.part }
+    ensures { table rows.new
+        ≡ block_where board.now at (own_control board.now at) (table rows.old) }
 {
     match board.own_control(at) {
         None => {}
@@ -216,8 +219,9 @@ fn block_pin(rows: &mut [Vec<ControlClass>], board: &PulledBoard<'_, '_>, at: Pi
 }
 
 fn block_part(rows: &mut [Vec<ControlClass>], board: &PulledBoard<'_, '_>, part: u32)
-    requires { port_bits board.now part ≤ most_bits }
-    ensures { table rows.new ≡ block_bits board.now part (port_bits board.now part) (table rows.old) }
+    requires { count_port_bits board.now part ≤ most_bits }
+    ensures { table rows.new
+        ≡ block_bits board.now part (count_port_bits board.now part) (table rows.old) }
 {
     for bit in 0..board.port_bits(part) {
         block_pin(

@@ -135,7 +135,8 @@ fn all_pin_facts(
     guarded: bool,
     net: &Net,
 ) -> Result<Few<PinFacts>, AllocError>
-    ensures { IfOk result (λ facts. facts ≡ map (pin_facts_in board.now guarded net.now.pull) net.now.pins) }
+    ensures { IfOk result
+        (λ facts. facts ≡ map (pin_facts_in board.now guarded net.now.pull) net.now.pins) }
 {
     let mut facts = Few::with_capacity(alloc, net.pins.len())?;
     for pin in net.pins.as_slice() {

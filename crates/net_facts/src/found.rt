@@ -1,7 +1,7 @@
 // The places at which the items of a list satisfy a predicate. At most one of these places is remembered.
 ghost use Rattle.std.specs.Prelude.{◌≡◌, ◌↔◌, IsTrue, if◌then◌else◌};
 ghost use Rattle.net_facts.specs.Found.{IsAscending, Meet};
-ghost use Rattle.net_facts.specs.inner.Found.{is_elsewhere_of, with_place};
+ghost use Rattle.net_facts.specs.inner.Found.{is_elsewhere_of, found_with};
 
 #[derive(Clone, Copy)]
 pub enum Found {
@@ -12,7 +12,7 @@ pub enum Found {
 
 impl Found {
     fn with(self, place: usize) -> Found
-        ensures { result ≡ with_place self place }
+        ensures { result ≡ found_with self place }
     {
         match self {
             Found::Nowhere => Found::At(place),
@@ -23,7 +23,7 @@ impl Found {
 
     /// Returns these places with `place` added if `passes` is true.
     pub fn with_if(self, place: usize, passes: bool) -> Found
-        ensures { result ≡ (if passes then with_place self place else self) }
+        ensures { result ≡ (if passes then found_with self place else self) }
     {
         if passes { self.with(place) } else { self }
     }

@@ -1,7 +1,7 @@
 // A board with tables of the port bits that are on pulled nets. These port bits decide which drivers are one-sided.
 ghost use Rattle.std.specs.Prelude.{◌≡◌, ◌<◌, length, map, option_and_then, IfOk};
 ghost use Rattle.board_defs.specs.BoardRules.{IsBoard};
-ghost use Rattle.board_defs.specs.Decided.{is_switching, own_control, own_where, port_bits};
+ghost use Rattle.board_defs.specs.Decided.{is_switching, own_control, own_where, count_port_bits};
 ghost use Rattle.board_defs.specs.Pins.{is_pinned};
 ghost use Rattle.net_facts.specs.Facts.{net_facts_of};
 
@@ -95,7 +95,7 @@ impl<'a, 'b> PulledBoard<'a, 'b> {
 
     /// Returns the number of port bits of the part. A part without a description has none.
     pub fn port_bits(&self, part: u32) -> usize
-        ensures { result ≡ port_bits self.now part }
+        ensures { result ≡ count_port_bits self.now part }
     {
         match self.board.raw().device(part) {
             None => 0,
@@ -119,7 +119,7 @@ impl<'a, 'b> PulledBoard<'a, 'b> {
 
     /// Returns whether the pin at `at` is on an unguarded net that is pulled to `value`.
     pub fn is_switching(&self, at: PinAt, value: bool) -> bool
-        requires { at.bit < port_bits self.now at.part }
+        requires { at.bit < count_port_bits self.now at.part }
         ensures { result ≡ is_switching self.now at value }
     {
         if value {

@@ -2,7 +2,7 @@
 ghost use Rattle.std.specs.Prelude.{◌≡◌, false, filter, map, slice_index_or, IfOk};
 ghost use Rattle.board_defs.specs.Settings.{same_ctl};
 ghost use Rattle.net_facts.specs.Cells.{table};
-ghost use Rattle.net_facts.specs.inner.Shared.{contended_in, controls_in, flags_of, shared_in, with_control, with_drive};
+ghost use Rattle.net_facts.specs.inner.Shared.{contended_in, controls_of_pins, flags_of, shared_in, with_control, with_drive};
 
 use crate::classes::ControlClass;
 use crate::facts::{NetFacts, PinFacts};
@@ -53,7 +53,7 @@ impl Controls {
 }
 
 fn controls_of(pins: &[PinFacts]) -> Controls
-    ensures { result ≡ controls_in pins.now }
+    ensures { result ≡ controls_of_pins pins.now }
 {
     let mut controls = Controls::Nobody;
     for pin in pins {
@@ -85,7 +85,8 @@ pub fn contended_nets(alloc: Global, nets: &[NetFacts]) -> Result<Vec<bool>, All
 }
 
 fn shared_of(alloc: Global, flags: &[bool], nets: &[u32]) -> Result<NetNumbers, AllocError>
-    ensures { IfOk result (λ shared. shared ≡ filter (λ n. slice_index_or flags.now n false) nets.now) }
+    ensures { IfOk result
+        (λ shared. shared ≡ filter (λ n. slice_index_or flags.now n false) nets.now) }
 {
     let mut shared = Items::none(alloc);
     for net in nets {
@@ -114,7 +115,8 @@ pub fn shared_table(
     flags: &[bool],
     rows: &[Vec<ControlClass>],
 ) -> Result<Vec<Vec<NetNumbers>>, AllocError>
-    ensures { IfOk result (λ shared. table shared.items ≡ map (λ row. map (shared_in flags.now) row.items) rows.now) }
+    ensures { IfOk result
+        (λ shared. table shared.items ≡ map (λ row. map (shared_in flags.now) row.items) rows.now) }
 {
     let mut shared = Vec::with_capacity(alloc, rows.len())?;
     for row in rows {

@@ -1,8 +1,8 @@
 // The facts about nets that depend on safe settings. The code finds them from the other facts about nets and the table of the controls.
 ghost use Rattle.std.specs.Prelude.{◌≡◌, ◌++◌, [], None, if◌then◌else◌, length, map, option_copied, is_some, IfOk, OnOk};
 ghost use Rattle.std.specs.List.{cons_option, list_any, range_with_len};
-ghost use Rattle.net_facts.specs.Cells.{item_of, table};
-ghost use Rattle.net_facts.specs.inner.Answers.{class_in, drive_of, drivers_in, enabled_in, enablers_of, enables_at_place, first_reason_in, pin_class_in, reader_tested_in, readers_of, reads_at, reason_in, safe_in, tested_in, useful_in};
+ghost use Rattle.net_facts.specs.Cells.{item_of_cell, table};
+ghost use Rattle.net_facts.specs.inner.Answers.{class_in, drive_of, tested_drives_in, may_be_enabled, enablers_of, enables_at_place, first_reason_in, pin_class_in, reader_tested_in, receiver_places, reads_at, reason_in, safe_in, tested_in, useful_in};
 
 use crate::classes::{ControlClass, NetClass, PinClass};
 use crate::facts::{NetFacts, PinFacts};
@@ -12,7 +12,7 @@ use few_items::Few;
 use std::alloc::{AllocError, Global};
 
 fn row_of(rows: &[Vec<ControlClass>], c: Ctl) -> Option<&ControlClass>
-    ensures { option_copied result ≡ item_of (table rows.now) c }
+    ensures { option_copied result ≡ item_of_cell (table rows.now) c }
 {
     match rows.get(c.part as usize) {
         None => None,
@@ -42,7 +42,7 @@ pub fn is_useful(rows: &[Vec<ControlClass>], c: Ctl) -> bool
 
 /// Returns whether there is a driver that some safe setting enables.
 pub fn can_enable(rows: &[Vec<ControlClass>], drive: Option<Drive>) -> bool
-    ensures { result ≡ enabled_in (table rows.now) drive }
+    ensures { result ≡ may_be_enabled (table rows.now) drive }
 {
     match drive {
         None => false,
@@ -78,7 +78,7 @@ fn enables_at(rows: &[Vec<ControlClass>], pins: &[PinFacts], place: usize) -> bo
 
 /// Returns the places of the receivers of a net.
 fn readers(pins: &[PinFacts]) -> Found
-    ensures { result ≡ readers_of pins.now }
+    ensures { result ≡ receiver_places pins.now }
 {
     let mut found = Found::Nowhere;
     for place in 0..pins.len() {
@@ -99,7 +99,7 @@ fn enablers(rows: &[Vec<ControlClass>], pins: &[PinFacts]) -> Found
 }
 
 fn is_tested(rows: &[Vec<ControlClass>], net: &NetFacts, readers: Found, place: usize) -> bool
-    requires { readers ≡ readers_of net.now.pins }
+    requires { readers ≡ receiver_places net.now.pins }
     ensures { result ≡ tested_in (table rows.now) net.now place }
 {
     let enabled = enables_at(rows, net.pins.as_slice(), place);
@@ -126,7 +126,7 @@ fn pin_class(
     enablers: Found,
     place: usize,
 ) -> PinClass
-    requires readers { readers ≡ readers_of net.now.pins }
+    requires readers { readers ≡ receiver_places net.now.pins }
     requires enablers { enablers ≡ enablers_of (table rows.now) net.now.pins }
     ensures { result ≡ pin_class_in (table rows.now) net.now place }
 {
@@ -168,8 +168,11 @@ fn tested_pins(
     rows: &[Vec<ControlClass>],
     net: &NetFacts,
 ) -> Result<TestedPins, AllocError>
-    ensures classes { IfOk result (λ tested. tested.classes ≡ map (pin_class_in (table rows.now) net.now) (range_with_len 0 (length net.now.pins))) }
-    ensures drivers { IfOk result (λ tested. tested.drivers ≡ drivers_in (table rows.now) net.now) }
+    ensures classes { IfOk result
+        (λ tested. tested.classes
+        ≡ map (pin_class_in (table rows.now) net.now) (range_with_len 0 (length net.now.pins))) }
+    ensures drivers { IfOk result
+        (λ tested. tested.drivers ≡ tested_drives_in (table rows.now) net.now) }
 {
     let pins = net.pins.as_slice();
     let readers = readers(pins);
@@ -192,7 +195,7 @@ fn has_driver(pins: &[PinFacts]) -> bool
 }
 
 fn has_enabled(rows: &[Vec<ControlClass>], pins: &[PinFacts]) -> bool
-    ensures { result ≡ list_any (λ pin. enabled_in (table rows.now) pin.drive) pins.now }
+    ensures { result ≡ list_any (λ pin. may_be_enabled (table rows.now) pin.drive) pins.now }
 {
     pins.iter().any(|pin| can_enable(rows, pin.drive))
 }
@@ -217,7 +220,7 @@ fn first_reason(rows: &[Vec<ControlClass>], net: &NetFacts) -> Reason
 }
 
 fn reason(rows: &[Vec<ControlClass>], net: &NetFacts, drivers: &[Drive]) -> Option<Reason>
-    requires { drivers.now ≡ drivers_in (table rows.now) net.now }
+    requires { drivers.now ≡ tested_drives_in (table rows.now) net.now }
     ensures { result ≡ reason_in (table rows.now) net.now }
 {
     if drivers.len() == 0 {

@@ -26,7 +26,9 @@ fn add_part(
     part: u32,
     kind: &PartKind,
 ) -> Result<(), AllocError>
-    ensures { OnOk result (useful.new.items ≡ useful.old.items ++ filter (useful_in (table rows.now)) (cells_of part kind.now)) }
+    ensures { OnOk result
+        (useful.new.items
+        ≡ useful.old.items ++ filter (useful_in (table rows.now)) (cells_of part kind.now)) }
 {
     for cell in 0..cells_of(kind) {
         let c = Ctl { part, cell };
@@ -41,7 +43,8 @@ pub fn useful_controls(
     rows: &[Vec<ControlClass>],
     board: &BoardPins<'_>,
 ) -> Result<Vec<Ctl>, AllocError>
-    ensures { IfOk result (λ useful. useful.items ≡ filter (useful_in (table rows.now)) (all_cells board.now)) }
+    ensures { IfOk result
+        (λ useful. useful.items ≡ filter (useful_in (table rows.now)) (all_cells board.now)) }
 {
     let mut useful = Vec::new(alloc);
     for (part, item) in board.raw().chain.as_slice().iter().enumerate() {

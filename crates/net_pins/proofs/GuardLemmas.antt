@@ -6,7 +6,8 @@ use Rattle.board_defs.specs.declared.board.Net.{Net}
 use Rattle.board_defs.specs.declared.board.RawBoard.{RawBoard}
 use Rattle.board_defs.specs.Pins.{guarded, guarded_of, guarded_at}
 
-pub guarded_is : (board : RawBoard) (flags : List Bool) (n : ℕ) → flags ≡ map (guarded board) board.nets → get_or flags n false ≡ guarded_at board n
+pub guarded_is : (board : RawBoard) (flags : List Bool) (n : ℕ)
+    → flags ≡ map (guarded board) board.nets → get_or flags n false ≡ guarded_at board n
 guarded_is board flags n e =
     ap (λ (l : List Bool). get_or l n false) e
     ∙ sym (unwrap_or-slice_get (map (guarded board) board.nets) n false)

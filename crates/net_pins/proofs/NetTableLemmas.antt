@@ -11,11 +11,15 @@ use Rattle.net_pins.specs.Enabled.{drivers_on, readers_on}
 use Rattle.net_pins.specs.Tables.{AreNetTables}
 
 -- if a list has the row of each item, the row at an item's place is the item's row
-row_is : {X Y : Type 0} (f : X → List Y) (xs : List X) (rows : List (List Y)) (k : ℕ) (x : X) → rows ≡ map f xs → slice_get xs k ≡ Some x → get_or rows k [] ≡ f x
+row_is : {X Y : Type 0} (f : X → List Y) (xs : List X) (rows : List (List Y)) (k : ℕ) (x : X)
+    → rows ≡ map f xs → slice_get xs k ≡ Some x → get_or rows k [] ≡ f x
 row_is {X} {Y} f xs rows k x are e =
-    ap (λ (l : List (List Y)). get_or l k []) are ∙ get_or-map f xs k x [] (slice_get_within xs k x e) ∙ ap f (get_or_from_slice_get xs k x x e)
+    ap (λ (l : List (List Y)). get_or l k []) are
+    ∙ get_or-map f xs k x [] (slice_get_within xs k x e)
+    ∙ ap f (get_or_from_slice_get xs k x x e)
 
-module _ (board : RawBoard) (nets : NetTables) (are : AreNetTables board nets) (n : ℕ) (net : Net) (is_net : slice_get board.nets n ≡ Some net) where
+module _ (board : RawBoard) (nets : NetTables) (are : AreNetTables board nets) (n : ℕ) (net : Net)
+    (is_net : slice_get board.nets n ≡ Some net) where
   pub drivers_on_is : drivers_on nets n ≡ drivers_of board net
   drivers_on_is = row_is (drivers_of board) board.nets nets.drivers n net are.drivers_are is_net
 

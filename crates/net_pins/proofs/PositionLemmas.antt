@@ -29,18 +29,28 @@ cell_of_kind (Bypass n) cell less = absurd (omega (arith, less))
 cell_in : (parts : List Part) (part cell : ℕ) → cell < cell_count (option_and_then (λ p. described p.kind) (slice_get parts part)) →
     (part < length parts) × (bits_of (drop (suc part) parts) + cell < bits_of parts)
 cell_in [] part cell less = absurd (omega (arith, less))
-cell_in (p ∷ parts) zero cell less = (omega arith, omega (arith, cell_of_kind p.kind cell less, sum_by-cons (λ (q : Part). data_length q.kind) p parts))
+cell_in (p ∷ parts) zero cell less = (
+  omega arith,
+  omega (
+    arith,
+    cell_of_kind p.kind cell less,
+    sum_by-cons (λ (q : Part). data_length q.kind) p parts,
+  ),
+)
 cell_in (p ∷ parts) (suc part) cell less =
     let later = cell_in parts part cell less in
     (omega (arith, later.0), omega (arith, later.1, sum_by-cons (λ (q : Part). data_length q.kind) p parts))
 
-pub position_within : (board : RawBoard) (part cell : ℕ) → cell < cell_count (device_at board part) → first_position board part + cell < data_bits board
+pub position_within : (board : RawBoard) (part cell : ℕ) → cell < cell_count (device_at board part)
+    → first_position board part + cell < data_bits board
 position_within board part cell less = (cell_in board.chain part cell less).1
 
-pub position_below : (board : RawBoard) → IsBoard board → (part cell : ℕ) → cell < cell_count (device_at board part) → first_position board part + cell ≤ 65535
+pub position_below : (board : RawBoard) → IsBoard board → (part cell : ℕ)
+    → cell < cell_count (device_at board part) → first_position board part + cell ≤ 65535
 position_below board rules part cell less = omega (arith, position_within board part cell less, rules.data_most)
 
-pub first_is : (board : RawBoard) (firsts : List ℕ) → AreFirsts board.chain firsts → (part cell : ℕ) → cell < cell_count (device_at board part) →
+pub first_is : (board : RawBoard) (firsts : List ℕ) → AreFirsts board.chain firsts → (part cell : ℕ)
+    → cell < cell_count (device_at board part) →
     (part < length firsts) × (get_or firsts part 0 ≡ first_position board part)
 first_is board firsts are part cell less =
     let within : part < length board.chain = (cell_in board.chain part cell less).0 in
@@ -48,20 +58,29 @@ first_is board firsts are part cell less =
     (omega (arith, within, are.count), are.each part within ∙ ap (λ (n : ℕ). bits_of (drop n board.chain)) next)
 
 -- the cell of a port bit's driving entry is a cell of the bit's part
-pub entry_below : (board : RawBoard) → IsBoard board → (at : PinAt) (cell : Cell) → entry_at board at ≡ Some cell → cell.num < cell_count (device_at board at.part)
+pub entry_below : (board : RawBoard) → IsBoard board → (at : PinAt) (cell : Cell)
+    → entry_at board at ≡ Some cell → cell.num < cell_count (device_at board at.part)
 entry_below board rules at cell e = by_device (device_at board at.part) refl e
   where
-    by_device : (o : Option RawDevice) → device_at board at.part ≡ o → option_and_then (λ d. driving_entry d at.bit) o ≡ Some cell → cell.num < cell_count o
+    by_device : (o : Option RawDevice) → device_at board at.part ≡ o
+        → option_and_then (λ d. driving_entry d at.bit) o ≡ Some cell → cell.num < cell_count o
     by_device None d f = cc f
     by_device (Some device) d f =
-        has_from_all (λ (c : Cell). c.num < device.boundary) device.cells cell (device_rules board at.part device rules d).cells_below (find_has (drives_bit at.bit) device.cells cell f).0
+        has_from_all (λ (c : Cell). c.num < device.boundary) device.cells cell
+        (device_rules board at.part device rules d).cells_below
+        (find_has (drives_bit at.bit) device.cells cell f).0
 
 -- if `x` is appended to the list at place `n`, `f n x` is appended to the gathered list
-gathered-append : {X Y : Type 0} (f : ℕ → X → List Y) (k : ℕ) (xs : List X) (x : X) (n : ℕ) → n ≡ k + length xs → gathered f k (xs ++ x ∷ []) ≡ gathered f k xs ++ f n x
+gathered-append : {X Y : Type 0} (f : ℕ → X → List Y) (k : ℕ) (xs : List X) (x : X) (n : ℕ)
+    → n ≡ k + length xs → gathered f k (xs ++ x ∷ []) ≡ gathered f k xs ++ f n x
 gathered-append f k [] x n e = let z : k ≡ n = omega (arith, e) in append-nil (f k x) ∙ ap (λ (m : ℕ). f m x) z
 gathered-append f k (y ∷ xs) x n e =
     ap (λ l. f k y ++ l) (gathered-append f (suc k) xs x n (omega (arith, e))) ∙ sym (append_assoc (f k y) (gathered f (suc k) xs) (f n x))
 
-pub gathered-more : {X Y : Type 0} (f : ℕ → X → List Y) (xs : List X) (i : ℕ) (d : X) → i < length xs → gathered f 0 (take (i + 1) xs) ≡ gathered f 0 (take i xs) ++ f i (get_or xs i d)
+pub gathered-more : {X Y : Type 0} (f : ℕ → X → List Y) (xs : List X) (i : ℕ) (d : X)
+    → i < length xs
+    → gathered f 0 (take (i + 1) xs) ≡ gathered f 0 (take i xs) ++ f i (get_or xs i d)
 gathered-more {X} {Y} f xs i d less =
-    ap (λ (l : List X). gathered f 0 l) (take_more xs i d less) ∙ gathered-append f 0 (take i xs) (get_or xs i d) i (omega (arith, length-take-le i xs (omega (arith, less))))
+    ap (λ (l : List X). gathered f 0 l) (take_more xs i d less)
+    ∙ gathered-append f 0 (take i xs) (get_or xs i d) i
+    (omega (arith, length-take-le i xs (omega (arith, less))))

@@ -8,13 +8,13 @@ use Rattle.net_pins.specs.declared.nets.ReaderCell.{ReaderCell}
 use Rattle.net_pins.specs.declared.net_tables.NetTables.{NetTables}
 
 -- a driver with this control is enabled in the setting
-abbrev pub is_on : Enabling → Option Ctl → Bool
-is_on setting None = true
-is_on setting (Some c) = setting c
+abbrev pub is_driver_on : Enabling → Option Ctl → Bool
+is_driver_on setting None = true
+is_driver_on setting (Some c) = setting c
 
 -- the first driver of a net that the setting enables; a safe setting enables no other driver of the net
 abbrev pub enabled_in : Enabling → List NetDriver → Option NetDriver
-enabled_in setting drivers = find (λ d. is_on setting d.ctl) drivers
+enabled_in setting drivers = find (λ d. is_driver_on setting d.ctl) drivers
 
 -- a pin other than the driver's has a compared cell
 abbrev pub is_read_beside : List ReaderCell → NetDriver → Bool

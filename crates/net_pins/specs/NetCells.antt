@@ -24,7 +24,15 @@ optional (Some x) = x ∷ []
 
 -- the driver on the pin at `place` whose driving entry is this entry of part `part`
 abbrev pub net_driver : RawBoard → ℕ → ℕ → Cell → NetDriver
-net_driver board part place cell = record { place = place; ctl = option_map (λ control. record { part = part; cell = control.cell }) cell.ctl; own = record { part = part; cell = cell.num }; position = first_position board part + cell.num }
+net_driver board part place cell =
+    record {
+      place = place;
+      ctl = option_map (λ control. record { part = part; cell = control.cell })
+          cell.ctl;
+      own = record { part = part; cell = cell.num };
+      position = first_position board
+          part + cell.num;
+    }
 
 -- the driver on the pin at `place`, if the pin is a driver
 abbrev pub driver_of : RawBoard → ℕ → Option PinAt → Option NetDriver
@@ -40,13 +48,13 @@ abbrev pub drivers_of : RawBoard → Net → List NetDriver
 drivers_of board net = cond (guarded board net) [] (drivers_of_pins board net.pins)
 
 -- the compared cell with this entry of part `part`, for the pin at `place`
-abbrev pub reader_of : RawBoard → ℕ → ℕ → Cell → ReaderCell
-reader_of board part place cell = record { place = place; position = first_position board part + cell.num }
+abbrev pub reader_cell : RawBoard → ℕ → ℕ → Cell → ReaderCell
+reader_cell board part place cell = record { place = place; position = first_position board part + cell.num }
 
 -- the compared cells of the port bit at `at`, for the pin at `place`
 abbrev pub readers_in : RawBoard → ℕ → PinAt → Option RawDevice → List ReaderCell
 readers_in board place at None = []
-readers_in board place at (Some device) = map (reader_of board at.part place) (filter (reads_bit at.bit) device.cells)
+readers_in board place at (Some device) = map (reader_cell board at.part place) (filter (reads_bit at.bit) device.cells)
 
 -- the compared cells of a pin that is a receiver, or none if it is not
 abbrev pub readers_at : RawBoard → ℕ → Option PinAt → List ReaderCell

@@ -4,8 +4,8 @@ ghost use Rattle.board_defs.specs.Limits.{most_pins};
 ghost use Rattle.board_defs.specs.DeviceRules.{is_receiving};
 ghost use Rattle.board_defs.specs.Pins.{device_at, bit_at, cell_count, guarded};
 ghost use Rattle.board_defs.specs.Settings.{holds};
-ghost use Rattle.net_pins.specs.NetCells.{optional, net_driver, driver_of, drivers_of_pins, drivers_of, reader_of, readers_at, readers_of};
-ghost use Rattle.net_pins.specs.Enabled.{is_on, is_read_beside};
+ghost use Rattle.net_pins.specs.NetCells.{optional, net_driver, driver_of, drivers_of_pins, drivers_of, reader_cell, readers_at, readers_of};
+ghost use Rattle.net_pins.specs.Enabled.{is_driver_on, is_read_beside};
 ghost use Rattle.net_pins.specs.inner.Receiving.{receives_by};
 
 use crate::board_pins::BoardPins;
@@ -26,7 +26,7 @@ impl NetDriver {
     /// Returns whether the setting enables the driver. A driver without a control is always on.
     #[inline]
     pub fn is_on(&self, setting: &Setting) -> bool
-        ensures { result ≡ is_on (holds setting.now) self.now.ctl }
+        ensures { result ≡ is_driver_on (holds setting.now) self.now.ctl }
     {
         match self.ctl {
             None => true,
@@ -135,7 +135,11 @@ fn push_readers(
     readers: &mut Vec<ReaderCell>,
 ) -> Result<(), AllocError>
     requires { All (λ cell. cell.num < cell_count (device_at board.now part)) entries.now }
-    ensures { OnOk result (readers.new.items ≡ readers.old.items ++ map (reader_of board.now part place) (filter (λ cell. is_receiving cell.role) entries.now)) }
+    ensures { OnOk result
+        (readers.new.items
+        ≡ readers.old.items
+        ++ map (reader_cell board.now part place)
+        (filter (λ cell. is_receiving cell.role) entries.now)) }
 {
     for cell in entries {
         if cell.role.is_receiving() {
@@ -163,7 +167,8 @@ fn push_at(
     at: PinAt,
     readers: &mut Vec<ReaderCell>,
 ) -> Result<(), AllocError>
-    ensures { OnOk result (readers.new.items ≡ readers.old.items ++ readers_at board.now place (Some at)) }
+    ensures { OnOk result
+        (readers.new.items ≡ readers.old.items ++ readers_at board.now place (Some at)) }
 {
     if may_receive(board.raw(), at) {
         push_readers(board, at.part, place, board.entries(at), readers)
@@ -179,7 +184,8 @@ fn push_pin(
     pin: &NetPin,
     readers: &mut Vec<ReaderCell>,
 ) -> Result<(), AllocError>
-    ensures { OnOk result (readers.new.items ≡ readers.old.items ++ readers_at board.now place pin.now.at) }
+    ensures { OnOk result
+        (readers.new.items ≡ readers.old.items ++ readers_at board.now place pin.now.at) }
 {
     match pin.at {
         None => Ok(()),

@@ -14,7 +14,8 @@ fn readers_of_nets(
     nets: &[Net],
 ) -> Result<Items<Items<ReaderCell>>, AllocError>
     requires { All (λ net. length net.pins ≤ most_pins) nets.now }
-    ensures { IfOk result (λ readers. readers ≡ map (λ net. readers_of board.now net.pins) nets.now) }
+    ensures { IfOk result
+        (λ readers. readers ≡ map (λ net. readers_of board.now net.pins) nets.now) }
 {
     let mut readers = Vec::with_capacity(alloc, nets.len())?;
     for net in nets {

@@ -5,9 +5,9 @@ ghost use Rattle.answers.specs.Gives.{Gives};
 ghost use Rattle.board_defs.specs.Passes.{passes_of};
 ghost use Rattle.board_defs.specs.Pins.{data_bits};
 ghost use Rattle.scan_planner.specs.Plans.{IsPlanOf};
-ghost use Rattle.diagnoser.specs.Diagnosis.{AreExplaining, IsNamed};
+ghost use Rattle.diagnoser.specs.Diagnosis.{AreExplaining, IsFaultOnBoard};
 ghost use Rattle.response_log.specs.LogRows.{HasSize};
-ghost use Rattle.batch_diag.specs.Batch.{IsOfLines, batch_of, batch_told};
+ghost use Rattle.batch_diag.specs.Batch.{IsOfLines, blocks_of_text, batch_told};
 ghost use Rattle.batch_diag.specs.Laws.{OneBatchText};
 ghost use Rattle.batch_diag.specs.Verdicts.{AreLogs, AreVerdicts};
 
@@ -36,7 +36,7 @@ pub fn diagnose<R: Threads + Sync, G: Gate>(
     requires rows { length log.now ≡ length plan.now.passes * plan.now.width }
     requires bits { All (λ row. length row ≡ data_bits board.now) log.now }
     ensures faults { IfOk result (λ faults. AreExplaining board.now log.now faults.items) }
-    ensures named { IfOk result (λ faults. All (IsNamed board.now) faults.items) }
+    ensures named { IfOk result (λ faults. All (IsFaultOnBoard board.now) faults.items) }
 {
     diagnoser::diagnose(rt, alloc, board, plan, log, workers, gate)
 }
@@ -44,7 +44,8 @@ pub fn diagnose<R: Threads + Sync, G: Gate>(
 /// Returns the blocks of a batch, or its first fault.
 pub fn blocks(alloc: Global, bytes: &[u8], rows: u64, len: u32) -> Result<Vec<Block>, BatchFault>
     requires { length bytes.now < 2 ^ 32 }
-    ensures read { Gives batch_told (λ blocks. blocks.items) (λ said. batch_of bytes.now rows len ≡ said) result }
+    ensures read { Gives batch_told (λ blocks. blocks.items)
+        (λ said. blocks_of_text bytes.now rows len ≡ said) result }
     ensures size { IfOk result (λ blocks. All (λ block. HasSize rows len block.log) blocks.items) }
     ensures inner { MatchResult result (λ _. Unit {0}) IsOfLines }
 {
@@ -68,7 +69,8 @@ pub fn diagnose_all<R: Threads + Sync, G: Gate>(
     requires logs { AreLogs board.now plan.now blocks.now }
     ensures verdicts { IfOk result (λ verdicts. AreVerdicts board.now blocks.now verdicts.items) }
     ensures count { IfOk result (λ verdicts. length verdicts.items ≡ length blocks.now) }
-    ensures named { IfOk result (λ verdicts. All (λ verdict. All (IsNamed board.now) verdict.faults) verdicts.items) }
+    ensures named { IfOk result
+        (λ verdicts. All (λ verdict. All (IsFaultOnBoard board.now) verdict.faults) verdicts.items) }
 {
     batch_diag::diagnose_all(rt, alloc, board, plan, blocks, workers, gate)
 }

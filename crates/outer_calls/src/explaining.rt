@@ -50,7 +50,9 @@ pub fn place_count(universe: &Universe) -> u64
 /// Returns the single fault at place `i`, or None if the place is the place of a short of two nets that are not paired.
 pub fn fault_at(universe: &Universe, plan: &Plan, i: u64) -> Option<Single>
     requires { i < place_count universe.now }
-    ensures { (board : RawBoard) → IsBoard board → IsPlanOf board plan.now → plan.now.passes ≡ passes_of board → IsUniverse board universe.now → slice_get (places_of board) i ≡ Some result }
+    ensures { (board : RawBoard) → IsBoard board → IsPlanOf board plan.now
+        → plan.now.passes ≡ passes_of board → IsUniverse board universe.now
+        → slice_get (places_of board) i ≡ Some result }
 {
     universe.at(plan, i)
 }
@@ -68,7 +70,8 @@ pub fn suspects(
     requires universe { IsUniverse board.now universe.now }
     requires rows { length log.now ≡ length plan.now.passes * plan.now.width }
     requires bits { All (λ row. length row ≡ data_bits board.now) log.now }
-    ensures { IfOk result (λ suspects. AreSuspects board.now plan.now universe.now log.now suspects) }
+    ensures { IfOk result
+        (λ suspects. AreSuspects board.now plan.now universe.now log.now suspects) }
 {
     Suspects::new(alloc, board, plan, universe, log)
 }

@@ -4,7 +4,7 @@ ghost use Rattle.board_defs.specs.Pins.{IsCell, IsOnBoard};
 ghost use Rattle.board_defs.specs.Coverage.{AreTogether, ArePaired, IsCovered, IsReason, IsTestedDriver, IsTestedReceiver, IsUseful};
 ghost use Rattle.board_defs.specs.Decided.{are_paired, are_together, is_tested_driver, is_tested_receiver, is_useful, reason_of};
 ghost use Rattle.net_classes.specs.Kept.{AreClasses};
-ghost use Rattle.net_classes.specs.inner.Kept.{OfNet};
+ghost use Rattle.net_classes.specs.inner.Kept.{HoldsOfNet};
 
 use board_defs::{Board, Ctl, PinRef, Reason};
 use net_classes::Classes;
@@ -13,8 +13,10 @@ use net_classes::Classes;
 pub fn reason(classes: &Classes, board: &Board, net: u32) -> Option<Reason>
     requires classes { AreClasses board.now classes.now }
     requires net { net < length board.now.nets }
-    ensures decided { OfNet board.now net (λ found. result ≡ reason_of board.now found) }
-    ensures meant { OfNet board.now net (λ found. MatchOption result (IsCovered board.now net) (λ reason. IsReason board.now net found reason)) }
+    ensures decided { HoldsOfNet board.now net (λ found. result ≡ reason_of board.now found) }
+    ensures meant { HoldsOfNet board.now net
+        (λ found. MatchOption result (IsCovered board.now net)
+        (λ reason. IsReason board.now net found reason)) }
 {
     classes.reason(board, net)
 }
@@ -44,7 +46,8 @@ pub fn together(classes: &Classes, board: &Board, a: Ctl, b: Ctl) -> bool
 pub fn driver_tested(classes: &Classes, board: &Board, pin: PinRef) -> bool
     requires classes { AreClasses board.now classes.now }
     requires pin { IsOnBoard board.now pin }
-    ensures decided { OfNet board.now pin.net (λ net. result ≡ is_tested_driver board.now net pin.place) }
+    ensures decided { HoldsOfNet board.now pin.net
+        (λ net. result ≡ is_tested_driver board.now net pin.place) }
     ensures meant { IsTrue result ↔ IsTestedDriver board.now pin.net pin.place }
 {
     classes.driver_tested(board, pin)
@@ -54,7 +57,8 @@ pub fn driver_tested(classes: &Classes, board: &Board, pin: PinRef) -> bool
 pub fn receiver_tested(classes: &Classes, board: &Board, pin: PinRef) -> bool
     requires classes { AreClasses board.now classes.now }
     requires pin { IsOnBoard board.now pin }
-    ensures decided { OfNet board.now pin.net (λ net. result ≡ is_tested_receiver board.now net pin.place) }
+    ensures decided { HoldsOfNet board.now pin.net
+        (λ net. result ≡ is_tested_receiver board.now net pin.place) }
     ensures meant { IsTrue result ↔ IsTestedReceiver board.now pin.net pin.place }
 {
     classes.receiver_tested(board, pin)
@@ -65,7 +69,9 @@ pub fn paired(classes: &Classes, board: &Board, a: u32, b: u32) -> bool
     requires classes { AreClasses board.now classes.now }
     requires first { a < length board.now.nets }
     requires second { b < length board.now.nets }
-    ensures decided { a ≢ b → OfNet board.now a (λ one. OfNet board.now b (λ two. result ≡ are_paired board.now one two)) }
+    ensures decided { a ≢ b
+        → HoldsOfNet board.now a
+        (λ one. HoldsOfNet board.now b (λ two. result ≡ are_paired board.now one two)) }
     ensures meant { IsTrue result ↔ ArePaired board.now a b }
 {
     classes.paired(board, a, b)

@@ -35,7 +35,8 @@ pub fn fill(
     requires tdi_room { IsRoom board.now tdi.old.room }
     requires tdo_room { IsRoom board.now tdo.old.room }
     requires mask_room { IsRoom board.now mask.old.room }
-    ensures filled { FillsScan board.now plan.now.passes plan.now.width k result tdi.new.bits tdo.new.bits mask.new.bits }
+    ensures filled { FillsScan board.now plan.now.passes plan.now.width k result tdi.new.bits
+        tdo.new.bits mask.new.bits }
     ensures tdi_kept { tdi.new.room ≡ tdi.old.room }
     ensures tdo_kept { tdo.new.room ≡ tdo.old.room }
     ensures mask_kept { mask.new.room ≡ mask.old.room }

@@ -9,7 +9,8 @@ pub fn read_hex(row: &mut Row, text: &[u8], len: u32) -> Result<(), HexFault>
     requires { len ≤ row.old.room }
     ensures ok { OnOk result (field_bits len text.now ≡ Some row.new.bits) }
     ensures length { IsErrOf result HexFault.Length ↔ (length text.now ≢ digit_count len) }
-    ensures digit { IsErrOf result HexFault.Digit ↔ ((length text.now ≡ digit_count len) × (field_bits len text.now ≡ None)) }
+    ensures digit { IsErrOf result HexFault.Digit
+        ↔ ((length text.now ≡ digit_count len) × (field_bits len text.now ≡ None)) }
     ensures refused { OnErr result (row.new.bits ≡ replicate len false) }
     ensures len { length row.new.bits ≡ len }
     ensures room { row.new.room ≡ row.old.room }

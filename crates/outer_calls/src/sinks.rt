@@ -7,7 +7,8 @@ use std::alloc::AllocError;
 
 /// Makes the put with this number fail, and take at most `taken` bytes. If memory is refused, nothing changes.
 pub fn fail_put(sink: &mut MemSink, call: u32, taken: u32) -> Result<(), AllocError>
-    ensures ok { OnOk result (failing_of sink.new ≡ failing_of sink.old ++ record { call = call; taken = taken } ∷ []) }
+    ensures ok { OnOk result
+        (failing_of sink.new ≡ failing_of sink.old ++ record { call = call; taken = taken } ∷ []) }
     ensures err { OnErr result (failing_of sink.new ≡ failing_of sink.old) }
     ensures taken { taken_of sink.new ≡ taken_of sink.old }
     ensures room { room_of sink.new ≡ room_of sink.old }

@@ -1,6 +1,6 @@
 //! The choice of a fetch that fails, as the store in memory of `bt_base` makes it.
 ghost use Rattle.std.specs.Prelude.{◌≡◌, ℕ, List, [], ◌∷◌, ◌++◌, OnOk, OnErr};
-ghost use Rattle.bt_base.specs.Memory.{text_of, failing_of, fetches_of, faults_of, asked_of};
+ghost use Rattle.bt_base.specs.Memory.{held_text, failing_of, fetches_of, faults_of, asked_of};
 
 use bt_base::MemStore;
 use std::alloc::AllocError;
@@ -9,7 +9,7 @@ use std::alloc::AllocError;
 pub fn fail_fetch(store: &mut MemStore, call: u32) -> Result<(), AllocError>
     ensures ok { OnOk result (failing_of store.new ≡ failing_of store.old ++ call ∷ []) }
     ensures err { OnErr result (failing_of store.new ≡ failing_of store.old) }
-    ensures texts { (n : List ℕ) → text_of store.new n ≡ text_of store.old n }
+    ensures texts { (n : List ℕ) → held_text store.new n ≡ held_text store.old n }
     ensures fetches { fetches_of store.new ≡ fetches_of store.old }
     ensures faults { faults_of store.new ≡ faults_of store.old }
     ensures asked { asked_of store.new ≡ asked_of store.old }

@@ -3,7 +3,7 @@
 ghost use Rattle.std.specs.Prelude.{◌≡◌, ◌<◌, IfOk};
 ghost use Rattle.board_defs.specs.Passes.{passes_of};
 ghost use Rattle.scan_planner.specs.Plans.{IsPlanOf, IsRoom, scan_count};
-ghost use Rattle.walk_test.specs.Tables.{IsWalkOf, scan_count as walk_scan_count};
+ghost use Rattle.walk_test.specs.Tables.{IsWalkOf, count_walk_scans as walk_scan_count};
 
 use crate::boards::{Files, PAIR, PULLED, board_of};
 use board_defs::law::terms_decided;

@@ -23,7 +23,9 @@ cell_there board part cell less = by_device (device_at board part) refl less
 
 -- the bits of the parts from part `i - 1` on are the bits of the parts from part `i` on, followed by the bits of part `i - 1`
 pub part_more : (g : CellBits) (chain : List Part) (i : ℕ) (d : Part) → 0 < i → i ≤ length chain →
-    joined (parts_laid g (i - 1) (drop (i - 1) chain)) ≡ joined (parts_laid g i (drop i chain)) ++ part_laid g (i - 1) (get_or chain (i - 1) d).kind
+    joined (parts_laid g (i - 1) (drop (i - 1) chain))
+    ≡ joined (parts_laid g i (drop i chain))
+    ++ part_laid g (i - 1) (get_or chain (i - 1) d).kind
 part_more g chain i d some within =
     let next : suc (i - 1) ≡ i = omega (arith, some) in
     ap (λ (l : List Part). joined (parts_laid g (i - 1) l)) (part_before chain i d some within)

@@ -16,7 +16,7 @@ use Rattle.tap_defs.specs.board.TestRows.{quiet_row, driving_cell, data_bit, dat
 use Rattle.tap_defs.proofs.board.ReadingLemmas.{any_is}
 use Rattle.tap_defs.proofs.board.QuietLemmas.{control_is}
 use Rattle.tap_defs.proofs.board.EntryLemmas.{only_if-None}
-use Rattle.plan_tables.specs.Plans.{controls_in, controls_some}
+use Rattle.plan_tables.specs.Plans.{controls_driver_in, controls_some}
 use Rattle.plan_tables.specs.inner.Laid.{steady}
 use Rattle.plan_tables.proofs.PinLemmas.{wired_at}
 
@@ -40,7 +40,8 @@ quiet_data board part device cell = by_cell (driving_cell device cell)
     by_cell None = refl
     by_cell (Some e) = by_bit e.bit
 
-pub quiet_steady : (board : RawBoard) (part : ℕ) (device : RawDevice) (cell : ℕ) → row_bit board quiet_row part device cell ≡ steady board (λ c. false) part device cell
+pub quiet_steady : (board : RawBoard) (part : ℕ) (device : RawDevice) (cell : ℕ)
+    → row_bit board quiet_row part device cell ≡ steady board (λ c. false) part device cell
 quiet_steady board part device cell =
     ap (λ (o : Option Bool). unwrap_or o (steady_bit board (λ c. false) part device cell)) (quiet_data board part device cell)
 
@@ -49,19 +50,23 @@ pub control_below : (board : RawBoard) → IsBoard board → (c : Ctl) (device :
     list_any (controls_driver board c.part c.cell) device.cells ≡ true → c.cell < device.boundary
 control_below board rules c device e any =
     let x = any_is (controls_driver board c.part c.cell) device.cells any in
-    let driver = and_parts (is_control_of c.cell x.1.ctl && is_driving x.1.role) (unwrap_or (option_map (λ bit. is_pinned board (record { part = c.part; bit = bit })) x.1.bit) false) x.3 in
+    let driver = and_parts (is_control_of c.cell x.1.ctl && is_driving x.1.role)
+    (unwrap_or
+    (option_map (λ bit. is_pinned board (record { part = c.part; bit = bit })) x.1.bit)
+    false) x.3 in
     let k = control_is c.cell x.1.ctl (and_parts (is_control_of c.cell x.1.ctl) (is_driving x.1.role) driver.0).0 in
     subst (λ (n : ℕ). n < device.boundary) k.2 ((wired_at board rules c.part device e).below x.0 x.1 k.0 x.2 k.1)
 
 -- if a control controls a driver of the board, it controls a driver of its part's device
 pub controls_any : (board : RawBoard) (c : Ctl) (device : RawDevice) → device_at board c.part ≡ Some device → controls_some board c ≡ true →
     list_any (controls_driver board c.part c.cell) device.cells ≡ true
-controls_any board c device e controls = sym (ap (λ (o : Option RawDevice). controls_in board c o) e) ∙ controls
+controls_any board c device e controls = sym (ap (λ (o : Option RawDevice). controls_driver_in board c o) e) ∙ controls
 
 -- if a control controls a driver of the board, the control cell is a cell of the control's part
-pub control_cells : (board : RawBoard) → IsBoard board → (c : Ctl) → controls_some board c ≡ true → c.cell < cell_count (device_at board c.part)
+pub control_cells : (board : RawBoard) → IsBoard board → (c : Ctl) → controls_some board c ≡ true
+    → c.cell < cell_count (device_at board c.part)
 control_cells board rules c controls = by_device (device_at board c.part) refl controls
   where
-    by_device : (o : Option RawDevice) → device_at board c.part ≡ o → controls_in board c o ≡ true → c.cell < cell_count o
+    by_device : (o : Option RawDevice) → device_at board c.part ≡ o → controls_driver_in board c o ≡ true → c.cell < cell_count o
     by_device None e h = cc h
     by_device (Some device) e h = control_below board rules c device e h

@@ -15,8 +15,13 @@ module _ (board : RawBoard) (quiet : List Bool) (table : DriverTable) (pass : Li
   abbrev drivers : List DriverCell
   drivers = (pass_cells_of board quiet table pass).drivers
 
-  pub fold_on : {S : Type 0} (step : S → DriverCell → S) (start : S) → fold (λ done c. fold step done (controlled board table.rows c)) (fold step start table.always) pass ≡ fold step start drivers
+  pub fold_on : {S : Type 0} (step : S → DriverCell → S) (start : S)
+      → fold (λ done c. fold step done (controlled board table.rows c))
+      (fold step start table.always) pass ≡ fold step start drivers
   fold_on step start =
       fold_groups step (controlled board table.rows) pass (fold step start table.always)
       ∙ sym (fold-append step start table.always (flat_map (controlled board table.rows) pass))
-      ∙ ap (λ (l : List DriverCell). fold step start (table.always ++ l)) (sym (flat_map-map (λ (h : HeldCell). get_or table.rows h.position []) (held_cell board quiet) pass))
+      ∙ ap (λ (l : List DriverCell). fold step start (table.always ++ l))
+      (sym
+      (flat_map-map (λ (h : HeldCell). get_or table.rows h.position [])
+      (held_cell board quiet) pass))

@@ -29,7 +29,9 @@ pub record Standing (board : RawBoard) (n : ℕ) (net : Net) (place : ℕ) (at :
   pub read : IsRead device
   pub is_place : place_of at 0 board.nets ≡ Some (record { number = n; net = net; place = place })
 
-pub standing : (board : RawBoard) → IsBoard board → (n : ℕ) (net : Net) (place : ℕ) (pin : NetPin) (at : PinAt) → slice_get board.nets n ≡ Some net →
+pub standing : (board : RawBoard) → IsBoard board
+    → (n : ℕ) (net : Net) (place : ℕ) (pin : NetPin) (at : PinAt)
+    → slice_get board.nets n ≡ Some net →
     slice_get net.pins place ≡ Some pin → pin.at ≡ Some at → Standing board n net place at
 standing board rules n net place pin at en ei is_at = by_rules (((board_rules board rules).nets n net en).pins place pin ei)
   where
@@ -48,7 +50,9 @@ standing board rules n net place pin at en ei is_at = by_rules (((board_rules bo
         })
 
 pub wired_at : (board : RawBoard) → IsBoard board → (part : ℕ) (device : RawDevice) → device_at board part ≡ Some device → IsWired device
-wired_at board rules part device e = let d = device_of board part device e in (board_rules board rules).devices part d.part device d.at_k d.kind_is
+wired_at board rules part device e =
+    let d = device_of board part device e in
+    (board_rules board rules).devices part d.part device d.at_k d.kind_is
 
 pub read_at : (board : RawBoard) → IsBoard board → (part : ℕ) (device : RawDevice) → device_at board part ≡ Some device → IsRead device
 read_at board rules part device e = let d = device_of board part device e in all_read board rules d.part device part d.at_k d.kind_is
@@ -66,11 +70,13 @@ drives_by device bit entry e =
     let p = and_parts (is_on bit entry.bit) (is_driving entry.role) f.0 in
     record { index = f.1.0; stands = f.1.1; bit_is = on_is bit entry.bit p.0; role = p.1 }
 
-pub entry_on : (board : RawBoard) (at : PinAt) (device : RawDevice) → device_at board at.part ≡ Some device → entry_at board at ≡ driving_entry device at.bit
+pub entry_on : (board : RawBoard) (at : PinAt) (device : RawDevice)
+    → device_at board at.part ≡ Some device → entry_at board at ≡ driving_entry device at.bit
 entry_on board at device e = ap (λ (o : Option RawDevice). option_and_then (λ x. driving_entry x at.bit) o) e
 
 -- the driving entry of a port bit is the driving entry of its cell
-pub driving_cell_is : (device : RawDevice) → IsWired device → (bit : ℕ) (entry : Cell) → Drives device bit entry → driving_cell device entry.num ≡ Some entry
+pub driving_cell_is : (device : RawDevice) → IsWired device → (bit : ℕ) (entry : Cell)
+    → Drives device bit entry → driving_cell device entry.num ≡ Some entry
 driving_cell_is device wired bit entry d =
     let test : Cell → Bool = λ e. (e.num == entry.num) && is_driving e.role in
     let here : test entry ≡ true = ap (λ (b : Bool). b && is_driving entry.role) (eq-eqb entry.num entry.num refl) ∙ d.role in
@@ -84,7 +90,8 @@ pub on_self : (bit : ℕ) (o : Option ℕ) → o ≡ Some bit → is_on bit o �
 on_self bit o e = ap (λ (x : Option ℕ). is_on bit x) e ∙ eq-eqb bit bit refl
 
 -- conversely, the driving entry of a cell is the driving entry of its port bit
-pub driving_entry_is : (device : RawDevice) → IsWired device → (cell : ℕ) (entry : Cell) (bit : ℕ) → driving_cell device cell ≡ Some entry → entry.bit ≡ Some bit →
+pub driving_entry_is : (device : RawDevice) → IsWired device → (cell : ℕ) (entry : Cell) (bit : ℕ)
+    → driving_cell device cell ≡ Some entry → entry.bit ≡ Some bit →
     (driving_entry device bit ≡ Some entry) × (entry.num ≡ cell)
 driving_entry_is device wired cell entry bit e b =
     let f = found (λ x. (x.num == cell) && is_driving x.role) device.cells entry e in
@@ -96,7 +103,8 @@ driving_entry_is device wired cell entry bit e b =
     (y.1 ∙ ap (λ (c : Cell). Some c) same, eqb-true entry.num cell p.0)
 
 -- an entry whose function makes a pin a receiver is the reading entry of its cell
-pub reading_entry_is : (device : RawDevice) → IsRead device → (index : ℕ) (entry : Cell) → slice_get device.cells index ≡ Some entry → is_receiving entry.role ≡ true →
+pub reading_entry_is : (device : RawDevice) → IsRead device → (index : ℕ) (entry : Cell)
+    → slice_get device.cells index ≡ Some entry → is_receiving entry.role ≡ true →
     reading_entry device entry.num ≡ Some entry
 reading_entry_is device read index entry stands receiving =
     let reading : is_reading entry.role ≡ true = receiving_reads entry.role receiving in

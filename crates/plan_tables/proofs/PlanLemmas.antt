@@ -31,10 +31,10 @@ use Rattle.plan_tables.specs.Tables.{first_position, AreFirsts, IsHeldCell, held
 use Rattle.plan_tables.specs.declared.tables.DriverCell.{DriverCell}
 use Rattle.plan_tables.specs.declared.controls.DriverTable.{DriverTable}
 use Rattle.plan_tables.specs.declared.tables.PlanTables.{PlanTables}
-use Rattle.plan_tables.specs.inner.Laid.{laid, quiet_bits}
+use Rattle.plan_tables.specs.inner.Laid.{bits_of_parts, quiet_bits}
 use Rattle.plan_tables.specs.inner.Codes.{AreCodes, seen_in}
 use Rattle.plan_tables.specs.inner.Steady.{ArePassTables}
-use Rattle.plan_tables.specs.Plans.{controls_in, controls_some, ArePlannable, code_or_zero, IsPlanOf, most_rows}
+use Rattle.plan_tables.specs.Plans.{controls_driver_in, controls_some, ArePlannable, code_or_zero, IsPlanOf, most_rows}
 use Rattle.plan_tables.proofs.LaidLemmas.{laid_at, laid_same, tdi_laid}
 use Rattle.plan_tables.proofs.HeldLemmas.{quiet_steady, control_below}
 use Rattle.plan_tables.proofs.TableLemmas.{reader_is, is_reader}
@@ -42,12 +42,16 @@ use Rattle.plan_tables.proofs.ReaderTableLemmas.{ReadersOf}
 use Rattle.plan_tables.proofs.SeenLemmas.{length-seen_in}
 use Rattle.plan_tables.proofs.ObserverLemmas.{holds_has, has_holds}
 
-readers_at : (board : RawBoard) (n : ℕ) (net : Net) → slice_get board.nets n ≡ Some net → slice_get (all_readers board) n ≡ Some (readers_of board net.pins)
-readers_at board n net e = slice_get-map (λ (x : Net). readers_of board x.pins) board.nets n ∙ ap (λ (o : Option Net). option_map (λ (x : Net). readers_of board x.pins) o) e
+readers_at : (board : RawBoard) (n : ℕ) (net : Net) → slice_get board.nets n ≡ Some net
+    → slice_get (all_readers board) n ≡ Some (readers_of board net.pins)
+readers_at board n net e =
+    slice_get-map (λ (x : Net). readers_of board x.pins) board.nets n
+    ∙ ap (λ (o : Option Net). option_map (λ (x : Net). readers_of board x.pins) o) e
 
 pub readers_are : (board : RawBoard) → ReadersOf board (all_readers board)
 readers_are board n net e =
-    let same : get_or (all_readers board) n [] ≡ readers_of board net.pins = get_or_from_slice_get (all_readers board) n (readers_of board net.pins) [] (readers_at board n net e) in (
+    let same : get_or (all_readers board) n [] ≡ readers_of board net.pins = get_or_from_slice_get
+    (all_readers board) n (readers_of board net.pins) [] (readers_at board n net e) in (
       λ r h. reader_is board net r (subst (λ (l : List ReaderCell). Has l r) same h),
       λ r is. subst (λ (l : List ReaderCell). Has l r) (sym same) (is_reader board net r is),
     )
@@ -62,7 +66,7 @@ module _ (board : RawBoard) (rules : IsBoard board) where
   controlled : (c : Ctl) → controls_some board c ≡ true → Controlled c
   controlled c h = by_device (device_at board c.part) refl h
     where
-      by_device : (o : Option RawDevice) → device_at board c.part ≡ o → controls_in board c o ≡ true → Controlled c
+      by_device : (o : Option RawDevice) → device_at board c.part ≡ o → controls_driver_in board c o ≡ true → Controlled c
       by_device None e h = cc h
       by_device (Some device) e h =
           let off : Bool = unwrap_or (disable_of device c.cell) false in
@@ -73,13 +77,14 @@ module _ (board : RawBoard) (rules : IsBoard board) where
             below = control_below board rules c device e h;
           }
 
-  held_bit : (quiet : List Bool) → quiet ≡ laid (quiet_bits board) board → (c : Ctl) (k : Controlled c) →
+  held_bit : (quiet : List Bool) → quiet ≡ bits_of_parts (quiet_bits board) board → (c : Ctl) (k : Controlled c) →
       not (get_or quiet (first_position board c.part + c.cell) false) ≡ not (unwrap_or (disable_of k.device c.cell) false)
   held_bit quiet q c k =
       ap (λ (l : List Bool). not (get_or l (first_position board c.part + c.cell) false)) q
       ∙ ap (λ (b : Bool). not b) ((laid_at (quiet_bits board) board c.part k.device c.cell k.is_device k.below).1 ∙ k.quiet)
 
-  pub held_only : (quiet : List Bool) → quiet ≡ laid (quiet_bits board) board → (pass : List Ctl) → ((c : Ctl) → holds pass c ≡ true → controls_some board c ≡ true) →
+  pub held_only : (quiet : List Bool) → quiet ≡ bits_of_parts (quiet_bits board) board
+      → (pass : List Ctl) → ((c : Ctl) → holds pass c ≡ true → controls_some board c ≡ true) →
       (h : HeldCell) → Has (map (held_cell board quiet) pass) h → IsHeldCell board pass h
   held_only quiet q pass controls h has =
       let m = map_has (held_cell board quiet) pass h has in
@@ -94,10 +99,12 @@ module _ (board : RawBoard) (rules : IsBoard board) where
         bit_is = sym (ap (λ (x : HeldCell). x.bit) m.2) ∙ held_bit quiet q (m.0) k;
       }
 
-  pub is_held_cell : (quiet : List Bool) → quiet ≡ laid (quiet_bits board) board → (pass : List Ctl) → ((c : Ctl) → holds pass c ≡ true → controls_some board c ≡ true) →
+  pub is_held_cell : (quiet : List Bool) → quiet ≡ bits_of_parts (quiet_bits board) board
+      → (pass : List Ctl) → ((c : Ctl) → holds pass c ≡ true → controls_some board c ≡ true) →
       (h : HeldCell) → IsHeldCell board pass h → Has (map (held_cell board quiet) pass) h
   is_held_cell quiet q pass controls h s =
-      subst (λ (x : HeldCell). Has (map (held_cell board quiet) pass) x) same (has_map (held_cell board quiet) pass s.control (holds_has pass s.control s.is_held))
+      subst (λ (x : HeldCell). Has (map (held_cell board quiet) pass) x) same
+      (has_map (held_cell board quiet) pass s.control (holds_has pass s.control s.is_held))
     where
       k : Controlled s.control
       k = controlled s.control (controls s.control s.is_held)
@@ -138,15 +145,21 @@ width_most n width few least = by_order (cases_lt most_rows width)
     by_order (inr most) = most
 
 -- a net has at most as many pins as a board may have
-pub pins_most : (board : RawBoard) → IsBoard board → (k : ℕ) (d : Net) → k < length board.nets → length (get_or board.nets k d).pins ≤ most_pins
+pub pins_most : (board : RawBoard) → IsBoard board → (k : ℕ) (d : Net) → k < length board.nets
+    → length (get_or board.nets k d).pins ≤ most_pins
 pins_most board rules k d less =
     let f : Net → ℕ = λ net. length net.pins in
     omega (arith, rules.pins_most, sum_by-take-drop f board.nets k, sum_by-drop_more f board.nets k d less)
 
 -- if each table has the contents that its definition requires, the tables together are a plan for the board
-pub is_plan : (board : RawBoard) → IsBoard board → (plan : PlanTables) → ArePlannable board plan.passes → plan.quiet.bits ≡ laid (quiet_bits board) board →
-    AreNetTables board plan.nets → AreFirsts board.chain plan.firsts → ArePassTables board plan.passes plan.steady (pass_cells_of board plan.quiet.bits plan.by_control) →
-    (seen : List Bool) → seen ≡ seen_in board (length board.nets) plan.steady plan.by_control plan.passes → (codes : NetCodes) → AreCodes seen codes → plan.codes ≡ codes.codes →
+pub is_plan : (board : RawBoard) → IsBoard board → (plan : PlanTables)
+    → ArePlannable board plan.passes → plan.quiet.bits ≡ bits_of_parts (quiet_bits board) board →
+    AreNetTables board plan.nets → AreFirsts board.chain plan.firsts
+    → ArePassTables board plan.passes plan.steady
+    (pass_cells_of board plan.quiet.bits plan.by_control) →
+    (seen : List Bool)
+    → seen ≡ seen_in board (length board.nets) plan.steady plan.by_control plan.passes
+    → (codes : NetCodes) → AreCodes seen codes → plan.codes ≡ codes.codes →
     codes.count + 2 ≤ 2 ^ plan.width → ((less : ℕ) → less < plan.width → 2 ^ less < codes.count + 2) →
     AreRowsOf ((instructs (map (λ part. preload_code part.kind) board.chain)).bits) plan.preload →
     AreRowsOf ((instructs (map (λ part. extest_code part.kind) board.chain)).bits) plan.extest → IsPlanOf board plan
@@ -156,19 +169,32 @@ is_plan board rules plan plannable quiet nets_are firsts tables seen seen_is cod
       width_is = code_width_is codes.count plan.width enough least ∙ ap code_width (are_codes.count_is ∙ count_is);
       codes_are = code_is;
       nets_are = nets_are;
-      codes_length = ap (λ (l : List ℕ). length l) codes_are ∙ are_codes.length_is ∙ ap (λ (l : List Bool). length l) seen_are ∙ length-map board.nets (is_observed board plan.passes);
+      codes_length =
+          ap (λ (l : List ℕ). length l) codes_are ∙ are_codes.length_is
+          ∙ ap (λ (l : List Bool). length l) seen_are
+          ∙ length-map board.nets (is_observed board plan.passes);
       tables = record {
         preload = preload;
         extest = extest;
-        quiet = quiet ∙ sym (tdi_laid board first_row_scan ∙ laid_same board (λ part device cell. row_bit board quiet_row part device cell) (quiet_bits board) (quiet_steady board));
+        quiet =
+            quiet
+            ∙ sym
+            (tdi_laid board first_row_scan
+            ∙ laid_same board (λ part device cell. row_bit board quiet_row part device cell)
+            (quiet_bits board) (quiet_steady board));
         firsts = firsts;
         cells = λ x pass e. (pass_cells_of board plan.quiet.bits plan.by_control pass, refl, tables.each x pass e);
         readers = λ n net e. (
           readers_of board net.pins,
           ap (λ (l : List (List ReaderCell)). slice_get l n) nets_are.readers_are ∙ readers_at board n net e,
-          λ r. ((λ h. reader_is board net r (contains_has (readers_of board net.pins) r h)), λ s. has_contains (readers_of board net.pins) r (is_reader board net r s)),
+          λ r. (
+            (λ h. reader_is board net r (contains_has (readers_of board net.pins) r h)),
+            λ s. has_contains (readers_of board net.pins) r (is_reader board net r s),
+          ),
         );
-        readers_length = ap (λ (l : List (List ReaderCell)). length l) nets_are.readers_are ∙ length-map board.nets (λ (net : Net). readers_of board net.pins);
+        readers_length =
+            ap (λ (l : List (List ReaderCell)). length l) nets_are.readers_are
+            ∙ length-map board.nets (λ (net : Net). readers_of board net.pins);
       };
     }
   where
@@ -179,7 +205,10 @@ is_plan board rules plan plannable quiet nets_are firsts tables seen seen_is cod
     count_is =
         let p : Net → Bool = is_observed board plan.passes in
         let n : ℕ = length board.nets in
-        let whole : take n (map p board.nets) ≡ map p board.nets = Rattle.std.proofs.Common.subst (λ (m : ℕ). take m (map p board.nets) ≡ map p board.nets) (length-map board.nets p) (take-length (map p board.nets)) in
+        let whole : take n (map p board.nets)
+        ≡ map p board.nets = Rattle.std.proofs.Common.subst
+        (λ (m : ℕ). take m (map p board.nets) ≡ map p board.nets) (length-map board.nets p)
+        (take-length (map p board.nets)) in
         ap (λ (l : List Bool). count_by (λ b. b) l) (seen_are ∙ sym whole)
         ∙ count_map p board.nets n
         ∙ ap (λ (l : List Net). count_by p l) (take-length board.nets)
@@ -187,17 +216,34 @@ is_plan board rules plan plannable quiet nets_are firsts tables seen seen_is cod
     code_is : (n : ℕ) (net : Net) → slice_get board.nets n ≡ Some net → get_or plan.codes n 0 ≡ code_or_zero board plan.passes n net
     code_is n net e =
         let p : Net → Bool = is_observed board plan.passes in
-        let within : n < length seen = omega (arith, slice_get_within board.nets n net e, ap (λ (l : List Bool). length l) seen_are, length-map board.nets p) in
+        let within : n
+        < length seen = omega (
+          arith,
+          slice_get_within board.nets n net e,
+          ap (λ (l : List Bool). length l) seen_are,
+          length-map board.nets p,
+        ) in
         let here : get_or seen n false ≡ p net = ap (λ (l : List Bool). get_or l n false) seen_are
-        ∙ get_or_from_slice_get (map p board.nets) n (p net) false (slice_get-map p board.nets n ∙ ap (λ (o : Option Net). option_map p o) e) in
-        let before : count_by (λ b. b) (take n seen) ≡ count_by p (take n board.nets) = ap (λ (l : List Bool). count_by (λ b. b) (take n l)) seen_are ∙ count_map p board.nets n in
+        ∙ get_or_from_slice_get (map p board.nets) n (p net) false
+        (slice_get-map p board.nets n ∙ ap (λ (o : Option Net). option_map p o) e) in
+        let before : count_by (λ b. b) (take n seen)
+        ≡ count_by p (take n board.nets) = ap (λ (l : List Bool). count_by (λ b. b) (take n l))
+        seen_are ∙ count_map p board.nets n in
         ap (λ (l : List ℕ). get_or l n 0) codes_are ∙ are_codes.each n within
         ∙ ap (λ (b : Bool). cond b (suc (count_by (λ b. b) (take n seen))) 0) here
         ∙ ap (λ (k : ℕ). cond (p net) (suc k) 0) before
 
 -- the number of codes is at most the limit on the nets of a board
-pub count_most : (board : RawBoard) → IsBoard board → (steady : List DriverCell) (table : DriverTable) (passes : List (List Ctl)) (codes : NetCodes) →
+pub count_most : (board : RawBoard) → IsBoard board
+    → (steady : List DriverCell) (table : DriverTable) (passes : List (List Ctl)) (codes : NetCodes)
+    →
     AreCodes (seen_in board (length board.nets) steady table passes) codes → codes.count ≤ most_nets
 count_most board rules steady table passes codes are =
     let seen : List Bool = seen_in board (length board.nets) steady table passes in
-    omega (arith, are.count_is, count_by-le-length (λ b. b) seen, length-seen_in board (length board.nets) steady table passes, rules.nets_most)
+    omega (
+      arith,
+      are.count_is,
+      count_by-le-length (λ b. b) seen,
+      length-seen_in board (length board.nets) steady table passes,
+      rules.nets_most,
+    )

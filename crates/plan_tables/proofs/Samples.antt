@@ -7,7 +7,7 @@ use Rattle.plan_tables.specs.declared.tables.DriverCell.{DriverCell}
 use Rattle.net_pins.specs.declared.nets.ReaderCell.{ReaderCell}
 use Rattle.plan_tables.specs.declared.observers.Observer.{Observer}
 use Rattle.plan_tables.specs.declared.uses.Uses.{Uses}
-use Rattle.plan_tables.specs.Assigned.{assigned, driver_bit, set_compared}
+use Rattle.plan_tables.specs.Assigned.{assigned, code_bit_of_driver, set_compared}
 use Rattle.plan_tables.specs.inner.Building.{table_of}
 use Rattle.plan_tables.specs.inner.Codes.{AreCodes}
 use Rattle.plan_tables.specs.inner.Steady.{steady_cells, moving}
@@ -25,14 +25,15 @@ abbrev readers : List ReaderCell
 readers = record { place = 0; position = 3 } ∷ record { place = 2; position = 0 } ∷ []
 
 -- the cell of the enabled driver has the bit of the code
-driven : assigned (λ d. d.position) (driver_bit (1 ∷ []) 0) (slice_set quiet 4 false) (enabled ∷ []) ≡ false ∷ false ∷ true ∷ true ∷ false ∷ []
+driven : assigned (λ d. d.position) (code_bit_of_driver (1 ∷ []) 0) (slice_set quiet 4 false)
+    (enabled ∷ []) ≡ false ∷ false ∷ true ∷ true ∷ false ∷ []
 driven = refl
 
 -- the expected bits or the mask: the cell that reads the driver's own pin is not compared
 abbrev compared : (DriverCell → Bool) → List Bool
 compared bit = set_compared bit (readers ∷ []) (replicate 5 false) (enabled ∷ [])
 
-expected : compared (driver_bit (1 ∷ []) 0) ≡ true ∷ false ∷ false ∷ false ∷ false ∷ []
+expected : compared (code_bit_of_driver (1 ∷ []) 0) ≡ true ∷ false ∷ false ∷ false ∷ false ∷ []
 expected = refl
 
 mask : compared (λ d. true) ≡ true ∷ false ∷ false ∷ false ∷ false ∷ []
@@ -52,7 +53,9 @@ codes = record {
   each = each;
 }
   where
-    each : (n : ℕ) → n < 5 → slice_index_or (1 ∷ 0 ∷ 2 ∷ 3 ∷ 0 ∷ []) n 0 ≡ cond (slice_index_or seen n false) (suc (count_by (λ b. b) (take n seen))) 0
+    each : (n : ℕ) → n < 5
+        → slice_index_or (1 ∷ 0 ∷ 2 ∷ 3 ∷ 0 ∷ []) n 0
+        ≡ cond (slice_index_or seen n false) (suc (count_by (λ b. b) (take n seen))) 0
     each zero less = refl
     each (suc zero) less = refl
     each (suc (suc zero)) less = refl

@@ -9,8 +9,8 @@ abbrev pub assigned : {X : Type 0} → (X → ℕ) → (X → Bool) → List Boo
 assigned place bit start xs = fold (λ bits x. slice_set bits (place x) (bit x)) start xs
 
 -- bit `j` of the code of the driver's net
-abbrev pub driver_bit : List ℕ → ℕ → DriverCell → Bool
-driver_bit codes j d = code_bit (slice_index_or codes d.net 0) j
+abbrev pub code_bit_of_driver : List ℕ → ℕ → DriverCell → Bool
+code_bit_of_driver codes j d = code_bit (slice_index_or codes d.net 0) j
 
 -- writes `bit` at each cell that reads the net on a pin other than the driver's
 abbrev pub set_readers : ℕ → Bool → List Bool → List ReaderCell → List Bool

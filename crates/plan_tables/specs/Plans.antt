@@ -18,13 +18,13 @@ abbrev pub most_rows : ℕ
 most_rows = 14
 
 -- the part of control `c` has a device, and the control controls a driver of this device
-abbrev pub controls_in : RawBoard → Ctl → Option RawDevice → Bool
-controls_in board c None = false
-controls_in board c (Some device) = list_any (controls_driver board c.part c.cell) device.cells
+abbrev pub controls_driver_in : RawBoard → Ctl → Option RawDevice → Bool
+controls_driver_in board c None = false
+controls_driver_in board c (Some device) = list_any (controls_driver board c.part c.cell) device.cells
 
 -- control `c` controls a driver of the board
 abbrev pub controls_some : RawBoard → Ctl → Bool
-controls_some board c = controls_in board c (device_at board c.part)
+controls_some board c = controls_driver_in board c (device_at board c.part)
 
 -- A plan can be made from these passes: each pass is safe, and each control of a pass controls a driver of the board.
 pub record ArePlannable (board : RawBoard) (passes : List (List Ctl)) : Type 0 where
@@ -39,7 +39,8 @@ code_or_zero board passes n net = cond (is_observed board passes net) (code_of_n
 pub record IsPlanOf (board : RawBoard) (plan : PlanTables) : Type 0 where
   pub plannable : ArePlannable board plan.passes
   pub width_is : plan.width ≡ code_width (observed_count board plan.passes)
-  pub codes_are : (n : ℕ) (net : Net) → slice_get board.nets n ≡ Some net → slice_index_or plan.codes n 0 ≡ code_or_zero board plan.passes n net
+  pub codes_are : (n : ℕ) (net : Net) → slice_get board.nets n ≡ Some net
+      → slice_index_or plan.codes n 0 ≡ code_or_zero board plan.passes n net
   pub codes_length : length plan.codes ≡ length board.nets
   pub tables : ArePlanTables board plan
   pub nets_are : AreNetTables board plan.nets

@@ -82,7 +82,9 @@ cells_on table held = table.always ++ flat_map (λ h. slice_index_or table.rows 
 
 -- the cells of a pass, found from its controls
 abbrev pub pass_cells_of : RawBoard → List Bool → DriverTable → List Ctl → PassCells
-pass_cells_of board quiet table pass = let held : List HeldCell = map (held_cell board quiet) pass in record { held = held; drivers = cells_on table held }
+pass_cells_of board quiet table pass =
+    let held : List HeldCell = map (held_cell board quiet) pass in
+    record { held = held; drivers = cells_on table held }
 
 -- `cells` has the cells of a pass, in any order. `held` has the cells of the controls. `drivers` and the steady cells together have the
 -- cells of the drivers. No steady cell is the cell of a control.
@@ -101,6 +103,10 @@ pub record ArePlanTables (board : RawBoard) (plan : PlanTables) : Type 0 where
   pub extest : AreRowsOf ((instructs (map (λ part. extest_code part.kind) board.chain)).bits) plan.extest
   pub quiet : plan.quiet.bits ≡ tdi_bits (joined (row_bits board first_row_scan))
   pub firsts : AreFirsts board.chain plan.firsts
-  pub cells : (x : ℕ) (pass : List Ctl) → slice_get plan.passes x ≡ Some pass → (cells : PassCells) × (cells ≡ pass_cells_of board plan.quiet.bits plan.by_control pass) × ArePassCells board plan.steady pass cells
-  pub readers : (n : ℕ) (net : Net) → slice_get board.nets n ≡ Some net → (readers : List ReaderCell) × (slice_get plan.nets.readers n ≡ Some readers) × AreReaders board net readers
+  pub cells : (x : ℕ) (pass : List Ctl) → slice_get plan.passes x ≡ Some pass
+      → (cells : PassCells) × (cells ≡ pass_cells_of board plan.quiet.bits plan.by_control pass)
+      × ArePassCells board plan.steady pass cells
+  pub readers : (n : ℕ) (net : Net) → slice_get board.nets n ≡ Some net
+      → (readers : List ReaderCell) × (slice_get plan.nets.readers n ≡ Some readers)
+      × AreReaders board net readers
   pub readers_length : length plan.nets.readers ≡ length board.nets

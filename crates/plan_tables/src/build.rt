@@ -4,7 +4,7 @@ ghost use Rattle.net_pins.specs.Tables.{AreNetPins};
 ghost use Rattle.plan_tables.specs.Tables.{pass_cells_of};
 ghost use Rattle.plan_tables.specs.inner.Building.{table_of};
 ghost use Rattle.plan_tables.specs.inner.Codes.{AreCodes, seen_in};
-ghost use Rattle.plan_tables.specs.inner.Laid.{laid, quiet_bits};
+ghost use Rattle.plan_tables.specs.inner.Laid.{bits_of_parts, quiet_bits};
 ghost use Rattle.plan_tables.specs.inner.Rows.{AreBoardRows};
 ghost use Rattle.plan_tables.specs.Plans.{ArePlannable, IsPlanOf, most_rows};
 ghost use Rattle.plan_tables.specs.inner.Steady.{ArePassTables, moving, steady_cells};
@@ -73,7 +73,9 @@ fn cells_by(
     observers: &[Observer],
     bits: usize,
 ) -> Result<PassTables, AllocError>
-    ensures { IfOk result (λ tables. (tables.steady ≡ steady_cells uses.now passes observers.now) × (tables.by_control ≡ table_of (moving uses.now passes observers.now) bits)) }
+    ensures { IfOk result
+        (λ tables. (tables.steady ≡ steady_cells uses.now passes observers.now)
+        × (tables.by_control ≡ table_of (moving uses.now passes observers.now) bits)) }
 {
     let steady = steady_cells(alloc, uses, passes, observers)?;
     let by_control = moving_table(alloc, uses, passes, observers, bits)?;
@@ -89,10 +91,13 @@ fn pass_tables(
     passes: &[Setting],
 ) -> Result<PassTables, AllocError>
     requires pins { AreNetPins placed.now.board.now pins.now }
-    requires quiet { quiet.now.bits ≡ laid (quiet_bits placed.now.board.now) placed.now.board.now }
+    requires quiet { quiet.now.bits
+        ≡ bits_of_parts (quiet_bits placed.now.board.now) placed.now.board.now }
     requires few { length passes.now < 2 ^ 32 }
     requires plannable { ArePlannable placed.now.board.now passes.now }
-    ensures { IfOk result (λ tables. ArePassTables placed.now.board.now passes.now tables.steady (pass_cells_of placed.now.board.now quiet.now.bits tables.by_control)) }
+    ensures { IfOk result
+        (λ tables. ArePassTables placed.now.board.now passes.now tables.steady
+        (pass_cells_of placed.now.board.now quiet.now.bits tables.by_control)) }
 {
     let _ = placed.board.raw();
     let bits = placed.board.dr_bits() as usize;
@@ -116,11 +121,16 @@ fn pass_parts(
     passes: &[Setting],
 ) -> Result<PassParts, AllocError>
     requires pins { AreNetPins board.now pins.now }
-    requires quiet { quiet.now.bits ≡ laid (quiet_bits board.now) board.now }
+    requires quiet { quiet.now.bits ≡ bits_of_parts (quiet_bits board.now) board.now }
     requires few { length passes.now < 2 ^ 32 }
     requires plannable { ArePlannable board.now passes.now }
-    ensures cells { IfOk result (λ parts. ArePassTables board.now passes.now parts.cells.steady (pass_cells_of board.now quiet.now.bits parts.cells.by_control)) }
-    ensures codes { IfOk result (λ parts. AreCodes (seen_in board.now (length board.now.nets) parts.cells.steady parts.cells.by_control passes.now) parts.codes) }
+    ensures cells { IfOk result
+        (λ parts. ArePassTables board.now passes.now parts.cells.steady
+        (pass_cells_of board.now quiet.now.bits parts.cells.by_control)) }
+    ensures codes { IfOk result
+        (λ parts. AreCodes
+        (seen_in board.now (length board.now.nets) parts.cells.steady parts.cells.by_control
+        passes.now) parts.codes) }
 {
     let nets = board.raw().nets.len();
     let placed = PlacedBoard {
@@ -143,8 +153,13 @@ fn plan_parts(
     requires few { length passes.now < 2 ^ 32 }
     requires plannable { ArePlannable board.now passes.now }
     ensures rows { IfOk result (λ parts. AreBoardRows board.now parts.rows) }
-    ensures cells { IfOk result (λ parts. ArePassTables board.now passes.now parts.passes.cells.steady (pass_cells_of board.now parts.rows.quiet.bits parts.passes.cells.by_control)) }
-    ensures codes { IfOk result (λ parts. AreCodes (seen_in board.now (length board.now.nets) parts.passes.cells.steady parts.passes.cells.by_control passes.now) parts.passes.codes) }
+    ensures cells { IfOk result
+        (λ parts. ArePassTables board.now passes.now parts.passes.cells.steady
+        (pass_cells_of board.now parts.rows.quiet.bits parts.passes.cells.by_control)) }
+    ensures codes { IfOk result
+        (λ parts. AreCodes
+        (seen_in board.now (length board.now.nets) parts.passes.cells.steady
+        parts.passes.cells.by_control passes.now) parts.passes.codes) }
 {
     let rows = board_rows(alloc, board)?;
     let passes = pass_parts(alloc, board, pins, &rows.quiet, passes)?;

@@ -4,7 +4,7 @@ ghost use Rattle.board_defs.specs.Limits.{most_nets};
 ghost use Rattle.board_defs.specs.declared.board.Ctl.{Ctl as ControlRecord};
 ghost use Rattle.board_defs.specs.Pins.{device_at, cell_count};
 ghost use Rattle.board_defs.specs.Settings.{holds};
-ghost use Rattle.plan_tables.specs.inner.Codes.{AreCodes, marked, marked_on, seen_in};
+ghost use Rattle.plan_tables.specs.inner.Codes.{AreCodes, with_nets_marked, marked_on, seen_in};
 
 use crate::controls::{DriverTable, controlled};
 use crate::placed::PlacedBoard;
@@ -21,7 +21,7 @@ pub struct NetCodes {
 }
 
 fn mark_all(flags: &mut [bool], cells: &[DriverCell])
-    ensures { flags.new ≡ marked flags.old cells.now }
+    ensures { flags.new ≡ with_nets_marked flags.old cells.now }
 {
     for cell in cells {
         mark(flags, cell.net as usize);
@@ -29,7 +29,8 @@ fn mark_all(flags: &mut [bool], cells: &[DriverCell])
 }
 
 fn mark_pass(placed: &PlacedBoard, table: &DriverTable, pass: &Setting, flags: &mut [bool])
-    requires { (c : ControlRecord) → holds pass.now c ≡ true → c.cell < cell_count (device_at placed.now.board.now c.part) }
+    requires { (c : ControlRecord) → holds pass.now c ≡ true
+        → c.cell < cell_count (device_at placed.now.board.now c.part) }
     ensures { flags.new ≡ marked_on placed.now.board.now table.now flags.old pass.now }
 {
     mark_all(flags, table.always.as_slice());
@@ -42,7 +43,9 @@ fn mark_pass(placed: &PlacedBoard, table: &DriverTable, pass: &Setting, flags: &
 }
 
 fn mark_passes(placed: &PlacedBoard, table: &DriverTable, passes: &[Setting], flags: &mut [bool])
-    requires { All (λ pass. (c : ControlRecord) → holds pass c ≡ true → c.cell < cell_count (device_at placed.now.board.now c.part)) passes.now }
+    requires { All
+        (λ pass. (c : ControlRecord) → holds pass c ≡ true
+        → c.cell < cell_count (device_at placed.now.board.now c.part)) passes.now }
     ensures { flags.new ≡ fold (marked_on placed.now.board.now table.now) flags.old passes.now }
 {
     for pass in passes {
@@ -59,8 +62,12 @@ fn seen_nets(
     tables: &PassTables,
     passes: &[Setting],
 ) -> Result<Vec<bool>, AllocError>
-    requires { All (λ pass. (c : ControlRecord) → holds pass c ≡ true → c.cell < cell_count (device_at placed.now.board.now c.part)) passes.now }
-    ensures { IfOk result (λ seen. seen.items ≡ seen_in placed.now.board.now nets tables.now.steady tables.now.by_control passes.now) }
+    requires { All
+        (λ pass. (c : ControlRecord) → holds pass c ≡ true
+        → c.cell < cell_count (device_at placed.now.board.now c.part)) passes.now }
+    ensures { IfOk result
+        (λ seen. seen.items
+        ≡ seen_in placed.now.board.now nets tables.now.steady tables.now.by_control passes.now) }
 {
     let mut seen = vec![in alloc; false; nets]?;
     mark_all(&mut seen, tables.steady.as_slice());
@@ -97,8 +104,13 @@ pub fn net_codes(
     passes: &[Setting],
 ) -> Result<NetCodes, AllocError>
     requires few { nets ≤ most_nets }
-    requires cells { All (λ pass. (c : ControlRecord) → holds pass c ≡ true → c.cell < cell_count (device_at placed.now.board.now c.part)) passes.now }
-    ensures { IfOk result (λ codes. AreCodes (seen_in placed.now.board.now nets tables.now.steady tables.now.by_control passes.now) codes) }
+    requires cells { All
+        (λ pass. (c : ControlRecord) → holds pass c ≡ true
+        → c.cell < cell_count (device_at placed.now.board.now c.part)) passes.now }
+    ensures { IfOk result
+        (λ codes. AreCodes
+        (seen_in placed.now.board.now nets tables.now.steady tables.now.by_control passes.now)
+        codes) }
 {
     let seen = seen_nets(alloc, placed, nets, tables, passes)?;
     number_nets(alloc, &seen)

@@ -2,7 +2,7 @@
 ghost use Rattle.std.specs.Prelude.{◌≡◌, ◌<◌, [], slice_index_or, IfOk, OnOk};
 ghost use Rattle.board_defs.specs.Pins.{device_at, cell_count};
 ghost use Rattle.plan_tables.specs.Tables.{AreFirsts, controlled};
-ghost use Rattle.plan_tables.specs.inner.Building.{all_noted, always_on, table_of};
+ghost use Rattle.plan_tables.specs.inner.Building.{observers_noted, always_on_cells, table_of};
 
 use crate::observers::Observer;
 use crate::tables::DriverCell;
@@ -23,7 +23,7 @@ pub struct DriverTable {
 }
 
 fn note_all(rows: &mut [ControlCells], observers: &[Observer]) -> Result<(), AllocError>
-    ensures { OnOk result (rows.new ≡ all_noted rows.old observers.now) }
+    ensures { OnOk result (rows.new ≡ observers_noted rows.old observers.now) }
 {
     for observer in observers {
         note_where(rows, observer.control, observer.cell)?;
@@ -32,7 +32,7 @@ fn note_all(rows: &mut [ControlCells], observers: &[Observer]) -> Result<(), All
 }
 
 fn always_on(alloc: Global, observers: &[Observer]) -> Result<Vec<DriverCell>, AllocError>
-    ensures { IfOk result (λ cells. cells.items ≡ always_on observers.now) }
+    ensures { IfOk result (λ cells. cells.items ≡ always_on_cells observers.now) }
 {
     let mut cells = Vec::new(alloc);
     for observer in observers {

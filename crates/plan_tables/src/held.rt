@@ -36,8 +36,10 @@ pub fn held_cells(
     pass: &Setting,
 ) -> Result<Items<HeldCell>, AllocError>
     requires quiet { length quiet.now.bits ≡ data_bits placed.now.board.now }
-    requires cells { (c : ControlRecord) → holds pass.now c ≡ true → c.cell < cell_count (device_at placed.now.board.now c.part) }
-    ensures { IfOk result (λ cells. cells ≡ map (held_cell placed.now.board.now quiet.now.bits) pass.now) }
+    requires cells { (c : ControlRecord) → holds pass.now c ≡ true
+        → c.cell < cell_count (device_at placed.now.board.now c.part) }
+    ensures { IfOk result
+        (λ cells. cells ≡ map (held_cell placed.now.board.now quiet.now.bits) pass.now) }
 {
     let mut cells = Vec::new(alloc);
     for c in pass.controls() {

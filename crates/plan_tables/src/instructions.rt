@@ -8,7 +8,7 @@ ghost use Rattle.tap_defs.specs.chain.Scan.{tdi_bits, tdo_bits, mask_bits};
 ghost use Rattle.tap_defs.specs.chain.ScanRows.{AreRowsOf};
 ghost use Rattle.tap_defs.specs.chain.Codes.{code_bits, instructs};
 ghost use Rattle.tap_defs.specs.board.BoardScans.{preload_code, extest_code};
-ghost use Rattle.plan_tables.specs.inner.Codes.{code_for, AreCoded, captured_bits, compared_bits};
+ghost use Rattle.plan_tables.specs.inner.Codes.{code_for, HaveCodes, captured_bits, compared_code_bits};
 
 use crate::rows::row_of;
 use board_defs::{Board, Device, Part, PartKind, Symbol};
@@ -45,7 +45,8 @@ fn push_device(
     device: &Device,
     tdi: &mut Vec<bool>,
 ) -> Result<(), AllocError>
-    ensures { OnOk result (tdi.new.items ≡ tdi.old.items ++ code_for instruction (Described device.now)) }
+    ensures { OnOk result
+        (tdi.new.items ≡ tdi.old.items ++ code_for instruction (Described device.now)) }
 {
     let raw = device.raw();
     match instruction {
@@ -72,7 +73,7 @@ fn push_code(
 fn push_capture(length: u32, tdo: &mut Vec<bool>, mask: &mut Vec<bool>) -> Result<(), AllocError>
     requires { 2 ≤ length }
     ensures tdo { OnOk result (tdo.new.items ≡ tdo.old.items ++ captured_bits length) }
-    ensures mask { OnOk result (mask.new.items ≡ mask.old.items ++ compared_bits length) }
+    ensures mask { OnOk result (mask.new.items ≡ mask.old.items ++ compared_code_bits length) }
 {
     tdo.push(true)?;
     push_same(length - 1, false, tdo)?;
@@ -90,7 +91,9 @@ fn stored(
     requires tdi { length tdi.now ≤ most_bits }
     requires tdo { length tdo.now ≤ most_bits }
     requires mask { length mask.now ≤ most_bits }
-    ensures { IfOk result (λ rows. (rows.tdi.bits ≡ tdi.now) × (rows.tdo.bits ≡ tdo.now) × (rows.mask.bits ≡ mask.now)) }
+    ensures { IfOk result
+        (λ rows. (rows.tdi.bits ≡ tdi.now) × (rows.tdo.bits ≡ tdo.now)
+        × (rows.mask.bits ≡ mask.now)) }
 {
     let tdi = row_of(alloc, tdi)?;
     let tdo = row_of(alloc, tdo)?;
@@ -103,9 +106,12 @@ fn rows_of(
     instruction: Instruction,
     chain: &[Part],
 ) -> Result<StoredRows, AllocError>
-    requires coded { AreCoded instruction chain.now }
-    requires few { length ((instructs (map (λ part. code_for instruction part.kind) chain.now)).bits) ≤ most_bits }
-    ensures { IfOk result (λ rows. AreRowsOf ((instructs (map (λ part. code_for instruction part.kind) chain.now)).bits) rows) }
+    requires coded { HaveCodes instruction chain.now }
+    requires few { length
+        ((instructs (map (λ part. code_for instruction part.kind) chain.now)).bits) ≤ most_bits }
+    ensures { IfOk result
+        (λ rows. AreRowsOf
+        ((instructs (map (λ part. code_for instruction part.kind) chain.now)).bits) rows) }
 {
     let mut tdi = Vec::new(alloc);
     let mut tdo = Vec::new(alloc);
@@ -125,7 +131,9 @@ pub fn instruction_rows(
     instruction: Instruction,
     board: &Board,
 ) -> Result<StoredRows, AllocError>
-    ensures { IfOk result (λ rows. AreRowsOf ((instructs (map (λ part. code_for instruction part.kind) board.now.chain)).bits) rows) }
+    ensures { IfOk result
+        (λ rows. AreRowsOf
+        ((instructs (map (λ part. code_for instruction part.kind) board.now.chain)).bits) rows) }
 {
     rows_of(alloc, instruction, board.raw().chain.as_slice())
 }

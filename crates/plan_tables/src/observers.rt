@@ -51,7 +51,9 @@ fn push_observers(
     observers: &mut Vec<Observer>,
 ) -> Result<(), AllocError>
     requires { All (λ d. IsControlThere placed.now.board.now d.ctl) drivers.now }
-    ensures { OnOk result (observers.new.items ≡ observers.old.items ++ observers_of placed.now.board.now net drivers.now readers.now) }
+    ensures { OnOk result
+        (observers.new.items
+        ≡ observers.old.items ++ observers_of placed.now.board.now net drivers.now readers.now) }
 {
     for driver in drivers {
         if driver.is_read_beside(readers) {
@@ -68,7 +70,8 @@ fn observers_of_nets(
     nets: &NetTables,
 ) -> Result<Items<Observer>, AllocError>
     requires { AreNetTables placed.now.board.now nets.now }
-    ensures { IfOk result (λ found. found ≡ observers placed.now.board.now placed.now.board.now.nets) }
+    ensures { IfOk result
+        (λ found. found ≡ observers placed.now.board.now placed.now.board.now.nets) }
 {
     let count = placed.board.raw().nets.len() as u32;
     let mut observers = Vec::new(alloc);

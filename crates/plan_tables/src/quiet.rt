@@ -4,7 +4,7 @@ ghost use Rattle.board_defs.specs.Limits.{most_parts};
 ghost use Rattle.board_defs.specs.DeviceRules.{is_reading, is_writing, IsDevice};
 ghost use Rattle.board_defs.specs.Pins.{is_pinned};
 ghost use Rattle.tap_defs.specs.chain.ShiftRegister.{filled};
-ghost use Rattle.plan_tables.specs.inner.Laid.{laid, part_laid, quiet_bits};
+ghost use Rattle.plan_tables.specs.inner.Laid.{bits_of_parts, part_laid, quiet_bits};
 ghost use Rattle.plan_tables.specs.inner.QuietBits.{safe_value_in, is_driver, disable_value_in, set_some, set_by, quiet_values};
 
 use crate::rows::row_of;
@@ -48,7 +48,9 @@ fn writing_value(entry: Cell) -> Option<CellBit>
 }
 
 fn is_pinned(raw: &RawBoard, part: u32, bit: Option<u32>) -> bool
-    ensures { result ≡ unwrap_or (option_map (λ b. is_pinned raw.now (record { part = part; bit = b })) bit) false }
+    ensures { result
+        ≡ unwrap_or (option_map (λ b. is_pinned raw.now (record { part = part; bit = b })) bit)
+        false }
 {
     match bit {
         None => false,
@@ -137,7 +139,10 @@ fn push_device(
     quiet: &mut Vec<bool>,
 ) -> Result<(), AllocError>
     requires { IsDevice device.now }
-    ensures { OnOk result (quiet.new.items ≡ quiet.old.items ++ filled device.now.boundary (λ cell. quiet_bits raw.now part device.now cell)) }
+    ensures { OnOk result
+        (quiet.new.items
+        ≡ quiet.old.items
+        ++ filled device.now.boundary (λ cell. quiet_bits raw.now part device.now cell)) }
 {
     let row = device_row(alloc, raw, part, device)?;
     quiet.extend_from_slice(&row)?;
@@ -151,7 +156,8 @@ fn push_part(
     kind: &PartKind,
     quiet: &mut Vec<bool>,
 ) -> Result<(), AllocError>
-    ensures { OnOk result (quiet.new.items ≡ quiet.old.items ++ part_laid (quiet_bits raw.now) part kind.now) }
+    ensures { OnOk result
+        (quiet.new.items ≡ quiet.old.items ++ part_laid (quiet_bits raw.now) part kind.now) }
 {
     match kind {
         PartKind::Described(device) => push_device(alloc, raw, part, device.raw(), quiet),
@@ -165,7 +171,7 @@ fn push_part(
 fn board_bits(alloc: Global, raw: &RawBoard, chain: &[Part]) -> Result<Vec<bool>, AllocError>
     requires chain { chain.now ≡ raw.now.chain }
     requires few { length chain.now ≤ most_parts }
-    ensures { IfOk result (λ quiet. quiet.items ≡ laid (quiet_bits raw.now) raw.now) }
+    ensures { IfOk result (λ quiet. quiet.items ≡ bits_of_parts (quiet_bits raw.now) raw.now) }
 {
     let mut quiet = Vec::new(alloc);
     for part in (0..chain.len()).rev() {
@@ -177,7 +183,7 @@ fn board_bits(alloc: Global, raw: &RawBoard, chain: &[Part]) -> Result<Vec<bool>
 /// Returns the quiet row. In it, each cell that controls a driver has the disable value, and every other cell has its
 /// safe value, with 0 for X.
 pub fn quiet_row(alloc: Global, board: &Board) -> Result<Row, AllocError>
-    ensures { IfOk result (λ quiet. quiet.bits ≡ laid (quiet_bits board.now) board.now) }
+    ensures { IfOk result (λ quiet. quiet.bits ≡ bits_of_parts (quiet_bits board.now) board.now) }
 {
     let raw = board.raw();
     let bits = board_bits(alloc, raw, raw.chain.as_slice())?;

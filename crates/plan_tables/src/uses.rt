@@ -62,10 +62,14 @@ fn note_passes(
 ) -> Result<(), AllocError>
     requires quiet { length quiet.now.bits ≡ data_bits placed.now.board.now }
     requires few { length passes.now < 2 ^ 32 }
-    requires cells { All (λ pass. (c : ControlRecord) → holds pass c ≡ true → c.cell < cell_count (device_at placed.now.board.now c.part)) passes.now }
+    requires cells { All
+        (λ pass. (c : ControlRecord) → holds pass c ≡ true
+        → c.cell < cell_count (device_at placed.now.board.now c.part)) passes.now }
     requires runs { AreRuns (held_by placed.now.board.now quiet.now.bits passes.now) runs.old }
-    ensures held { OnOk result (held.new ≡ all_marked placed.now.board.now quiet.now.bits held.old passes.now) }
-    ensures runs { OnOk result (AreRuns (held_by placed.now.board.now quiet.now.bits passes.now) runs.new) }
+    ensures held { OnOk result
+        (held.new ≡ all_marked placed.now.board.now quiet.now.bits held.old passes.now) }
+    ensures runs { OnOk result
+        (AreRuns (held_by placed.now.board.now quiet.now.bits passes.now) runs.new) }
 {
     for k in 0..passes.len() {
         let cells = held_cells(alloc, placed, quiet, &passes[k])?;
@@ -84,7 +88,9 @@ pub fn uses_of(
 ) -> Result<Uses, AllocError>
     requires quiet { length quiet.now.bits ≡ data_bits placed.now.board.now }
     requires few { length passes.now < 2 ^ 32 }
-    requires cells { All (λ pass. (c : ControlRecord) → holds pass c ≡ true → c.cell < cell_count (device_at placed.now.board.now c.part)) passes.now }
+    requires cells { All
+        (λ pass. (c : ControlRecord) → holds pass c ≡ true
+        → c.cell < cell_count (device_at placed.now.board.now c.part)) passes.now }
     ensures { IfOk result (λ uses. AreUses placed.now.board.now quiet.now.bits passes.now uses) }
 {
     let bits = quiet.len() as usize;

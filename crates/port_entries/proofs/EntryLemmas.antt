@@ -23,13 +23,14 @@ use Rattle.board_defs.proofs.CellLemmas.{off_past}
 use Rattle.lists.specs.Rows.{noted}
 use Rattle.lists.proofs.RowLemmas.{length-noted, noted_get}
 use Rattle.port_entries.specs.Entries.{entries_on, entries_of, entries_at, AreEntries}
-use Rattle.port_entries.specs.inner.Rows.{all_noted, part_rows, entry_rows, dark_by, dark_where, dark_in, guards_in, receives_by}
+use Rattle.port_entries.specs.inner.Rows.{entries_noted, part_rows, entry_rows, dark_by, dark_where, dark_in, guards_in, receives_with}
 
-length-all_noted : (cells : List Cell) (rows : List (List Cell)) → length (all_noted rows cells) ≡ length rows
+length-all_noted : (cells : List Cell) (rows : List (List Cell)) → length (entries_noted rows cells) ≡ length rows
 length-all_noted [] rows = refl
 length-all_noted (cell ∷ cells) rows = length-all_noted cells (noted rows cell.bit cell) ∙ length-noted rows cell.bit cell
 
-all_noted_get : (cells : List Cell) (rows : List (List Cell)) (k : ℕ) → k < length rows → get_or (all_noted rows cells) k [] ≡ get_or rows k [] ++ entries_on cells k
+all_noted_get : (cells : List Cell) (rows : List (List Cell)) (k : ℕ) → k < length rows
+    → get_or (entries_noted rows cells) k [] ≡ get_or rows k [] ++ entries_on cells k
 all_noted_get [] rows k less = sym (append-nil (get_or rows k []))
 all_noted_get (cell ∷ cells) rows k less =
     all_noted_get cells (noted rows cell.bit cell) k (omega (arith, less, length-noted rows cell.bit cell))
@@ -44,28 +45,42 @@ all_noted_get (cell ∷ cells) rows k less =
 none_there : (bits k : ℕ) (cells : List Cell) → All (λ entry. HasPlace bits entry.role entry.bit) cells → bits ≤ k → entries_on cells k ≡ []
 none_there bits k [] places past = refl
 none_there bits k (cell ∷ cells) places past =
-    ap (λ (t : Bool). cond t (cell ∷ entries_on cells k) (entries_on cells k)) (off_past bits k cell cell.bit (places 0 cell (omega arith)) past)
+    ap (λ (t : Bool). cond t (cell ∷ entries_on cells k) (entries_on cells k))
+    (off_past bits k cell cell.bit (places 0 cell (omega arith)) past)
     ∙ none_there bits k cells (λ i d less. places (suc i) d (omega (arith, less))) past
 
 row_is : (device : RawDevice) (k : ℕ) → All (λ entry. HasPlace (length device.bits) entry.role entry.bit) device.cells →
     get_or (part_rows (Some device)) k [] ≡ entries_on device.cells k
 row_is device k places = by_there (cases_lt k (length device.bits))
   where
-    by_there : (k < length device.bits) ⊎ (length device.bits ≤ k) → get_or (all_noted (replicate (length device.bits) []) device.cells) k [] ≡ entries_on device.cells k
+    by_there : (k < length device.bits) ⊎ (length device.bits ≤ k)
+        → get_or (entries_noted (replicate (length device.bits) []) device.cells) k []
+        ≡ entries_on device.cells k
     by_there (inl less) =
-        all_noted_get device.cells (replicate (length device.bits) []) k (omega (arith, less, length-replicate {A = List Cell} (length device.bits) []))
+        all_noted_get device.cells (replicate (length device.bits) []) k
+        (omega (arith, less, length-replicate {A = List Cell} (length device.bits) []))
         ∙ ap (λ (l : List Cell). l ++ entries_on device.cells k) (get_or-replicate {A = List Cell} (length device.bits) k [] [] less)
     by_there (inr past) =
-        get_or_past (all_noted (replicate (length device.bits) []) device.cells) k []
-        (omega (arith, past, length-all_noted device.cells (replicate (length device.bits) []), length-replicate {A = List Cell} (length device.bits) []))
+        get_or_past (entries_noted (replicate (length device.bits) []) device.cells) k []
+        (omega (
+          arith,
+          past,
+          length-all_noted device.cells (replicate (length device.bits) []),
+          length-replicate {A = List Cell} (length device.bits) [],
+        ))
         ∙ sym (none_there (length device.bits) k device.cells places past)
 
 pub are_entries : (board : RawBoard) → IsBoard board → AreEntries board (entry_rows board.chain)
 are_entries board rules at =
-    ap (λ (o : Option (List (List Cell))). unwrap_or (option_and_then (λ row. slice_get row at.bit) o) []) (slice_get-map (λ (part : Part). part_rows (described part.kind)) board.chain at.part)
+    ap
+    (λ (o : Option (List (List Cell))). unwrap_or
+    (option_and_then (λ row. slice_get row at.bit) o) [])
+    (slice_get-map (λ (part : Part). part_rows (described part.kind)) board.chain at.part)
     ∙ by_part (slice_get board.chain at.part) refl
   where
-    by_kind : (kind : PartKind) → IsPart kind → unwrap_or (slice_get (part_rows (described kind)) at.bit) [] ≡ entries_of (described kind) at.bit
+    by_kind : (kind : PartKind) → IsPart kind
+        → unwrap_or (slice_get (part_rows (described kind)) at.bit) []
+        ≡ entries_of (described kind) at.bit
     by_kind (Described device) is = unwrap_or-slice_get (part_rows (Some device)) at.bit [] ∙ row_is device at.bit is.places
     by_kind (Bypass n) is = refl
 
@@ -76,21 +91,25 @@ are_entries board rules at =
     by_part (Some part) e = by_kind part.kind (all_stands (λ (p : Part). IsPart p.kind) board.chain at.part part e rules.parts)
 
 -- the first entry of port bit `k` that satisfies `roles` is the first of all entries that is on port bit `k` and satisfies `roles`
-find_on : (roles : Cell → Bool) (k : ℕ) (cells : List Cell) → find roles (entries_on cells k) ≡ find (λ cell. is_on k cell.bit && roles cell) cells
+find_on : (roles : Cell → Bool) (k : ℕ) (cells : List Cell)
+    → find roles (entries_on cells k) ≡ find (λ cell. is_on k cell.bit && roles cell) cells
 find_on roles k [] = refl
 find_on roles k (cell ∷ cells) = by_test (is_on k cell.bit) (find_on roles k cells)
   where
     by_test : (t : Bool) → find roles (entries_on cells k) ≡ find (λ x. is_on k x.bit && roles x) cells →
-        find roles (cond t (cell ∷ entries_on cells k) (entries_on cells k)) ≡ cond (t && roles cell) (Some cell) (find (λ x. is_on k x.bit && roles x) cells)
+        find roles (cond t (cell ∷ entries_on cells k) (entries_on cells k))
+        ≡ cond (t && roles cell) (Some cell) (find (λ x. is_on k x.bit && roles x) cells)
     by_test true rest = ap (λ (o : Option Cell). cond (roles cell) (Some cell) o) rest
     by_test false rest = rest
 
-any_on : (roles : Cell → Bool) (k : ℕ) (cells : List Cell) → list_any roles (entries_on cells k) ≡ list_any (λ cell. is_on k cell.bit && roles cell) cells
+any_on : (roles : Cell → Bool) (k : ℕ) (cells : List Cell)
+    → list_any roles (entries_on cells k) ≡ list_any (λ cell. is_on k cell.bit && roles cell) cells
 any_on roles k [] = refl
 any_on roles k (cell ∷ cells) = by_test (is_on k cell.bit) (any_on roles k cells)
   where
     by_test : (t : Bool) → list_any roles (entries_on cells k) ≡ list_any (λ x. is_on k x.bit && roles x) cells →
-        list_any roles (cond t (cell ∷ entries_on cells k) (entries_on cells k)) ≡ ((t && roles cell) || list_any (λ x. is_on k x.bit && roles x) cells)
+        list_any roles (cond t (cell ∷ entries_on cells k) (entries_on cells k))
+        ≡ ((t && roles cell) || list_any (λ x. is_on k x.bit && roles x) cells)
     by_test true rest = ap (λ (b : Bool). roles cell || b) rest
     by_test false rest = rest
 
@@ -108,7 +127,9 @@ module _ (board : RawBoard) (rows : List (List (List Cell))) (are : AreEntries b
   pub driving_is : find (λ cell. is_driving cell.role) (entries_at rows at) ≡ entry_at board at
   driving_is = ap (λ (l : List Cell). find (λ cell. is_driving cell.role) l) (are at) ∙ by_device (device_at board at.part)
     where
-      by_device : (o : Option RawDevice) → find (λ cell. is_driving cell.role) (entries_of o at.bit) ≡ option_and_then (λ device. find (drives_bit at.bit) device.cells) o
+      by_device : (o : Option RawDevice)
+          → find (λ cell. is_driving cell.role) (entries_of o at.bit)
+          ≡ option_and_then (λ device. find (drives_bit at.bit) device.cells) o
       by_device None = refl
       by_device (Some device) = find_on (λ cell. is_driving cell.role) at.bit device.cells
 
@@ -119,27 +140,43 @@ module _ (board : RawBoard) (rows : List (List (List Cell))) (are : AreEntries b
       by_bit : (device : RawDevice) (o : Option PortBit) → dark_by o (entries_on device.cells at.bit) ≡ is_dark_bit device at.bit o
       by_bit device None = refl
       by_bit device (Some bit) =
-          ap (λ (b : Bool). not bit.tap && (is_linkage bit.mode || b || (may_drive bit.mode && not (list_any (λ cell. is_driving cell.role) (entries_on device.cells at.bit))))) (none_on at.bit device.cells)
-          ∙ ap (λ (b : Bool). not bit.tap && (is_linkage bit.mode || not (list_any (λ cell. is_on at.bit cell.bit) device.cells) || (may_drive bit.mode && not b))) (any_on (λ cell. is_driving cell.role) at.bit device.cells)
+          ap
+          (λ (b : Bool). not bit.tap
+          && (is_linkage bit.mode || b
+          || (may_drive bit.mode
+          && not
+          (list_any (λ cell. is_driving cell.role)
+          (entries_on device.cells at.bit))))) (none_on at.bit device.cells)
+          ∙ ap
+          (λ (b : Bool). not bit.tap
+          && (is_linkage bit.mode
+          || not (list_any (λ cell. is_on at.bit cell.bit) device.cells)
+          || (may_drive bit.mode && not b)))
+          (any_on (λ cell. is_driving cell.role) at.bit device.cells)
 
-      by_device : (o : Option RawDevice) → dark_by (option_and_then (λ device. slice_get device.bits at.bit) o) (entries_of o at.bit) ≡ is_dark_in o at.bit
+      by_device : (o : Option RawDevice)
+          → dark_by (option_and_then (λ device. slice_get device.bits at.bit) o)
+          (entries_of o at.bit) ≡ is_dark_in o at.bit
       by_device None = refl
       by_device (Some device) = by_bit device (slice_get device.bits at.bit)
 
   -- the port bit is a receiver by the table if and only if it is a receiver
-  pub receives_is : receives_by (bit_at board at) (entries_at rows at) ≡ receives_in (device_at board at.part) at.bit
-  receives_is = ap (receives_by (bit_at board at)) (are at) ∙ by_device (device_at board at.part)
+  pub receives_is : receives_with (bit_at board at) (entries_at rows at) ≡ receives_in (device_at board at.part) at.bit
+  receives_is = ap (receives_with (bit_at board at)) (are at) ∙ by_device (device_at board at.part)
     where
-      by_bit : (device : RawDevice) (o : Option PortBit) → receives_by o (entries_on device.cells at.bit) ≡ receives_bit device at.bit o
+      by_bit : (device : RawDevice) (o : Option PortBit) → receives_with o (entries_on device.cells at.bit) ≡ receives_bit device at.bit o
       by_bit device None = refl
       by_bit device (Some bit) = ap (λ (b : Bool). may_receive bit.mode && b) (any_on (λ cell. is_receiving cell.role) at.bit device.cells)
 
-      by_device : (o : Option RawDevice) → receives_by (option_and_then (λ device. slice_get device.bits at.bit) o) (entries_of o at.bit) ≡ receives_in o at.bit
+      by_device : (o : Option RawDevice)
+          → receives_with (option_and_then (λ device. slice_get device.bits at.bit) o)
+          (entries_of o at.bit) ≡ receives_in o at.bit
       by_device None = refl
       by_device (Some device) = by_bit device (slice_get device.bits at.bit)
 
 -- a pin is dark by the table if and only if it is dark
-dark_in_is : (board : RawBoard) (rows : List (List (List Cell))) → AreEntries board rows → (pin : NetPin) → dark_in rows board pin ≡ is_dark board pin
+dark_in_is : (board : RawBoard) (rows : List (List (List Cell))) → AreEntries board rows
+    → (pin : NetPin) → dark_in rows board pin ≡ is_dark board pin
 dark_in_is board rows are pin = by_at pin.at
   where
     by_at : (o : Option PinAt) → dark_where rows board o pin.inert ≡ is_dark_where board o pin.inert
@@ -150,8 +187,12 @@ any_same : (f g : NetPin → Bool) → ((pin : NetPin) → f pin ≡ g pin) → 
 any_same f g h [] = refl
 any_same f g h (pin ∷ pins) = ap (λ (b : Bool). b || list_any f pins) (h pin) ∙ ap (λ (b : Bool). g pin || b) (any_same f g h pins)
 
-pub any_dark : (board : RawBoard) (rows : List (List (List Cell))) → AreEntries board rows → (pins : List NetPin) → list_any (dark_in rows board) pins ≡ list_any (is_dark board) pins
+pub any_dark : (board : RawBoard) (rows : List (List (List Cell))) → AreEntries board rows
+    → (pins : List NetPin) → list_any (dark_in rows board) pins ≡ list_any (is_dark board) pins
 any_dark board rows are pins = any_same (dark_in rows board) (is_dark board) (dark_in_is board rows are) pins
 
-pub any_guards : (board : RawBoard) (rows : List (List (List Cell))) → AreEntries board rows → (pins : List NetPin) → list_any (guards_in rows board) pins ≡ list_any (guards board) pins
-any_guards board rows are pins = any_same (guards_in rows board) (guards board) (λ pin. ap (λ (b : Bool). is_test_pin board pin || b) (dark_in_is board rows are pin)) pins
+pub any_guards : (board : RawBoard) (rows : List (List (List Cell))) → AreEntries board rows
+    → (pins : List NetPin) → list_any (guards_in rows board) pins ≡ list_any (guards board) pins
+any_guards board rows are pins =
+    any_same (guards_in rows board) (guards board)
+    (λ pin. ap (λ (b : Bool). is_test_pin board pin || b) (dark_in_is board rows are pin)) pins

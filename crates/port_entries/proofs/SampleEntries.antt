@@ -10,7 +10,7 @@ use Rattle.board_defs.specs.declared.device.Role.TheVariants.{Input, Control, Ou
 use Rattle.board_defs.specs.declared.device.Symbol.TheVariants.{Any}
 use Rattle.board_defs.specs.DeviceRules.{is_driving}
 use Rattle.port_entries.specs.Entries.{entries_at}
-use Rattle.port_entries.specs.inner.Rows.{all_noted, dark_by, receives_by}
+use Rattle.port_entries.specs.inner.Rows.{entries_noted, dark_by, receives_with}
 
 abbrev cell : ℕ → Role → Option ℕ → Cell
 cell num role bit = record { num = num; role = role; bit = bit; safe = Any; ctl = None }
@@ -20,7 +20,7 @@ port_bit mode tap = record { port = 0; index = None; mode = mode; pin = None; ta
 
 -- the rows of a part with two port bits; its cell 4 belongs to neither of them
 abbrev row : List (List Cell)
-row = all_noted (replicate 2 [])
+row = entries_noted (replicate 2 [])
     (cell 0 Input (Some 1) ∷ cell 1 Control None ∷ cell 2 Input (Some 0) ∷ cell 3 Output3 (Some 1) ∷ cell 4 Output2 (Some 7) ∷ [])
 
 abbrev numbers : ℕ → ℕ → List ℕ
@@ -41,7 +41,9 @@ no_part = refl
 
 -- the number of the cell of a port bit's driving entry, if the port bit has one
 abbrev driving : ℕ → Option ℕ
-driving bit = option_map (λ entry. entry.num) (find (λ entry. is_driving entry.role) (entries_at (row ∷ []) (record { part = 0; bit = bit })))
+driving bit =
+    option_map (λ entry. entry.num)
+    (find (λ entry. is_driving entry.role) (entries_at (row ∷ []) (record { part = 0; bit = bit })))
 
 none_drives : driving 0 ≡ None
 none_drives = refl
@@ -75,11 +77,11 @@ test_port : dark_by (Some (port_bit Inward true)) [] ≡ false
 test_port = refl
 
 -- whether a port bit is a receiver depends on its mode and its entries
-input_receives : receives_by (Some (port_bit Inward false)) reads ≡ true
+input_receives : receives_with (Some (port_bit Inward false)) reads ≡ true
 input_receives = refl
 
-output_receives : receives_by (Some (port_bit Outward false)) reads ≡ false
+output_receives : receives_with (Some (port_bit Outward false)) reads ≡ false
 output_receives = refl
 
-driving_input : receives_by (Some (port_bit Inward false)) drives ≡ false
+driving_input : receives_with (Some (port_bit Inward false)) drives ≡ false
 driving_input = refl

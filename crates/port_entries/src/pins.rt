@@ -5,7 +5,7 @@ ghost use Rattle.std.specs.List.{list_any};
 ghost use Rattle.board_defs.specs.DeviceRules.{is_driving, is_receiving, may_receive};
 ghost use Rattle.board_defs.specs.Pins.{bit_at, entry_at, guarded, is_dark, is_test_bit, receives_where};
 ghost use Rattle.port_entries.specs.Entries.{AreEntries, entries_at};
-ghost use Rattle.port_entries.specs.inner.Rows.{dark_by, dark_in, guards_in, receives_by};
+ghost use Rattle.port_entries.specs.inner.Rows.{dark_by, dark_in, guards_in, receives_with};
 
 use crate::bit_entries::BitEntries;
 use crate::table::entries_at;
@@ -32,13 +32,13 @@ fn has_receiving(entries: &[Cell]) -> bool
 }
 
 pub(crate) fn receives_bit(bit: &PortBit, entries: &[Cell]) -> bool
-    ensures { result ≡ receives_by (Some bit.now) entries.now }
+    ensures { result ≡ receives_with (Some bit.now) entries.now }
 {
     bit.mode.may_receive() && has_receiving(entries)
 }
 
 fn receives_there(rows: &[Items<BitEntries>], board: &RawBoard, at: PinAt) -> bool
-    ensures { result ≡ receives_by (bit_at board.now at) (entries_at rows.now at) }
+    ensures { result ≡ receives_with (bit_at board.now at) (entries_at rows.now at) }
 {
     match board.port_bit(at) {
         None => false,

@@ -3,7 +3,7 @@ ghost use Rattle.std.specs.Prelude.{◌≡◌, [], length, slice_get, replicate,
 ghost use Rattle.board_defs.specs.BoardRules.{IsBoard};
 ghost use Rattle.board_defs.specs.Pins.{described};
 ghost use Rattle.port_entries.specs.Entries.{AreEntries, entries_at};
-ghost use Rattle.port_entries.specs.inner.Rows.{all_noted, part_rows, entry_rows};
+ghost use Rattle.port_entries.specs.inner.Rows.{entries_noted, part_rows, entry_rows};
 
 use crate::bit_entries::{BitEntries, blank_row, note_cell};
 use board_defs::{Cell, Items, Part, PartKind, PinAt, RawBoard, RawDevice};
@@ -14,7 +14,7 @@ pub(crate) fn note_cells(
     row: &mut [BitEntries],
     cells: &[Cell],
 ) -> Result<(), AllocError>
-    ensures { OnOk result (row.new ≡ all_noted row.old cells.now) }
+    ensures { OnOk result (row.new ≡ entries_noted row.old cells.now) }
 {
     for cell in cells {
         note_cell(alloc, row, cell.bit, *cell)?;
@@ -23,7 +23,8 @@ pub(crate) fn note_cells(
 }
 
 fn device_row(alloc: Global, device: &RawDevice) -> Result<Items<BitEntries>, AllocError>
-    ensures { IfOk result (λ row. row ≡ all_noted (replicate (length device.now.bits) []) device.now.cells) }
+    ensures { IfOk result
+        (λ row. row ≡ entries_noted (replicate (length device.now.bits) []) device.now.cells) }
 {
     let mut row = blank_row(alloc, device.bits.len())?;
     note_cells(alloc, &mut row, device.cells.as_slice())?;

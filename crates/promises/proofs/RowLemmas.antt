@@ -18,7 +18,8 @@ AreMany n bits = IfSome bits (λ b. length b ≡ n)
 record AreFour (bits : Option (List Bool)) : Type 0 where
   four : AreMany 4 bits
 
-or_these : (test : Bool) (bits : List Bool) (others : Option (List Bool)) → length bits ≡ 4 → AreFour others → AreFour (cond test (Some bits) others)
+or_these : (test : Bool) (bits : List Bool) (others : Option (List Bool)) → length bits ≡ 4
+    → AreFour others → AreFour (cond test (Some bits) others)
 or_these true bits others four later = record { four = four }
 or_these false bits others four later = later
 
@@ -26,10 +27,16 @@ digit_four : (c : ℕ) → AreFour (digit_bits c)
 digit_four c =
     or_these (c == 48) _ _ refl (or_these (c == 49) _ _ refl (or_these (c == 50) _ _ refl (or_these (c == 51) _ _ refl (
     or_these (c == 52) _ _ refl (or_these (c == 53) _ _ refl (or_these (c == 54) _ _ refl (or_these (c == 55) _ _ refl (
-    or_these (c == 56) _ _ refl (or_these (c == 57) _ _ refl (or_these ((c == 65) || (c == 97)) _ _ refl (or_these ((c == 66) || (c == 98)) _ _ refl (
-    or_these ((c == 67) || (c == 99)) _ _ refl (or_these ((c == 68) || (c == 100)) _ _ refl (or_these ((c == 69) || (c == 101)) _ _ refl (or_these ((c == 70) || (c == 102)) _ _ refl (record { four = tt }))))))))))))))))
+    or_these (c == 56) _ _ refl
+    (or_these (c == 57) _ _ refl
+    (or_these ((c == 65) || (c == 97)) _ _ refl (or_these ((c == 66) || (c == 98)) _ _ refl (
+    or_these ((c == 67) || (c == 99)) _ _ refl
+    (or_these ((c == 68) || (c == 100)) _ _ refl
+    (or_these ((c == 69) || (c == 101)) _ _ refl
+    (or_these ((c == 70) || (c == 102)) _ _ refl (record { four = tt }))))))))))))))))
 
-joined_many : (n : ℕ) (bits digit : Option (List Bool)) → AreMany (4 * n) bits → AreMany 4 digit → AreMany (4 * suc n) (joined_bits bits digit)
+joined_many : (n : ℕ) (bits digit : Option (List Bool)) → AreMany (4 * n) bits → AreMany 4 digit
+    → AreMany (4 * suc n) (joined_bits bits digit)
 joined_many n None digit many four = tt
 joined_many n (Some bits) None many four = tt
 joined_many n (Some bits) (Some digit) many four = length-append bits digit ∙ omega (arith, many, four)
@@ -52,8 +59,12 @@ enough_digits len n is = omega (arith, is)
 field_many : (len : ℕ) (digits : List ℕ) → AreMany len (field_bits len digits)
 field_many len digits = by_size (length digits == digit_count len) refl
   where
-    by_size : (sized : Bool) → (length digits == digit_count len) ≡ sized → AreMany len (cond sized (option_and_then (cut_to len) (text_bits digits)) None)
-    by_size true is = sized_many len (length digits) (text_bits digits) (enough_digits len (length digits) (eqb-true (length digits) (digit_count len) is)) (text_many digits)
+    by_size : (sized : Bool) → (length digits == digit_count len) ≡ sized
+        → AreMany len (cond sized (option_and_then (cut_to len) (text_bits digits)) None)
+    by_size true is =
+        sized_many len (length digits) (text_bits digits)
+        (enough_digits len (length digits) (eqb-true (length digits) (digit_count len) is))
+        (text_many digits)
     by_size false is = tt
 
 word_many : (len : ℕ) (word : Option Word) → AreMany len (option_and_then (field_bits len) word)
@@ -63,7 +74,8 @@ word_many len (Some word) = field_many len word
 row_many : (len : ℕ) (line : NumberedLine) (bits : List Bool) → bits_of_line len line ≡ Some bits → length bits ≡ len
 row_many len line bits is = subst (AreMany len) is (word_many len (only_word line.words))
 
-pub rows_many : (len : ℕ) (lines : List NumberedLine) (log : List (List Bool)) → map (bits_of_line len) lines ≡ map Some log → All (λ row. length row ≡ len) log
+pub rows_many : (len : ℕ) (lines : List NumberedLine) (log : List (List Bool))
+    → map (bits_of_line len) lines ≡ map Some log → All (λ row. length row ≡ len) log
 rows_many len [] [] is = All-nil (λ (row : List Bool). length row ≡ len)
 rows_many len [] (bits ∷ log) is = absurd cc
 rows_many len (line ∷ lines) [] is = absurd cc

@@ -47,7 +47,7 @@ use Rattle.btest_cli.specs.declared.status.Status.{Status}
 use Rattle.btest_cli.specs.declared.status.Status.TheVariants.{Done, WriteFault}
 use Rattle.promises.specs.Runs.{HoldsEach, Run, files_of}
 use Rattle.promises.specs.Gives.{summary}
-use Rattle.promises.specs.Logs.{HoldsBlocks, HoldsLog}
+use Rattle.promises.specs.Logs.{HoldsBoardBlocks, HoldsLog}
 use Rattle.promises.specs.Promises.{DiagnosesBlocks, DiagnosesLog, FindsGroups, HasResponses, IsDiagnosed, ListsCover, ListsDevice, RestsOnBlocks, RestsOnLog, RestsOnWalkLog, SumsUp, TestsBoard, TestsChain, TestsIdents, WalksBoard}
 use Rattle.promises.proofs.SampleRuns.{chain, chain_words, device, device_words, run_of, svf, svf_words}
 
@@ -99,20 +99,30 @@ module _ (held : Held) where
   abbrev chain_run : Text → Run
   chain_run text = run_of chain_words held Done chain_files text []
 
-  module _ (lines : Text) (bsdl : List Text) (lengths : List ℕ) (each : HoldsEach held (files_of chain) (lines ∷ bsdl)) (are : AreChainLengths lines bsdl (Ok lengths)) where
+  module _ (lines : Text) (bsdl : List Text) (lengths : List ℕ)
+      (each : HoldsEach held (files_of chain) (lines ∷ bsdl))
+      (are : AreChainLengths lines bsdl (Ok lengths)) where
     other_chain_test : TestsChain (chain_run (chain_text lengths ++ 10 ∷ [])) → ⊥
-    other_chain_test tests = let told = (tests chain_names lines bsdl lengths (((refl, omega arith), refl), each) are).puts refl in past (chain_text lengths) (told.1 ∙ told.2.0)
+    other_chain_test tests =
+        let told =
+        (tests chain_names lines bsdl lengths (((refl, omega arith), refl), each) are).puts refl
+        in
+        past (chain_text lengths) (told.1 ∙ told.2.0)
 
     chain_lengths : (text : Text) → TestsChain (chain_run text) → AreLengths lengths
     chain_lengths text tests = ((tests chain_names lines bsdl lengths (((refl, omega arith), refl), each) are).puts refl).2.1
 
-    chain_passes : (text : Text) → TestsChain (chain_run text) → (wiring : Wiring) (parts : List TestLogic) → ir_lengths parts ≡ lengths → (clocks : List Clock) × (meaning text ≡ Some clocks) × PassesOn wiring parts clocks
+    chain_passes : (text : Text) → TestsChain (chain_run text)
+        → (wiring : Wiring) (parts : List TestLogic) → ir_lengths parts ≡ lengths
+        → (clocks : List Clock) × (meaning text ≡ Some clocks) × PassesOn wiring parts clocks
     chain_passes text tests wiring parts same =
         let told = (tests chain_names lines bsdl lengths (((refl, omega arith), refl), each) are).puts refl in
         (told.2.2, ap meaning told.1 ∙ told.2.3, told.2.4 wiring parts same)
 
     -- if `text` keeps the promise, it fails on each chain with another number of parts and no more bits
-    chain_fails : (text : Text) → TestsChain (chain_run text) → (wiring : Wiring) (parts : List TestLogic) → AreIrLengths (ir_lengths parts) → length parts ≢ length lengths → sum (ir_lengths parts) ≤ sum lengths
+    chain_fails : (text : Text) → TestsChain (chain_run text)
+        → (wiring : Wiring) (parts : List TestLogic) → AreIrLengths (ir_lengths parts)
+        → length parts ≢ length lengths → sum (ir_lengths parts) ≤ sum lengths
         → (clocks : List Clock) × (meaning text ≡ Some clocks) × FailsOn wiring parts clocks
     chain_fails text tests wiring parts wide other within =
         let told = (tests chain_names lines bsdl lengths (((refl, omega arith), refl), each) are).puts refl in
@@ -121,29 +131,45 @@ module _ (held : Held) where
   abbrev ident_run : Text → Run
   ident_run text = run_of (codes "ident" ∷ chain_files) held Done chain_files text []
 
-  module _ (lines : Text) (bsdl : List Text) (patterns : List (Option (List Symbol))) (each : HoldsEach held (files_of (Ident chain_names)) (lines ∷ bsdl)) (are : AreIdents lines bsdl (Ok patterns)) where
+  module _ (lines : Text) (bsdl : List Text) (patterns : List (Option (List Symbol)))
+      (each : HoldsEach held (files_of (Ident chain_names)) (lines ∷ bsdl))
+      (are : AreIdents lines bsdl (Ok patterns)) where
     other_ident_test : TestsIdents (ident_run (ident_text patterns ++ 10 ∷ [])) → ⊥
-    other_ident_test tests = let told = (tests chain_names lines bsdl patterns (((refl, omega arith), refl), each) are).puts refl in past (ident_text patterns) (told.1 ∙ told.2.0)
+    other_ident_test tests =
+        let told =
+        (tests chain_names lines bsdl patterns (((refl, omega arith), refl), each) are).puts refl
+        in
+        past (ident_text patterns) (told.1 ∙ told.2.0)
 
     ident_patterns : (text : Text) → TestsIdents (ident_run text) → ArePatterns patterns
     ident_patterns text tests = ((tests chain_names lines bsdl patterns (((refl, omega arith), refl), each) are).puts refl).2.1
 
-    codes_pass : (text : Text) → TestsIdents (ident_run text) → (wiring : Wiring) (parts : List TestLogic) → AreCoded patterns parts → all_fit patterns parts ≡ true → (clocks : List Clock) × (meaning text ≡ Some clocks) × PassesOn wiring parts clocks
+    codes_pass : (text : Text) → TestsIdents (ident_run text)
+        → (wiring : Wiring) (parts : List TestLogic) → AreCoded patterns parts
+        → all_fit patterns parts ≡ true
+        → (clocks : List Clock) × (meaning text ≡ Some clocks) × PassesOn wiring parts clocks
     codes_pass text tests wiring parts coded fit =
         let told = (tests chain_names lines bsdl patterns (((refl, omega arith), refl), each) are).puts refl in
         (told.2.2, ap meaning told.1 ∙ told.2.3, told.2.4 wiring parts coded fit)
 
-    codes_fail : (text : Text) → TestsIdents (ident_run text) → (wiring : Wiring) (parts : List TestLogic) → AreCoded patterns parts → all_fit patterns parts ≡ false → (clocks : List Clock) × (meaning text ≡ Some clocks) × FailsOn wiring parts clocks
+    codes_fail : (text : Text) → TestsIdents (ident_run text)
+        → (wiring : Wiring) (parts : List TestLogic) → AreCoded patterns parts
+        → all_fit patterns parts ≡ false
+        → (clocks : List Clock) × (meaning text ≡ Some clocks) × FailsOn wiring parts clocks
     codes_fail text tests wiring parts coded unfit =
         let told = (tests chain_names lines bsdl patterns (((refl, omega arith), refl), each) are).puts refl in
         (told.2.2, ap meaning told.1 ∙ told.2.3, told.2.5 wiring parts coded unfit)
 
-  module _ (file : Text) (described : RawDevice) (each : HoldsEach held (files_of device) (file ∷ [])) (is : IsDeviceText file (Ok described)) where
-    other_listing : ListsDevice (run_of device_words held Done (codes "b" ∷ []) (device_text described ++ 10 ∷ []) []) → ⊥
-    other_listing lists = let told = (lists (codes "b") file described ((refl, refl), each) is).puts refl in past (device_text described) (told.1 ∙ told.2.0)
+  module _ (file : Text) (described : RawDevice)
+      (each : HoldsEach held (files_of device) (file ∷ [])) (is : IsDeviceText file (Ok described))
+    where
+      other_listing : ListsDevice (run_of device_words held Done (codes "b" ∷ []) (device_text described ++ 10 ∷ []) []) → ⊥
+      other_listing lists =
+          let told = (lists (codes "b") file described ((refl, refl), each) is).puts refl in
+          past (device_text described) (told.1 ∙ told.2.0)
 
-    listed_rules : (text : Text) → ListsDevice (run_of device_words held Done (codes "b" ∷ []) text []) → IsDevice described
-    listed_rules text lists = ((lists (codes "b") file described ((refl, refl), each) is).puts refl).2.1
+      listed_rules : (text : Text) → ListsDevice (run_of device_words held Done (codes "b" ∷ []) text []) → IsDevice described
+      listed_rules text lists = ((lists (codes "b") file described ((refl, refl), each) is).puts refl).2.1
 
   module _ (lines nets : Text) (bsdl : List Text) (board : RawBoard) (denotes : Denotes lines nets bsdl board) where
     module _ (each : HoldsEach held (files_of (Cover board_names)) (lines ∷ nets ∷ bsdl)) where
@@ -151,7 +177,11 @@ module _ (held : Held) where
       cover_run text = run_of (codes "cover" ∷ board_files) held Done board_files text []
 
       other_cover_list : ListsCover (cover_run (cover_text board ++ 10 ∷ [])) → ⊥
-      other_cover_list lists = let told = (lists board_names lines nets bsdl board (((refl, omega arith), refl), each) denotes).puts refl in past (cover_text board) (told.1 ∙ told.2.0)
+      other_cover_list lists =
+          let told =
+          (lists board_names lines nets bsdl board (((refl, omega arith), refl), each) denotes).puts
+          refl in
+          past (cover_text board) (told.1 ∙ told.2.0)
 
       cover_is_true : (text : Text) → ListsCover (cover_run text) → IsBoard board × IsCoverList board text
       cover_is_true text lists =
@@ -163,14 +193,22 @@ module _ (held : Held) where
       svf_run text = run_of svf_words held Done board_files text []
 
       other_test : TestsBoard (svf_run (board_text board ++ 10 ∷ [])) → ⊥
-      other_test tests = let told = (tests board_names lines nets bsdl board (((refl, omega arith), refl), each) denotes).puts refl in past (board_text board) (told.1 ∙ told.2.0)
+      other_test tests =
+          let told =
+          (tests board_names lines nets bsdl board (((refl, omega arith), refl), each) denotes).puts
+          refl in
+          past (board_text board) (told.1 ∙ told.2.0)
 
-      test_is_quiet : (text : Text) → TestsBoard (svf_run text) → (clocks : List Clock) × (meaning text ≡ Some clocks) × IsQuiet board clocks × PassOnBoard board no_faults clocks
+      test_is_quiet : (text : Text) → TestsBoard (svf_run text)
+          → (clocks : List Clock) × (meaning text ≡ Some clocks) × IsQuiet board clocks
+          × PassOnBoard board no_faults clocks
       test_is_quiet text tests =
           let told = (tests board_names lines nets bsdl board (((refl, omega arith), refl), each) denotes).puts refl in
           (told.2.1, ap meaning told.1 ∙ told.2.2, told.2.3, told.2.4)
 
-      test_fails : (text : Text) → TestsBoard (svf_run text) → (faults : FaultSet) → IsObservable board faults → IsNonempty faults → (clocks : List Clock) × (meaning text ≡ Some clocks) × FailOnBoard board faults clocks
+      test_fails : (text : Text) → TestsBoard (svf_run text) → (faults : FaultSet)
+          → IsObservable board faults → IsNonempty faults
+          → (clocks : List Clock) × (meaning text ≡ Some clocks) × FailOnBoard board faults clocks
       test_fails text tests faults observable some =
           let told = (tests board_names lines nets bsdl board (((refl, omega arith), refl), each) denotes).puts refl in
           (told.2.1, ap meaning told.1 ∙ told.2.2, told.2.5 faults observable some)
@@ -180,9 +218,15 @@ module _ (held : Held) where
       walk_run text = run_of (codes "walk" ∷ board_files) held Done board_files text []
 
       other_walk : WalksBoard (walk_run (board_walk_text board ++ 10 ∷ [])) → ⊥
-      other_walk walks = let told = (walks board_names lines nets bsdl board (((refl, omega arith), refl), each) denotes).puts refl in past (board_walk_text board) (told.1 ∙ told.2.0)
+      other_walk walks =
+          let told =
+          (walks board_names lines nets bsdl board (((refl, omega arith), refl), each) denotes).puts
+          refl in
+          past (board_walk_text board) (told.1 ∙ told.2.0)
 
-      walk_is_quiet : (text : Text) → WalksBoard (walk_run text) → (clocks : List Clock) × (meaning text ≡ Some clocks) × IsQuiet board clocks × PassOnBoard board no_faults clocks
+      walk_is_quiet : (text : Text) → WalksBoard (walk_run text)
+          → (clocks : List Clock) × (meaning text ≡ Some clocks) × IsQuiet board clocks
+          × PassOnBoard board no_faults clocks
       walk_is_quiet text walks =
           let told = (walks board_names lines nets bsdl board (((refl, omega arith), refl), each) denotes).puts refl in
           (told.2.1, ap meaning told.1 ∙ told.2.2, told.2.3, told.2.4)
@@ -192,19 +236,26 @@ module _ (held : Held) where
 
     module _ (log : Text) (each : HoldsEach held (files_of diagnose) (log ∷ lines ∷ nets ∷ bsdl)) where
       diagnosed : (text : Text) (rows : List (List Bool)) → HoldsLog board (svf_row_scans board) log rows → DiagnosesLog (diagnose_run text)
-          → HasResponses board × (pass : Bool) × (faults : List Single) × IsDiagnosed board rows pass faults × (text ≡ diag_text board pass faults)
+          → HasResponses board × (pass : Bool) × (faults : List Single)
+          × IsDiagnosed board rows pass faults × (text ≡ diag_text board pass faults)
       diagnosed text rows holds diagnoses =
-          let told = (diagnoses 1 (codes "g") board_names log lines nets bsdl board rows (((codes "1", refl, (refl, omega arith)), refl), each) denotes holds).puts refl in
+          let told =
+          (diagnoses 1 (codes "g") board_names log lines nets bsdl board rows
+          (((codes "1", refl, (refl, omega arith)), refl), each) denotes holds).puts refl in
           (told.2.0, told.2.1, told.2.2, told.2.3, told.1 ∙ told.2.4)
 
     abbrev batch_run : Text → Run
     batch_run text = run_of batch_words held Done log_files text []
 
     module _ (logs : Text) (each : HoldsEach held (files_of batch) (logs ∷ lines ∷ nets ∷ bsdl)) where
-      blocks_diagnosed : (text : Text) (blocks : List Block) → HoldsBlocks board logs blocks → DiagnosesBlocks (batch_run text)
-          → HasResponses board × (verdicts : List Verdict) × EachPair (λ block verdict. IsDiagnosed board block.log verdict.pass verdict.faults) blocks verdicts × (text ≡ batch_text board blocks verdicts)
+      blocks_diagnosed : (text : Text) (blocks : List Block) → HoldsBoardBlocks board logs blocks → DiagnosesBlocks (batch_run text)
+          → HasResponses board × (verdicts : List Verdict)
+          × EachPair (λ block verdict. IsDiagnosed board block.log verdict.pass verdict.faults)
+          blocks verdicts × (text ≡ batch_text board blocks verdicts)
       blocks_diagnosed text blocks holds diagnoses =
-          let told = (diagnoses 1 (codes "g") board_names logs lines nets bsdl board blocks (((codes "1", refl, (refl, omega arith)), refl), each) denotes holds).puts refl in
+          let told =
+          (diagnoses 1 (codes "g") board_names logs lines nets bsdl board blocks
+          (((codes "1", refl, (refl, omega arith)), refl), each) denotes holds).puts refl in
           (told.2.0, told.2.1, told.2.2, told.1 ∙ told.2.3)
 
     abbrev groups_run : Text → Run
@@ -212,53 +263,87 @@ module _ (held : Held) where
 
     module _ (log : Text) (each : HoldsEach held (files_of groups) (log ∷ lines ∷ nets ∷ bsdl)) where
       groups_found : (text : Text) (rows : List (List Bool)) → HoldsLog board (walk_row_list board) log rows → FindsGroups (groups_run text)
-          → (meaning (board_walk_text board) ≡ Some (test_clocks (walk_scans board))) × (found : Option (List (List ℕ))) × (text ≡ groups_text board found) × ((groups : List (List ℕ)) → (found ≡ Some groups) ↔ Explain board rows groups)
+          → (meaning (board_walk_text board) ≡ Some (test_clocks (walk_scans board)))
+          × (found : Option (List (List ℕ))) × (text ≡ groups_text board found)
+          × ((groups : List (List ℕ)) → (found ≡ Some groups) ↔ Explain board rows groups)
       groups_found text rows holds finds =
-          let told = (finds (codes "g") board_names log lines nets bsdl board rows (((refl, omega arith), refl), each) denotes holds).puts refl in
+          let told =
+          (finds (codes "g") board_names log lines nets bsdl board rows
+          (((refl, omega arith), refl), each) denotes holds).puts refl in
           (told.2.0, told.2.1, told.1 ∙ told.2.2, told.2.3)
 
-      groups_respond : (text : Text) (rows : List (List Bool)) → HoldsLog board (walk_row_list board) log rows → FindsGroups (groups_run text) → (groups : List (List ℕ)) → AreGroups board groups
-          → (one : List (List Bool)) × Explain board one groups × ((other : List (List Bool)) → Explain board other groups → AgreeOn board (walk_row_list board) one other)
+      groups_respond : (text : Text) (rows : List (List Bool))
+          → HoldsLog board (walk_row_list board) log rows → FindsGroups (groups_run text)
+          → (groups : List (List ℕ)) → AreGroups board groups
+          → (one : List (List Bool)) × Explain board one groups
+          × ((other : List (List Bool)) → Explain board other groups
+          → AgreeOn board (walk_row_list board) one other)
       groups_respond text rows holds finds groups are =
-          let told = (finds (codes "g") board_names log lines nets bsdl board rows (((refl, omega arith), refl), each) denotes holds).puts refl in
+          let told =
+          (finds (codes "g") board_names log lines nets bsdl board rows
+          (((refl, omega arith), refl), each) denotes holds).puts refl in
           let one = told.2.4 groups are in
           (one.0, one.1, λ other explains. told.2.5 groups one.0 other one.1 explains)
 
-  other_summary : (board : RawBoard) → Denotes (made.chain_text 2) (made.net_text 2) (bsdl_text ∷ []) board → SumsUp (run_of (codes "make" ∷ codes "2" ∷ []) None Done [] (summary board ++ 10 ∷ []) []) → ⊥
-  other_summary board denotes sums = let told = (sums 2 board (((codes "2", refl, refl), refl), tt) denotes).puts refl in past (summary board) (told.1 ∙ told.2)
+  other_summary : (board : RawBoard)
+      → Denotes (made.chain_file_text 2) (made.net_text 2) (bsdl_text ∷ []) board
+      → SumsUp (run_of (codes "make" ∷ codes "2" ∷ []) None Done [] (summary board ++ 10 ∷ []) [])
+      → ⊥
+  other_summary board denotes sums =
+      let told = (sums 2 board (((codes "2", refl, refl), refl), tt) denotes).puts refl in
+      past (summary board) (told.1 ∙ told.2)
 
 -- Runs that wrote a text, in whole or in part, although the files denote no board or the log is not a log of the board.
-module _ (held : Held) (lines nets : Text) (bsdl : List Text) (status : Status) (ended : (status ≡ Done) ⊎ (status ≡ WriteFault)) (text : Text) where
+module _ (held : Held) (lines nets : Text) (bsdl : List Text) (status : Status)
+    (ended : (status ≡ Done) ⊎ (status ≡ WriteFault)) (text : Text) where
   module _ (log : Text) (each : HoldsEach held (files_of diagnose) (log ∷ lines ∷ nets ∷ bsdl)) where
     -- the log file holds a log of some board, but the other files denote no board
-    diagnosed_without_board : (other : RawBoard) (rows : List (List Bool)) → HoldsLog other (svf_row_scans other) log rows → ((board : RawBoard) → Denotes lines nets bsdl board → ⊥) → RestsOnLog (run_of diagnose_words held status log_files text []) → ⊥
+    diagnosed_without_board : (other : RawBoard) (rows : List (List Bool))
+        → HoldsLog other (svf_row_scans other) log rows
+        → ((board : RawBoard) → Denotes lines nets bsdl board → ⊥)
+        → RestsOnLog (run_of diagnose_words held status log_files text []) → ⊥
     diagnosed_without_board other rows holds none rests =
         let told = rests 1 (codes "g") board_names log lines nets bsdl (((codes "1", refl, (refl, omega arith)), refl), each) ended in
         none told.0 told.1
 
-    diagnosed_without_log : (board : RawBoard) → Denotes lines nets bsdl board → ((other : RawBoard) (rows : List (List Bool)) → Denotes lines nets bsdl other → HoldsLog other (svf_row_scans other) log rows → ⊥) → RestsOnLog (run_of diagnose_words held status log_files text []) → ⊥
+    diagnosed_without_log : (board : RawBoard) → Denotes lines nets bsdl board
+        → ((other : RawBoard) (rows : List (List Bool)) → Denotes lines nets bsdl other
+        → HoldsLog other (svf_row_scans other) log rows → ⊥)
+        → RestsOnLog (run_of diagnose_words held status log_files text []) → ⊥
     diagnosed_without_log board denotes none rests =
         let told = rests 1 (codes "g") board_names log lines nets bsdl (((codes "1", refl, (refl, omega arith)), refl), each) ended in
         none told.0 told.2 told.1 told.3
 
   module _ (logs : Text) (each : HoldsEach held (files_of batch) (logs ∷ lines ∷ nets ∷ bsdl)) where
-    judged_without_board : (other : RawBoard) (blocks : List Block) → HoldsBlocks other logs blocks → ((board : RawBoard) → Denotes lines nets bsdl board → ⊥) → RestsOnBlocks (run_of batch_words held status log_files text []) → ⊥
+    judged_without_board : (other : RawBoard) (blocks : List Block)
+        → HoldsBoardBlocks other logs blocks
+        → ((board : RawBoard) → Denotes lines nets bsdl board → ⊥)
+        → RestsOnBlocks (run_of batch_words held status log_files text []) → ⊥
     judged_without_board other blocks holds none rests =
         let told = rests 1 (codes "g") board_names logs lines nets bsdl (((codes "1", refl, (refl, omega arith)), refl), each) ended in
         none told.0 told.1
 
-    judged_without_blocks : (board : RawBoard) → Denotes lines nets bsdl board → ((other : RawBoard) (blocks : List Block) → Denotes lines nets bsdl other → HoldsBlocks other logs blocks → ⊥) → RestsOnBlocks (run_of batch_words held status log_files text []) → ⊥
+    judged_without_blocks : (board : RawBoard) → Denotes lines nets bsdl board
+        → ((other : RawBoard) (blocks : List Block) → Denotes lines nets bsdl other
+        → HoldsBoardBlocks other logs blocks → ⊥)
+        → RestsOnBlocks (run_of batch_words held status log_files text []) → ⊥
     judged_without_blocks board denotes none rests =
         let told = rests 1 (codes "g") board_names logs lines nets bsdl (((codes "1", refl, (refl, omega arith)), refl), each) ended in
         none told.0 told.2 told.1 told.3
 
   module _ (log : Text) (each : HoldsEach held (files_of groups) (log ∷ lines ∷ nets ∷ bsdl)) where
-    grouped_without_board : (other : RawBoard) (rows : List (List Bool)) → HoldsLog other (walk_row_list other) log rows → ((board : RawBoard) → Denotes lines nets bsdl board → ⊥) → RestsOnWalkLog (run_of groups_words held status log_files text []) → ⊥
+    grouped_without_board : (other : RawBoard) (rows : List (List Bool))
+        → HoldsLog other (walk_row_list other) log rows
+        → ((board : RawBoard) → Denotes lines nets bsdl board → ⊥)
+        → RestsOnWalkLog (run_of groups_words held status log_files text []) → ⊥
     grouped_without_board other rows holds none rests =
         let told = rests (codes "g") board_names log lines nets bsdl (((refl, omega arith), refl), each) ended in
         none told.0 told.1
 
-    grouped_without_log : (board : RawBoard) → Denotes lines nets bsdl board → ((other : RawBoard) (rows : List (List Bool)) → Denotes lines nets bsdl other → HoldsLog other (walk_row_list other) log rows → ⊥) → RestsOnWalkLog (run_of groups_words held status log_files text []) → ⊥
+    grouped_without_log : (board : RawBoard) → Denotes lines nets bsdl board
+        → ((other : RawBoard) (rows : List (List Bool)) → Denotes lines nets bsdl other
+        → HoldsLog other (walk_row_list other) log rows → ⊥)
+        → RestsOnWalkLog (run_of groups_words held status log_files text []) → ⊥
     grouped_without_log board denotes none rests =
         let told = rests (codes "g") board_names log lines nets bsdl (((refl, omega arith), refl), each) ended in
         none told.0 told.2 told.1 told.3
@@ -277,13 +362,15 @@ module _ (board : RawBoard) (log : List (List Bool)) where
   fault_left_out : (single : Single) (pass : Bool) → IsSingle board single → Explains board single log → IsDiagnosed board log pass [] → ⊥
   fault_left_out single pass one explains is = let contained = (is.exactly single).1 (one, explains) in omega (arith, contained.1)
 
-  fault_that_explains_nothing : (single : Single) (pass : Bool) → (Explains board single log → ⊥) → IsDiagnosed board log pass (single ∷ []) → ⊥
+  fault_that_explains_nothing : (single : Single) (pass : Bool) → (Explains board single log → ⊥)
+      → IsDiagnosed board log pass (single ∷ []) → ⊥
   fault_that_explains_nothing single pass none is = none ((is.exactly single).0 (0, omega arith, refl)).1
 
   fault_of_another_board : (single : Single) (pass : Bool) → (IsSingle board single → ⊥) → IsDiagnosed board log pass (single ∷ []) → ⊥
   fault_of_another_board single pass none is = none ((is.exactly single).0 (0, omega arith, refl)).0
 
-  faults_out_of_order : (one other : Single) (pass : Bool) → (SinglePrecedes one other → ⊥) → IsDiagnosed board log pass (one ∷ other ∷ []) → ⊥
+  faults_out_of_order : (one other : Single) (pass : Bool) → (SinglePrecedes one other → ⊥)
+      → IsDiagnosed board log pass (one ∷ other ∷ []) → ⊥
   faults_out_of_order one other pass none is = none (is.in_order 0 1 one (omega arith) (omega arith))
 
 -- Samples of boards whose test lacks a property that a diagnosis needs.
@@ -293,8 +380,11 @@ module _ (board : RawBoard) where
       let bad : ◌≡◌ {A = Option (List Clock)} None (Some _) = sym none ∙ has.means in
       cc bad
 
-  fault_without_response : (single : Single) → IsSingle board single → ((log : List (List Bool)) → Explains board single log → ⊥) → HasResponses board → ⊥
+  fault_without_response : (single : Single) → IsSingle board single
+      → ((log : List (List Bool)) → Explains board single log → ⊥) → HasResponses board → ⊥
   fault_without_response single one none has = let some = has.some single one in none some.0 some.1
 
-  two_responses : (single : Single) (log other : List (List Bool)) → Explains board single log → Explains board single other → (AgreeOn board (svf_row_scans board) log other → ⊥) → HasResponses board → ⊥
+  two_responses : (single : Single) (log other : List (List Bool)) → Explains board single log
+      → Explains board single other → (AgreeOn board (svf_row_scans board) log other → ⊥)
+      → HasResponses board → ⊥
   two_responses single log other one two differ has = differ (has.one single log other one two)

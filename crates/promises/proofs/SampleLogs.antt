@@ -12,7 +12,7 @@ use Rattle.text_lines.specs.Words.{words_of}
 use Rattle.batch_diag.specs.declared.block.Block.{Block}
 use Rattle.batch_diag.specs.OwnTexts.{BlockText, IsNoTitle, IsTitle}
 use Rattle.command_line.specs.Words.{Text}
-use Rattle.promises.specs.Logs.{HoldsBlock, HoldsBlocks, HoldsLog}
+use Rattle.promises.specs.Logs.{HoldsBoardBlock, HoldsBoardBlocks, HoldsLog}
 
 abbrev Holds : Text → List (List Bool) → Type 0
 Holds text log = HoldsLog wires (svf_row_scans wires) text log
@@ -66,15 +66,15 @@ first = record { title = codes "BOARD A"; below = codes "1" ∷ codes "2" ∷ []
 abbrev second : BlockText
 second = record { title = codes " BOARD\tA # B\r"; below = codes "1" ∷ codes "# 3" ∷ [] ∷ codes "2" ∷ [] }
 
-first_holds : HoldsBlock wires first (block (codes "A"))
+first_holds : HoldsBoardBlock wires first (block (codes "A"))
 unfolding words_of
 first_holds = record { title = refl; id = refl; log = record { lines = refl; shape = both_shaped } }
 
-second_holds : HoldsBlock wires second (block (codes "A"))
+second_holds : HoldsBoardBlock wires second (block (codes "A"))
 unfolding words_of
 second_holds = record { title = refl; id = refl; log = record { lines = refl; shape = both_shaped } }
 
-two_blocks : HoldsBlocks wires (codes "# 0\nBOARD A\n1\n2\n BOARD\tA # B\r\n1\n# 3\n\n2") (block (codes "A") ∷ block (codes "A") ∷ [])
+two_blocks : HoldsBoardBlocks wires (codes "# 0\nBOARD A\n1\n2\n BOARD\tA # B\r\n1\n# 3\n\n2") (block (codes "A") ∷ block (codes "A") ∷ [])
 unfolding words_of
 two_blocks = record {
   front = codes "# 0" ∷ [];
@@ -91,7 +91,7 @@ two_blocks = record {
   each = (first_holds, (second_holds, tt));
 }
 
-no_blocks : HoldsBlocks wires (codes "#\n") []
+no_blocks : HoldsBoardBlocks wires (codes "#\n") []
 unfolding words_of
 no_blocks = record {
   front = codes "#" ∷ [] ∷ [];
@@ -106,14 +106,14 @@ no_blocks = record {
 }
 
 -- a block of one row does not hold a log of two rows
-block_of_one_row : (found : Block) → HoldsBlock wires (record { title = codes "BOARD A"; below = codes "1" ∷ [] }) found → ⊥
+block_of_one_row : (found : Block) → HoldsBoardBlock wires (record { title = codes "BOARD A"; below = codes "1" ∷ [] }) found → ⊥
 unfolding words_of
 block_of_one_row found holds =
     let count : length found.log ≡ 1 = sym (length-map found.log Some) ∙ sym (ap length holds.log.lines) in
     let wanted : length found.log ≡ 2 = holds.log.shape.rows in
     absurd (omega (arith, count, wanted))
 
-wrong_title : (found : Block) → HoldsBlock wires (record { title = codes "BOARD A B"; below = codes "1" ∷ codes "2" ∷ [] }) found → ⊥
+wrong_title : (found : Block) → HoldsBoardBlock wires (record { title = codes "BOARD A B"; below = codes "1" ∷ codes "2" ∷ [] }) found → ⊥
 unfolding words_of
 wrong_title found holds =
     let count : ◌≡◌ {A = ℕ} 3 2 = ap length holds.title in

@@ -14,8 +14,8 @@ use Rattle.command_line.specs.Words.{Text, Command}
 use Rattle.btest_cli.specs.Texts.{Held, Wanted}
 use Rattle.btest_cli.specs.declared.status.Status.{Status}
 use Rattle.btest_cli.specs.declared.status.Status.TheVariants.{Done, Refused, Usage, ReadFault, WriteFault, NoMemory}
-use Rattle.promises.specs.Runs.{Asks, AsksNothing, Ends, HoldsEach, IsTooLong, NoReadFailed, Notes, Prints, Run, RunsOn, files_of}
-use Rattle.promises.specs.Gives.{Gives}
+use Rattle.promises.specs.Runs.{HasWordsOf, AsksNothing, Ends, HoldsEach, IsTooLong, NoReadFailed, Notes, PrintsText, Run, RunsOn, files_of}
+use Rattle.promises.specs.Gives.{GivesOutcome}
 use Rattle.promises.specs.Promises.{FilesGive, FindsOutcome, RestsOnFiles, TellsFault, TellsLong, TellsMemory, TellsUnread, TellsUnwritten, TellsUsage}
 use Rattle.promises.proofs.WordLemmas.{command_is, none_asked}
 use Rattle.promises.proofs.RunLemmas.{same_some}
@@ -27,7 +27,9 @@ ends held asked out notes = record { held = held; asked = asked; unread = λ nam
 -- A run of these words. Before the run, no name had been asked for, and nothing had been written to the output or the notes. In the run,
 -- the store was asked for the names `asked`, and `out` and `notes` were written.
 abbrev pub run_of : List Text → Held → Status → List Text → Text → Text → Run
-run_of words held status asked out notes = record { words = words; old = ends held [] [] []; new = ends held asked out notes; status = status }
+run_of words held status asked out notes =
+    record
+    { words = words; old = ends held [] [] []; new = ends held asked out notes; status = status }
 
 -- the words of `device`
 abbrev pub device_words : List Text
@@ -72,12 +74,16 @@ apart one other same differ is =
     cc z
 
 -- if `bytes_eq` is false for `one` and every beginning of `line`, `line` does not begin with `one`
-no_front : (one line : Text) → bytes_eq one one ≡ true → bytes_eq one [] ≡ false → ((count : ℕ) → bytes_eq one (take (suc count) line) ≡ false) → (count : ℕ) → one ≡ take count line → ⊥
+no_front : (one line : Text) → bytes_eq one one ≡ true → bytes_eq one [] ≡ false
+    → ((count : ℕ) → bytes_eq one (take (suc count) line) ≡ false) → (count : ℕ)
+    → one ≡ take count line → ⊥
 no_front one line same some differ zero is = apart one [] same some is
 no_front one line same some differ (suc count) is = apart one (take (suc count) line) same (differ count) is
 
 -- if nothing was written to the notes and `line` is not empty, the notes did not take `line`
-none_noted : (words : List Text) (held : Held) (status : Status) (asked : List Text) (out line : Text) → bytes_eq [] line ≡ false → Notes (run_of words held status asked out []) line → ⊥
+none_noted : (words : List Text) (held : Held) (status : Status) (asked : List Text)
+    (out line : Text) → bytes_eq [] line ≡ false
+    → Notes (run_of words held status asked out []) line → ⊥
 none_noted words held status asked out line some (inl is) = apart [] line refl some is
 none_noted words held status asked out line some (inr (rose, cut)) = calm rose
 
@@ -112,7 +118,7 @@ noted_other (inr (rose, (count, is))) = no_front (codes "x") usage_line refl ref
 
 -- the run keeps the promise that `device` prints the text that is the single byte 1
 abbrev PrintsOne : Run → Type 0
-PrintsOne run = Prints run device (λ text. text ≡ 1 ∷ [])
+PrintsOne run = PrintsText run device (λ text. text ≡ 1 ∷ [])
 
 prints_unasked : PrintsOne (run_of device_words empty Done [] (1 ∷ []) []) → ⊥
 prints_unasked prints = let count : 0 ≡ 1 = ap length (prints.asks refl) in absurd (omega (arith, count))
@@ -162,14 +168,19 @@ only_name name (suc k, below, is) = absurd (omega (arith, below))
 -- if only the read of the file `name` failed, no read of another file failed
 was_read : (name other : Text) → bytes_eq name other ≡ false → (file : Text) → file ≡ other → Rose 0 (cond (bytes_eq name file) 1 0) → ⊥
 was_read name other differ file is rose =
-    let same : cond (bytes_eq name file) 1 0 ≡ 0 = ap (λ (n : Text). cond (bytes_eq name n) 1 0) is ∙ ap (λ (b : Bool). cond b 1 0) differ in
+    let same : cond (bytes_eq name file) 1 0
+    ≡ 0 = ap (λ (n : Text). cond (bytes_eq name n) 1 0) is
+    ∙ ap (λ (b : Bool). cond b 1 0) differ in
     calm (subst (λ (n : ℕ). Rose 0 n) same rose)
 
-b_read : (words asked : List Text) (held : Held) (status : Status) (out notes : Text) → NoReadFailed (failing (codes "x") (run_of words held status asked out notes)) device
+b_read : (words asked : List Text) (held : Held) (status : Status) (out notes : Text)
+    → NoReadFailed (failing (codes "x") (run_of words held status asked out notes)) device
 b_read words asked held status out notes name among rose = was_read (codes "x") (codes "b") refl name (only_name name among) rose
 
 other_read_failed : PrintsOne (failing (codes "x") (run_of device_words empty ReadFault [] [] (read_line (codes "x")))) → ⊥
-other_read_failed prints = neither ReadFault Done NoMemory (λ e. cc) (λ e. cc) (prints.ends calm (b_read device_words [] empty ReadFault [] (read_line (codes "x"))))
+other_read_failed prints =
+    neither ReadFault Done NoMemory (λ e. cc) (λ e. cc)
+    (prints.ends calm (b_read device_words [] empty ReadFault [] (read_line (codes "x"))))
 
 -- An empty list of words asks for no command.
 
@@ -189,11 +200,14 @@ done_without_command : TellsUsage (run_of [] empty Done [] [] []) → ⊥
 done_without_command tells = neither Done Usage NoMemory (λ e. cc) (λ e. cc) (tells.1 (nothing_asked empty Done [] [] [])).0
 
 usage_that_asked : TellsUsage (run_of [] empty Usage b_asked [] usage_line) → ⊥
-usage_that_asked tells = let count : 1 ≡ 0 = ap length (tells.1 (nothing_asked empty Usage b_asked [] usage_line)).1 in absurd (omega (arith, count))
+usage_that_asked tells =
+    let count : 1 ≡ 0 = ap length (tells.1 (nothing_asked empty Usage b_asked [] usage_line)).1 in
+    absurd (omega (arith, count))
 
 usage_that_read : TellsUsage (failing (codes "b") (run_of [] empty Usage [] [] usage_line)) → ⊥
 usage_that_read tells =
-    let nothing : AsksNothing (failing (codes "b") (run_of [] empty Usage [] [] usage_line)) = none_asked (failing (codes "b") (run_of [] empty Usage [] [] usage_line)) refl in
+    let nothing : AsksNothing (failing (codes "b") (run_of [] empty Usage [] [] usage_line)) =
+    none_asked (failing (codes "b") (run_of [] empty Usage [] [] usage_line)) refl in
     let count : 1 ≡ 0 = ap (λ (unread : Text → ℕ). unread (codes "b")) (tells.1 nothing).2 in
     absurd (omega (arith, count))
 
@@ -206,7 +220,7 @@ usage_that_forgot tells =
     let same : ◌≡◌ {A = Held} None empty = (tells.1 (none_asked forgotten refl)).3 in
     cc same
 
-is_device : (run : Run) (command : Command) → Asks run device → Asks run command → command ≡ device
+is_device : (run : Run) (command : Command) → HasWordsOf run device → HasWordsOf run command → command ≡ device
 is_device run command one other =
     let same : ◌≡◌ {A = Option Command} (Some command) (Some device) = sym (command_is run command other) ∙ command_is run device one in
     cc
@@ -225,7 +239,8 @@ module _ (text : Text) (short : length text ≤ 4194304) where
   abbrev holding : Held
   holding = Some (λ name. Some text)
 
-  on_text : (status : Status) (asked : List Text) (out notes : Text) → RunsOn (run_of device_words holding status asked out notes) device (text ∷ [])
+  on_text : (status : Status) (asked : List Text) (out notes : Text)
+      → RunsOn (run_of device_words holding status asked out notes) device (text ∷ [])
   on_text status asked out notes = ((refl, refl), (refl, short, tt))
 
   -- if the store holds `texts` for the files of `device`, `texts` is the list with only `text`
@@ -252,36 +267,62 @@ module _ (text : Text) (short : length text ≤ 4194304) where
           let more : length (before ++ file ∷ after) ≡ length before + suc (length after) = length-append before (file ∷ after) in
           absurd (omega (arith, count, more))
 
-  given_text : (outcome : Result Text Text) → ((texts : List Text) × HoldsEach holding (files_of device) texts × Gives device texts outcome) ⊎ ((file : Wanted) × IsTooLong holding (files_of device) file × (outcome ≡ Err (long_line file.name file.limit))) → Gives device (text ∷ []) outcome
-  given_text outcome (inl (texts, each, gives)) = subst (λ (l : List Text). Gives device l outcome) (sym (only_text texts each)) gives
+  given_text : (outcome : Result Text Text)
+      → ((texts : List Text) × HoldsEach holding (files_of device) texts
+      × GivesOutcome device texts outcome)
+      ⊎ ((file : Wanted) × IsTooLong holding (files_of device) file
+      × (outcome ≡ Err (long_line file.name file.limit))) → GivesOutcome device (text ∷ []) outcome
+  given_text outcome (inl (texts, each, gives)) =
+      subst (λ (l : List Text). GivesOutcome device l outcome) (sym (only_text texts each)) gives
   given_text outcome (inr (file, long, is)) = absurd (none_long file long)
 
-  device_gives : (status : Status) (asked : List Text) (out notes : Text) (command : Command) → Asks (run_of device_words holding status asked out notes) command → (outcome : Result Text Text) → FilesGive (run_of device_words holding status asked out notes) command outcome → Gives device (text ∷ []) outcome
+  device_gives : (status : Status) (asked : List Text) (out notes : Text) (command : Command)
+      → HasWordsOf (run_of device_words holding status asked out notes) command
+      → (outcome : Result Text Text)
+      → FilesGive (run_of device_words holding status asked out notes) command outcome
+      → GivesOutcome device (text ∷ []) outcome
   device_gives status asked out notes command asks outcome gives =
-      given_text outcome (subst (λ (c : Command). FilesGive (run_of device_words holding status asked out notes) c outcome) (is_device (run_of device_words holding status asked out notes) command (refl, refl) asks) gives)
+      given_text outcome
+      (subst
+      (λ (c : Command). FilesGive (run_of device_words holding status asked out notes) c
+      outcome)
+      (is_device (run_of device_words holding status asked out notes) command (refl, refl)
+      asks) gives)
 
   -- The file has a first fault, and the line of this fault is not empty. The run must be refused with this line.
 
-  refused_without_fault : ((line : Text) → Gives device (text ∷ []) (Err line) → ⊥) → TellsFault (run_of device_words holding Refused b_asked [] (1 ∷ [])) → ⊥
-  refused_without_fault sound tells = let told = ((tells.1 device (text ∷ []) (on_text Refused b_asked [] (1 ∷ []))).0 refl).1 in sound told.0 told.1
+  refused_without_fault : ((line : Text) → GivesOutcome device (text ∷ []) (Err line) → ⊥)
+      → TellsFault (run_of device_words holding Refused b_asked [] (1 ∷ [])) → ⊥
+  refused_without_fault sound tells =
+      let told = ((tells.1 device (text ∷ []) (on_text Refused b_asked [] (1 ∷ []))).0 refl).1 in
+      sound told.0 told.1
 
-  module _ (some : Gives device (text ∷ []) (Err []) → ⊥) where
-    some_line : (line : Text) → Gives device (text ∷ []) (Err line) → Notes (run_of device_words holding Refused b_asked [] []) line → ⊥
-    some_line line gives (inl is) = some (subst (λ (l : Text). Gives device (text ∷ []) (Err l)) (sym is) gives)
+  module _ (some : GivesOutcome device (text ∷ []) (Err []) → ⊥) where
+    some_line : (line : Text) → GivesOutcome device (text ∷ []) (Err line)
+        → Notes (run_of device_words holding Refused b_asked [] []) line → ⊥
+    some_line line gives (inl is) = some (subst (λ (l : Text). GivesOutcome device (text ∷ []) (Err l)) (sym is) gives)
     some_line line gives (inr (rose, cut)) = calm rose
 
     refused_without_note : TellsFault (run_of device_words holding Refused b_asked [] []) → ⊥
-    refused_without_note tells = let told = ((tells.1 device (text ∷ []) (on_text Refused b_asked [] [])).0 refl).1 in some_line told.0 told.1 told.2
+    refused_without_note tells =
+        let told = ((tells.1 device (text ∷ []) (on_text Refused b_asked [] [])).0 refl).1 in
+        some_line told.0 told.1 told.2
 
     refused_without_line : RestsOnFiles (run_of device_words holding Refused b_asked [] []) → ⊥
-    refused_without_line rests = let told = rests.2 refl in some_line told.2 (device_gives Refused b_asked [] [] told.0 told.1 (Err told.2) told.3) told.4
+    refused_without_line rests =
+        let told = rests.2 refl in
+        some_line told.2 (device_gives Refused b_asked [] [] told.0 told.1 (Err told.2) told.3)
+        told.4
 
-  module _ (line : Text) (gives : Gives device (text ∷ []) (Err line)) where
+  module _ (line : Text) (gives : GivesOutcome device (text ∷ []) (Err line)) where
     refused_with_text : TellsFault (run_of device_words holding Refused b_asked (1 ∷ []) line) → ⊥
     refused_with_text tells = let count : 1 ≡ 0 = ap length (tells.0 refl) in absurd (omega (arith, count))
 
     refused_unasked : TellsFault (run_of device_words holding Refused [] [] line) → ⊥
-    refused_unasked tells = let count : 0 ≡ 1 = ap length ((tells.1 device (text ∷ []) (on_text Refused [] [] line)).0 refl).0 in absurd (omega (arith, count))
+    refused_unasked tells =
+        let count : 0
+        ≡ 1 = ap length ((tells.1 device (text ∷ []) (on_text Refused [] [] line)).0 refl).0 in
+        absurd (omega (arith, count))
 
     -- if a read of the file failed, the status must still not be Done
     fault_done : TellsFault (failing (codes "b") (run_of device_words holding Done b_asked [] [])) → ⊥
@@ -292,15 +333,23 @@ module _ (text : Text) (short : length text ≤ 4194304) where
 
     fault_as_usage : TellsFault (run_of device_words holding Usage b_asked [] []) → ⊥
     fault_as_usage tells =
-        neither Usage Refused NoMemory (λ e. cc) (λ e. cc) (((tells.1 device (text ∷ []) (on_text Usage b_asked [] [])).1 line gives).2 (λ name among rose. calm rose))
+        neither Usage Refused NoMemory (λ e. cc) (λ e. cc)
+        (((tells.1 device (text ∷ []) (on_text Usage b_asked [] [])).1 line gives).2
+        (λ name among rose. calm rose))
 
     -- if only the read of another name failed, the status must not be ReadFault
     fault_as_unread : TellsFault (failing (codes "x") (run_of device_words holding ReadFault [] [] (read_line (codes "x")))) → ⊥
     fault_as_unread tells =
-        neither ReadFault Refused NoMemory (λ e. cc) (λ e. cc) (((tells.1 device (text ∷ []) ((refl, refl), (refl, short, tt))).1 line gives).2 (b_read device_words [] holding ReadFault [] (read_line (codes "x"))))
+        neither ReadFault Refused NoMemory (λ e. cc) (λ e. cc)
+        (((tells.1 device (text ∷ []) ((refl, refl), (refl, short, tt))).1 line gives).2
+        (b_read device_words [] holding ReadFault [] (read_line (codes "x"))))
 
     refused_as_told : RestsOnFiles (run_of device_words holding Refused b_asked [] line)
-    refused_as_told = (λ e. absurd cc, λ e. absurd cc, λ e. (device, (refl, refl), line, inl (text ∷ [], (refl, short, tt), gives), inl refl))
+    refused_as_told = (
+      λ e. absurd cc,
+      λ e. absurd cc,
+      λ e. (device, (refl, refl), line, inl (text ∷ [], (refl, short, tt), gives), inl refl),
+    )
 
     -- if the words ask for no command, the status must not be Refused
     refused_without_words : RestsOnFiles (run_of [] holding Refused b_asked [] line) → ⊥
@@ -311,7 +360,9 @@ module _ (text : Text) (short : length text ≤ 4194304) where
 
   -- a run in which a write of the output failed
   abbrev cut_after : List Text → Text → Text → Run
-  cut_after asked out notes = let run = run_of device_words holding WriteFault asked out notes in record run { new = record run.new { unwritten = 1 } }
+  cut_after asked out notes =
+      let run = run_of device_words holding WriteFault asked out notes in
+      record run { new = record run.new { unwritten = 1 } }
 
   on_cut : (asked : List Text) (out notes : Text) → RunsOn (cut_after asked out notes) device (text ∷ [])
   on_cut asked out notes = ((refl, refl), (refl, short, tt))
@@ -331,9 +382,13 @@ module _ (text : Text) (short : length text ≤ 4194304) where
       by_note (inr (rose, cut)) = calm rose
 
   unwritten_unasked : TellsUnwritten (cut_after [] [] write_line) → ⊥
-  unwritten_unasked tells = let count : 0 ≡ 1 = ap length ((tells refl).2 device (text ∷ []) (on_cut [] [] write_line)).0 in absurd (omega (arith, count))
+  unwritten_unasked tells =
+      let count : 0
+      ≡ 1 = ap length ((tells refl).2 device (text ∷ []) (on_cut [] [] write_line)).0 in
+      absurd (omega (arith, count))
 
-  unwritten_of_no_text : ((other : Text) → Gives device (text ∷ []) (Ok other) → ⊥) → TellsUnwritten (cut_after b_asked [] write_line) → ⊥
+  unwritten_of_no_text : ((other : Text) → GivesOutcome device (text ∷ []) (Ok other) → ⊥)
+      → TellsUnwritten (cut_after b_asked [] write_line) → ⊥
   unwritten_of_no_text none tells = let told = ((tells refl).2 device (text ∷ []) (on_cut b_asked [] write_line)).1 in none told.0 told.1
 
   other_bytes : TellsUnwritten (cut_after b_asked (codes "x") write_line) → ⊥
@@ -355,10 +410,31 @@ module _ (text : Text) (short : length text ≤ 4194304) where
 
   module _ (described : RawDevice) (is : IsDeviceText text (Ok described)) where
     done_as_told : RestsOnFiles (run_of device_words holding Done b_asked (device_text described) [])
-    done_as_told = (λ e. (device, (refl, refl), device_text described, inl (text ∷ [], (refl, short, tt), (described, is, refl)), refl), λ e. absurd cc, λ e. absurd cc)
+    done_as_told = (
+      λ e. (
+        device,
+        (refl, refl),
+        device_text described,
+        inl (text ∷ [], (refl, short, tt), (described, is, refl)),
+        refl,
+      ),
+      λ e. absurd cc,
+      λ e. absurd cc,
+    )
 
     unwritten_as_told : RestsOnFiles (run_of device_words holding WriteFault b_asked (take 3 (device_text described)) [])
-    unwritten_as_told = (λ e. absurd cc, λ e. (device, (refl, refl), device_text described, inl (text ∷ [], (refl, short, tt), (described, is, refl)), 3, refl), λ e. absurd cc)
+    unwritten_as_told = (
+      λ e. absurd cc,
+      λ e. (
+        device,
+        (refl, refl),
+        device_text described,
+        inl (text ∷ [], (refl, short, tt), (described, is, refl)),
+        3,
+        refl,
+      ),
+      λ e. absurd cc,
+    )
 
     -- if the words ask for no command, the status must not be Done
     done_without_words : RestsOnFiles (run_of [] holding Done b_asked (device_text described) []) → ⊥
@@ -368,17 +444,22 @@ module _ (text : Text) (short : length text ≤ 4194304) where
     unwritten_without_words rests = let told = rests.1 refl in nothing_asked holding WriteFault b_asked [] [] told.0 told.1
 
     -- if the text describes only one device, the output must not be the device's listing followed by a newline
-    done_past_text : ((other : RawDevice) → IsDeviceText text (Ok other) → other ≡ described) → RestsOnFiles (run_of device_words holding Done b_asked (device_text described ++ 10 ∷ []) []) → ⊥
+    done_past_text : ((other : RawDevice) → IsDeviceText text (Ok other) → other ≡ described)
+        → RestsOnFiles
+        (run_of device_words holding Done b_asked (device_text described ++ 10 ∷ []) []) → ⊥
     done_past_text only rests =
         let told = rests.0 refl in
         let gives = device_gives Done b_asked (device_text described ++ 10 ∷ []) [] told.0 told.1 (Ok told.2) told.3 in
         let same : device_text described ++ 10 ∷ [] ≡ device_text described = told.4 ∙ gives.2 ∙ ap device_text (only gives.0 gives.1) in
-        let more : length (device_text described ++ 10 ∷ []) ≡ length (device_text described) + 1 = length-append (device_text described) (10 ∷ []) in
+        let more : length (device_text described ++ 10 ∷ [])
+        ≡ length (device_text described) + 1 = length-append (device_text described) (10 ∷ [])
+        in
         let count : length (device_text described ++ 10 ∷ []) ≡ length (device_text described) = ap length same in
         absurd (omega (arith, more, count))
 
   -- Even if memory ran out, the text of the file gives an outcome.
-  something_given : FindsOutcome (run_of device_words holding NoMemory [] [] []) → (outcome : Result Text Text) × Gives device (text ∷ []) outcome
+  something_given : FindsOutcome (run_of device_words holding NoMemory [] [] [])
+      → (outcome : Result Text Text) × GivesOutcome device (text ∷ []) outcome
   something_given finds = finds.1 device (text ∷ []) (on_text NoMemory [] [] [])
 
 -- If a file is too long, the run must be refused with the line for this file.
@@ -394,13 +475,18 @@ module _ (text : Text) (over : 4194304 < length text) where
 
   -- if the first file is too long, the run must not ask for the second file
   long_and_next : TellsLong (run_of chain_words too_long Refused (codes "c" ∷ codes "b" ∷ []) [] (long_line (codes "c") 4194304)) → ⊥
-  long_and_next tells = let count : 2 ≡ 1 = ap length ((tells chain c_file ((refl, omega arith), refl) long_c).0 refl).0 in absurd (omega (arith, count))
+  long_and_next tells =
+      let count : 2
+      ≡ 1 = ap length ((tells chain c_file ((refl, omega arith), refl) long_c).0 refl).0 in
+      absurd (omega (arith, count))
 
   long_unasked : TellsLong (run_of device_words too_long Refused [] [] (long_line (codes "b") 4194304)) → ⊥
   long_unasked tells = let count : 0 ≡ 1 = ap length ((tells device b_file (refl, refl) long_b).0 refl).0 in absurd (omega (arith, count))
 
   long_without_note : TellsLong (run_of device_words too_long Refused b_asked [] []) → ⊥
-  long_without_note tells = none_noted device_words too_long Refused b_asked [] (long_line (codes "b") 4194304) refl ((tells device b_file (refl, refl) long_b).0 refl).1
+  long_without_note tells =
+      none_noted device_words too_long Refused b_asked [] (long_line (codes "b") 4194304) refl
+      ((tells device b_file (refl, refl) long_b).0 refl).1
 
   -- if a read of the file failed, the status must still not be Done
   long_done : TellsLong (failing (codes "b") (run_of device_words too_long Done b_asked [] [])) → ⊥
@@ -410,15 +496,21 @@ module _ (text : Text) (over : 4194304 < length text) where
   long_unwritten tells = (tells device b_file (refl, refl) long_b).2 refl
 
   long_as_usage : TellsLong (run_of device_words too_long Usage [] [] []) → ⊥
-  long_as_usage tells = neither Usage Refused NoMemory (λ e. cc) (λ e. cc) ((tells device b_file (refl, refl) long_b).3 (λ name among rose. calm rose))
+  long_as_usage tells =
+      neither Usage Refused NoMemory (λ e. cc) (λ e. cc)
+      ((tells device b_file (refl, refl) long_b).3 (λ name among rose. calm rose))
 
   long_as_unread : TellsLong (failing (codes "x") (run_of device_words too_long ReadFault [] [] (read_line (codes "x")))) → ⊥
-  long_as_unread tells = neither ReadFault Refused NoMemory (λ e. cc) (λ e. cc) ((tells device b_file (refl, refl) long_b).3 (b_read device_words [] too_long ReadFault [] (read_line (codes "x"))))
+  long_as_unread tells =
+      neither ReadFault Refused NoMemory (λ e. cc) (λ e. cc)
+      ((tells device b_file (refl, refl) long_b).3
+      (b_read device_words [] too_long ReadFault [] (read_line (codes "x"))))
 
 -- If a store holds no file, the files of `device` give nothing.
 
 no_file_given : (run : Run) → run.old.held ≡ empty → (outcome : Result Text Text) → FilesGive run device outcome → ⊥
-no_file_given run none outcome (inl (texts, each, gives)) = by_texts texts (subst (λ (held : Held). HoldsEach held (files_of device) texts) none each)
+no_file_given run none outcome (inl (texts, each, gives)) =
+    by_texts texts (subst (λ (held : Held). HoldsEach held (files_of device) texts) none each)
   where
     by_texts : (texts : List Text) → HoldsEach empty (files_of device) texts → ⊥
     by_texts [] each = each
@@ -428,7 +520,8 @@ no_file_given run none outcome (inr (file, long, is)) =
     let bad : ◌≡◌ {A = Option Text} None (Some holds.text) = holds.holds in
     cc bad
 
-rests_on_no_file : (run : Run) → run.old.held ≡ empty → Asks run device → (command : Command) → Asks run command → (outcome : Result Text Text) → FilesGive run command outcome → ⊥
+rests_on_no_file : (run : Run) → run.old.held ≡ empty → HasWordsOf run device → (command : Command)
+    → HasWordsOf run command → (outcome : Result Text Text) → FilesGive run command outcome → ⊥
 rests_on_no_file run none device_asked command asked outcome gives =
     no_file_given run none outcome (subst (λ (c : Command). FilesGive run c outcome) (is_device run command device_asked asked) gives)
 
@@ -489,12 +582,15 @@ last_is first [] name = refl
 last_is first (other ∷ before) name = last_is other before name
 
 -- if the last name that was asked for is the name of the file, `last_of` returns this name
-last_named : (first : Text) (others : List Text) (before : List Wanted) (file : Wanted) → first ∷ others ≡ map (λ f. f.name) before ++ file.name ∷ [] → file.name ≡ last_of first others
+last_named : (first : Text) (others : List Text) (before : List Wanted) (file : Wanted)
+    → first ∷ others ≡ map (λ f. f.name) before ++ file.name ∷ [] → file.name ≡ last_of first others
 last_named first others before file asked = sym (last_is first (map (λ f. f.name) before) file.name) ∙ sym (ap (last_of first) asked)
 
 -- a run in which the read of each name failed
 abbrev none_read : Held → List Text → List Text → Text → Text → Run
-none_read held words asked out notes = let run = run_of words held ReadFault asked out notes in record run { new = record run.new { unread = λ name. 1 } }
+none_read held words asked out notes =
+    let run = run_of words held ReadFault asked out notes in
+    record run { new = record run.new { unread = λ name. 1 } }
 
 abbrev unread : List Text → List Text → Text → Text → Run
 unread words asked out notes = none_read empty words asked out notes
@@ -510,17 +606,26 @@ unread_without_fault tells = calm (tells refl).7
 
 -- if only the read of another name failed, the notes must not name this file
 unread_otherwise : TellsUnread (failing (codes "x") (run_of device_words empty ReadFault b_asked [] (read_line (codes "b")))) → ⊥
-unread_otherwise tells = let told = tells refl in was_read (codes "x") (codes "b") refl told.5.name (last_named (codes "b") [] told.3 told.5 told.8) told.7
+unread_otherwise tells =
+    let told = tells refl in
+    was_read (codes "x") (codes "b") refl told.5.name
+    (last_named (codes "b") [] told.3 told.5 told.8) told.7
 
 unread_behind : TellsUnread (failing (codes "n") (run_of svf_words empty ReadFault (codes "c" ∷ []) [] (read_line (codes "c")))) → ⊥
-unread_behind tells = let told = tells refl in was_read (codes "n") (codes "c") refl told.5.name (last_named (codes "c") [] told.3 told.5 told.8) told.7
+unread_behind tells =
+    let told = tells refl in
+    was_read (codes "n") (codes "c") refl told.5.name
+    (last_named (codes "c") [] told.3 told.5 told.8) told.7
 
 unread_unasked : TellsUnread (unread device_words [] [] (read_line (codes "b"))) → ⊥
 unread_unasked tells = let told = tells refl in by_before told.3 told.5 told.8
   where
     by_before : (before : List Wanted) (file : Wanted) → ◌≡◌ {A = List Text} [] (map (λ f. f.name) before ++ file.name ∷ []) → ⊥
     by_before [] file asked = let count : 0 ≡ 1 = ap length asked in absurd (omega (arith, count))
-    by_before (first ∷ before) file asked = let count : 0 ≡ suc (length (map (λ f. f.name) before ++ file.name ∷ [])) = ap length asked in absurd (omega (arith, count))
+    by_before (first ∷ before) file asked =
+        let count : 0
+        ≡ suc (length (map (λ f. f.name) before ++ file.name ∷ [])) = ap length asked in
+        absurd (omega (arith, count))
 
 unread_without_note : TellsUnread (unread device_words b_asked [] []) → ⊥
 unread_without_note tells = let told = tells refl in by_note (read_line told.5.name) refl told.9
@@ -547,7 +652,8 @@ other_file tells =
     let same = is_device (unread device_words (codes "x" ∷ []) [] (read_line (codes "x"))) told.1 (refl, refl) told.2 in
     by_before told.3 told.4 told.5 (sym (ap files_of same) ∙ told.6) told.8
   where
-    by_before : (before after : List Wanted) (file : Wanted) → b_file ∷ [] ≡ before ++ file ∷ after → codes "x" ∷ [] ≡ map (λ f. f.name) before ++ file.name ∷ [] → ⊥
+    by_before : (before after : List Wanted) (file : Wanted) → b_file ∷ [] ≡ before ++ file ∷ after
+        → codes "x" ∷ [] ≡ map (λ f. f.name) before ++ file.name ∷ [] → ⊥
     by_before [] after file are asked =
         let name : codes "b" ≡ file.name = ap (λ (files : List Wanted). last_of (codes "y") (map (λ f. f.name) (take 1 files))) are in
         let last : codes "x" ≡ file.name = ap (last_of (codes "y")) asked in
@@ -565,6 +671,8 @@ first_not_held tells = let told = tells refl in by_before told.3 told.5 told.8 (
     by_texts first before [] each = each
     by_texts first before (text ∷ texts) each = cc each.0
 
-    by_before : (before : List Wanted) (file : Wanted) → codes "c" ∷ codes "n" ∷ [] ≡ map (λ f. f.name) before ++ file.name ∷ [] → (texts : List Text) × HoldsEach empty before texts → ⊥
+    by_before : (before : List Wanted) (file : Wanted)
+        → codes "c" ∷ codes "n" ∷ [] ≡ map (λ f. f.name) before ++ file.name ∷ []
+        → (texts : List Text) × HoldsEach empty before texts → ⊥
     by_before [] file asked held = let count : 2 ≡ 1 = ap length asked in absurd (omega (arith, count))
     by_before (first ∷ before) file asked held = by_texts first before held.0 held.1

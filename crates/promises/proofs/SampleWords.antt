@@ -3,7 +3,7 @@ use Rattle.std.proofs.Common.{ℕ, List, [], ◌∷◌, replicate, codes, refl, 
 use Rattle.command_line.specs.declared.command.Command.TheVariants.{Chain, Ident, Device, Cover, Svf, Walk, Make, Diagnose, Groups, Batch}
 use Rattle.command_line.specs.Words.{Text, ChainNames, BoardNames, board_called, log_called}
 use Rattle.btest_cli.specs.declared.status.Status.{Status}
-use Rattle.promises.specs.Runs.{Asks, AsksNothing, Ends, Run}
+use Rattle.promises.specs.Runs.{HasWordsOf, AsksNothing, Ends, Run}
 use Rattle.promises.proofs.WordLemmas.{none_asked}
 
 abbrev chain_names : ChainNames
@@ -24,40 +24,41 @@ module _ (old new : Ends) (status : Status) where
   abbrev run_with : List Text → Run
   run_with words = record { words = words; old = old; new = new; status = status }
 
-  chain_asked : Asks (run_with (codes "chain" ∷ codes "c" ∷ codes "b" ∷ codes "d" ∷ [])) (Chain chain_names)
+  chain_asked : HasWordsOf (run_with (codes "chain" ∷ codes "c" ∷ codes "b" ∷ codes "d" ∷ [])) (Chain chain_names)
   chain_asked = ((refl, omega arith), refl)
 
-  ident_asked : Asks (run_with (codes "ident" ∷ codes "c" ∷ codes "b" ∷ codes "d" ∷ [])) (Ident chain_names)
+  ident_asked : HasWordsOf (run_with (codes "ident" ∷ codes "c" ∷ codes "b" ∷ codes "d" ∷ [])) (Ident chain_names)
   ident_asked = ((refl, omega arith), refl)
 
-  device_asked : Asks (run_with (codes "device" ∷ codes "b" ∷ [])) (Device (codes "b"))
+  device_asked : HasWordsOf (run_with (codes "device" ∷ codes "b" ∷ [])) (Device (codes "b"))
   device_asked = (refl, refl)
 
-  cover_asked : Asks (run_with (codes "cover" ∷ board_words)) (Cover board_names)
+  cover_asked : HasWordsOf (run_with (codes "cover" ∷ board_words)) (Cover board_names)
   cover_asked = ((refl, omega arith), refl)
 
-  svf_asked : Asks (run_with (codes "svf" ∷ board_words)) (Svf board_names)
+  svf_asked : HasWordsOf (run_with (codes "svf" ∷ board_words)) (Svf board_names)
   svf_asked = ((refl, omega arith), refl)
 
-  walk_asked : Asks (run_with (codes "walk" ∷ board_words)) (Walk board_names)
+  walk_asked : HasWordsOf (run_with (codes "walk" ∷ board_words)) (Walk board_names)
   walk_asked = ((refl, omega arith), refl)
 
-  make_asked : Asks (run_with (codes "make" ∷ codes "002" ∷ [])) (Make 2)
+  make_asked : HasWordsOf (run_with (codes "make" ∷ codes "002" ∷ [])) (Make 2)
   make_asked = ((codes "002", refl, refl), refl)
 
-  most_made_asked : Asks (run_with (codes "make" ∷ codes "255" ∷ [])) (Make 255)
+  most_made_asked : HasWordsOf (run_with (codes "make" ∷ codes "255" ∷ [])) (Make 255)
   most_made_asked = ((codes "255", refl, refl), refl)
 
-  diagnose_asked : Asks (run_with (codes "diagnose" ∷ codes "64" ∷ codes "g" ∷ board_words)) (Diagnose 64 (codes "g") board_names)
+  diagnose_asked : HasWordsOf (run_with (codes "diagnose" ∷ codes "64" ∷ codes "g" ∷ board_words)) (Diagnose 64 (codes "g") board_names)
   diagnose_asked = ((codes "64", refl, (refl, omega arith)), refl)
 
-  groups_asked : Asks (run_with (codes "groups" ∷ codes "g" ∷ board_words)) (Groups (codes "g") board_names)
+  groups_asked : HasWordsOf (run_with (codes "groups" ∷ codes "g" ∷ board_words)) (Groups (codes "g") board_names)
   groups_asked = ((refl, omega arith), refl)
 
-  batch_asked : Asks (run_with (codes "batch" ∷ codes "1" ∷ codes "g" ∷ board_words)) (Batch 1 (codes "g") board_names)
+  batch_asked : HasWordsOf (run_with (codes "batch" ∷ codes "1" ∷ codes "g" ∷ board_words)) (Batch 1 (codes "g") board_names)
   batch_asked = ((codes "1", refl, (refl, omega arith)), refl)
 
-  most_files_asked : Asks (run_with (tested 255)) (Svf (record { chain = codes "c"; nets = codes "n"; bsdl = replicate 255 (codes "b") }))
+  most_files_asked : HasWordsOf (run_with (tested 255))
+      (Svf (record { chain = codes "c"; nets = codes "n"; bsdl = replicate 255 (codes "b") }))
   most_files_asked = ((refl, omega arith), refl)
 
   no_words : AsksNothing (run_with [])

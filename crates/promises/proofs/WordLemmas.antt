@@ -6,8 +6,8 @@ use Rattle.std.specs.Str.{bytes_eq}
 use Rattle.std.proofs.lemmas.Grind.{common_steps}
 use Rattle.std.proofs.lemmas.Slice.Eq.{bytes_eq-Decides}
 use Rattle.command_line.specs.declared.command.Command.TheVariants.{Chain, Ident, Device, Cover, Svf, Walk, Make, Diagnose, Groups, Batch}
-use Rattle.command_line.specs.Words.{Text, ChainNames, BoardNames, Command, batch_of, board_called, board_of, chain_of, command_of, device_of, diagnose_of, groups_of, is_plain, log_called, make_of, number_of, parsed, with_names, worked_of}
-use Rattle.promises.specs.Runs.{AreWords, Asks, AsksNothing, Run, ThenBoard, ThenChain}
+use Rattle.command_line.specs.Words.{Text, ChainNames, BoardNames, Command, batch_of, board_called, board_names_of, chain_of, command_of, device_of, diagnose_of, groups_of, is_plain, log_called, make_of, number_of, parsed, with_names, worked_of}
+use Rattle.promises.specs.Runs.{AreWords, HasWordsOf, AsksNothing, Run, ThenBoard, ThenChain}
 
 allowed : (n : ℕ) (b : Bool) → nat_le n 255 ≡ b → n ≤ 255 → b ≡ true
 allowed n true test few = refl
@@ -26,12 +26,22 @@ parsed_is (Svf names) words (are, few) = ap parsed are ∙ ap (option_map Svf) (
 parsed_is (Walk names) words (are, few) = ap parsed are ∙ ap (option_map Walk) (named names.bsdl names few)
 parsed_is (Make parts) words (number, is, are) = ap parsed are ∙ ap (option_map Make) is
 parsed_is (Diagnose workers log names) words (number, is, (are, few)) =
-    ap parsed are ∙ ap (option_and_then (λ (board : BoardNames). option_map (λ (n : ℕ). Diagnose n log board) (number_of 64 number))) (named names.bsdl names few) ∙ ap (option_map (λ (n : ℕ). Diagnose n log names)) is
+    ap parsed are
+    ∙ ap
+    (option_and_then
+    (λ (board : BoardNames). option_map (λ (n : ℕ). Diagnose n log board)
+    (number_of 64 number))) (named names.bsdl names few)
+    ∙ ap (option_map (λ (n : ℕ). Diagnose n log names)) is
 parsed_is (Groups log names) words (are, few) = ap parsed are ∙ ap (option_map (Groups log)) (named names.bsdl names few)
 parsed_is (Batch workers log names) words (number, is, (are, few)) =
-    ap parsed are ∙ ap (option_and_then (λ (board : BoardNames). option_map (λ (n : ℕ). Batch n log board) (number_of 64 number))) (named names.bsdl names few) ∙ ap (option_map (λ (n : ℕ). Batch n log names)) is
+    ap parsed are
+    ∙ ap
+    (option_and_then
+    (λ (board : BoardNames). option_map (λ (n : ℕ). Batch n log board)
+    (number_of 64 number))) (named names.bsdl names few)
+    ∙ ap (option_map (λ (n : ℕ). Batch n log names)) is
 
-pub command_is : (run : Run) (command : Command) → Asks run command → command_of run.words ≡ Some command
+pub command_is : (run : Run) (command : Command) → HasWordsOf run command → command_of run.words ≡ Some command
 command_is run command (are, plain) = ap (λ (b : Bool). if b then parsed run.words else None) plain ∙ parsed_is command run.words are
 
 -- The lemmas below prove the converse: if the grammar makes a command of words, the words ask for this command.
@@ -43,16 +53,20 @@ then_chain : (front words : List Text) → IfSome (chain_of words) (λ names. Th
 then_chain front [] = tt
 then_chain front (chain ∷ names) = by_count (nat_le (length names) 255) refl
   where
-    by_count : (b : Bool) → nat_le (length names) 255 ≡ b → IfSome (if b then Some (record { chain = chain; bsdl = names }) else None) (λ (n : ChainNames). ThenChain front n (front ++ chain ∷ names))
+    by_count : (b : Bool) → nat_le (length names) 255 ≡ b
+        → IfSome (if b then Some (record { chain = chain; bsdl = names }) else None)
+        (λ (n : ChainNames). ThenChain front n (front ++ chain ∷ names))
     by_count true test = (refl, few (length names) test)
     by_count false test = tt
 
-then_board : (front words : List Text) → IfSome (board_of words) (λ names. ThenBoard front names (front ++ words))
+then_board : (front words : List Text) → IfSome (board_names_of words) (λ names. ThenBoard front names (front ++ words))
 then_board front [] = tt
 then_board front (chain ∷ []) = tt
 then_board front (chain ∷ nets ∷ names) = by_count (nat_le (length names) 255) refl
   where
-    by_count : (b : Bool) → nat_le (length names) 255 ≡ b → IfSome (if b then Some (record { chain = chain; nets = nets; bsdl = names }) else None) (λ (n : BoardNames). ThenBoard front n (front ++ chain ∷ nets ∷ names))
+    by_count : (b : Bool) → nat_le (length names) 255 ≡ b
+        → IfSome (if b then Some (record { chain = chain; nets = nets; bsdl = names }) else None)
+        (λ (n : BoardNames). ThenBoard front n (front ++ chain ∷ nets ∷ names))
     by_count true test = (refl, few (length names) test)
     by_count false test = tt
 
@@ -61,7 +75,9 @@ abbrev AreOf : List Text → Option Command → Type 0
 AreOf words command = IfSome command (λ c. AreWords c words)
 
 -- if the words give names, they are the words of the command with these names
-of_names : {A : Type 0} (command : A → Command) (P : A → Type 0) (words : List Text) → ((names : A) → P names → AreWords (command names) words) → (names : Option A) → IfSome names P → AreOf words (option_map command names)
+of_names : {A : Type 0} (command : A → Command) (P : A → Type 0) (words : List Text)
+    → ((names : A) → P names → AreWords (command names) words) → (names : Option A) → IfSome names P
+    → AreOf words (option_map command names)
 of_names command P words are None is = tt
 of_names command P words are (Some names) is = are names is
 
@@ -82,35 +98,61 @@ of_make (number ∷ other ∷ others) = tt
 -- the words of a command with a number of workers, a log and a board
 abbrev AreWorked : (ℕ → Text → BoardNames → Command) → Text → Type 0
 AreWorked command name =
-    (number log : Text) (words : List Text) (workers : ℕ) (names : BoardNames) → number_of 64 number ≡ Some workers → ThenBoard (name ∷ number ∷ log ∷ []) names (name ∷ number ∷ log ∷ words) → AreWords (command workers log names) (name ∷ number ∷ log ∷ words)
+    (number log : Text) (words : List Text) (workers : ℕ) (names : BoardNames)
+    → number_of 64 number ≡ Some workers
+    → ThenBoard (name ∷ number ∷ log ∷ []) names (name ∷ number ∷ log ∷ words)
+    → AreWords (command workers log names) (name ∷ number ∷ log ∷ words)
 
-of_work : (command : ℕ → Text → BoardNames → Command) (name : Text) → AreWorked command name → (words : List Text) → AreOf (name ∷ words) (worked_of command words)
+of_work : (command : ℕ → Text → BoardNames → Command) (name : Text) → AreWorked command name
+    → (words : List Text) → AreOf (name ∷ words) (worked_of command words)
 of_work command name are [] = tt
 of_work command name are (number ∷ []) = tt
-of_work command name are (number ∷ log ∷ words) = by_names (board_of words) (then_board (name ∷ number ∷ log ∷ []) words)
+of_work command name are (number ∷ log ∷ words) = by_names (board_names_of words) (then_board (name ∷ number ∷ log ∷ []) words)
   where
-    by_number : (names : BoardNames) → ThenBoard (name ∷ number ∷ log ∷ []) names (name ∷ number ∷ log ∷ words) → (n : Option ℕ) → number_of 64 number ≡ n → AreOf (name ∷ number ∷ log ∷ words) (option_map (λ workers. command workers log names) n)
+    by_number : (names : BoardNames)
+        → ThenBoard (name ∷ number ∷ log ∷ []) names (name ∷ number ∷ log ∷ words) → (n : Option ℕ)
+        → number_of 64 number ≡ n
+        → AreOf (name ∷ number ∷ log ∷ words) (option_map (λ workers. command workers log names) n)
     by_number names behind None is = tt
     by_number names behind (Some workers) is = are number log words workers names is behind
 
-    by_names : (names : Option BoardNames) → IfSome names (λ n. ThenBoard (name ∷ number ∷ log ∷ []) n (name ∷ number ∷ log ∷ words)) → AreOf (name ∷ number ∷ log ∷ words) (option_and_then (λ board. option_map (λ workers. command workers log board) (number_of 64 number)) names)
+    by_names : (names : Option BoardNames)
+        → IfSome names (λ n. ThenBoard (name ∷ number ∷ log ∷ []) n (name ∷ number ∷ log ∷ words))
+        → AreOf (name ∷ number ∷ log ∷ words)
+        (option_and_then
+        (λ board. option_map (λ workers. command workers log board) (number_of 64 number))
+        names)
     by_names None behind = tt
     by_names (Some names) behind = by_number names behind (number_of 64 number) refl
 
 of_groups : (words : List Text) → AreOf (codes "groups" ∷ words) (groups_of words)
 of_groups [] = tt
 of_groups (log ∷ words) =
-    of_names (Groups log) (λ names. ThenBoard (codes "groups" ∷ log ∷ []) names (codes "groups" ∷ log ∷ words)) (codes "groups" ∷ log ∷ words) (λ names is. is) (board_of words) (then_board (codes "groups" ∷ log ∷ []) words)
+    of_names (Groups log)
+    (λ names. ThenBoard (codes "groups" ∷ log ∷ []) names (codes "groups" ∷ log ∷ words))
+    (codes "groups" ∷ log ∷ words) (λ names is. is) (board_names_of words)
+    (then_board (codes "groups" ∷ log ∷ []) words)
 
-of_board : (command : BoardNames → Command) (name : Text) (words : List Text) → ((names : BoardNames) → ThenBoard (name ∷ []) names (name ∷ words) → AreWords (command names) (name ∷ words)) → AreOf (name ∷ words) (option_map command (board_of words))
-of_board command name words are = of_names command (λ names. ThenBoard (name ∷ []) names (name ∷ words)) (name ∷ words) are (board_of words) (then_board (name ∷ []) words)
+of_board : (command : BoardNames → Command) (name : Text) (words : List Text)
+    → ((names : BoardNames) → ThenBoard (name ∷ []) names (name ∷ words)
+    → AreWords (command names) (name ∷ words))
+    → AreOf (name ∷ words) (option_map command (board_names_of words))
+of_board command name words are =
+    of_names command (λ names. ThenBoard (name ∷ []) names (name ∷ words)) (name ∷ words) are
+    (board_names_of words) (then_board (name ∷ []) words)
 
-of_chain : (command : ChainNames → Command) (name : Text) (words : List Text) → ((names : ChainNames) → ThenChain (name ∷ []) names (name ∷ words) → AreWords (command names) (name ∷ words)) → AreOf (name ∷ words) (option_map command (chain_of words))
-of_chain command name words are = of_names command (λ names. ThenChain (name ∷ []) names (name ∷ words)) (name ∷ words) are (chain_of words) (then_chain (name ∷ []) words)
+of_chain : (command : ChainNames → Command) (name : Text) (words : List Text)
+    → ((names : ChainNames) → ThenChain (name ∷ []) names (name ∷ words)
+    → AreWords (command names) (name ∷ words))
+    → AreOf (name ∷ words) (option_map command (chain_of words))
+of_chain command name words are =
+    of_names command (λ names. ThenChain (name ∷ []) names (name ∷ words)) (name ∷ words) are
+    (chain_of words) (then_chain (name ∷ []) words)
 
 -- if the first word is `name`, the words can ask only for the command that is called `name`
 module _ (word : Text) (rest : List Text) where
-  by_word : (name : Text) (one other : Option Command) → AreOf (name ∷ rest) one → AreOf (word ∷ rest) other → AreOf (word ∷ rest) (if bytes_eq name word then one else other)
+  by_word : (name : Text) (one other : Option Command) → AreOf (name ∷ rest) one
+      → AreOf (word ∷ rest) other → AreOf (word ∷ rest) (if bytes_eq name word then one else other)
   by_word name one other named later = by_test (bytes_eq name word) refl
     where
       by_test : (b : Bool) → bytes_eq name word ≡ b → AreOf (word ∷ rest) (if b then one else other)
@@ -122,18 +164,25 @@ module _ (word : Text) (rest : List Text) where
   log_words =
       let batch : Option Command = if bytes_eq (codes "batch") word then batch_of rest else None in
       let groups : Option Command = if bytes_eq (codes "groups") word then groups_of rest else batch in
-      by_word (codes "diagnose") (diagnose_of rest) groups (of_work Diagnose (codes "diagnose") (λ number log words workers names is behind. (number, is, behind)) rest)
-      (by_word (codes "groups") (groups_of rest) batch (of_groups rest) (by_word (codes "batch") (batch_of rest) None (of_work Batch (codes "batch") (λ number log words workers names is behind. (number, is, behind)) rest) tt))
+      by_word (codes "diagnose") (diagnose_of rest) groups
+      (of_work Diagnose (codes "diagnose")
+      (λ number log words workers names is behind. (number, is, behind)) rest)
+      (by_word (codes "groups") (groups_of rest) batch (of_groups rest)
+      (by_word (codes "batch") (batch_of rest) None
+      (of_work Batch (codes "batch")
+      (λ number log words workers names is behind. (number, is, behind)) rest) tt))
 
   board_words : AreOf (word ∷ rest) (board_called word rest)
   unfolding board_called
   board_words =
       let make : Option Command = if bytes_eq (codes "make") word then make_of rest else log_called word rest in
-      let walk : Option Command = if bytes_eq (codes "walk") word then option_map Walk (board_of rest) else make in
-      let svf : Option Command = if bytes_eq (codes "svf") word then option_map Svf (board_of rest) else walk in
-      by_word (codes "cover") (option_map Cover (board_of rest)) svf (of_board Cover (codes "cover") rest (λ names is. is))
-      (by_word (codes "svf") (option_map Svf (board_of rest)) walk (of_board Svf (codes "svf") rest (λ names is. is))
-      (by_word (codes "walk") (option_map Walk (board_of rest)) make (of_board Walk (codes "walk") rest (λ names is. is)) (by_word (codes "make") (make_of rest) (log_called word rest) (of_make rest) log_words)))
+      let walk : Option Command = if bytes_eq (codes "walk") word then option_map Walk (board_names_of rest) else make in
+      let svf : Option Command = if bytes_eq (codes "svf") word then option_map Svf (board_names_of rest) else walk in
+      by_word (codes "cover") (option_map Cover (board_names_of rest)) svf (of_board Cover (codes "cover") rest (λ names is. is))
+      (by_word (codes "svf") (option_map Svf (board_names_of rest)) walk (of_board Svf (codes "svf") rest (λ names is. is))
+      (by_word (codes "walk") (option_map Walk (board_names_of rest)) make
+      (of_board Walk (codes "walk") rest (λ names is. is))
+      (by_word (codes "make") (make_of rest) (log_called word rest) (of_make rest) log_words)))
 
 parsed_words : (words : List Text) → AreOf words (parsed words)
 parsed_words [] = tt
@@ -144,10 +193,10 @@ parsed_words (word ∷ rest) =
     (by_word word rest (codes "ident") (option_map Ident (chain_of rest)) device (of_chain Ident (codes "ident") rest (λ names is. is))
     (by_word word rest (codes "device") (device_of rest) (board_called word rest) (of_device rest) (board_words word rest)))
 
-pub asks_for : (run : Run) (command : Command) → command_of run.words ≡ Some command → Asks run command
+pub asks_for : (run : Run) (command : Command) → command_of run.words ≡ Some command → HasWordsOf run command
 asks_for run command is = by_plain (list_all is_plain run.words) refl is
   where
-    by_plain : (b : Bool) → list_all is_plain run.words ≡ b → (if b then parsed run.words else None) ≡ Some command → Asks run command
+    by_plain : (b : Bool) → list_all is_plain run.words ≡ b → (if b then parsed run.words else None) ≡ Some command → HasWordsOf run command
     by_plain true plain is = (subst (AreOf run.words) is (parsed_words run.words), plain)
     by_plain false plain is = absurd cc
 

@@ -39,7 +39,9 @@ of_board log names = record { log = log; chain = names.chain; nets = names.nets;
 -- more bytes than the largest 64-bit number, the summary has this number instead.
 abbrev pub summary : RawBoard → Text
 summary board =
-    line_of (codes "DEVICES " ∷ decimal (length board.chain) ∷ codes " NETS " ∷ decimal (length board.nets) ∷ codes " COVERED " ∷ decimal (length (covered board))
+    line_of
+    (codes "DEVICES " ∷ decimal (length board.chain) ∷ codes " NETS " ∷ decimal
+    (length board.nets) ∷ codes " COVERED " ∷ decimal (length (covered board))
     ∷ codes " PASSES " ∷ decimal (length (passes_of board)) ∷ codes " SCANS " ∷ decimal (length (svf_scans board))
     ∷ codes " BYTES " ∷ decimal (min (length (board_text board)) 18446744073709551615) ∷ [])
 
@@ -50,27 +52,42 @@ Finds {A} IsFound text_of names (Err line) = (fault : InputFault) × IsFound (Er
 
 -- `outcome` is the text that says what the logs show for the board that the other files denote. If the other files or the logs have a
 -- fault, it is the line for their first fault.
-abbrev pub FindsLogs : {L E A : Type 0} → (Text → RawBoard → Result L E) → (RawBoard → L → A → Type 0) → (RawBoard → L → A → Text) → (RawBoard → E → Text) → Names → Text → Text → Text → List Text → Result Text Text → Type 0
+abbrev pub FindsLogs : {L E A : Type 0} → (Text → RawBoard → Result L E)
+    → (RawBoard → L → A → Type 0) → (RawBoard → L → A → Text) → (RawBoard → E → Text) → Names → Text
+    → Text → Text → List Text → Result Text Text → Type 0
 FindsLogs {L} {E} {A} read IsFound text_of line_of names logs chain nets bsdl (Ok text) =
-    (board : RawBoard) × Denotes chain nets bsdl board × (log : L) × (read logs board ≡ Ok log) × (found : A) × IsFound board log found × (text ≡ text_of board log found)
+    (board : RawBoard) × Denotes chain nets bsdl board × (log : L) × (read logs board ≡ Ok log)
+    × (found : A) × IsFound board log found × (text ≡ text_of board log found)
 FindsLogs {L} {E} {A} read IsFound text_of line_of names logs chain nets bsdl (Err line) =
     Finds (IsBoardRead chain nets bsdl) board_text names (Err line)
     ⊎ ((board : RawBoard) × Denotes chain nets bsdl board × (fault : E) × (read logs board ≡ Err fault) × (line ≡ line_of board fault))
 
 -- the files of a command give this outcome
-abbrev pub Gives : Command → List Text → Result Text Text → Type 0
-Gives (Chain names) (chain ∷ bsdl) outcome = Finds (AreChainLengths chain bsdl) chain_text (of_chain names) outcome
-Gives (Ident names) (chain ∷ bsdl) outcome = Finds (AreIdents chain bsdl) ident_text (of_chain names) outcome
-Gives (Device name) (text ∷ []) outcome = Finds (IsDeviceText text) device_text (record { log = []; chain = []; nets = []; bsdl = name ∷ [] }) outcome
-Gives (Cover names) (chain ∷ nets ∷ bsdl) outcome = Finds (IsBoardRead chain nets bsdl) cover_text (of_board [] names) outcome
-Gives (Svf names) (chain ∷ nets ∷ bsdl) outcome = Finds (IsBoardRead chain nets bsdl) board_text (of_board [] names) outcome
-Gives (Walk names) (chain ∷ nets ∷ bsdl) outcome = Finds (IsBoardRead chain nets bsdl) board_walk_text (of_board [] names) outcome
-Gives (Make parts) texts outcome =
-    Finds (IsBoardRead (made.chain_text parts) (made.net_text parts) (bsdl_text ∷ [])) summary (record { log = []; chain = codes "chain"; nets = codes "nets"; bsdl = codes "bsdl" ∷ [] }) outcome
-Gives (Diagnose workers log names) (rows ∷ chain ∷ nets ∷ bsdl) outcome =
-    FindsLogs test_log (λ board log (found : Bool × List Single). IsDiagnosis board log found.0 found.1) (λ board log (found : Bool × List Single). diag_text board found.0 found.1) (λ board fault. log_fault_line log (test_rows board) fault) (of_board log names) rows chain nets bsdl outcome
-Gives (Groups log names) (rows ∷ chain ∷ nets ∷ bsdl) outcome =
-    FindsLogs walk_log AreFound (λ board log found. groups_text board found) (λ board fault. log_fault_line log (walk_rows board) fault) (of_board log names) rows chain nets bsdl outcome
-Gives (Batch workers log names) (rows ∷ chain ∷ nets ∷ bsdl) outcome =
-    FindsLogs test_blocks AreVerdicts batch_text (λ board fault. batch_fault_line log (test_rows board) fault) (of_board log names) rows chain nets bsdl outcome
-Gives command texts outcome = ⊥
+abbrev pub GivesOutcome : Command → List Text → Result Text Text → Type 0
+GivesOutcome (Chain names) (chain ∷ bsdl) outcome = Finds (AreChainLengths chain bsdl) chain_text (of_chain names) outcome
+GivesOutcome (Ident names) (chain ∷ bsdl) outcome = Finds (AreIdents chain bsdl) ident_text (of_chain names) outcome
+GivesOutcome (Device name) (text ∷ []) outcome =
+    Finds (IsDeviceText text) device_text
+    (record { log = []; chain = []; nets = []; bsdl = name ∷ [] }) outcome
+GivesOutcome (Cover names) (chain ∷ nets ∷ bsdl) outcome = Finds (IsBoardRead chain nets bsdl) cover_text (of_board [] names) outcome
+GivesOutcome (Svf names) (chain ∷ nets ∷ bsdl) outcome = Finds (IsBoardRead chain nets bsdl) board_text (of_board [] names) outcome
+GivesOutcome (Walk names) (chain ∷ nets ∷ bsdl) outcome = Finds (IsBoardRead chain nets bsdl) board_walk_text (of_board [] names) outcome
+GivesOutcome (Make parts) texts outcome =
+    Finds (IsBoardRead (made.chain_file_text parts) (made.net_text parts) (bsdl_text ∷ [])) summary
+    (record { log = []; chain = codes "chain"; nets = codes "nets"; bsdl = codes "bsdl" ∷ [] })
+    outcome
+GivesOutcome (Diagnose workers log names) (rows ∷ chain ∷ nets ∷ bsdl) outcome =
+    FindsLogs test_log
+    (λ board log (found : Bool × List Single). IsDiagnosis board log found.0 found.1)
+    (λ board log (found : Bool × List Single). diag_text board found.0 found.1)
+    (λ board fault. log_fault_line log (test_rows board) fault) (of_board log names) rows chain
+    nets bsdl outcome
+GivesOutcome (Groups log names) (rows ∷ chain ∷ nets ∷ bsdl) outcome =
+    FindsLogs walk_log AreFound (λ board log found. groups_text board found)
+    (λ board fault. log_fault_line log (walk_rows board) fault) (of_board log names) rows chain
+    nets bsdl outcome
+GivesOutcome (Batch workers log names) (rows ∷ chain ∷ nets ∷ bsdl) outcome =
+    FindsLogs test_blocks AreVerdicts batch_text
+    (λ board fault. batch_fault_line log (test_rows board) fault) (of_board log names) rows
+    chain nets bsdl outcome
+GivesOutcome command texts outcome = ⊥

@@ -21,21 +21,27 @@ pub record HoldsLog (board : RawBoard) (scans : List RowScan) (text : Text) (row
   pub shape : HasShape board scans rows
 
 -- The title names the board of the block. The lines below it, as a text of their own, hold a log of the board's test.
-pub record HoldsBlock (board : RawBoard) (text : BlockText) (block : Block) : Type 0 where
+pub record HoldsBoardBlock (board : RawBoard) (text : BlockText) (block : Block) : Type 0 where
   pub title : words_of text.title ≡ codes "BOARD" ∷ block.id ∷ []
   pub id : is_word block.id ≡ true
   pub log : HoldsLog board (svf_row_scans board) (own_text text) block.log
 
 -- The text consists of lines without words, followed by these blocks. A block reaches from its title up to the next title.
-pub record HoldsBlocks (board : RawBoard) (text : Text) (blocks : List Block) : Type 0 where
+pub record HoldsBoardBlocks (board : RawBoard) (text : Text) (blocks : List Block) : Type 0 where
   pub front : List Text
   pub texts : List BlockText
   pub cut : IsCutTo text front texts
-  pub each : EachPair (HoldsBlock board) texts blocks
+  pub each : EachPair (HoldsBoardBlock board) texts blocks
 
 -- For the board that files denote, a text is read as a log of the board's test, as a log of its walking test or as a batch if and only if
 -- the lines of the text hold such a log or batch.
 pub record LinesAreRead : Type 0 where
-  pub test : (chain nets : Text) (texts : List Text) (board : RawBoard) (log : Text) (rows : List (List Bool)) → Denotes chain nets texts board → (test_log log board ≡ Ok rows) ↔ HoldsLog board (svf_row_scans board) log rows
-  pub walk : (chain nets : Text) (texts : List Text) (board : RawBoard) (log : Text) (rows : List (List Bool)) → Denotes chain nets texts board → (walk_log log board ≡ Ok rows) ↔ HoldsLog board (walk_row_list board) log rows
-  pub blocks : (chain nets : Text) (texts : List Text) (board : RawBoard) (logs : Text) (blocks : List Block) → Denotes chain nets texts board → (test_blocks logs board ≡ Ok blocks) ↔ HoldsBlocks board logs blocks
+  pub test : (chain nets : Text) (texts : List Text) (board : RawBoard) (log : Text)
+      (rows : List (List Bool)) → Denotes chain nets texts board
+      → (test_log log board ≡ Ok rows) ↔ HoldsLog board (svf_row_scans board) log rows
+  pub walk : (chain nets : Text) (texts : List Text) (board : RawBoard) (log : Text)
+      (rows : List (List Bool)) → Denotes chain nets texts board
+      → (walk_log log board ≡ Ok rows) ↔ HoldsLog board (walk_row_list board) log rows
+  pub blocks : (chain nets : Text) (texts : List Text) (board : RawBoard) (logs : Text)
+      (blocks : List Block) → Denotes chain nets texts board
+      → (test_blocks logs board ≡ Ok blocks) ↔ HoldsBoardBlocks board logs blocks

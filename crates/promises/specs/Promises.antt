@@ -40,19 +40,22 @@ use Rattle.btest_core.specs.BoardRead.{AreChainLengths, AreLengths, Denotes}
 use Rattle.btest_core.specs.IdentsRead.{AreIdents}
 use Rattle.refusal_lines.specs.Refusals.{usage_line, long_line, read_line, write_line, memory_line}
 use Rattle.command_line.specs.declared.command.Command.TheVariants.{Chain, Ident, Device, Cover, Svf, Walk, Make, Diagnose, Groups, Batch}
-use Rattle.command_line.specs.Words.{Text, ChainNames, BoardNames, Command, names_of}
+use Rattle.command_line.specs.Words.{Text, ChainNames, BoardNames, Command, names_in_command}
 use Rattle.btest_cli.specs.Texts.{Wanted}
 use Rattle.btest_cli.specs.declared.status.Status.TheVariants.{Done, Refused, Usage, ReadFault, WriteFault, NoMemory}
-use Rattle.promises.specs.Runs.{Run, Asks, AsksNothing, RunsOn, HoldsEach, IsTooLong, NoReadFailed, EndsWith, AsksFor, Puts, PutsNothing, Notes, Prints, files_of}
-use Rattle.promises.specs.Gives.{Gives, summary}
-use Rattle.promises.specs.Logs.{HoldsLog, HoldsBlocks}
+use Rattle.promises.specs.Runs.{Run, HasWordsOf, AsksNothing, RunsOn, HoldsEach, IsTooLong, NoReadFailed, EndsWith, AskedInTurn, PutsOut, PutsNothing, Notes, PrintsText, files_of}
+use Rattle.promises.specs.Gives.{GivesOutcome, summary}
+use Rattle.promises.specs.Logs.{HoldsLog, HoldsBoardBlocks}
 
 -- `chain`: the text has a meaning. It passes on every chain of parts with the instruction lengths of the files. It fails on every chain of
 -- one or more parts that has another number of parts and no more instruction bits. Both are true whatever the pins capture.
 abbrev pub TestsChain : Run → Type 0
 TestsChain run =
-    (names : ChainNames) (chain : Text) (bsdl : List Text) (lengths : List ℕ) → RunsOn run (Chain names) (chain ∷ bsdl) → AreChainLengths chain bsdl (Ok lengths) →
-    Prints run (Chain names) (λ text. (text ≡ chain_text lengths) × AreLengths lengths × (clocks : List Clock) × (meaning text ≡ Some clocks)
+    (names : ChainNames) (chain : Text) (bsdl : List Text) (lengths : List ℕ)
+    → RunsOn run (Chain names) (chain ∷ bsdl) → AreChainLengths chain bsdl (Ok lengths) →
+    PrintsText run (Chain names)
+    (λ text. (text ≡ chain_text lengths) × AreLengths lengths × (clocks : List Clock) ×
+    (meaning text ≡ Some clocks)
     × ((wiring : Wiring) (parts : List TestLogic) → ir_lengths parts ≡ lengths → PassesOn wiring parts clocks)
     × ((wiring : Wiring) (parts : List TestLogic) → AreIrLengths (ir_lengths parts) → length parts ≢ length lengths → sum (ir_lengths parts) ≤ sum lengths → FailsOn wiring parts clocks))
 
@@ -60,8 +63,11 @@ TestsChain run =
 -- and fails if some code does not fit. This is true whatever the pins capture.
 abbrev pub TestsIdents : Run → Type 0
 TestsIdents run =
-    (names : ChainNames) (chain : Text) (bsdl : List Text) (patterns : List (Option (List Symbol))) → RunsOn run (Ident names) (chain ∷ bsdl) → AreIdents chain bsdl (Ok patterns) →
-    Prints run (Ident names) (λ text. (text ≡ ident_text patterns) × ArePatterns patterns × (clocks : List Clock) × (meaning text ≡ Some clocks)
+    (names : ChainNames) (chain : Text) (bsdl : List Text) (patterns : List (Option (List Symbol)))
+    → RunsOn run (Ident names) (chain ∷ bsdl) → AreIdents chain bsdl (Ok patterns) →
+    PrintsText run (Ident names)
+    (λ text. (text ≡ ident_text patterns) × ArePatterns patterns × (clocks : List Clock) ×
+    (meaning text ≡ Some clocks)
     × ((wiring : Wiring) (parts : List TestLogic) → AreCoded patterns parts → all_fit patterns parts ≡ true → PassesOn wiring parts clocks)
     × ((wiring : Wiring) (parts : List TestLogic) → AreCoded patterns parts → all_fit patterns parts ≡ false → FailsOn wiring parts clocks))
 
@@ -69,34 +75,44 @@ TestsIdents run =
 abbrev pub ListsDevice : Run → Type 0
 ListsDevice run =
     (name text : Text) (device : RawDevice) → RunsOn run (Device name) (text ∷ []) → IsDeviceText text (Ok device) →
-    Prints run (Device name) (λ listing. (listing ≡ device_text device) × IsDevice device)
+    PrintsText run (Device name) (λ listing. (listing ≡ device_text device) × IsDevice device)
 
 -- `cover`: the text lists each net that no safe setting covers, with the reason. For the covered nets it lists each driver, receiver and
 -- pair of nets that no safe setting tests.
 abbrev pub ListsCover : Run → Type 0
 ListsCover run =
-    (names : BoardNames) (chain nets : Text) (bsdl : List Text) (board : RawBoard) → RunsOn run (Cover names) (chain ∷ nets ∷ bsdl) → Denotes chain nets bsdl board →
-    Prints run (Cover names) (λ text. (text ≡ cover_text board) × IsBoard board × IsCoverList board text)
+    (names : BoardNames) (chain nets : Text) (bsdl : List Text) (board : RawBoard)
+    → RunsOn run (Cover names) (chain ∷ nets ∷ bsdl) → Denotes chain nets bsdl board →
+    PrintsText run (Cover names) (λ text. (text ≡ cover_text board) × IsBoard board × IsCoverList board text)
 
 -- `svf`: the text has a meaning. Run on the board from any state, it is quiet after its reset under every fault set, passes without faults,
 -- and fails under every nonempty set of observable faults.
 abbrev pub TestsBoard : Run → Type 0
 TestsBoard run =
-    (names : BoardNames) (chain nets : Text) (bsdl : List Text) (board : RawBoard) → RunsOn run (Svf names) (chain ∷ nets ∷ bsdl) → Denotes chain nets bsdl board →
-    Prints run (Svf names) (λ text. (text ≡ board_text board) × (clocks : List Clock) × (meaning text ≡ Some clocks) × IsQuiet board clocks × PassOnBoard board no_faults clocks
+    (names : BoardNames) (chain nets : Text) (bsdl : List Text) (board : RawBoard)
+    → RunsOn run (Svf names) (chain ∷ nets ∷ bsdl) → Denotes chain nets bsdl board →
+    PrintsText run (Svf names)
+    (λ text. (text ≡ board_text board) × (clocks : List Clock) × (meaning text ≡ Some clocks) ×
+    IsQuiet board clocks × PassOnBoard board no_faults clocks
     × ((faults : FaultSet) → IsObservable board faults → IsNonempty faults → FailOnBoard board faults clocks))
 
 -- `walk`: the text has a meaning. Run on the board from any state, it is quiet after its reset under every fault set, and passes without
 -- faults.
 abbrev pub WalksBoard : Run → Type 0
 WalksBoard run =
-    (names : BoardNames) (chain nets : Text) (bsdl : List Text) (board : RawBoard) → RunsOn run (Walk names) (chain ∷ nets ∷ bsdl) → Denotes chain nets bsdl board →
-    Prints run (Walk names) (λ text. (text ≡ board_walk_text board) × (clocks : List Clock) × (meaning text ≡ Some clocks) × IsQuiet board clocks × PassOnBoard board no_faults clocks)
+    (names : BoardNames) (chain nets : Text) (bsdl : List Text) (board : RawBoard)
+    → RunsOn run (Walk names) (chain ∷ nets ∷ bsdl) → Denotes chain nets bsdl board →
+    PrintsText run (Walk names)
+    (λ text. (text ≡ board_walk_text board) × (clocks : List Clock)
+    × (meaning text ≡ Some clocks) × IsQuiet board clocks
+    × PassOnBoard board no_faults clocks)
 
 -- `make`: the text is the summary of the generated board. No file is read, so this is true of every store.
 abbrev pub SumsUp : Run → Type 0
 SumsUp run =
-    (parts : ℕ) (board : RawBoard) → RunsOn run (Make parts) [] → Denotes (made.chain_text parts) (made.net_text parts) (bsdl_text ∷ []) board → Prints run (Make parts) (λ text. text ≡ summary board)
+    (parts : ℕ) (board : RawBoard) → RunsOn run (Make parts) []
+    → Denotes (made.chain_file_text parts) (made.net_text parts) (bsdl_text ∷ []) board
+    → PrintsText run (Make parts) (λ text. text ≡ summary board)
 
 -- The text of the board's test means the clocks of the test's scans. Each single fault explains a log, and all logs that one fault explains
 -- have the same compared bits.
@@ -117,9 +133,13 @@ pub record IsDiagnosed (board : RawBoard) (log : List (List Bool)) (pass : Bool)
 -- faults that explain it.
 abbrev pub DiagnosesLog : Run → Type 0
 DiagnosesLog run =
-    (workers : ℕ) (name : Text) (names : BoardNames) (log chain nets : Text) (bsdl : List Text) (board : RawBoard) (rows : List (List Bool)) →
-    RunsOn run (Diagnose workers name names) (log ∷ chain ∷ nets ∷ bsdl) → Denotes chain nets bsdl board → HoldsLog board (svf_row_scans board) log rows →
-    Prints run (Diagnose workers name names) (λ text. HasResponses board × (pass : Bool) × (faults : List Single) × IsDiagnosed board rows pass faults × (text ≡ diag_text board pass faults))
+    (workers : ℕ) (name : Text) (names : BoardNames) (log chain nets : Text) (bsdl : List Text)
+    (board : RawBoard) (rows : List (List Bool)) →
+    RunsOn run (Diagnose workers name names) (log ∷ chain ∷ nets ∷ bsdl)
+    → Denotes chain nets bsdl board → HoldsLog board (svf_row_scans board) log rows →
+    PrintsText run (Diagnose workers name names)
+    (λ text. HasResponses board × (pass : Bool) × (faults : List Single)
+    × IsDiagnosed board rows pass faults × (text ≡ diag_text board pass faults))
 
 -- `diagnose` prints a text, in whole or in part, only if the files denote a board and the log is a log of the board's test.
 abbrev pub RestsOnLog : Run → Type 0
@@ -133,16 +153,18 @@ RestsOnLog run =
 abbrev pub DiagnosesBlocks : Run → Type 0
 DiagnosesBlocks run =
     (workers : ℕ) (name : Text) (names : BoardNames) (logs chain nets : Text) (bsdl : List Text) (board : RawBoard) (blocks : List Block) →
-    RunsOn run (Batch workers name names) (logs ∷ chain ∷ nets ∷ bsdl) → Denotes chain nets bsdl board → HoldsBlocks board logs blocks →
-    Prints run (Batch workers name names) (λ text. HasResponses board × (verdicts : List Verdict)
-    × EachPair (λ block verdict. IsDiagnosed board block.log verdict.pass verdict.faults) blocks verdicts × (text ≡ batch_text board blocks verdicts))
+    RunsOn run (Batch workers name names) (logs ∷ chain ∷ nets ∷ bsdl)
+    → Denotes chain nets bsdl board → HoldsBoardBlocks board logs blocks →
+    PrintsText run (Batch workers name names) (λ text. HasResponses board × (verdicts : List Verdict)
+    × EachPair (λ block verdict. IsDiagnosed board block.log verdict.pass verdict.faults) blocks
+    verdicts × (text ≡ batch_text board blocks verdicts))
 
 -- `batch` prints a text, in whole or in part, only if the files denote a board and the text holds blocks with logs of the board's test.
 abbrev pub RestsOnBlocks : Run → Type 0
 RestsOnBlocks run =
     (workers : ℕ) (name : Text) (names : BoardNames) (logs chain nets : Text) (bsdl : List Text) →
     RunsOn run (Batch workers name names) (logs ∷ chain ∷ nets ∷ bsdl) → (run.status ≡ Done) ⊎ (run.status ≡ WriteFault) →
-    (board : RawBoard) × Denotes chain nets bsdl board × (blocks : List Block) × HoldsBlocks board logs blocks
+    (board : RawBoard) × Denotes chain nets bsdl board × (blocks : List Block) × HoldsBoardBlocks board logs blocks
 
 -- `groups`: if the file holds a log of the walking test, the printed text names the only set of groups of walk nets that explains the log,
 -- or says that no set does. A set explains a log if every run with the set's shorts and no other fault gives the log's compared bits. In
@@ -150,11 +172,15 @@ RestsOnBlocks run =
 abbrev pub FindsGroups : Run → Type 0
 FindsGroups run =
     (name : Text) (names : BoardNames) (log chain nets : Text) (bsdl : List Text) (board : RawBoard) (rows : List (List Bool)) →
-    RunsOn run (Groups name names) (log ∷ chain ∷ nets ∷ bsdl) → Denotes chain nets bsdl board → HoldsLog board (walk_row_list board) log rows →
-    Prints run (Groups name names) (λ text. (meaning (board_walk_text board) ≡ Some (test_clocks (walk_scans board)))
-    × (found : Option (List (List ℕ))) × (text ≡ groups_text board found) × ((groups : List (List ℕ)) → (found ≡ Some groups) ↔ Explain board rows groups)
+    RunsOn run (Groups name names) (log ∷ chain ∷ nets ∷ bsdl) → Denotes chain nets bsdl board
+    → HoldsLog board (walk_row_list board) log rows →
+    PrintsText run (Groups name names) (λ text. (meaning (board_walk_text board) ≡ Some (test_clocks (walk_scans board)))
+    × (found : Option (List (List ℕ))) × (text ≡ groups_text board found)
+    × ((groups : List (List ℕ)) → (found ≡ Some groups) ↔ Explain board rows groups)
     × ((groups : List (List ℕ)) → AreGroups board groups → (other : List (List Bool)) × Explain board other groups)
-    × ((groups : List (List ℕ)) (one other : List (List Bool)) → Explain board one groups → Explain board other groups → AgreeOn board (walk_row_list board) one other))
+    ×
+    ((groups : List (List ℕ)) (one other : List (List Bool)) → Explain board one groups →
+    Explain board other groups → AgreeOn board (walk_row_list board) one other))
 
 -- `groups` prints a text, in whole or in part, only if the files denote a board and the log is a log of its walking test.
 abbrev pub RestsOnWalkLog : Run → Type 0
@@ -167,7 +193,9 @@ RestsOnWalkLog run =
 abbrev pub TellsUsage : Run → Type 0
 TellsUsage run =
     (run.status ≡ Usage → AsksNothing run × PutsNothing run × Notes run usage_line)
-    × (AsksNothing run → ((run.status ≡ Usage) ⊎ (run.status ≡ NoMemory)) × (run.new.asked ≡ run.old.asked) × (run.new.unread ≡ run.old.unread) × (run.new.held ≡ run.old.held))
+    × (AsksNothing run
+    → ((run.status ≡ Usage) ⊎ (run.status ≡ NoMemory)) × (run.new.asked ≡ run.old.asked)
+    × (run.new.unread ≡ run.old.unread) × (run.new.held ≡ run.old.held))
 
 -- Unless a read of a file failed or memory ran out, the status is Refused if and only if the files have a first fault. The notes then take
 -- the line of this fault.
@@ -175,56 +203,67 @@ abbrev pub TellsFault : Run → Type 0
 TellsFault run =
     (run.status ≡ Refused → PutsNothing run)
     × ((command : Command) (texts : List Text) → RunsOn run command texts →
-    (run.status ≡ Refused → AsksFor run (names_of command) × ((line : Text) × Gives command texts (Err line) × Notes run line))
-    × ((line : Text) → Gives command texts (Err line) → (run.status ≢ Done) × (run.status ≢ WriteFault) × EndsWith run command Refused))
+    (run.status ≡ Refused
+    → AskedInTurn run (names_in_command command)
+    × ((line : Text) × GivesOutcome command texts (Err line) × Notes run line))
+    × ((line : Text) → GivesOutcome command texts (Err line) → (run.status ≢ Done) × (run.status ≢ WriteFault) × EndsWith run command Refused))
 
 -- If a file is longer than its limit, the status is Refused, unless a read of a file failed or memory ran out. A refused run asks for no
 -- file after this file. A run in which memory ran out may ask for later files (`TellsMemory`).
 abbrev pub TellsLong : Run → Type 0
 TellsLong run =
-    (command : Command) (file : Wanted) → Asks run command → (long : IsTooLong run.old.held (files_of command) file) →
-    (run.status ≡ Refused → AsksFor run (map (λ f. f.name) long.before ++ file.name ∷ []) × Notes run (long_line file.name file.limit))
+    (command : Command) (file : Wanted) → HasWordsOf run command → (long : IsTooLong run.old.held (files_of command) file) →
+    (run.status ≡ Refused → AskedInTurn run (map (λ f. f.name) long.before ++ file.name ∷ []) × Notes run (long_line file.name file.limit))
     × (run.status ≢ Done) × (run.status ≢ WriteFault) × EndsWith run command Refused
 
 -- The outcome that the files of a command give, if the store holds them. It is the outcome of their texts, or the line for the first file
 -- that is too long.
 abbrev pub FilesGive : Run → Command → Result Text Text → Type 0
 FilesGive run command outcome =
-    ((texts : List Text) × HoldsEach run.old.held (files_of command) texts × Gives command texts outcome)
+    ((texts : List Text) × HoldsEach run.old.held (files_of command) texts × GivesOutcome command texts outcome)
     ⊎ ((file : Wanted) × IsTooLong run.old.held (files_of command) file × (outcome ≡ Err (long_line file.name file.limit)))
 
 -- The status is Done or WriteFault only if the words ask for a command whose files give a text. It is Refused only if the files give a
 -- line.
 abbrev pub RestsOnFiles : Run → Type 0
 RestsOnFiles run =
-    (run.status ≡ Done → (command : Command) × Asks run command × (text : Text) × FilesGive run command (Ok text) × Puts run text)
-    × (run.status ≡ WriteFault → (command : Command) × Asks run command × (text : Text) × FilesGive run command (Ok text) × (count : ℕ) × Puts run (take count text))
-    × (run.status ≡ Refused → (command : Command) × Asks run command × (line : Text) × FilesGive run command (Err line) × Notes run line)
+    (run.status ≡ Done → (command : Command) × HasWordsOf run command × (text : Text) × FilesGive run command (Ok text) × PutsOut run text)
+    × (run.status ≡ WriteFault
+    → (command : Command) × HasWordsOf run command × (text : Text)
+    × FilesGive run command (Ok text) × (count : ℕ) × PutsOut run (take count text))
+    × (run.status ≡ Refused
+    → (command : Command) × HasWordsOf run command × (line : Text)
+    × FilesGive run command (Err line) × Notes run line)
 
 -- If the words ask for a command, no read of its files failed and memory did not run out, the files give a text or a line. Texts that the
 -- store holds for the files give a text or a line, however the run ends.
 abbrev pub FindsOutcome : Run → Type 0
 FindsOutcome run =
-    ((command : Command) → Asks run command → NoReadFailed run command → run.status ≢ NoMemory → (outcome : Result Text Text) × FilesGive run command outcome)
-    × ((command : Command) (texts : List Text) → RunsOn run command texts → (outcome : Result Text Text) × Gives command texts outcome)
+    ((command : Command) → HasWordsOf run command → NoReadFailed run command → run.status ≢ NoMemory → (outcome : Result Text Text) × FilesGive run command outcome)
+    × ((command : Command) (texts : List Text) → RunsOn run command texts
+    → (outcome : Result Text Text) × GivesOutcome command texts outcome)
 
 -- The status is ReadFault only if the words ask for a command and a read of one of its files failed. The notes name this file. The run
 -- asked for the files before this file, and for no file after it. If the texts of the store are known, the store holds the files before it.
 abbrev pub TellsUnread : Run → Type 0
 TellsUnread run =
     run.status ≡ ReadFault → PutsNothing run
-    × (command : Command) × Asks run command × (before after : List Wanted) × (file : Wanted) × (files_of command ≡ before ++ file ∷ after)
-    × Rose (run.old.unread file.name) (run.new.unread file.name) × AsksFor run (map (λ f. f.name) before ++ file.name ∷ []) × Notes run (read_line file.name)
+    × (command : Command) × HasWordsOf run command × (before after : List Wanted) × (file : Wanted)
+    × (files_of command ≡ before ++ file ∷ after)
+    × Rose (run.old.unread file.name) (run.new.unread file.name) × AskedInTurn run (map (λ f. f.name) before ++ file.name ∷ []) × Notes run (read_line file.name)
     × ((held : Text → Option Text) → run.old.held ≡ Some held → (texts : List Text) × HoldsEach run.old.held before texts)
 
 -- The status is WriteFault only if a write of the output failed. The output took some first bytes of the text.
 abbrev pub TellsUnwritten : Run → Type 0
 TellsUnwritten run =
     run.status ≡ WriteFault → Rose run.old.unwritten run.new.unwritten × Notes run write_line
-    × ((command : Command) (texts : List Text) → RunsOn run command texts → AsksFor run (names_of command) × ((text : Text) × Gives command texts (Ok text) × (count : ℕ) × Puts run (take count text)))
+    × ((command : Command) (texts : List Text) → RunsOn run command texts
+    → AskedInTurn run (names_in_command command)
+    × ((text : Text) × GivesOutcome command texts (Ok text) × (count : ℕ)
+    × PutsOut run (take count text)))
 
 -- If memory ran out, the output took nothing. The run asked for some first files of the command, each once and in order. They may include
 -- files after a file that is too long.
 abbrev pub TellsMemory : Run → Type 0
 TellsMemory run =
-    run.status ≡ NoMemory → PutsNothing run × Notes run memory_line × ((command : Command) → Asks run command → (count : ℕ) × AsksFor run (take count (names_of command)))
+    run.status ≡ NoMemory → PutsNothing run × Notes run memory_line × ((command : Command) → HasWordsOf run command → (count : ℕ) × AskedInTurn run (take count (names_in_command command)))

@@ -5,11 +5,11 @@ use Rattle.std.specs.List.{list_all}
 use Rattle.std.specs.declared.alloc.Global.{Global}
 use Rattle.bt_base.specs.declared.memory.MemSink.{MemSink}
 use Rattle.bt_base.specs.Counts.{Rose}
-use Rattle.bt_base.specs.Memory.{asked_of, text_of, faults_of as read_faults}
+use Rattle.bt_base.specs.Memory.{asked_of, held_text, faults_of as read_faults}
 use Rattle.bt_base.specs.MemSink.{faults_of, taken_of}
 use Rattle.command_line.specs.declared.command.Command.TheVariants.{Chain, Ident, Device, Cover, Svf, Walk, Make, Diagnose, Groups, Batch}
 use Rattle.command_line.specs.Limits.{most_made}
-use Rattle.command_line.specs.Words.{Text, ChainNames, BoardNames, Command, is_plain, number_of, names_of, board_names}
+use Rattle.command_line.specs.Words.{Text, ChainNames, BoardNames, Command, is_plain, number_of, names_in_command, board_names}
 use Rattle.btest_cli.specs.Texts.{Held, Wanted}
 use Rattle.btest_cli.specs.declared.status.Status.{Status}
 use Rattle.btest_cli.specs.declared.status.Status.TheVariants.{Done, NoMemory}
@@ -38,10 +38,19 @@ run_of words old new status = record { words = map string_bytes words; old = old
 
 -- the ends of a run whose store has these texts and counts, and whose output and notes are in memory
 abbrev pub ends_of : Held → List Text → (Text → ℕ) → MemSink → MemSink → Ends
-ends_of held asked unread out notes = record { held = held; asked = asked; unread = unread; out = taken_of out; unwritten = faults_of out; notes = taken_of notes; unnoted = faults_of notes }
+ends_of held asked unread out notes =
+    record {
+      held = held;
+      asked = asked;
+      unread = unread;
+      out = taken_of out;
+      unwritten = faults_of out;
+      notes = taken_of notes;
+      unnoted = faults_of notes;
+    }
 
 abbrev pub desk_ends : Desk → Ends
-desk_ends desk = ends_of (Some (text_of desk.store)) (asked_of desk.store) (λ name. read_faults desk.store) desk.out desk.notes
+desk_ends desk = ends_of (Some (held_text desk.store)) (asked_of desk.store) (λ name. read_faults desk.store) desk.out desk.notes
 
 abbrev pub desk_run : List (String Global) → Desk → Desk → Status → Run
 desk_run words old new status = run_of words (desk_ends old) (desk_ends new) status
@@ -67,17 +76,21 @@ AreWords (Cover names) words = ThenBoard (codes "cover" ∷ []) names words
 AreWords (Svf names) words = ThenBoard (codes "svf" ∷ []) names words
 AreWords (Walk names) words = ThenBoard (codes "walk" ∷ []) names words
 AreWords (Make parts) words = (number : Text) × (number_of most_made number ≡ Some parts) × (words ≡ codes "make" ∷ number ∷ [])
-AreWords (Diagnose workers log names) words = (number : Text) × (number_of 64 number ≡ Some workers) × ThenBoard (codes "diagnose" ∷ number ∷ log ∷ []) names words
+AreWords (Diagnose workers log names) words =
+    (number : Text) × (number_of 64 number ≡ Some workers)
+    × ThenBoard (codes "diagnose" ∷ number ∷ log ∷ []) names words
 AreWords (Groups log names) words = ThenBoard (codes "groups" ∷ log ∷ []) names words
-AreWords (Batch workers log names) words = (number : Text) × (number_of 64 number ≡ Some workers) × ThenBoard (codes "batch" ∷ number ∷ log ∷ []) names words
+AreWords (Batch workers log names) words =
+    (number : Text) × (number_of 64 number ≡ Some workers)
+    × ThenBoard (codes "batch" ∷ number ∷ log ∷ []) names words
 
 -- the run has the words of this command, and no word is empty or begins with a dash
-abbrev pub Asks : Run → Command → Type 0
-Asks run command = AreWords command run.words × (list_all is_plain run.words ≡ true)
+abbrev pub HasWordsOf : Run → Command → Type 0
+HasWordsOf run command = AreWords command run.words × (list_all is_plain run.words ≡ true)
 
 -- the run has the words of no command
 abbrev pub AsksNothing : Run → Type 0
-AsksNothing run = (command : Command) → Asks run command → ⊥
+AsksNothing run = (command : Command) → HasWordsOf run command → ⊥
 
 -- files with these names, each with at most 4 MiB
 abbrev pub texts_called : List Text → List Wanted
@@ -88,7 +101,7 @@ abbrev pub files_of : Command → List Wanted
 files_of (Diagnose workers log names) = record { name = log; limit = 67108864 } ∷ texts_called (board_names names)
 files_of (Groups log names) = record { name = log; limit = 67108864 } ∷ texts_called (board_names names)
 files_of (Batch workers log names) = record { name = log; limit = 67108864 } ∷ texts_called (board_names names)
-files_of command = texts_called (names_of command)
+files_of command = texts_called (names_in_command command)
 
 -- the texts of the store are known, and the store holds this text under the name
 abbrev pub Holds : Held → Text → Text → Type 0
@@ -115,23 +128,23 @@ pub record IsTooLong (held : Held) (files : List Wanted) (file : Wanted) : Type 
 
 -- the words ask for the command, and the store holds these texts for its files
 abbrev pub RunsOn : Run → Command → List Text → Type 0
-RunsOn run command texts = Asks run command × HoldsEach run.old.held (files_of command) texts
+RunsOn run command texts = HasWordsOf run command × HoldsEach run.old.held (files_of command) texts
 
 -- no read of a file of the command failed
 abbrev pub NoReadFailed : Run → Command → Type 0
-NoReadFailed run command = (name : Text) → Contains (names_of command) name → Rose (run.old.unread name) (run.new.unread name) → ⊥
+NoReadFailed run command = (name : Text) → Contains (names_in_command command) name → Rose (run.old.unread name) (run.new.unread name) → ⊥
 
 -- if no read failed, the run returns this status or `NoMemory`
 abbrev pub EndsWith : Run → Command → Status → Type 0
 EndsWith run command status = NoReadFailed run command → (run.status ≡ status) ⊎ (run.status ≡ NoMemory)
 
 -- the store was asked for these names in turn, and for no other name
-abbrev pub AsksFor : Run → List Text → Type 0
-AsksFor run names = run.new.asked ≡ run.old.asked ++ names
+abbrev pub AskedInTurn : Run → List Text → Type 0
+AskedInTurn run names = run.new.asked ≡ run.old.asked ++ names
 
 -- the output took these bytes
-abbrev pub Puts : Run → Text → Type 0
-Puts run bytes = run.new.out ≡ run.old.out ++ bytes
+abbrev pub PutsOut : Run → Text → Type 0
+PutsOut run bytes = run.new.out ≡ run.old.out ++ bytes
 
 -- the output took nothing
 abbrev pub PutsNothing : Run → Type 0
@@ -143,8 +156,8 @@ Notes run line = (run.new.notes ≡ run.old.notes ++ line) ⊎ (Rose run.old.unn
 
 -- At Done, each file was asked for once and in order, the output took exactly a text for which P holds, and the notes took nothing. The
 -- status is Done, unless a read of a file failed, a write of the output failed, or memory ran out.
-pub record Prints (run : Run) (command : Command) (P : Text → Type 0) : Type 0 where
-  pub asks : run.status ≡ Done → AsksFor run (names_of command)
-  pub puts : run.status ≡ Done → (text : Text) × Puts run text × P text
+pub record PrintsText (run : Run) (command : Command) (P : Text → Type 0) : Type 0 where
+  pub asks : run.status ≡ Done → AskedInTurn run (names_in_command command)
+  pub puts : run.status ≡ Done → (text : Text) × PutsOut run text × P text
   pub silent : run.status ≡ Done → run.new.notes ≡ run.old.notes
   pub ends : (Rose run.old.unwritten run.new.unwritten → ⊥) → EndsWith run command Done

@@ -55,7 +55,11 @@ pub(crate) fn run_on<R: Threads + Sync, S: Store, G: Gate>(
     notes: &mut MemSink,
     gate: &G,
 ) -> Status
-    ensures run { IsRun (run_of words.now (ends_of (S.held store.old) (S.asked store.old) (S.faults store.old) out.old notes.old) (ends_of (S.held store.new) (S.asked store.new) (S.faults store.new) out.new notes.new) result) }
+    ensures run { IsRun
+        (run_of words.now
+        (ends_of (S.held store.old) (S.asked store.old) (S.faults store.old) out.old notes.old)
+        (ends_of (S.held store.new) (S.asked store.new) (S.faults store.new) out.new notes.new)
+        result) }
     ensures one { SayOne }
 {
     inputs_have_one_answer();

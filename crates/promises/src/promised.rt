@@ -191,7 +191,11 @@ pub fn make<R: Threads + Sync, S: Store, G: Gate>(
     notes: &mut MemSink,
     gate: &G,
 ) -> Status
-    ensures { SumsUp (run_of words.now (ends_of (S.held store.old) (S.asked store.old) (S.faults store.old) out.old notes.old) (ends_of (S.held store.new) (S.asked store.new) (S.faults store.new) out.new notes.new) result) }
+    ensures { SumsUp
+        (run_of words.now
+        (ends_of (S.held store.old) (S.asked store.old) (S.faults store.old) out.old notes.old)
+        (ends_of (S.held store.new) (S.asked store.new) (S.faults store.new) out.new notes.new)
+        result) }
 {
     run_on(rt, alloc, words, store, out, notes, gate)
 }
@@ -206,7 +210,11 @@ pub fn read_fault<R: Threads + Sync, S: Store, G: Gate>(
     notes: &mut MemSink,
     gate: &G,
 ) -> Status
-    ensures { TellsUnread (run_of words.now (ends_of (S.held store.old) (S.asked store.old) (S.faults store.old) out.old notes.old) (ends_of (S.held store.new) (S.asked store.new) (S.faults store.new) out.new notes.new) result) }
+    ensures { TellsUnread
+        (run_of words.now
+        (ends_of (S.held store.old) (S.asked store.old) (S.faults store.old) out.old notes.old)
+        (ends_of (S.held store.new) (S.asked store.new) (S.faults store.new) out.new notes.new)
+        result) }
 {
     run_on(rt, alloc, words, store, out, notes, gate)
 }

@@ -6,13 +6,20 @@ use Rattle.refusal_lines.specs.Refusals.{Text}
 use Rattle.line_printer.specs.Prints.{whole}
 
 -- if the put of the first piece succeeds, the sink took this piece and no other piece
-pub puts_first : {E : Type 0} {old mid : Shown} {first : Text} {r : Result (Unit {0}) E} {x : Unit {0}} → Puts old mid first r → r ≡ Ok x → Puts {T = Unit {0}} {E = E} old mid (first ++ []) (Ok tt)
+pub puts_first : {E : Type 0} {old mid : Shown} {first : Text} {r : Result (Unit {0}) E}
+    {x : Unit {0}} → Puts old mid first r → r ≡ Ok x
+    → Puts {T = Unit {0}} {E = E} old mid (first ++ []) (Ok tt)
 puts_first {E} {old} {mid} {first} {r} {x} put ok =
-    subst (λ (t : Text). Puts {T = Unit {0}} {E = E} old mid t (Ok tt)) (sym (append-nil first)) (subst (λ (q : Result (Unit {0}) E). Puts old mid first q) ok put)
+    subst (λ (t : Text). Puts {T = Unit {0}} {E = E} old mid t (Ok tt)) (sym (append-nil first))
+    (subst (λ (q : Result (Unit {0}) E). Puts old mid first q) ok put)
 
 -- The whole text is the first piece, the other pieces before place `i`, the piece at place `i`, and the pieces after place `i`.
 pub whole-from : (first : Text) (others : List (Bor Text)) (i : ℕ) (d : Bor Text) → i < length others
-    → first ++ whole (map (λ p. p.now) others) ≡ (first ++ whole (map (λ p. p.now) (take i others))) ++ ((get_or others i d).now ++ whole (map (λ p. p.now) (drop (i + 1) others)))
+    → first ++ whole (map (λ p. p.now) others)
+    ≡ (first ++ whole (map (λ p. p.now) (take i others)))
+    ++ ((get_or others i d).now ++ whole (map (λ p. p.now) (drop (i + 1) others)))
 whole-from first others i d within =
     ap (λ t. first ++ t) (sym (whole-split others i d within))
-    ∙ sym (append_assoc first (whole (map (λ p. p.now) (take i others))) ((get_or others i d).now ++ whole (map (λ p. p.now) (drop (i + 1) others))))
+    ∙ sym
+    (append_assoc first (whole (map (λ p. p.now) (take i others)))
+    ((get_or others i d).now ++ whole (map (λ p. p.now) (drop (i + 1) others))))

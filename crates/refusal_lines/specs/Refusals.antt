@@ -142,7 +142,8 @@ abbrev pub log_fault_line : Text → ℕ → LogFault → Text
 log_fault_line name rows (log.Digit n) = at_line name n (codes ": digit not allowed\n")
 log_fault_line name rows (log.Length n) = at_line name n (codes ": wrong length\n")
 log_fault_line name rows (log.Extra n) = at_line name n (codes ": row too many\n")
-log_fault_line name rows (log.Missing found) = whole (name ∷ codes ": " ∷ decimal found ∷ codes " rows of " ∷ decimal rows ∷ codes "\n" ∷ [])
+log_fault_line name rows (log.Missing found) =
+    whole (name ∷ codes ": " ∷ decimal found ∷ codes " rows of " ∷ decimal rows ∷ codes "\n" ∷ [])
 log_fault_line name rows (log.Memory e) = memory_line
 
 -- The line for a block of a batch that is not a log of `rows` rows. The block is block `board`, counted from 1.
@@ -150,7 +151,10 @@ abbrev pub block_fault_line : Text → ℕ → ℕ → LogFault → Text
 block_fault_line name rows board (log.Digit n) = log_fault_line name rows (log.Digit n)
 block_fault_line name rows board (log.Length n) = log_fault_line name rows (log.Length n)
 block_fault_line name rows board (log.Extra n) = log_fault_line name rows (log.Extra n)
-block_fault_line name rows board (log.Missing found) = whole (name ∷ codes " board " ∷ decimal board ∷ codes ": " ∷ decimal found ∷ codes " rows of " ∷ decimal rows ∷ codes "\n" ∷ [])
+block_fault_line name rows board (log.Missing found) =
+    whole
+    (name ∷ codes " board " ∷ decimal board ∷ codes ": " ∷ decimal found ∷ codes " rows of "
+    ∷ decimal rows ∷ codes "\n" ∷ [])
 block_fault_line name rows board (log.Memory e) = memory_line
 
 -- the line for a text that is not a batch of logs with `rows` rows each

@@ -18,7 +18,10 @@ fn put_missing_rows<N: Sink>(
     rows: u64,
     notes: &mut N,
 ) -> Result<(), PutFault>
-    ensures { Puts (N.shown notes.old) (N.shown notes.new) (whole (name.now ∷ codes ": " ∷ decimal found ∷ codes " rows of " ∷ decimal rows ∷ codes "\n" ∷ [])) result }
+    ensures { Puts (N.shown notes.old) (N.shown notes.new)
+        (whole
+        (name.now ∷ codes ": " ∷ decimal found ∷ codes " rows of " ∷ decimal rows ∷ codes "\n"
+        ∷ [])) result }
 {
     let mut first = Buffer::new();
     let found = first.format(found).as_bytes();
@@ -44,7 +47,8 @@ pub fn put_log_fault<N: Sink>(
     fault: &LogFault,
     notes: &mut N,
 ) -> Result<(), PutFault>
-    ensures { Puts (N.shown notes.old) (N.shown notes.new) (log_fault_line name.now rows fault.now) result }
+    ensures { Puts (N.shown notes.old) (N.shown notes.new) (log_fault_line name.now rows fault.now)
+        result }
 {
     match fault {
         LogFault::Digit(line) => put_at_line(name, *line, b": digit not allowed\n", notes),
@@ -63,7 +67,10 @@ fn put_missing_of_board<N: Sink>(
     rows: u64,
     notes: &mut N,
 ) -> Result<(), PutFault>
-    ensures { Puts (N.shown notes.old) (N.shown notes.new) (whole (name.now ∷ codes " board " ∷ decimal board ∷ codes ": " ∷ decimal found ∷ codes " rows of " ∷ decimal rows ∷ codes "\n" ∷ [])) result }
+    ensures { Puts (N.shown notes.old) (N.shown notes.new)
+        (whole
+        (name.now ∷ codes " board " ∷ decimal board ∷ codes ": " ∷ decimal found
+        ∷ codes " rows of " ∷ decimal rows ∷ codes "\n" ∷ [])) result }
 {
     let mut first = Buffer::new();
     let board = first.format(board).as_bytes();
@@ -94,7 +101,8 @@ fn put_block_fault<N: Sink>(
     fault: &LogFault,
     notes: &mut N,
 ) -> Result<(), PutFault>
-    ensures { Puts (N.shown notes.old) (N.shown notes.new) (block_fault_line name.now rows board fault.now) result }
+    ensures { Puts (N.shown notes.old) (N.shown notes.new)
+        (block_fault_line name.now rows board fault.now) result }
 {
     match fault {
         LogFault::Missing(found) => put_missing_of_board(name, board, *found, rows, notes),
@@ -109,7 +117,8 @@ pub fn put_batch_fault<N: Sink>(
     fault: &BatchFault,
     notes: &mut N,
 ) -> Result<(), PutFault>
-    ensures { Puts (N.shown notes.old) (N.shown notes.new) (batch_fault_line name.now rows fault.now) result }
+    ensures { Puts (N.shown notes.old) (N.shown notes.new)
+        (batch_fault_line name.now rows fault.now) result }
 {
     match fault {
         BatchFault::Start(line) => put_at_line(name, *line, b": no board yet\n", notes),

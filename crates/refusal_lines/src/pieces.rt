@@ -10,7 +10,8 @@ use itoa::Buffer;
 
 // Writes the first piece, and then the other pieces in order.
 pub fn put_all<N: Sink>(first: &[u8], others: &[&[u8]], notes: &mut N) -> Result<(), PutFault>
-    ensures { Puts (N.shown notes.old) (N.shown notes.new) (first.now ++ whole (map (λ p. p.now) others.now)) result }
+    ensures { Puts (N.shown notes.old) (N.shown notes.new)
+        (first.now ++ whole (map (λ p. p.now) others.now)) result }
 {
     notes.put(first)?;
     for piece in others {
@@ -26,7 +27,8 @@ pub fn put_at_line<N: Sink>(
     wrong: &[u8],
     notes: &mut N,
 ) -> Result<(), PutFault>
-    ensures { Puts (N.shown notes.old) (N.shown notes.new) (at_line name.now line wrong.now) result }
+    ensures { Puts (N.shown notes.old) (N.shown notes.new) (at_line name.now line wrong.now)
+        result }
 {
     let mut number = Buffer::new();
     let number = number.format(line).as_bytes();
@@ -44,7 +46,8 @@ pub fn put_at_spot<N: Sink>(
     wrong: &[u8],
     notes: &mut N,
 ) -> Result<(), PutFault>
-    ensures { Puts (N.shown notes.old) (N.shown notes.new) (at_spot name.now spot wrong.now) result }
+    ensures { Puts (N.shown notes.old) (N.shown notes.new) (at_spot name.now spot wrong.now)
+        result }
 {
     let mut line = Buffer::new();
     let line = line.format(spot.line).as_bytes();

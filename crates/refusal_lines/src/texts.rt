@@ -20,7 +20,8 @@ use series_parts::LinkFault;
 
 // Writes the line for a faulty line of a chain or net file.
 fn put_line_fault<N: Sink>(name: &str, fault: &LineFault, notes: &mut N) -> Result<(), PutFault>
-    ensures { Puts (N.shown notes.old) (N.shown notes.new) (line_fault_line name.now fault.now) result }
+    ensures { Puts (N.shown notes.old) (N.shown notes.new) (line_fault_line name.now fault.now)
+        result }
 {
     match fault {
         LineFault::Statement(line) => put_at_line(name, *line, b": no statement\n", notes),
@@ -43,7 +44,8 @@ fn put_limit<N: Sink>(which: u32, notes: &mut N) -> Result<(), PutFault>
 
 // Writes the line for a board rule that fails.
 fn put_board_fault<N: Sink>(names: Names, fault: &BoardFault, notes: &mut N) -> Result<(), PutFault>
-    ensures { Puts (N.shown notes.old) (N.shown notes.new) (board_fault_line (names_view names.entry) fault.now) result }
+    ensures { Puts (N.shown notes.old) (N.shown notes.new)
+        (board_fault_line (names_view names.entry) fault.now) result }
 {
     let Names { chain, nets, .. } = names;
     match fault {
@@ -82,7 +84,8 @@ fn put_board_fault<N: Sink>(names: Names, fault: &BoardFault, notes: &mut N) -> 
 
 // Writes the line for the first fault of a BSDL text's tokens.
 fn put_lex_fault<N: Sink>(name: &str, fault: &LexFault, notes: &mut N) -> Result<(), PutFault>
-    ensures { Puts (N.shown notes.old) (N.shown notes.new) (lex_fault_line name.now fault.now) result }
+    ensures { Puts (N.shown notes.old) (N.shown notes.new) (lex_fault_line name.now fault.now)
+        result }
 {
     match fault {
         LexFault::Byte(line) => put_at_line(name, *line, b": byte not allowed\n", notes),
@@ -94,7 +97,8 @@ fn put_lex_fault<N: Sink>(name: &str, fault: &LexFault, notes: &mut N) -> Result
 
 // Writes the line for the first token that is not allowed in a BSDL text.
 fn put_parse_fault<N: Sink>(name: &str, fault: &ParseFault, notes: &mut N) -> Result<(), PutFault>
-    ensures { Puts (N.shown notes.old) (N.shown notes.new) (parse_fault_line name.now fault.now) result }
+    ensures { Puts (N.shown notes.old) (N.shown notes.new) (parse_fault_line name.now fault.now)
+        result }
 {
     match fault {
         ParseFault::Expected(line) => put_at_line(name, *line, b": not in the grammar\n", notes),
@@ -131,7 +135,8 @@ fn put_string_fault<N: Sink>(
     entry: u32,
     notes: &mut N,
 ) -> Result<(), PutFault>
-    ensures { Puts (N.shown notes.old) (N.shown notes.new) (string_line name.now attribute entry) result }
+    ensures { Puts (N.shown notes.old) (N.shown notes.new) (string_line name.now attribute entry)
+        result }
 {
     let mut number = Buffer::new();
     let entry = number.format(entry).as_bytes();
@@ -150,7 +155,8 @@ fn put_string_fault<N: Sink>(
 
 // Writes the line for the first rule or string of a device that fails.
 fn put_device_fault<N: Sink>(name: &str, fault: &DeviceFault, notes: &mut N) -> Result<(), PutFault>
-    ensures { Puts (N.shown notes.old) (N.shown notes.new) (device_fault_line name.now fault.now) result }
+    ensures { Puts (N.shown notes.old) (N.shown notes.new) (device_fault_line name.now fault.now)
+        result }
 {
     match fault {
         DeviceFault::Rule { number, item } => put_rule(name, *number, *item, notes),
@@ -161,7 +167,8 @@ fn put_device_fault<N: Sink>(name: &str, fault: &DeviceFault, notes: &mut N) -> 
 
 // Writes the line for a LINK pin that is in no net.
 fn put_link_fault<N: Sink>(name: &str, fault: &LinkFault, notes: &mut N) -> Result<(), PutFault>
-    ensures { Puts (N.shown notes.old) (N.shown notes.new) (link_fault_line name.now fault.now) result }
+    ensures { Puts (N.shown notes.old) (N.shown notes.new) (link_fault_line name.now fault.now)
+        result }
 {
     match fault {
         LinkFault::NoLinkPin(at) => put_at_spot(name, *at, b": link pin not in a net\n", notes),
@@ -175,7 +182,8 @@ pub fn put_input_fault<N: Sink>(
     fault: &InputFault,
     notes: &mut N,
 ) -> Result<(), PutFault>
-    ensures { Puts (N.shown notes.old) (N.shown notes.new) (input_fault_line (names_view names.entry) fault.now) result }
+    ensures { Puts (N.shown notes.old) (N.shown notes.new)
+        (input_fault_line (names_view names.entry) fault.now) result }
 {
     match fault {
         InputFault::Chain(fault) => put_line_fault(names.chain, fault, notes),

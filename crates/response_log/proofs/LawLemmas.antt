@@ -7,26 +7,33 @@ use Rattle.text_lines.specs.Words.{Word}
 use Rattle.bt_bits.specs.Hex.{digit_count, text_bits, cut_to, field_bits}
 use Rattle.response_log.specs.declared.fault.LogFault.{LogFault}
 use Rattle.response_log.specs.declared.fault.LogFault.TheVariants.{Digit, Length, Missing, Extra}
-use Rattle.response_log.specs.LogRows.{Answer, NumberedLine, only_word, bits_of_line, word_fault, row_fault, offenses, first_or, wanted_rows, rows_of_lines, row_lines, log_rows, IsLogOf}
+use Rattle.response_log.specs.LogRows.{LogAnswer, NumberedLine, only_word, bits_of_line, word_fault, row_fault, offenses, first_or, wanted_rows, rows_of_lines, row_lines, log_rows, IsLogOf}
 use Rattle.response_log.proofs.LineLemmas.{counted_all}
 
-field_right : (sized : Bool) (field : Option (List Bool)) (n : ℕ) (bits : List Bool) → cond sized field None ≡ Some bits → cond sized (cond (is_some (cond sized field None)) None (Some (Digit n))) (Some (Length n)) ≡ None
+field_right : (sized : Bool) (field : Option (List Bool)) (n : ℕ) (bits : List Bool)
+    → cond sized field None ≡ Some bits
+    → cond sized (cond (is_some (cond sized field None)) None (Some (Digit n))) (Some (Length n))
+    ≡ None
 field_right true (Some field) n bits is = refl
 field_right true None n bits is = absurd cc
 field_right false field n bits is = absurd cc
 
-field_there : (sized : Bool) (field : Option (List Bool)) (n : ℕ) → cond sized (cond (is_some (cond sized field None)) None (Some (Digit n))) (Some (Length n)) ≡ None → (bits : List Bool) × (cond sized field None ≡ Some bits)
+field_there : (sized : Bool) (field : Option (List Bool)) (n : ℕ)
+    → cond sized (cond (is_some (cond sized field None)) None (Some (Digit n))) (Some (Length n))
+    ≡ None → (bits : List Bool) × (cond sized field None ≡ Some bits)
 field_there true (Some field) n none = (field, refl)
 field_there true None n none = absurd cc
 field_there false field n none = absurd cc
 
 -- if the word of a line has the bits of a row, the line has no offense
-word_right : (len n : ℕ) (word : Option Word) (bits : List Bool) → option_and_then (field_bits len) word ≡ Some bits → word_fault len n word ≡ None
+word_right : (len n : ℕ) (word : Option Word) (bits : List Bool)
+    → option_and_then (field_bits len) word ≡ Some bits → word_fault len n word ≡ None
 word_right len n None bits is = absurd cc
 word_right len n (Some word) bits is =
     field_right (length word == digit_count len) (option_and_then (cut_to len) (text_bits word)) n bits is
 
-word_there : (len n : ℕ) (word : Option Word) → word_fault len n word ≡ None → (bits : List Bool) × (option_and_then (field_bits len) word ≡ Some bits)
+word_there : (len n : ℕ) (word : Option Word) → word_fault len n word ≡ None
+    → (bits : List Bool) × (option_and_then (field_bits len) word ≡ Some bits)
 word_there len n None none = absurd cc
 word_there len n (Some word) none =
     field_there (length word == digit_count len) (option_and_then (cut_to len) (text_bits word)) n none
@@ -36,7 +43,8 @@ record AreRows (len : ℕ) (lines : List NumberedLine) (log : List (List Bool)) 
   right : filter_map (row_fault len) lines ≡ []
   rows : filter_map (bits_of_line len) lines ≡ log
 
-are_rows : (len : ℕ) (lines : List NumberedLine) (log : List (List Bool)) → map (bits_of_line len) lines ≡ map Some log → AreRows len lines log
+are_rows : (len : ℕ) (lines : List NumberedLine) (log : List (List Bool))
+    → map (bits_of_line len) lines ≡ map Some log → AreRows len lines log
 are_rows len [] [] is = record { right = refl; rows = refl }
 are_rows len [] (bits ∷ log) is = absurd cc
 are_rows len (line ∷ lines) [] is = absurd cc
@@ -45,7 +53,9 @@ are_rows len (line ∷ lines) (bits ∷ log) is =
     let behind : map (bits_of_line len) lines ≡ map Some log = cc in
     let rest = are_rows len lines log behind in
     record {
-      right = ap (λ fault. cons_option fault (filter_map (row_fault len) lines)) (word_right len line.number (only_word line.words) bits here) ∙ rest.right;
+      right =
+          ap (λ fault. cons_option fault (filter_map (row_fault len) lines))
+          (word_right len line.number (only_word line.words) bits here) ∙ rest.right;
       rows = ap (λ row. cons_option row (filter_map (bits_of_line len) lines)) here ∙ ap (λ log. bits ∷ log) rest.rows;
     }
 
@@ -53,7 +63,8 @@ no_first : (fault : Option LogFault) (faults : List LogFault) → cons_option fa
 no_first None faults none = (refl, none)
 no_first (Some fault) faults none = absurd cc
 
-rows_there : (len : ℕ) (lines : List NumberedLine) → filter_map (row_fault len) lines ≡ [] → map (bits_of_line len) lines ≡ map Some (filter_map (bits_of_line len) lines)
+rows_there : (len : ℕ) (lines : List NumberedLine) → filter_map (row_fault len) lines ≡ []
+    → map (bits_of_line len) lines ≡ map Some (filter_map (bits_of_line len) lines)
 rows_there len [] none = refl
 rows_there len (line ∷ lines) none =
     let parts = no_first (row_fault len line) (filter_map (row_fault len) lines) none in
@@ -65,11 +76,13 @@ nothing_in : {A : Type 0} (xs ys : List A) → xs ++ ys ≡ [] → (xs ≡ []) �
 nothing_in [] ys none = (refl, none)
 nothing_in (x ∷ xs) ys none = absurd cc
 
-no_fault_said : (answer : Answer) (faults : List LogFault) (log : List (List Bool)) → first_or answer faults ≡ Ok log → (faults ≡ []) × (answer ≡ Ok log)
+no_fault_said : (answer : LogAnswer) (faults : List LogFault) (log : List (List Bool))
+    → first_or answer faults ≡ Ok log → (faults ≡ []) × (answer ≡ Ok log)
 no_fault_said answer [] log is = (refl, is)
 no_fault_said answer (fault ∷ faults) log is = absurd cc
 
-counted_said : (few : Bool) (found : ℕ) (rows log : List (List Bool)) → cond few (Err (Missing found)) (Ok rows) ≡ Ok log → (few ≡ false) × (rows ≡ log)
+counted_said : (few : Bool) (found : ℕ) (rows log : List (List Bool))
+    → cond few (Err (Missing found)) (Ok rows) ≡ Ok log → (few ≡ false) × (rows ≡ log)
 counted_said true found rows log is = absurd cc
 counted_said false found rows log is =
     let same : rows ≡ log = cc in
@@ -81,7 +94,9 @@ lines_within rows lines none =
     let few : length (drop rows lines) ≡ 0 = sym (length-map (drop rows lines) (λ line. Extra line.number)) ∙ ap length none in
     omega (arith, few, length-drop rows lines)
 
-lines_of_log : (len rows : ℕ) (lines : List NumberedLine) (log : List (List Bool)) → rows_of_lines rows len lines ≡ Ok log → (map (bits_of_line len) lines ≡ map Some log) × (length log ≡ rows)
+lines_of_log : (len rows : ℕ) (lines : List NumberedLine) (log : List (List Bool))
+    → rows_of_lines rows len lines ≡ Ok log
+    → (map (bits_of_line len) lines ≡ map Some log) × (length log ≡ rows)
 lines_of_log len rows lines log is =
     let said = no_fault_said (wanted_rows rows len lines) (offenses rows len lines) log is in
     let faults = nothing_in (filter_map (row_fault len) (take rows lines)) (map (λ line. Extra line.number) (drop rows lines)) said.0 in
@@ -93,13 +108,21 @@ lines_of_log len rows lines log is =
     let enough : rows ≤ length lines = grind (arith, answer.0) in
     (lines_are, omega (arith, count, within, enough))
 
-log_of_lines : (len rows : ℕ) (lines : List NumberedLine) (log : List (List Bool)) → map (bits_of_line len) lines ≡ map Some log → length log ≡ rows → rows_of_lines rows len lines ≡ Ok log
+log_of_lines : (len rows : ℕ) (lines : List NumberedLine) (log : List (List Bool))
+    → map (bits_of_line len) lines ≡ map Some log → length log ≡ rows
+    → rows_of_lines rows len lines ≡ Ok log
 log_of_lines len rows lines log is wanted =
     let are = are_rows len lines log is in
     let count : length lines ≡ length log = sym (length-map lines (bits_of_line len)) ∙ ap length is ∙ length-map log Some in
-    let none : offenses rows len lines ≡ [] = ap (λ ls. filter_map (row_fault len) ls ++ map (λ line. Extra line.number) (drop rows lines)) (take_all rows lines (omega arith))
-    ∙ ap (λ ls. filter_map (row_fault len) lines ++ map (λ line. Extra line.number) ls) (drop_all rows lines (omega arith)) ∙ ap (λ faults. faults ++ []) are.right in
-    ap (first_or (wanted_rows rows len lines)) none ∙ counted_all rows (length lines) (filter_map (bits_of_line len) lines) (omega arith) ∙ ap Ok are.rows
+    let none : offenses rows len lines
+    ≡ [] = ap
+    (λ ls. filter_map (row_fault len) ls ++ map (λ line. Extra line.number) (drop rows lines))
+    (take_all rows lines (omega arith))
+    ∙ ap (λ ls. filter_map (row_fault len) lines ++ map (λ line. Extra line.number) ls)
+    (drop_all rows lines (omega arith)) ∙ ap (λ faults. faults ++ []) are.right in
+    ap (first_or (wanted_rows rows len lines)) none
+    ∙ counted_all rows (length lines) (filter_map (bits_of_line len) lines) (omega arith)
+    ∙ ap Ok are.rows
 
 pub rows_are_lines : (text : List ℕ) (rows len : ℕ) (log : List (List Bool)) → (log_rows text rows len ≡ Ok log) ↔ IsLogOf text rows len log
 rows_are_lines text rows len log = (to, from)

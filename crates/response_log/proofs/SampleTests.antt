@@ -6,7 +6,9 @@ use Rattle.response_log.specs.declared.fault.LogFault.TheVariants.{Digit, Length
 use Rattle.response_log.specs.LogRows.{log_rows}
 
 -- a text with a comment, a row, a line without words, and a row followed by a comment
-two_rows : log_rows (codes "# 0\n02\n \r\n\t1a # 3\n") 2 5 ≡ Ok ((false ∷ true ∷ false ∷ false ∷ false ∷ []) ∷ (false ∷ true ∷ false ∷ true ∷ true ∷ []) ∷ [])
+two_rows : log_rows (codes "# 0\n02\n \r\n\t1a # 3\n") 2 5
+    ≡ Ok
+    ((false ∷ true ∷ false ∷ false ∷ false ∷ []) ∷ (false ∷ true ∷ false ∷ true ∷ true ∷ []) ∷ [])
 unfolding words_of
 two_rows = refl
 

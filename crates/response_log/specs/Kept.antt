@@ -1,17 +1,19 @@
 -- The form in which a log keeps its rows: the values of the digits of each row, row after row.
 use Rattle.std.specs.Prelude.{◌≡◌, ℕ, zero, suc, ◌/◌, ◌%◌, ◌<◌, Bool, false, List, [], ◌∷◌, take, drop, length, slice_index_or, Option, Some, None}
-use Rattle.bt_bits.specs.Digits.{digit_bit, digits_of, row_bits}
+use Rattle.bt_bits.specs.Digits.{digit_bit, digits_of, digit_row}
 use Rattle.bt_bits.specs.Hex.{digit_count}
 
 -- the rows of `len` bits each that these digits keep
 abbrev pub kept_rows : ℕ → ℕ → List ℕ → List (List Bool)
 kept_rows len zero digits = []
-kept_rows len (suc rows) digits = row_bits len (take (digit_count len) digits) ∷ kept_rows len rows (drop (digit_count len) digits)
+kept_rows len (suc rows) digits = digit_row len (take (digit_count len) digits) ∷ kept_rows len rows (drop (digit_count len) digits)
 
 -- the digits of each row have the bits of the row, and 0 in each bit above the row's bits
 abbrev pub AreWhole : ℕ → ℕ → List ℕ → Type 0
 AreWhole len zero digits = Unit {0}
-AreWhole len (suc rows) digits = (take (digit_count len) digits ≡ digits_of (row_bits len (take (digit_count len) digits))) × AreWhole len rows (drop (digit_count len) digits)
+AreWhole len (suc rows) digits =
+    (take (digit_count len) digits ≡ digits_of (digit_row len (take (digit_count len) digits)))
+    × AreWhole len rows (drop (digit_count len) digits)
 
 -- `digits` are the values of the hexadecimal digits of the row, and bit `at` of the row is bit `at % 4` of digit `at / 4`
 pub record AreRowDigits (row : List Bool) (digits : List ℕ) : Type 0 where

@@ -12,13 +12,13 @@ pub record NumberedLine : Type 0 where
   pub words : List Word
 
 -- the line with this number and this first word, followed by the words of `behind`
-abbrev pub line_of : ℕ → Word → List ℕ → NumberedLine
-line_of n word behind = record { number = n; words = word ∷ words_of behind }
+abbrev pub line_with : ℕ → Word → List ℕ → NumberedLine
+line_with n word behind = record { number = n; words = word ∷ words_of behind }
 
 -- lines in order, of which the first has this number
-abbrev pub numbered : ℕ → List (List ℕ) → List NumberedLine
-numbered n [] = []
-numbered n (line ∷ lines) = record { number = n; words = words_of line } ∷ numbered (n + 1) lines
+abbrev pub numbered_lines : ℕ → List (List ℕ) → List NumberedLine
+numbered_lines n [] = []
+numbered_lines n (line ∷ lines) = record { number = n; words = words_of line } ∷ numbered_lines (n + 1) lines
 
 abbrev pub holds_word : List Word → Bool
 holds_word [] = false
@@ -29,7 +29,7 @@ has_words line = holds_word line.words
 
 -- The lines of a text that have words. All lines are numbered from 1, including lines without words.
 abbrev pub row_lines : List ℕ → List NumberedLine
-row_lines text = filter has_words (numbered 1 (slice_split is_newline text))
+row_lines text = filter has_words (numbered_lines 1 (slice_split is_newline text))
 
 -- the word of a line that has exactly one word
 abbrev pub only_word : List Word → Option Word
@@ -56,23 +56,23 @@ row_fault len line = word_fault len line.number (only_word line.words)
 abbrev pub offenses : ℕ → ℕ → List NumberedLine → List LogFault
 offenses rows len lines = filter_map (row_fault len) (take rows lines) ++ map (λ line. Extra line.number) (drop rows lines)
 
-abbrev pub Answer : Type 0
-Answer = Result (List (List Bool)) LogFault
+abbrev pub LogAnswer : Type 0
+LogAnswer = Result (List (List Bool)) LogFault
 
 -- the rows of lines without an offense, or `Missing` if there are fewer than `rows` lines
-abbrev pub wanted_rows : ℕ → ℕ → List NumberedLine → Answer
+abbrev pub wanted_rows : ℕ → ℕ → List NumberedLine → LogAnswer
 wanted_rows rows len lines = if nat_lt (length lines) rows then Err (Missing (length lines)) else Ok (filter_map (bits_of_line len) lines)
 
-abbrev pub first_or : Answer → List LogFault → Answer
+abbrev pub first_or : LogAnswer → List LogFault → LogAnswer
 first_or answer [] = answer
 first_or answer (fault ∷ faults) = Err fault
 
 -- the rows of lines, or their first offense
-abbrev pub rows_of_lines : ℕ → ℕ → List NumberedLine → Answer
+abbrev pub rows_of_lines : ℕ → ℕ → List NumberedLine → LogAnswer
 rows_of_lines rows len lines = first_or (wanted_rows rows len lines) (offenses rows len lines)
 
 -- the log of `rows` rows with `len` bits each in a text, or the first offense
-abbrev pub log_rows : List ℕ → ℕ → ℕ → Answer
+abbrev pub log_rows : List ℕ → ℕ → ℕ → LogAnswer
 log_rows text rows len = rows_of_lines rows len (row_lines text)
 
 -- `log` is the log in the text: each line with words is a row, and there are `rows` rows

@@ -43,7 +43,8 @@ impl Model for Log {
 
     ghost view = { λ a. kept_rows a.len a.rows a.digits.items };
 
-    ghost invariant = { λ a. (length a.digits.items ≡ a.rows * digit_count a.len) × AreWhole a.len a.rows a.digits.items };
+    ghost invariant = { λ a. (length a.digits.items ≡ a.rows * digit_count a.len)
+        × AreWhole a.len a.rows a.digits.items };
 }
 
 impl Log {

@@ -1,12 +1,12 @@
 // Reads the rows of a log from a text.
 ghost use Rattle.std.specs.Prelude.{◌≡◌, ◌+◌, ◌*◌, ◌<◌, ◌≤◌, ◌^◌, ◌∷◌, ◌++◌, length, take, drop, min, IfOk, IfSome, MatchResult, Some, None};
 ghost use Rattle.std.specs.List.{slice_split};
-ghost use Rattle.bt_bits.specs.Digits.{row_bits};
+ghost use Rattle.bt_bits.specs.Digits.{digit_row};
 ghost use Rattle.bt_bits.specs.Hex.{digit_count};
 ghost use Rattle.bt_bits.specs.Rows.{AreDigitsOf};
 ghost use Rattle.answers.specs.Gives.{Gives};
 ghost use Rattle.text_lines.specs.Words.{is_newline, lines_of};
-ghost use Rattle.response_log.specs.LogRows.{HasSize, bits_of_line, line_of, log_rows, log_told, row_fault};
+ghost use Rattle.response_log.specs.LogRows.{HasSize, bits_of_line, line_with, log_rows, log_told, row_fault};
 ghost use Rattle.response_log.specs.Kept.{AreWhole, kept_rows, text_at};
 
 use crate::fault::LogFault;
@@ -33,7 +33,8 @@ pub fn log(alloc: Global, bytes: &[u8], rows: u64, len: u32) -> Result<Log, LogF
 /// more bytes than the text has.
 pub fn log_of(alloc: Global, mut text: Vec<u8>, rows: u64, len: u32) -> Result<Log, LogFault>
     requires { length text.items < 2 ^ 32 }
-    ensures read { Gives log_told (λ log. log) (λ said. log_rows text.items rows len ≡ said) result }
+    ensures read { Gives log_told (λ log. log) (λ said. log_rows text.items rows len ≡ said)
+        result }
     ensures size { IfOk result (HasSize rows len) }
 {
     let kept = keep_rows(alloc, &mut text, rows, len)?;
@@ -46,7 +47,8 @@ pub fn log_of(alloc: Global, mut text: Vec<u8>, rows: u64, len: u32) -> Result<L
 // digit of a word is the first digit of its row.
 fn keep_rows(alloc: Global, text: &mut [u8], rows: u64, len: u32) -> Result<usize, LogFault>
     requires { length text.old < 2 ^ 32 }
-    ensures read { Gives log_told (λ kept. kept_rows len rows (take kept text.new)) (λ said. log_rows text.old rows len ≡ said) result }
+    ensures read { Gives log_told (λ kept. kept_rows len rows (take kept text.new))
+        (λ said. log_rows text.old rows len ≡ said) result }
     ensures count { IfOk result (λ kept. length (take kept text.new) ≡ rows * digit_count len) }
     ensures whole { IfOk result (λ kept. AreWhole len rows (take kept text.new)) }
 {
@@ -80,8 +82,10 @@ fn keep_rows(alloc: Global, text: &mut [u8], rows: u64, len: u32) -> Result<usiz
 // Returns the line that begins at a place, and the place of the next line if there is one.
 fn line_at(text: &[u8], from: usize) -> (&[u8], Option<usize>)
     requires { from ≤ length text.now }
-    ensures lines { slice_split is_newline (drop from text.now) ≡ result.0.now ∷ lines_of (text_at text.now result.1) }
-    ensures next { IfSome result.1 (λ next. (next ≡ from + length result.0.now + 1) × next ≤ length text.now) }
+    ensures lines { slice_split is_newline (drop from text.now)
+        ≡ result.0.now ∷ lines_of (text_at text.now result.1) }
+    ensures next { IfSome result.1
+        (λ next. (next ≡ from + length result.0.now + 1) × next ≤ length text.now) }
     ensures within { from + length result.0.now ≤ length text.now }
 {
     let (line, after) = first_line(&text[from..]);
@@ -110,9 +114,13 @@ fn read_row(
 ) -> Result<(), LogFault>
     requires most { length digits.old ≤ digit_count len }
     requires room { min (digit_count len) (length word.now) ≤ length digits.old }
-    ensures fault { MatchResult result (λ _. row_fault len (line_of line word.now behind.now) ≡ None) (λ fault. row_fault len (line_of line word.now behind.now) ≡ Some fault) }
-    ensures bits { IfOk result (λ _. bits_of_line len (line_of line word.now behind.now) ≡ Some (row_bits len digits.new)) }
-    ensures kept { IfOk result (λ _. AreDigitsOf (row_bits len digits.new) len digits.new) }
+    ensures fault { MatchResult result
+        (λ _. row_fault len (line_with line word.now behind.now) ≡ None)
+        (λ fault. row_fault len (line_with line word.now behind.now) ≡ Some fault) }
+    ensures bits { IfOk result
+        (λ _. bits_of_line len (line_with line word.now behind.now)
+        ≡ Some (digit_row len digits.new)) }
+    ensures kept { IfOk result (λ _. AreDigitsOf (digit_row len digits.new) len digits.new) }
     ensures long { IfOk result (λ _. length word.now ≡ digit_count len) }
 {
     if next_word(behind).is_some() || word.len() != digit_count(len) {

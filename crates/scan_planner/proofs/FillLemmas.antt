@@ -29,12 +29,12 @@ use Rattle.plan_tables.specs.declared.tables.DriverCell.{DriverCell}
 use Rattle.net_pins.specs.declared.nets.ReaderCell.{ReaderCell}
 use Rattle.plan_tables.specs.Tables.{PassCells, IsHeldCell, IsDriverCell, ArePassCells, pass_cells_of}
 use Rattle.plan_tables.specs.declared.tables.PlanTables.{PlanTables}
-use Rattle.plan_tables.specs.inner.Laid.{laid, steady}
-use Rattle.plan_tables.specs.Assigned.{assigned, driver_bit, set_readers, set_compared}
+use Rattle.plan_tables.specs.inner.Laid.{bits_of_parts, steady}
+use Rattle.plan_tables.specs.Assigned.{assigned, code_bit_of_driver, set_readers, set_compared}
 use Rattle.plan_tables.specs.Plans.{IsPlanOf}
 use Rattle.scan_planner.specs.PassRows.{steady_compared, steady_shifted}
 use Rattle.scan_planner.specs.Plans.{FillsScan, IsRoom, scan_of_pass}
-use Rattle.scan_planner.specs.inner.Passes.{compared, driven}
+use Rattle.scan_planner.specs.inner.Passes.{with_compared_bits, driven}
 use Rattle.plan_tables.proofs.AssignLemmas.{length-assigned, assigned_apart}
 use Rattle.plan_tables.proofs.RowLemmas.{length-set_compared}
 use Rattle.plan_tables.proofs.LaidLemmas.{length-laid, laid_same, zeros_laid, tdi_laid, tdo_laid, mask_laid}
@@ -47,12 +47,19 @@ use Rattle.plan_tables.proofs.PassLemmas.{fold_on}
 use Rattle.plan_tables.proofs.SizeLemmas.{IsSized}
 
 -- rows with the bits and the shape of scan `k` hold the scan, as `FillsScan` states
-pub fills : (board : RawBoard) (passes : List (List Ctl)) (width k : ℕ) (scan : Scan) (shape : Shape) (tdi tdo mask : List Bool) → slice_get (test_scans board passes width) k ≡ Some scan →
+pub fills : (board : RawBoard) (passes : List (List Ctl)) (width k : ℕ) (scan : Scan)
+    (shape : Shape) (tdi tdo mask : List Bool)
+    → slice_get (test_scans board passes width) k ≡ Some scan →
     0 < length scan.bits → length scan.bits ≤ most_bits → AreBitsOf scan.bits tdi tdo mask → shape.ir ≡ scan.ir →
     shape.compare ≡ list_any (λ bit. bit) mask → FillsScan board passes width k shape tdi tdo mask
 fills board passes width k scan shape tdi tdo mask placed some most are is_ir compare =
     record {
-      scan = placed ∙ sym (ap (λ (b : Bool). Some (record { ir = b; bits = scan_bits tdi tdo mask })) is_ir ∙ ap (λ (l : List ScanBit). Some (record { ir = scan.ir; bits = l })) (rows_make are));
+      scan =
+          placed
+          ∙ sym
+          (ap (λ (b : Bool). Some (record { ir = b; bits = scan_bits tdi tdo mask })) is_ir
+          ∙ ap (λ (l : List ScanBit). Some (record { ir = scan.ir; bits = l }))
+          (rows_make are));
       some = omega (arith, some, shifted_length are);
       most = omega (arith, most, shifted_length are);
       tdo_length = expected_same are;
@@ -62,15 +69,20 @@ fills board passes width k scan shape tdi tdo mask placed some most are is_ir co
     }
 
 -- if rows have room for an instruction scan, they have room for the stored rows of an instruction scan
-pub codes_room : (board : RawBoard) (bits : List ScanBit) (stored : StoredRows) (rows : ScanRows) → IsSized bits (instruction_bits board) → AreRowsOf bits stored →
+pub codes_room : (board : RawBoard) (bits : List ScanBit) (stored : StoredRows) (rows : ScanRows)
+    → IsSized bits (instruction_bits board) → AreRowsOf bits stored →
     EachHasRoom (IsRoom board) rows → HaveRoomFor stored rows
-codes_room board bits stored rows s are each = room_for bits stored rows are (each_room (λ room is. omega (arith, s.size_is, is.instructions)) each)
+codes_room board bits stored rows s are each =
+    room_for bits stored rows are
+    (each_room (λ room is. omega (arith, s.size_is, is.instructions)) each)
 
 -- a data scan has `data_bits board` bits, from 1 to the limit on the bits of a scan
 pub row_sized : (board : RawBoard) → IsBoard board → (scan : RowScan) → IsSized (joined (row_bits board scan)) (data_bits board)
 row_sized board rules scan =
     let size : length (joined (row_bits board scan)) ≡ data_bits board =
-    sym (length-map (joined (row_bits board scan)) (λ b. b.tdi)) ∙ ap (λ (l : List Bool). length l) (tdi_laid board scan) ∙ length-laid (λ part device cell. row_bit board scan.now part device cell) board in
+    sym (length-map (joined (row_bits board scan)) (λ b. b.tdi))
+    ∙ ap (λ (l : List Bool). length l) (tdi_laid board scan)
+    ∙ length-laid (λ part device cell. row_bit board scan.now part device cell) board in
     record { some = row_scan_some board rules scan; most = omega (arith, size, rules.data_most); size_is = size }
 
 -- a data scan shifts in `data_bits board` bits
@@ -78,26 +90,49 @@ pub shifted_size : (board : RawBoard) (scan : RowScan) → length (tdi_bits (joi
 shifted_size board scan = ap length (tdi_laid board scan) ∙ length-laid (λ part device cell. row_bit board scan.now part device cell) board
 
 pub expected_size : (board : RawBoard) (scan : RowScan) → length (tdo_bits (joined (row_bits board scan))) ≡ data_bits board
-expected_size board scan = ap length (tdo_laid board scan) ∙ length-laid (λ part device cell. unwrap_or (expect_bit board scan.before part device cell) false) board
+expected_size board scan =
+    ap length (tdo_laid board scan)
+    ∙ length-laid
+    (λ part device cell. unwrap_or (expect_bit board scan.before part device cell) false) board
 
 pub marked_size : (board : RawBoard) (scan : RowScan) → length (mask_bits (joined (row_bits board scan))) ≡ data_bits board
-marked_size board scan = ap length (mask_laid board scan) ∙ length-laid (λ part device cell. is_some (expect_bit board scan.before part device cell)) board
+marked_size board scan =
+    ap length (mask_laid board scan)
+    ∙ length-laid (λ part device cell. is_some (expect_bit board scan.before part device cell))
+    board
 
 -- if the row before a scan is the quiet row, the scan compares nothing: its expected bits and its mask are zeros
-pub quiet_tdo : (board : RawBoard) (scan : RowScan) → scan.before ≡ quiet_row → replicate (data_bits board) false ≡ tdo_bits (joined (row_bits board scan))
+pub quiet_tdo : (board : RawBoard) (scan : RowScan) → scan.before ≡ quiet_row
+    → replicate (data_bits board) false ≡ tdo_bits (joined (row_bits board scan))
 quiet_tdo board scan e =
     zeros_laid board
-    ∙ laid_same board (λ part device cell. false) (λ part device cell. unwrap_or (expect_bit board quiet_row part device cell) false) (λ part device cell. sym (ap (λ (o : Option Bool). unwrap_or o false) (quiet_expects board part device cell)))
-    ∙ sym (tdo_laid board scan ∙ ap (λ (row : TestRow). laid (λ part device cell. unwrap_or (expect_bit board row part device cell) false) board) e)
+    ∙ laid_same board (λ part device cell. false)
+    (λ part device cell. unwrap_or (expect_bit board quiet_row part device cell) false)
+    (λ part device cell. sym
+    (ap (λ (o : Option Bool). unwrap_or o false) (quiet_expects board part device cell)))
+    ∙ sym
+    (tdo_laid board scan
+    ∙ ap
+    (λ (row : TestRow). bits_of_parts
+    (λ part device cell. unwrap_or (expect_bit board row part device cell) false)
+    board) e)
 
-pub quiet_mask : (board : RawBoard) (scan : RowScan) → scan.before ≡ quiet_row → replicate (data_bits board) false ≡ mask_bits (joined (row_bits board scan))
+pub quiet_mask : (board : RawBoard) (scan : RowScan) → scan.before ≡ quiet_row
+    → replicate (data_bits board) false ≡ mask_bits (joined (row_bits board scan))
 quiet_mask board scan e =
     zeros_laid board
-    ∙ laid_same board (λ part device cell. false) (λ part device cell. is_some (expect_bit board quiet_row part device cell)) (λ part device cell. sym (ap (λ (o : Option Bool). is_some o) (quiet_expects board part device cell)))
-    ∙ sym (mask_laid board scan ∙ ap (λ (row : TestRow). laid (λ part device cell. is_some (expect_bit board row part device cell)) board) e)
+    ∙ laid_same board (λ part device cell. false)
+    (λ part device cell. is_some (expect_bit board quiet_row part device cell))
+    (λ part device cell. sym
+    (ap (λ (o : Option Bool). is_some o) (quiet_expects board part device cell)))
+    ∙ sym
+    (mask_laid board scan
+    ∙ ap
+    (λ (row : TestRow). bits_of_parts
+    (λ part device cell. is_some (expect_bit board row part device cell)) board) e)
 
 module _ (board : RawBoard) (rules : IsBoard board) (plan : PlanTables) (p : IsPlanOf board plan) where
-  quiet_laid : plan.quiet.bits ≡ laid (steady board (λ c. false)) board
+  quiet_laid : plan.quiet.bits ≡ bits_of_parts (steady board (λ c. false)) board
   quiet_laid =
       p.tables.quiet ∙ tdi_laid board first_row_scan
       ∙ laid_same board (λ part device cell. row_bit board quiet_row part device cell) (steady board (λ c. false)) (quiet_steady board)
@@ -109,7 +144,7 @@ module _ (board : RawBoard) (rules : IsBoard board) (plan : PlanTables) (p : IsP
   pub quiet_is : (scan : RowScan) → scan.now ≡ quiet_row → plan.quiet.bits ≡ tdi_bits (joined (row_bits board scan))
   quiet_is scan e =
       p.tables.quiet ∙ tdi_laid board first_row_scan
-      ∙ sym (tdi_laid board scan ∙ ap (λ (row : TestRow). laid (λ part device cell. row_bit board row part device cell) board) e)
+      ∙ sym (tdi_laid board scan ∙ ap (λ (row : TestRow). bits_of_parts (λ part device cell. row_bit board row part device cell) board) e)
 
   readers_of : ReadersOf board plan.nets.readers
   readers_of n net e =
@@ -124,10 +159,15 @@ module _ (board : RawBoard) (rules : IsBoard board) (plan : PlanTables) (p : IsP
 
   -- the rows that all passes share have the length of a data scan
   pub steady_shifted_length : (j : ℕ) → length (steady_shifted plan j) ≡ data_bits board
-  steady_shifted_length j = length-assigned (λ (d : DriverCell). d.position) (driver_bit plan.codes j) plan.quiet.bits plan.steady ∙ quiet_length
+  steady_shifted_length j =
+      length-assigned (λ (d : DriverCell). d.position) (code_bit_of_driver plan.codes j)
+      plan.quiet.bits plan.steady ∙ quiet_length
 
   pub steady_compared_length : (bit : DriverCell → Bool) → length (steady_compared plan bit) ≡ data_bits board
-  steady_compared_length bit = length-set_compared bit plan.nets.readers plan.steady (replicate (length plan.quiet.bits) false) ∙ length-replicate (length plan.quiet.bits) false ∙ quiet_length
+  steady_compared_length bit =
+      length-set_compared bit plan.nets.readers plan.steady
+      (replicate (length plan.quiet.bits) false) ∙ length-replicate (length plan.quiet.bits) false
+      ∙ quiet_length
 
   module _ (x : ℕ) (less : x < length plan.passes) where
     abbrev pass : List Ctl
@@ -156,58 +196,94 @@ module _ (board : RawBoard) (rules : IsBoard board) (plan : PlanTables) (p : IsP
     every : (d : DriverCell) → IsDriverCell board pass d → Has all d
     every d is = contains_has all d ((are.drivers d).1 is)
 
-    pub controls_there : (setting : List Ctl) → setting ≡ pass → (c : Ctl) → holds setting c ≡ true → c.cell < cell_count (device_at board c.part)
-    controls_there setting is c on = control_cells board rules c (p.plannable.controls x pass c stands (sym (ap (λ (q : List Ctl). holds q c) is) ∙ on))
+    pub controls_there : (setting : List Ctl) → setting ≡ pass → (c : Ctl) → holds setting c ≡ true
+        → c.cell < cell_count (device_at board c.part)
+    controls_there setting is c on =
+        control_cells board rules c
+        (p.plannable.controls x pass c stands (sym (ap (λ (q : List Ctl). holds q c) is) ∙ on))
 
     -- in row `j`, net `n` carries bit `j` of its code
     abbrev carried : ℕ → ℕ → Option Bool
     carried j n = Some (net_code_bit board plan.passes j n)
 
-    carries : (j : ℕ) (d : DriverCell) → Has all d → carried j d.net ≡ Some (driver_bit plan.codes j d)
+    carries : (j : ℕ) (d : DriverCell) → Has all d → carried j d.net ≡ Some (code_bit_of_driver plan.codes j d)
     carries j d has =
         let s = driver_only d has in
-        let observed : is_observed board plan.passes s.net ≡ true = any_at (λ (q : List Ctl). is_some (observing_driver board (holds q) s.net)) plan.passes x pass stands (ap (λ (o : Option ℕ). is_some o) s.observing) in
+        let observed : is_observed board plan.passes s.net
+        ≡ true = any_at (λ (q : List Ctl). is_some (observing_driver board (holds q) s.net))
+        plan.passes x pass stands (ap (λ (o : Option ℕ). is_some o) s.observing) in
         let code : get_or plan.codes d.net 0 ≡ code_of_net board plan.passes d.net =
         p.codes_are d.net s.net s.is_net ∙ ap (λ (b : Bool). cond b (code_of_net board plan.passes d.net) 0) observed in
         sym (ap (λ (n : ℕ). Some (code_bit n j)) code)
 
     -- setting the pass's own bits in the shared row gives the bits that row `j` of the pass shifts in
     pub shifted_is : (j : ℕ) → j < plan.width →
-        driven board plan (driver_bit plan.codes j) (assigned (λ h. h.position) (λ h. h.bit) (steady_shifted plan j) cells.held) pass ≡ tdi_bits (joined (row_bits board (scan_of_pass board plan x j)))
+        driven board plan (code_bit_of_driver plan.codes j)
+        (assigned (λ h. h.position) (λ h. h.bit) (steady_shifted plan j) cells.held) pass
+        ≡ tdi_bits (joined (row_bits board (scan_of_pass board plan x j)))
     shifted_is j within =
-        let bit : DriverCell → Bool = driver_bit plan.codes j in
-        let row : row_now (code_row board plan.passes pass) plan.width j ≡ code_row board plan.passes pass j = ap (λ (t : Bool). cond t (code_row board plan.passes pass j) quiet_row) (lt-ltb j plan.width within) in
-        fold_on board plan.quiet.bits plan.by_control pass (λ bits (d : DriverCell). set bits d.position (bit d)) (assigned (λ h. h.position) (λ h. h.bit) (steady_shifted plan j) cells.held)
+        let bit : DriverCell → Bool = code_bit_of_driver plan.codes j in
+        let row : row_now (code_row board plan.passes pass) plan.width j
+        ≡ code_row board plan.passes pass j = ap
+        (λ (t : Bool). cond t (code_row board plan.passes pass j) quiet_row)
+        (lt-ltb j plan.width within) in
+        fold_on board plan.quiet.bits plan.by_control pass
+        (λ bits (d : DriverCell). set bits d.position (bit d))
+        (assigned (λ h. h.position) (λ h. h.bit) (steady_shifted plan j) cells.held)
         ∙ ap (λ (l : List Bool). assigned (λ d. d.position) bit l cells.drivers)
-        (assigned_apart (λ (h : HeldCell). h.position) (λ h. h.bit) (λ (d : DriverCell). d.position) bit plan.quiet.bits cells.held plan.steady
+        (assigned_apart (λ (h : HeldCell). h.position) (λ h. h.bit) (λ (d : DriverCell). d.position)
+        bit plan.quiet.bits cells.held plan.steady
         (λ h d in_held in_steady. are.apart h d (has_contains cells.held h in_held) (has_contains plan.steady d in_steady)))
-        ∙ sym (fold-append (λ bits (d : DriverCell). set bits d.position (bit d)) (assigned (λ h. h.position) (λ h. h.bit) plan.quiet.bits cells.held) plan.steady cells.drivers)
+        ∙ sym
+        (fold-append (λ bits (d : DriverCell). set bits d.position (bit d))
+        (assigned (λ h. h.position) (λ h. h.bit) plan.quiet.bits cells.held) plan.steady
+        cells.drivers)
         ∙ ap (λ (l : List Bool). assigned (λ d. d.position) bit (assigned (λ h. h.position) (λ h. h.bit) l cells.held) all) quiet_laid
         ∙ ap (λ (l : List Bool). assigned (λ d. d.position) bit l all)
-        (held_laid board rules pass (λ c has. p.plannable.controls x pass c stands has) cells.held held_only (λ h is. contains_has cells.held h ((are.held h).1 is)))
+        (held_laid board rules pass (λ c has. p.plannable.controls x pass c stands has) cells.held
+        held_only (λ h is. contains_has cells.held h ((are.held h).1 is)))
         ∙ drivers_laid board rules pass (carried j) bit all driver_only every (carries j)
-        ∙ sym (tdi_laid board (scan_of_pass board plan x j) ∙ ap (λ (row : TestRow). laid (λ part device cell. row_bit board row part device cell) board) row)
+        ∙ sym
+        (tdi_laid board (scan_of_pass board plan x j)
+        ∙ ap
+        (λ (row : TestRow). bits_of_parts
+        (λ part device cell. row_bit board row part device cell) board) row)
 
     -- Setting the pass's own bits in the shared row gives the compared bits of the pass. This row has the bit of each pair at the pair's
     -- cell, and zeros elsewhere.
     compared_is : (bit : DriverCell → Bool) →
-        compared board plan bit (steady_compared plan bit) pass ≡ assigned (λ (x : Pair). x.1.position) (λ x. bit x.0) (laid (λ part device cell. false) board) (pairs plan.nets.readers all)
+        with_compared_bits board plan bit (steady_compared plan bit) pass
+        ≡ assigned (λ (x : Pair). x.1.position) (λ x. bit x.0)
+        (bits_of_parts (λ part device cell. false) board) (pairs plan.nets.readers all)
     compared_is bit =
-        fold_on board plan.quiet.bits plan.by_control pass (λ done (d : DriverCell). set_readers d.place (bit d) done (get_or plan.nets.readers d.net [])) (steady_compared plan bit)
-        ∙ sym (fold-append (λ done (d : DriverCell). set_readers d.place (bit d) done (get_or plan.nets.readers d.net [])) (replicate (length plan.quiet.bits) false) plan.steady cells.drivers)
+        fold_on board plan.quiet.bits plan.by_control pass
+        (λ done (d : DriverCell). set_readers d.place (bit d) done
+        (get_or plan.nets.readers d.net [])) (steady_compared plan bit)
+        ∙ sym
+        (fold-append
+        (λ done (d : DriverCell). set_readers d.place (bit d) done
+        (get_or plan.nets.readers d.net [])) (replicate (length plan.quiet.bits) false)
+        plan.steady cells.drivers)
         ∙ ap (λ (l : List Bool). set_compared bit plan.nets.readers l all) (ap (λ n. replicate n false) quiet_length ∙ zeros_laid board)
-        ∙ set_compared_is bit plan.nets.readers all (laid (λ part device cell. false) board)
+        ∙ set_compared_is bit plan.nets.readers all (bits_of_parts (λ part device cell. false) board)
 
-    pub expected_is : (j : ℕ) → compared board plan (driver_bit plan.codes j) (steady_compared plan (driver_bit plan.codes j)) pass ≡ tdo_bits (joined (row_bits board (scan_of_pass board plan x (suc j))))
+    pub expected_is : (j : ℕ)
+        → with_compared_bits board plan (code_bit_of_driver plan.codes j)
+        (steady_compared plan (code_bit_of_driver plan.codes j)) pass
+        ≡ tdo_bits (joined (row_bits board (scan_of_pass board plan x (suc j))))
     expected_is j =
-        compared_is (driver_bit plan.codes j)
-        ∙ tdo_compared board rules pass (carried j) (driver_bit plan.codes j) all driver_only every (carries j) plan.nets.readers readers_of
+        compared_is (code_bit_of_driver plan.codes j)
+        ∙ tdo_compared board rules pass (carried j) (code_bit_of_driver plan.codes j) all
+        driver_only every (carries j) plan.nets.readers readers_of
         ∙ sym (tdo_laid board (scan_of_pass board plan x (suc j)))
 
-    pub mask_is : (j : ℕ) → compared board plan (λ d. true) (steady_compared plan (λ d. true)) pass ≡ mask_bits (joined (row_bits board (scan_of_pass board plan x (suc j))))
+    pub mask_is : (j : ℕ)
+        → with_compared_bits board plan (λ d. true) (steady_compared plan (λ d. true)) pass
+        ≡ mask_bits (joined (row_bits board (scan_of_pass board plan x (suc j))))
     mask_is j =
         compared_is (λ d. true)
-        ∙ mask_compared board rules pass (carried j) (driver_bit plan.codes j) all driver_only every (carries j) plan.nets.readers readers_of
+        ∙ mask_compared board rules pass (carried j) (code_bit_of_driver plan.codes j) all
+        driver_only every (carries j) plan.nets.readers readers_of
         ∙ sym (mask_laid board (scan_of_pass board plan x (suc j)))
 
     -- rows with the bits and the shape of scan `j` of the pass hold the scan, as `FillsScan` states
@@ -216,5 +292,6 @@ module _ (board : RawBoard) (rules : IsBoard board) (plan : PlanTables) (p : IsP
         FillsScan board plan.passes plan.width (3 + (x * suc plan.width + j)) shape tdi tdo mask
     fills_row j within shape tdi tdo mask of_row are compare =
         let s = row_sized board rules (scan_of_pass board plan x j) in
-        fills board plan.passes plan.width (3 + (x * suc plan.width + j)) (scan_of_row board (scan_of_pass board plan x j)) shape tdi tdo mask
+        fills board plan.passes plan.width (3 + (x * suc plan.width + j))
+        (scan_of_row board (scan_of_pass board plan x j)) shape tdi tdo mask
         ((scans_placed board plan.passes plan.width).rows x pass j stands within) s.some s.most are of_row compare

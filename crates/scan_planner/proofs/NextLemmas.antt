@@ -16,12 +16,16 @@ use Rattle.scan_planner.specs.Plans.{FillsScan, scan_of_pass}
 use Rattle.scan_planner.proofs.FillLemmas.{mask_is}
 
 -- if rows hold scan `j - 1` of a pass, and scans `j - 1` and `j` both compare a row, the mask in the rows is the mask of scan `j`
-pub mask_stands : (board : RawBoard) → IsBoard board → (plan : PlanTables) → IsPlanOf board plan → (x j : ℕ) → x < length plan.passes → 1 < j → j ≤ plan.width →
+pub mask_stands : (board : RawBoard) → IsBoard board → (plan : PlanTables) → IsPlanOf board plan
+    → (x j : ℕ) → x < length plan.passes → 1 < j → j ≤ plan.width →
     (shape : Shape) (tdi tdo mask : List Bool) → FillsScan board plan.passes plan.width (2 + (x * suc plan.width + j)) shape tdi tdo mask →
     mask ≡ mask_bits (joined (row_bits board (scan_of_pass board plan x j)))
 mask_stands board rules plan p x j less later within shape tdi tdo mask f =
     sym (mask_bits-scan_bits tdi tdo mask f.tdo_length f.mask_length)
-    ∙ ap (λ (o : Option Scan). mask_bits (bits_of o)) (sym f.scan ∙ ap (slice_get scans) place ∙ (scans_placed board plan.passes plan.width).rows x (get_or plan.passes x []) (suc i) (slice_get-get_or plan.passes x [] less) (omega (arith, later, within)))
+    ∙ ap (λ (o : Option Scan). mask_bits (bits_of o))
+    (sym f.scan ∙ ap (slice_get scans) place
+    ∙ (scans_placed board plan.passes plan.width).rows x (get_or plan.passes x []) (suc i)
+    (slice_get-get_or plan.passes x [] less) (omega (arith, later, within)))
     ∙ sym (mask_is board rules plan p x less i)
     ∙ mask_is board rules plan p x less (suc i)
     ∙ ap (λ (n : ℕ). mask_bits (joined (row_bits board (scan_of_pass board plan x n)))) two

@@ -5,7 +5,7 @@ use Rattle.bt_bits.specs.Rows.{BitRow}
 use Rattle.tap_defs.specs.declared.scan.StoredRows.{StoredRows}
 use Rattle.plan_tables.specs.declared.tables.DriverCell.{DriverCell}
 use Rattle.plan_tables.specs.declared.tables.PlanTables.{PlanTables}
-use Rattle.plan_tables.specs.Assigned.{driver_bit}
+use Rattle.plan_tables.specs.Assigned.{code_bit_of_driver}
 use Rattle.scan_planner.specs.PassRows.{steady_compared, steady_shifted}
 
 abbrev row : List Bool → BitRow
@@ -38,11 +38,13 @@ abbrev enabled : List DriverCell
 enabled = record { net = 0; place = 0; position = 3 } ∷ []
 
 -- the driver's cell has bit 0 of the code in row 0, and bit 1 in row 1
-shifted : map (steady_shifted (plan enabled)) (0 ∷ 1 ∷ []) ≡ (false ∷ false ∷ true ∷ false ∷ true ∷ []) ∷ (false ∷ false ∷ true ∷ true ∷ true ∷ []) ∷ []
+shifted : map (steady_shifted (plan enabled)) (0 ∷ 1 ∷ [])
+    ≡ (false ∷ false ∷ true ∷ false ∷ true ∷ []) ∷ (false ∷ false ∷ true ∷ true ∷ true ∷ []) ∷ []
 shifted = refl
 
 -- the bits of the code are expected at the cell on the other pin, but not at the cell on the driver's own pin
-expected : map (λ j. steady_compared (plan enabled) (driver_bit (2 ∷ []) j)) (0 ∷ 1 ∷ []) ≡ replicate 5 false ∷ (true ∷ false ∷ false ∷ false ∷ false ∷ []) ∷ []
+expected : map (λ j. steady_compared (plan enabled) (code_bit_of_driver (2 ∷ []) j)) (0 ∷ 1 ∷ [])
+    ≡ replicate 5 false ∷ (true ∷ false ∷ false ∷ false ∷ false ∷ []) ∷ []
 expected = refl
 
 mask : steady_compared (plan enabled) (λ d. true) ≡ true ∷ false ∷ false ∷ false ∷ false ∷ []

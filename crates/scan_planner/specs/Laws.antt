@@ -14,7 +14,9 @@ AreSafe board passes = (x : ℕ) (pass : List Ctl) → slice_get passes x ≡ So
 
 -- each control of each pass is useful
 abbrev pub AreUseful : RawBoard → List (List Ctl) → Type 0
-AreUseful board passes = (x : ℕ) (pass : List Ctl) (c : Ctl) → slice_get passes x ≡ Some pass → holds pass c ≡ true → is_useful board c ≡ true
+AreUseful board passes =
+    (x : ℕ) (pass : List Ctl) (c : Ctl) → slice_get passes x ≡ Some pass → holds pass c ≡ true
+    → is_useful board c ≡ true
 
 -- Every control of a net's driver, and every useful control, controls a driver of the board. So a plan can be made from safe passes of
 -- useful controls.

@@ -8,20 +8,20 @@ use Rattle.tap_defs.specs.chain.Scan.{joined, mask_bits, tdi_bits, tdo_bits}
 use Rattle.tap_defs.specs.board.BoardScans.{row_bits}
 use Rattle.plan_tables.specs.declared.tables.PlanTables.{PlanTables}
 use Rattle.plan_tables.specs.declared.tables.DriverCell.{DriverCell}
-use Rattle.plan_tables.specs.Assigned.{assigned, driver_bit, set_compared}
+use Rattle.plan_tables.specs.Assigned.{assigned, code_bit_of_driver, set_compared}
 use Rattle.scan_planner.specs.declared.common_rows.CommonRows.{CommonRows}
 use Rattle.scan_planner.specs.declared.pass_rows.PassRows.{PassRows}
 use Rattle.scan_planner.specs.declared.pass_rows.StackedRows.{StackedRows}
 use Rattle.scan_planner.specs.Plans.{scan_of_pass}
 
 -- the rows have room for `bits` bits each
-pub record HaveRoom (bits : ℕ) (rows : StackedRows) : Type 0 where
+pub record HaveRoomOf (bits : ℕ) (rows : StackedRows) : Type 0 where
   pub shifted : bits ≤ rows.shifted.room
   pub expected : bits ≤ rows.expected.room
   pub mask : bits ≤ rows.mask.room
 
 -- the rows have room for the bits of `others`
-pub record HaveRoomFor (others rows : StackedRows) : Type 0 where
+pub record HaveRoomForStack (others rows : StackedRows) : Type 0 where
   pub shifted : length (stacked others.shifted 0) ≤ rows.shifted.room
   pub expected : length (stacked others.expected 0) ≤ rows.expected.room
   pub mask : length others.mask.bits ≤ rows.mask.room
@@ -35,7 +35,7 @@ pub record KeepRoom (old new : StackedRows) : Type 0 where
 -- row `j` of the bits that all passes shift in: the quiet row, in which the cell of each steady driver has bit `j` of the code of the
 -- driver's net
 abbrev pub steady_shifted : PlanTables → ℕ → List Bool
-steady_shifted plan j = assigned (λ d. d.position) (driver_bit plan.codes j) plan.quiet.bits plan.steady
+steady_shifted plan j = assigned (λ d. d.position) (code_bit_of_driver plan.codes j) plan.quiet.bits plan.steady
 
 -- The row of compared bits that all passes share. It is zeros, with the bit of each steady driver at the cells on other pins that read the
 -- driver's net.
@@ -46,7 +46,7 @@ steady_compared plan bit = set_compared bit plan.nets.readers (replicate (length
 -- mask.
 pub record AreCommonStacks (plan : PlanTables) (rows : StackedRows) : Type 0 where
   pub shifted : (j : ℕ) → j < 16 → stacked rows.shifted j ≡ steady_shifted plan j
-  pub expected : (j : ℕ) → j < 16 → stacked rows.expected j ≡ steady_compared plan (driver_bit plan.codes j)
+  pub expected : (j : ℕ) → j < 16 → stacked rows.expected j ≡ steady_compared plan (code_bit_of_driver plan.codes j)
   pub mask : rows.mask.bits ≡ steady_compared plan (λ d. true)
 
 -- row `j` of the list is row `j` of the stack
@@ -58,7 +58,8 @@ AreFirstRows stack rows = (j : ℕ) (row : BitRow) → slice_get rows j ≡ Some
 pub record AreCommonRows (plan : PlanTables) (rows : CommonRows) : Type 0 where
   pub stacked : AreCommonStacks plan rows.stacked
   pub count : length rows.expected ≡ plan.width
-  pub expected : (j : ℕ) (row : BitRow) → slice_get rows.expected j ≡ Some row → row.bits ≡ steady_compared plan (driver_bit plan.codes j)
+  pub expected : (j : ℕ) (row : BitRow) → slice_get rows.expected j ≡ Some row
+      → row.bits ≡ steady_compared plan (code_bit_of_driver plan.codes j)
 
 -- The rows are the rows of pass `x`. Row `j` has the bits that scan `j` shifts in, and the expected bits and the mask of scan `j + 1`.
 pub record ArePassRows (board : RawBoard) (plan : PlanTables) (x : ℕ) (rows : StackedRows) : Type 0 where
@@ -69,5 +70,5 @@ pub record ArePassRows (board : RawBoard) (plan : PlanTables) (x : ℕ) (rows : 
 
 -- The kept rows have room for a data scan. If they belong to a pass, they are the rows of that pass of this plan.
 pub record AreKept (board : RawBoard) (plan : PlanTables) (kept : PassRows) : Type 0 where
-  pub room : HaveRoom (data_bits board) kept.rows
+  pub room : HaveRoomOf (data_bits board) kept.rows
   pub rows : IfSome kept.pass (λ x. ArePassRows board plan x kept.rows)

@@ -18,7 +18,9 @@ planned_board board plan = record { board = board; plan = plan }
 
 -- the rows hold scan `k` of the test
 abbrev pub FillsRows : PlannedBoard → ℕ → Shape → ScanRows → Type 0
-FillsRows test k shape rows = FillsScan test.board test.plan.passes test.plan.width k shape rows.tdi.now.bits rows.tdo.now.bits rows.mask.now.bits
+FillsRows test k shape rows =
+    FillsScan test.board test.plan.passes test.plan.width k shape rows.tdi.now.bits
+    rows.tdo.now.bits rows.mask.now.bits
 
 -- a pass of the plan, given by its number from 0
 pub record PlannedPass : Type 0 where
@@ -29,5 +31,5 @@ abbrev pub planned_pass : PlannedBoard → ℕ → PlannedPass
 planned_pass test number = record { test = test; number = number }
 
 -- the bits of scan `j` of a pass
-abbrev pub bits_of : PlannedPass → ℕ → List ScanBit
-bits_of pass j = joined (row_bits pass.test.board (scan_of_pass pass.test.board pass.test.plan pass.number j))
+abbrev pub scan_bits_of : PlannedPass → ℕ → List ScanBit
+scan_bits_of pass j = joined (row_bits pass.test.board (scan_of_pass pass.test.board pass.test.plan pass.number j))

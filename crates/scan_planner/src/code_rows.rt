@@ -38,7 +38,8 @@ pub trait CodeRows {
     /// Writes a column at a position. Ignores a position past the end.
     fn put(&mut self, position: u32, column: Self::Column)
         ensures kind { kind self.new ≡ kind self.old }
-        ensures bits { (j : ℕ) → shows (kind self.old) j → bits self.new j ≡ slice_set (bits self.old j) position (bit_in column j) };
+        ensures bits { (j : ℕ) → shows (kind self.old) j
+            → bits self.new j ≡ slice_set (bits self.old j) position (bit_in column j) };
 }
 
 impl CodeRows for RowStack {

@@ -6,7 +6,7 @@ ghost use Rattle.tap_defs.specs.board.TestRows.{quiet_row};
 ghost use Rattle.tap_defs.specs.board.BoardScans.{RowScan, row_bits};
 ghost use Rattle.tap_defs.specs.chain.Scan.{ScanBit, joined, mask_bits, tdi_bits, tdo_bits};
 ghost use Rattle.tap_defs.specs.chain.ScanRows.{AreRowsOf, AreSameRows, EachHasRoom, HaveRoomFor, HoldBits};
-ghost use Rattle.scan_planner.specs.Planned.{FillsRows, bits_of};
+ghost use Rattle.scan_planner.specs.Planned.{FillsRows, scan_bits_of};
 ghost use Rattle.scan_planner.specs.Plans.{IsRoom, scan_count};
 ghost use Rattle.scan_planner.specs.inner.Compared.{AreBothKept, BothHaveRoom, HoldCompared};
 
@@ -35,7 +35,8 @@ impl<'a> BoardPlan<'a> {
     /// Fills `tdi` with the quiet row.
     pub fn shift_quiet(&self, tdi: &mut Row)
         requires { data_bits self.now.board ≤ tdi.old.room }
-        ensures bits { (scan : RowScan) → scan.now ≡ quiet_row → tdi.new.bits ≡ tdi_bits (joined (row_bits self.now.board scan)) }
+        ensures bits { (scan : RowScan) → scan.now ≡ quiet_row
+            → tdi.new.bits ≡ tdi_bits (joined (row_bits self.now.board scan)) }
         ensures kept { tdi.new.room ≡ tdi.old.room }
     {
         self.laws();
@@ -46,7 +47,8 @@ impl<'a> BoardPlan<'a> {
     /// Fills both rows with zeros. A scan after the quiet row compares nothing.
     pub fn compare_nothing(&self, rows: &mut ComparedRows)
         requires { BothHaveRoom (data_bits self.now.board) rows.old }
-        ensures bits { (scan : RowScan) → scan.before ≡ quiet_row → HoldCompared (joined (row_bits self.now.board scan)) rows.new }
+        ensures bits { (scan : RowScan) → scan.before ≡ quiet_row
+            → HoldCompared (joined (row_bits self.now.board scan)) rows.new }
         ensures nothing { list_any (λ bit. bit) rows.new.mask.now.bits ≡ false }
         ensures kept { AreBothKept rows.old rows.new }
     {
@@ -117,7 +119,7 @@ impl<'a> PassOfPlan<'a> {
     pub fn fill_shifted(&self, j: u32, tdi: &mut Row)
         requires row { j < self.now.test.plan.width }
         requires room { data_bits self.now.test.board ≤ tdi.old.room }
-        ensures bits { tdi.new.bits ≡ tdi_bits (bits_of self.now j) }
+        ensures bits { tdi.new.bits ≡ tdi_bits (scan_bits_of self.now j) }
         ensures kept { tdi.new.room ≡ tdi.old.room }
     {
         self.laws();
@@ -135,8 +137,8 @@ impl<'a> PassOfPlan<'a> {
         requires row { j < self.now.test.plan.width }
         requires tdo_room { data_bits self.now.test.board ≤ tdo.old.room }
         requires mask_room { data_bits self.now.test.board ≤ mask.old.room }
-        ensures tdo { tdo.new.bits ≡ tdo_bits (bits_of self.now (suc j)) }
-        ensures mask { mask.new.bits ≡ mask_bits (bits_of self.now (suc j)) }
+        ensures tdo { tdo.new.bits ≡ tdo_bits (scan_bits_of self.now (suc j)) }
+        ensures mask { mask.new.bits ≡ mask_bits (scan_bits_of self.now (suc j)) }
         ensures tdo_kept { tdo.new.room ≡ tdo.old.room }
         ensures mask_kept { mask.new.room ≡ mask.old.room }
     {
@@ -147,7 +149,7 @@ impl<'a> PassOfPlan<'a> {
     fn compare_row(&self, j: u32, rows: &mut ComparedRows)
         requires row { j < self.now.test.plan.width }
         requires room { BothHaveRoom (data_bits self.now.test.board) rows.old }
-        ensures bits { HoldCompared (bits_of self.now (suc j)) rows.new }
+        ensures bits { HoldCompared (scan_bits_of self.now (suc j)) rows.new }
         ensures kept { AreBothKept rows.old rows.new }
     {
         self.laws();
@@ -168,7 +170,7 @@ impl<'a> PassOfPlan<'a> {
     // Fills `tdi` with row `j` of the pass, or with the quiet row if the pass has no row `j`.
     fn shift(&self, j: u32, tdi: &mut Row)
         requires { data_bits self.now.test.board ≤ tdi.old.room }
-        ensures bits { tdi.new.bits ≡ tdi_bits (bits_of self.now j) }
+        ensures bits { tdi.new.bits ≡ tdi_bits (scan_bits_of self.now j) }
         ensures kept { tdi.new.room ≡ tdi.old.room }
     {
         if j < self.width() {
@@ -183,7 +185,7 @@ impl<'a> PassOfPlan<'a> {
     fn compare_before(&self, j: u32, rows: &mut ComparedRows) -> bool
         requires row { j ≤ self.now.test.plan.width }
         requires room { BothHaveRoom (data_bits self.now.test.board) rows.old }
-        ensures bits { HoldCompared (bits_of self.now j) rows.new }
+        ensures bits { HoldCompared (scan_bits_of self.now j) rows.new }
         ensures compare { result ≡ list_any (λ bit. bit) rows.new.mask.now.bits }
         ensures kept { AreBothKept rows.old rows.new }
     {
@@ -200,7 +202,8 @@ impl<'a> PassOfPlan<'a> {
     fn fill(&self, j: u32, rows: &mut ScanRows) -> Shape
         requires row { j ≤ self.now.test.plan.width }
         requires room { EachHasRoom (IsRoom self.now.test.board) rows.old }
-        ensures filled { FillsRows self.now.test (3 + (self.now.number * suc self.now.test.plan.width + j)) result rows.new }
+        ensures filled { FillsRows self.now.test
+            (3 + (self.now.number * suc self.now.test.plan.width + j)) result rows.new }
         ensures kept { AreSameRows rows.old rows.new }
     {
         self.laws();

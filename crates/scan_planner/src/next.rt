@@ -5,7 +5,7 @@ ghost use Rattle.board_defs.specs.Pins.{data_bits};
 ghost use Rattle.tap_defs.specs.chain.Scan.{tdi_bits, tdo_bits, mask_bits};
 ghost use Rattle.tap_defs.specs.chain.ScanRows.{AreSameRows, EachHasRoom};
 ghost use Rattle.scan_planner.specs.PassRows.{AreKept};
-ghost use Rattle.scan_planner.specs.Planned.{FillsRows, bits_of};
+ghost use Rattle.scan_planner.specs.Planned.{FillsRows, scan_bits_of};
 ghost use Rattle.scan_planner.specs.Plans.{IsRoom, scan_count};
 ghost use Rattle.scan_planner.specs.inner.Compared.{AreBothKept, BothHaveRoom, HoldCompared};
 
@@ -31,14 +31,15 @@ impl<'a, 'k> Model for PassWithRows<'a, 'k> {
 
     ghost view = { λ a. a.pass };
 
-    ghost invariant = { λ a. ArePassRows a.pass.test.board a.pass.test.plan a.pass.number a.rows.now };
+    ghost invariant = { λ a. ArePassRows a.pass.test.board a.pass.test.plan a.pass.number
+        a.rows.now };
 }
 
 impl<'a, 'k> PassWithRows<'a, 'k> {
     // Fills `tdi` with row `j` of the pass, or with the quiet row if the pass has no row `j`.
     fn shift(&self, j: u32, tdi: &mut Row)
         requires { data_bits self.now.test.board ≤ tdi.old.room }
-        ensures bits { tdi.new.bits ≡ tdi_bits (bits_of self.now j) }
+        ensures bits { tdi.new.bits ≡ tdi_bits (scan_bits_of self.now j) }
         ensures kept { tdi.new.room ≡ tdi.old.room }
     {
         self.pass.laws();
@@ -53,7 +54,7 @@ impl<'a, 'k> PassWithRows<'a, 'k> {
     fn expect(&self, j: u32, tdo: &mut Row)
         requires row { j < self.now.test.plan.width }
         requires room { data_bits self.now.test.board ≤ tdo.old.room }
-        ensures bits { tdo.new.bits ≡ tdo_bits (bits_of self.now (suc j)) }
+        ensures bits { tdo.new.bits ≡ tdo_bits (scan_bits_of self.now (suc j)) }
         ensures kept { tdo.new.room ≡ tdo.old.room }
     {
         self.pass.laws();
@@ -64,7 +65,7 @@ impl<'a, 'k> PassWithRows<'a, 'k> {
     fn mark(&self, j: u32, mask: &mut Row)
         requires row { j < self.now.test.plan.width }
         requires room { data_bits self.now.test.board ≤ mask.old.room }
-        ensures bits { mask.new.bits ≡ mask_bits (bits_of self.now (suc j)) }
+        ensures bits { mask.new.bits ≡ mask_bits (scan_bits_of self.now (suc j)) }
         ensures kept { mask.new.room ≡ mask.old.room }
     {
         mask.copy_row(&self.rows.mask);
@@ -75,9 +76,11 @@ impl<'a, 'k> PassWithRows<'a, 'k> {
     // whether some bit of the mask is 1.
     fn compare_before(&self, j: u32, told: bool, rows: &mut ComparedRows) -> bool
         requires row { j ≤ self.now.test.plan.width }
-        requires stands { 1 < j → (rows.old.mask.now.bits ≡ mask_bits (bits_of self.now j)) × (told ≡ list_any (λ bit. bit) rows.old.mask.now.bits) }
+        requires stands { 1 < j
+            → (rows.old.mask.now.bits ≡ mask_bits (scan_bits_of self.now j))
+            × (told ≡ list_any (λ bit. bit) rows.old.mask.now.bits) }
         requires room { BothHaveRoom (data_bits self.now.test.board) rows.old }
-        ensures bits { HoldCompared (bits_of self.now j) rows.new }
+        ensures bits { HoldCompared (scan_bits_of self.now j) rows.new }
         ensures compare { result ≡ list_any (λ bit. bit) rows.new.mask.now.bits }
         ensures kept { AreBothKept rows.old rows.new }
     {
@@ -97,9 +100,11 @@ impl<'a, 'k> PassWithRows<'a, 'k> {
     // `before`.
     fn fill(&self, j: u32, before: Shape, rows: &mut ScanRows) -> Shape
         requires row { j ≤ self.now.test.plan.width }
-        requires before { FillsRows self.now.test (2 + (self.now.number * suc self.now.test.plan.width + j)) before rows.old }
+        requires before { FillsRows self.now.test
+            (2 + (self.now.number * suc self.now.test.plan.width + j)) before rows.old }
         requires room { EachHasRoom (IsRoom self.now.test.board) rows.old }
-        ensures filled { FillsRows self.now.test (3 + (self.now.number * suc self.now.test.plan.width + j)) result rows.new }
+        ensures filled { FillsRows self.now.test
+            (3 + (self.now.number * suc self.now.test.plan.width + j)) result rows.new }
         ensures kept { AreSameRows rows.old rows.new }
     {
         self.pass.laws();

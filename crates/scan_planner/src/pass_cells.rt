@@ -4,11 +4,11 @@ ghost use Rattle.board_defs.specs.declared.board.Ctl.{Ctl as ControlRecord};
 ghost use Rattle.board_defs.specs.Pins.{device_at, cell_count, data_bits};
 ghost use Rattle.board_defs.specs.Settings.{holds};
 ghost use Rattle.tap_defs.specs.chain.Scan.{tdi_bits, tdo_bits, mask_bits};
-ghost use Rattle.plan_tables.specs.Assigned.{assigned, driver_bit, set_compared, set_readers};
+ghost use Rattle.plan_tables.specs.Assigned.{assigned, code_bit_of_driver, set_compared, set_readers};
 ghost use Rattle.plan_tables.specs.Tables.{AreFirsts, held_cell};
 ghost use Rattle.scan_planner.specs.PassRows.{steady_compared, steady_shifted};
-ghost use Rattle.scan_planner.specs.Planned.{bits_of};
-ghost use Rattle.scan_planner.specs.inner.Passes.{compared, driven};
+ghost use Rattle.scan_planner.specs.Planned.{scan_bits_of};
+ghost use Rattle.scan_planner.specs.inner.Passes.{with_compared_bits, driven};
 
 use crate::board_plan::PassOfPlan;
 use crate::code_rows::CodeRows;
@@ -47,8 +47,11 @@ fn expect_net<E: CodeRows, M: CodeRows>(
 )
     ensures expected_kind { E.kind expected.new ≡ E.kind expected.old }
     ensures mask_kind { M.kind mask.new ≡ M.kind mask.old }
-    ensures expected { (j : ℕ) → E.shows (E.kind expected.old) j → E.bits expected.new j ≡ set_readers place (E.bit_in code j) (E.bits expected.old j) readers.now }
-    ensures mask { (j : ℕ) → M.shows (M.kind mask.old) j → M.bits mask.new j ≡ set_readers place true (M.bits mask.old j) readers.now }
+    ensures expected { (j : ℕ) → E.shows (E.kind expected.old) j
+        → E.bits expected.new j
+        ≡ set_readers place (E.bit_in code j) (E.bits expected.old j) readers.now }
+    ensures mask { (j : ℕ) → M.shows (M.kind mask.old) j
+        → M.bits mask.new j ≡ set_readers place true (M.bits mask.old j) readers.now }
 {
     for cell in readers {
         if cell.place != place {
@@ -72,9 +75,17 @@ pub fn drive_nets<S: CodeRows, E: CodeRows, M: CodeRows>(
     ensures shifted_kind { S.kind shifted.new ≡ S.kind shifted.old }
     ensures expected_kind { E.kind expected.new ≡ E.kind expected.old }
     ensures mask_kind { M.kind mask.new ≡ M.kind mask.old }
-    ensures shifted { (j : ℕ) → S.shows (S.kind shifted.old) j → S.bits shifted.new j ≡ assigned (λ d. d.position) (driver_bit codes.now j) (S.bits shifted.old j) drivers.now }
-    ensures expected { (j : ℕ) → E.shows (E.kind expected.old) j → E.bits expected.new j ≡ set_compared (driver_bit codes.now j) nets.now.readers (E.bits expected.old j) drivers.now }
-    ensures mask { (j : ℕ) → M.shows (M.kind mask.old) j → M.bits mask.new j ≡ set_compared (λ d. true) nets.now.readers (M.bits mask.old j) drivers.now }
+    ensures shifted { (j : ℕ) → S.shows (S.kind shifted.old) j
+        → S.bits shifted.new j
+        ≡ assigned (λ d. d.position) (code_bit_of_driver codes.now j) (S.bits shifted.old j)
+        drivers.now }
+    ensures expected { (j : ℕ) → E.shows (E.kind expected.old) j
+        → E.bits expected.new j
+        ≡ set_compared (code_bit_of_driver codes.now j) nets.now.readers (E.bits expected.old j)
+        drivers.now }
+    ensures mask { (j : ℕ) → M.shows (M.kind mask.old) j
+        → M.bits mask.new j
+        ≡ set_compared (λ d. true) nets.now.readers (M.bits mask.old j) drivers.now }
 {
     for driver in drivers {
         let number = code_at(codes, driver.net);
@@ -89,7 +100,11 @@ impl PassControls<'_> {
     // Writes the bits of the pass's controls at their cells.
     fn hold<S: CodeRows>(&self, rows: &mut S)
         ensures kind { S.kind rows.new ≡ S.kind rows.old }
-        ensures bits { (j : ℕ) → S.shows (S.kind rows.old) j → S.bits rows.new j ≡ assigned (λ h. h.position) (λ h. h.bit) (S.bits rows.old j) (map (held_cell self.now.board.now self.now.tables.now.quiet.bits) self.now.setting.now) }
+        ensures bits { (j : ℕ) → S.shows (S.kind rows.old) j
+            → S.bits rows.new j
+            ≡ assigned (λ h. h.position) (λ h. h.bit) (S.bits rows.old j)
+            (map (held_cell self.now.board.now self.now.tables.now.quiet.bits)
+            self.now.setting.now) }
     {
         let firsts = self.tables.firsts.as_slice();
         for c in self.setting.controls() {
@@ -110,9 +125,20 @@ impl PassControls<'_> {
         ensures shifted_kind { S.kind shifted.new ≡ S.kind shifted.old }
         ensures expected_kind { E.kind expected.new ≡ E.kind expected.old }
         ensures mask_kind { M.kind mask.new ≡ M.kind mask.old }
-        ensures shifted { (j : ℕ) → S.shows (S.kind shifted.old) j → S.bits shifted.new j ≡ driven self.now.board.now self.now.tables.now (driver_bit self.now.tables.now.codes j) (S.bits shifted.old j) self.now.setting.now }
-        ensures expected { (j : ℕ) → E.shows (E.kind expected.old) j → E.bits expected.new j ≡ compared self.now.board.now self.now.tables.now (driver_bit self.now.tables.now.codes j) (E.bits expected.old j) self.now.setting.now }
-        ensures mask { (j : ℕ) → M.shows (M.kind mask.old) j → M.bits mask.new j ≡ compared self.now.board.now self.now.tables.now (λ d. true) (M.bits mask.old j) self.now.setting.now }
+        ensures shifted { (j : ℕ) → S.shows (S.kind shifted.old) j
+            → S.bits shifted.new j
+            ≡ driven self.now.board.now self.now.tables.now
+            (code_bit_of_driver self.now.tables.now.codes j) (S.bits shifted.old j)
+            self.now.setting.now }
+        ensures expected { (j : ℕ) → E.shows (E.kind expected.old) j
+            → E.bits expected.new j
+            ≡ with_compared_bits self.now.board.now self.now.tables.now
+            (code_bit_of_driver self.now.tables.now.codes j) (E.bits expected.old j)
+            self.now.setting.now }
+        ensures mask { (j : ℕ) → M.shows (M.kind mask.old) j
+            → M.bits mask.new j
+            ≡ with_compared_bits self.now.board.now self.now.tables.now (λ d. true)
+            (M.bits mask.old j) self.now.setting.now }
     {
         let nets = &self.tables.nets;
         let codes = self.tables.codes.as_slice();
@@ -135,7 +161,8 @@ impl<'a> PassOfPlan<'a> {
     fn controls(&self) -> PassControls<'a>
         ensures board { result.board.now ≡ self.now.test.board }
         ensures tables { result.tables.now ≡ self.now.test.plan }
-        ensures setting { result.setting.now ≡ slice_index_or self.now.test.plan.passes self.now.number [] }
+        ensures setting { result.setting.now
+            ≡ slice_index_or self.now.test.plan.passes self.now.number [] }
     {
         self.laws();
         let test = self.test();
@@ -158,9 +185,16 @@ impl<'a> PassOfPlan<'a> {
         ensures shifted_kind { S.kind shifted.new ≡ S.kind shifted.old }
         ensures expected_kind { E.kind expected.new ≡ E.kind expected.old }
         ensures mask_kind { M.kind mask.new ≡ M.kind mask.old }
-        ensures shifted { (j : ℕ) → S.shows (S.kind shifted.old) j → j < self.now.test.plan.width → S.bits shifted.old j ≡ steady_shifted self.now.test.plan j → S.bits shifted.new j ≡ tdi_bits (bits_of self.now j) }
-        ensures expected { (j : ℕ) → E.shows (E.kind expected.old) j → E.bits expected.old j ≡ steady_compared self.now.test.plan (driver_bit self.now.test.plan.codes j) → E.bits expected.new j ≡ tdo_bits (bits_of self.now (suc j)) }
-        ensures mask { (i j : ℕ) → M.shows (M.kind mask.old) i → M.bits mask.old i ≡ steady_compared self.now.test.plan (λ d. true) → M.bits mask.new i ≡ mask_bits (bits_of self.now (suc j)) }
+        ensures shifted { (j : ℕ) → S.shows (S.kind shifted.old) j → j < self.now.test.plan.width
+            → S.bits shifted.old j ≡ steady_shifted self.now.test.plan j
+            → S.bits shifted.new j ≡ tdi_bits (scan_bits_of self.now j) }
+        ensures expected { (j : ℕ) → E.shows (E.kind expected.old) j
+            → E.bits expected.old j
+            ≡ steady_compared self.now.test.plan (code_bit_of_driver self.now.test.plan.codes j)
+            → E.bits expected.new j ≡ tdo_bits (scan_bits_of self.now (suc j)) }
+        ensures mask { (i j : ℕ) → M.shows (M.kind mask.old) i
+            → M.bits mask.old i ≡ steady_compared self.now.test.plan (λ d. true)
+            → M.bits mask.new i ≡ mask_bits (scan_bits_of self.now (suc j)) }
     {
         self.laws();
         let pass = self.controls();

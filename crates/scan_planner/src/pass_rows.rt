@@ -4,7 +4,7 @@ ghost use Rattle.board_defs.specs.declared.board.RawBoard.{RawBoard};
 ghost use Rattle.board_defs.specs.Pins.{data_bits};
 ghost use Rattle.bt_bits.specs.Stacks.{stacked};
 ghost use Rattle.plan_tables.specs.declared.tables.PlanTables.{PlanTables as PlanRecord};
-ghost use Rattle.scan_planner.specs.PassRows.{AreCommonStacks, AreKept, ArePassRows, HaveRoom, HaveRoomFor, KeepRoom};
+ghost use Rattle.scan_planner.specs.PassRows.{AreCommonStacks, AreKept, ArePassRows, HaveRoomOf, HaveRoomForStack, KeepRoom};
 
 use crate::board_plan::PassOfPlan;
 use crate::code_rows::RowAt;
@@ -27,7 +27,7 @@ pub struct StackedRows {
 impl StackedRows {
     // Creates empty rows, with room for scans of `bits` bits.
     fn with_room(alloc: Global, bits: u32) -> Result<StackedRows, AllocError>
-        ensures { IfOk result (HaveRoom bits) }
+        ensures { IfOk result (HaveRoomOf bits) }
     {
         Ok(StackedRows {
             shifted: RowStack::with_room(alloc, bits)?,
@@ -47,7 +47,7 @@ impl StackedRows {
 
     // Fills the rows with the rows that all passes of a plan share. There must be room for these.
     fn fill_common(&mut self, tables: &PlanTables)
-        requires { HaveRoom (length tables.now.quiet.bits) self.old }
+        requires { HaveRoomOf (length tables.now.quiet.bits) self.old }
         ensures { AreCommonStacks tables.now self.new }
     {
         self.shifted.fill_with(&tables.quiet);
@@ -69,9 +69,11 @@ impl StackedRows {
 
     // Copies `rows`, for which there must be room.
     fn copy_from(&mut self, rows: &StackedRows)
-        requires { HaveRoomFor rows.now self.old }
-        ensures shifted { (j : ℕ) → j < 16 → stacked self.new.shifted j ≡ stacked rows.now.shifted j }
-        ensures expected { (j : ℕ) → j < 16 → stacked self.new.expected j ≡ stacked rows.now.expected j }
+        requires { HaveRoomForStack rows.now self.old }
+        ensures shifted { (j : ℕ) → j < 16
+            → stacked self.new.shifted j ≡ stacked rows.now.shifted j }
+        ensures expected { (j : ℕ) → j < 16
+            → stacked self.new.expected j ≡ stacked rows.now.expected j }
         ensures mask { self.new.mask.bits ≡ rows.now.mask.bits }
         ensures room { KeepRoom self.old self.new }
     {
@@ -92,7 +94,9 @@ pub struct PassRows {
 impl PassRows {
     /// Creates rows that belong to no pass yet, with room for a board whose data scans have at most `bits` bits.
     pub fn with_room(alloc: Global, bits: u32) -> Result<PassRows, AllocError>
-        ensures { IfOk result (λ kept. (board : RawBoard) (plan : PlanRecord) → data_bits board ≤ bits → AreKept board plan kept) }
+        ensures { IfOk result
+            (λ kept. (board : RawBoard) (plan : PlanRecord) → data_bits board ≤ bits
+            → AreKept board plan kept) }
     {
         Ok(PassRows {
             pass: None,
@@ -104,7 +108,7 @@ impl PassRows {
 impl<'a> PassOfPlan<'a> {
     // Fills the rows with the rows of the pass, starting from a copy of the rows that all passes share.
     fn fill_rows(&self, rows: &mut StackedRows)
-        requires { HaveRoom (data_bits self.now.test.board) rows.old }
+        requires { HaveRoomOf (data_bits self.now.test.board) rows.old }
         ensures rows { ArePassRows self.now.test.board self.now.test.plan self.now.number rows.new }
         ensures room { KeepRoom rows.old rows.new }
     {
@@ -121,7 +125,8 @@ impl<'a> PassOfPlan<'a> {
     pub fn keep_rows(&self, kept: &mut PassRows)
         requires { AreKept self.now.test.board self.now.test.plan kept.old }
         ensures kept { AreKept self.now.test.board self.now.test.plan kept.new }
-        ensures rows { ArePassRows self.now.test.board self.now.test.plan self.now.number kept.new.rows }
+        ensures rows { ArePassRows self.now.test.board self.now.test.plan self.now.number
+            kept.new.rows }
     {
         if kept.pass != Some(self.number) {
             self.fill_rows(&mut kept.rows);

@@ -34,7 +34,8 @@ impl Model for Plan {
 
     ghost view = { λ a. a.tables };
 
-    ghost invariant = { λ a. (length a.tables.passes < 2 ^ 32) × (a.tables.width ≤ most_rows) × AreCommonRows a.tables a.common };
+    ghost invariant = { λ a. (length a.tables.passes < 2 ^ 32) × (a.tables.width ≤ most_rows)
+        × AreCommonRows a.tables a.common };
 }
 
 impl Plan {
@@ -107,7 +108,8 @@ impl Plan {
         requires tdi_room { IsRoom board.now tdi.old.room }
         requires tdo_room { IsRoom board.now tdo.old.room }
         requires mask_room { IsRoom board.now mask.old.room }
-        ensures filled { FillsScan board.now self.now.passes self.now.width k result tdi.new.bits tdo.new.bits mask.new.bits }
+        ensures filled { FillsScan board.now self.now.passes self.now.width k result tdi.new.bits
+            tdo.new.bits mask.new.bits }
         ensures tdi_kept { tdi.new.room ≡ tdi.old.room }
         ensures tdo_kept { tdo.new.room ≡ tdo.old.room }
         ensures mask_kept { mask.new.room ≡ mask.old.room }

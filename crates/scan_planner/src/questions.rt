@@ -88,7 +88,8 @@ impl Plan {
     /// Returns the quiet row, which the second scan and the last scan of each pass shift in.
     pub fn quiet_row(&self) -> &Row
         ensures row { result.now ≡ self.now.quiet }
-        ensures shifted { (board : RawBoard) → IsPlanOf board self.now → result.now.bits ≡ tdi_bits (joined (row_bits board first_row_scan)) }
+        ensures shifted { (board : RawBoard) → IsPlanOf board self.now
+            → result.now.bits ≡ tdi_bits (joined (row_bits board first_row_scan)) }
     {
         &self.tables.quiet
     }

@@ -8,11 +8,11 @@ use Rattle.board_files.specs.declared.chain_file.ChainLine.{ChainLine}
 use Rattle.board_files.specs.declared.chain_file.ChainStatement.{ChainStatement}
 use Rattle.board_files.specs.declared.chain_file.ChainStatement.TheVariants.{Device, Bypass, Inert, Supply, Pull, Link}
 use Rattle.board_files.specs.declared.net_file.NetLine.{NetLine}
-use Rattle.board_files.specs.ChainLines.{HasLength}
+use Rattle.board_files.specs.ChainLines.{HasBypassLength}
 use Rattle.board_files.specs.Names.{line_names}
 use Rattle.series_parts.specs.Nets.{Word}
 use Rattle.series_parts.specs.LinkPins.{missing_on, missing_link_pin, ◌then◌}
-use Rattle.series_parts.specs.Joining.{link_on, links, leads, joined_name, joined_statement, joined_line, joined_net, renaming, joined_chain, joined_nets, joined_files, unless}
+use Rattle.series_parts.specs.Joining.{link_on, links, leads, joined_name, joined_statement, joined_line, joined_net, renaming, joined_chain, joined_nets, joined_files, unless_missing}
 use Rattle.series_parts.specs.Lines.{is_link, has_link, is_chain_part, chain_part_lines}
 use Rattle.series_parts.proofs.LeadLemmas.{same_is}
 
@@ -29,7 +29,9 @@ no_links f [] = refl
 no_links f (line ∷ chain) = ap (λ b. b || has_link (map (joined_line f) chain)) (no_link f line.statement) ∙ no_links f chain
 
 parts_on : (f : Word → Word) (n : ℕ) (s : ChainStatement) (old new : List ChainLine) → new ≡ old →
-    cond (is_chain_part (joined_statement f s)) (record { line = n; statement = joined_statement f s } ∷ new) new ≡ cond (is_chain_part s) (record { line = n; statement = s } ∷ old) old
+    cond (is_chain_part (joined_statement f s))
+    (record { line = n; statement = joined_statement f s } ∷ new) new
+    ≡ cond (is_chain_part s) (record { line = n; statement = s } ∷ old) old
 parts_on f n (Link part first second) old new e = e
 parts_on f n (Device part entity pack) old new e = ap (λ lines. record { line = n; statement = Device part entity pack } ∷ lines) e
 parts_on f n (Bypass part bits) old new e = ap (λ lines. record { line = n; statement = Bypass part bits } ∷ lines) e
@@ -39,9 +41,11 @@ parts_on f n (Pull net value) old new e = e
 
 pub same_parts : (f : Word → Word) (chain : List ChainLine) → chain_part_lines (map (joined_line f) chain) ≡ chain_part_lines chain
 same_parts f [] = refl
-same_parts f (line ∷ chain) = parts_on f line.line line.statement (chain_part_lines chain) (chain_part_lines (map (joined_line f) chain)) (same_parts f chain)
+same_parts f (line ∷ chain) =
+    parts_on f line.line line.statement (chain_part_lines chain)
+    (chain_part_lines (map (joined_line f) chain)) (same_parts f chain)
 
-length_on : (f : Word → Word) (s : ChainStatement) → HasLength s → HasLength (joined_statement f s)
+length_on : (f : Word → Word) (s : ChainStatement) → HasBypassLength s → HasBypassLength (joined_statement f s)
 length_on f (Link part first second) h = tt
 length_on f (Device part entity pack) h = h
 length_on f (Bypass part bits) h = h
@@ -49,7 +53,9 @@ length_on f (Inert part) h = h
 length_on f (Supply net) h = h
 length_on f (Pull net value) h = h
 
-pub same_lengths : (f : Word → Word) (chain : List ChainLine) → AllByRecursion (λ line. HasLength line.statement) chain → AllByRecursion (λ line. HasLength line.statement) (map (joined_line f) chain)
+pub same_lengths : (f : Word → Word) (chain : List ChainLine)
+    → AllByRecursion (λ line. HasBypassLength line.statement) chain
+    → AllByRecursion (λ line. HasBypassLength line.statement) (map (joined_line f) chain)
 same_lengths f [] h = tt
 same_lengths f (line ∷ chain) h = (length_on f line.statement h.0, same_lengths f chain h.1)
 
@@ -102,21 +108,30 @@ statement_stays f (Inert part) h e = refl
 statement_stays f (Supply net) h e = ap Supply (h net)
 statement_stays f (Pull net value) h e = ap (λ w. Pull w value) (h net)
 
-chain_stays : (f : Word → Word) (chain : List ChainLine) → ((w : Word) → f w ≡ w) → has_link chain ≡ false → map (joined_line f) chain ≡ chain
+chain_stays : (f : Word → Word) (chain : List ChainLine) → ((w : Word) → f w ≡ w)
+    → has_link chain ≡ false → map (joined_line f) chain ≡ chain
 chain_stays f [] h e = refl
 chain_stays f (line ∷ chain) h e =
     let p = or_parts (is_link line.statement) (has_link chain) e in
-    ap (λ s. record { line = line.line; statement = s } ∷ map (joined_line f) chain) (statement_stays f line.statement h p.0) ∙ ap (λ lines. line ∷ lines) (chain_stays f chain h p.1)
+    ap (λ s. record { line = line.line; statement = s } ∷ map (joined_line f) chain)
+    (statement_stays f line.statement h p.0)
+    ∙ ap (λ lines. line ∷ lines) (chain_stays f chain h p.1)
 
 nets_stay : (f : Word → Word) (nets : List NetLine) → ((w : Word) → f w ≡ w) → map (joined_net f) nets ≡ nets
 nets_stay f [] h = refl
-nets_stay f (line ∷ nets) h = ap (λ w. record { line = line.line; name = w; pins = line.pins } ∷ map (joined_net f) nets) (h line.name) ∙ ap (λ lines. line ∷ lines) (nets_stay f nets h)
+nets_stay f (line ∷ nets) h =
+    ap (λ w. record { line = line.line; name = w; pins = line.pins } ∷ map (joined_net f) nets)
+    (h line.name) ∙ ap (λ lines. line ∷ lines) (nets_stay f nets h)
 
 -- files without LINK lines are their own joined files
-pub files_stay : (chain : List ChainLine) (nets : List NetLine) → has_link chain ≡ false → joined_files chain nets ≡ Ok (record { chain = chain; nets = nets })
+pub files_stay : (chain : List ChainLine) (nets : List NetLine) → has_link chain ≡ false
+    → joined_files chain nets ≡ Ok (record { chain = chain; nets = nets })
 files_stay chain nets none =
-    let same : (w : Word) → renaming chain nets w ≡ w = λ w. ap (λ ps. joined_name ps (line_names nets) w) (no_pairs nets chain none) ∙ name_stays (line_names nets) w in
+    let same : (w : Word)
+    → renaming chain nets w
+    ≡ w = λ w. ap (λ ps. joined_name ps (line_names nets) w) (no_pairs nets chain none)
+    ∙ name_stays (line_names nets) w in
     let new_chain = chain_stays (renaming chain nets) chain same none in
     let new_nets = nets_stay (renaming chain nets) nets same in
-    ap (λ o. unless o (record { chain = joined_chain chain nets; nets = joined_nets chain nets })) (none_missing nets chain none)
+    ap (λ o. unless_missing o (record { chain = joined_chain chain nets; nets = joined_nets chain nets })) (none_missing nets chain none)
     ∙ ap Ok (λ i. record { chain = new_chain i; nets = new_nets i })

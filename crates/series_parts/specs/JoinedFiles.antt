@@ -5,7 +5,7 @@ use Rattle.board_files.specs.declared.chain_file.ChainStatement.{ChainStatement}
 use Rattle.board_files.specs.declared.chain_file.ChainStatement.TheVariants.{Device, Bypass, Inert, Supply, Pull, Link}
 use Rattle.board_files.specs.declared.net_file.NetLine.{NetLine}
 use Rattle.board_files.specs.Names.{line_names}
-use Rattle.series_parts.specs.Nets.{Word, net_of}
+use Rattle.series_parts.specs.Nets.{Word, net_of_pin}
 
 -- on some LINK line, the first pin is in net `a` and the second pin is in net `b`
 pub record IsLink (chain : List ChainLine) (nets : List NetLine) (a b : Word) : Type 0 where
@@ -15,8 +15,8 @@ pub record IsLink (chain : List ChainLine) (nets : List NetLine) (a b : Word) : 
   pub first : Word
   pub second : Word
   pub stands : slice_get chain place ≡ Some (record { line = line; statement = Link part first second })
-  pub of_first : net_of nets part first ≡ Some a
-  pub of_second : net_of nets part second ≡ Some b
+  pub of_first : net_of_pin nets part first ≡ Some a
+  pub of_second : net_of_pin nets part second ≡ Some b
 
 -- a path of LINK lines, each of which may be taken in either direction, leads from one net to the other
 pub data AreJoined (chain : List ChainLine) (nets : List NetLine) : Word → Word → Type 0 where
@@ -62,6 +62,7 @@ Each R [] (y ∷ ys) = ⊥
 Each R (x ∷ xs) (y ∷ ys) = R x y × Each R xs ys
 
 -- the new files are the joined files of the chain file and the net file
-pub record AreJoinedFiles (chain : List ChainLine) (nets : List NetLine) (new_chain : List ChainLine) (new_nets : List NetLine) : Type 0 where
+pub record AreJoinedFiles (chain : List ChainLine) (nets : List NetLine)
+    (new_chain : List ChainLine) (new_nets : List NetLine) : Type 0 where
   pub chain_lines : Each (IsJoinedLine chain nets) chain new_chain
   pub net_lines : Each (IsJoinedNet chain nets) nets new_nets

@@ -9,7 +9,7 @@ use Rattle.series_parts.specs.declared.fault.LinkFault.{LinkFault}
 use Rattle.series_parts.specs.declared.fault.LinkFault.TheVariants.{NoLinkPin, Memory}
 use Rattle.series_parts.specs.declared.joining.Joined.{Joined}
 use Rattle.board_files.specs.Names.{same_word, line_names}
-use Rattle.series_parts.specs.Nets.{Word, net_of}
+use Rattle.series_parts.specs.Nets.{Word, net_of_pin}
 use Rattle.series_parts.specs.LinkPins.{missing_link_pin}
 
 -- the names of two nets that a LINK line joins
@@ -21,7 +21,7 @@ pair_of a b = option_and_then (λ a. option_map (λ b. (a, b)) b) a
 
 -- the nets of the two pins of a LINK line, if each pin is in a net
 abbrev pub link_on : List NetLine → ChainStatement → Option Pair
-link_on nets (Link part first second) = pair_of (net_of nets part first) (net_of nets part second)
+link_on nets (Link part first second) = pair_of (net_of_pin nets part first) (net_of_pin nets part second)
 link_on nets (Device part entity pack) = None
 link_on nets (Bypass part bits) = None
 link_on nets (Inert part) = None
@@ -35,7 +35,10 @@ links nets chain = filter_map (λ line. link_on nets line.statement) chain
 -- `b`. The path either does not use the first link or uses it once.
 abbrev pub leads : List Pair → Word → Word → Bool
 leads [] a b = same_word a b
-leads (link ∷ links) a b = leads links a b || ((leads links a link.0 && leads links link.1 b) || (leads links a link.1 && leads links link.0 b))
+leads (link ∷ links) a b =
+    leads links a b
+    || ((leads links a link.0 && leads links link.1 b)
+    || (leads links a link.1 && leads links link.0 b))
 
 -- the first of `names` that is joined with this net, or the net's own name if there is none
 unfoldable pub joined_name : List Pair → List Word → Word → Word
@@ -66,13 +69,15 @@ abbrev pub joined_nets : List ChainLine → List NetLine → List NetLine
 joined_nets chain nets = map (joined_net (renaming chain nets)) nets
 
 -- the value if no pin is missing, or otherwise the fault with the place of the missing pin
-abbrev pub unless : {V : Type 0} → Option Spot → V → Result V LinkFault
-unless None value = Ok value
-unless (Some spot) value = Err (NoLinkPin spot)
+abbrev pub unless_missing : {V : Type 0} → Option Spot → V → Result V LinkFault
+unless_missing None value = Ok value
+unless_missing (Some spot) value = Err (NoLinkPin spot)
 
 -- the joined files, or the fault of the first LINK pin that is in no net
 abbrev pub joined_files : List ChainLine → List NetLine → Result Joined LinkFault
-joined_files chain nets = unless (missing_link_pin nets chain) (record { chain = joined_chain chain nets; nets = joined_nets chain nets })
+joined_files chain nets =
+    unless_missing (missing_link_pin nets chain)
+    (record { chain = joined_chain chain nets; nets = joined_nets chain nets })
 
 -- the fault, or None if memory ran out
 abbrev pub link_told : LinkFault → Option LinkFault

@@ -5,7 +5,7 @@ use Rattle.board_files.specs.declared.chain_file.ChainLine.{ChainLine}
 use Rattle.board_files.specs.declared.chain_file.ChainStatement.{ChainStatement}
 use Rattle.board_files.specs.declared.chain_file.ChainStatement.TheVariants.{Device, Bypass, Inert, Supply, Pull, Link}
 use Rattle.board_files.specs.declared.net_file.NetLine.{NetLine}
-use Rattle.series_parts.specs.Nets.{Word, net_of}
+use Rattle.series_parts.specs.Nets.{Word, net_of_pin}
 
 -- the first item if there is one, or otherwise the second
 infixr 20 ◌then◌
@@ -13,15 +13,15 @@ abbrev pub ◌then◌ : {A : Type 0} → Option A → Option A → Option A
 None then after = after
 (Some found) then after = Some found
 
-abbrev pub is_missing : List NetLine → Word → Word → Bool
-is_missing nets part pin = is_none (net_of nets part pin)
+abbrev pub is_missing_pin : List NetLine → Word → Word → Bool
+is_missing_pin nets part pin = is_none (net_of_pin nets part pin)
 
 -- the place of the first of the two pins on line `n` that is in no net; these pins are words 3 and
 -- 4 of the line
 abbrev pub missing_of : List NetLine → ℕ → Word → Word → Word → Option Spot
 missing_of nets n part first second =
-    if is_missing nets part first then Some (record { line = n; word = 3 })
-    else if is_missing nets part second then Some (record { line = n; word = 4 })
+    if is_missing_pin nets part first then Some (record { line = n; word = 3 })
+    else if is_missing_pin nets part second then Some (record { line = n; word = 4 })
     else None
 
 abbrev pub missing_on : List NetLine → ℕ → ChainStatement → Option Spot

@@ -15,5 +15,5 @@ abbrev pub has_pin : Word → Word → NetLine → Bool
 has_pin part pin line = has_word part pin line.pins
 
 -- the net of a pin: the name on the first line that has the pin
-abbrev pub net_of : List NetLine → Word → Word → Option Word
-net_of nets part pin = option_map (λ line. line.name) (find (has_pin part pin) nets)
+abbrev pub net_of_pin : List NetLine → Word → Word → Option Word
+net_of_pin nets part pin = option_map (λ line. line.name) (find (has_pin part pin) nets)

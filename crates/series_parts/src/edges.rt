@@ -89,7 +89,8 @@ pub fn edges(
 ) -> Result<Vec<(usize, usize)>, AllocError>
     requires { names.now ≡ line_names pins.now }
     ensures edges { IfOk result (λ list. list.items ≡ edges pins.now chain.now) }
-    ensures within { IfOk result (λ list. All (λ e. (e.0 < length names.now) × (e.1 < length names.now)) list.items) }
+    ensures within { IfOk result
+        (λ list. All (λ e. (e.0 < length names.now) × (e.1 < length names.now)) list.items) }
 {
     let mut edges = name_edges(alloc, names)?;
     push_link_edges(&mut edges, pins, chain)?;

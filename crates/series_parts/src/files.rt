@@ -73,7 +73,8 @@ fn joined_net(
     least: &[&[u8]],
     line: &NetLine,
 ) -> Result<NetLine, AllocError>
-    ensures { IfOk result (λ new. new ≡ joined_net (renamed names.now (map (λ n. n.now) least.now)) line.now) }
+    ensures { IfOk result
+        (λ new. new ≡ joined_net (renamed names.now (map (λ n. n.now) least.now)) line.now) }
 {
     let pins = copy_pins(alloc, line.pins.as_slice())?;
     Ok(NetLine {
@@ -90,7 +91,9 @@ pub fn joined_nets(
     least: &[&[u8]],
     lines: &[NetLine],
 ) -> Result<Vec<NetLine>, AllocError>
-    ensures { IfOk result (λ new. new.items ≡ map (joined_net (renamed names.now (map (λ n. n.now) least.now))) lines.now) }
+    ensures { IfOk result
+        (λ new. new.items
+        ≡ map (joined_net (renamed names.now (map (λ n. n.now) least.now))) lines.now) }
 {
     let mut joined = Vec::new(alloc);
     for line in lines {
@@ -105,7 +108,9 @@ fn joined_statement(
     least: &[&[u8]],
     statement: &ChainStatement,
 ) -> Result<ChainStatement, AllocError>
-    ensures { IfOk result (λ new. new ≡ joined_statement (renamed names.now (map (λ n. n.now) least.now)) statement.now) }
+    ensures { IfOk result
+        (λ new. new
+        ≡ joined_statement (renamed names.now (map (λ n. n.now) least.now)) statement.now) }
 {
     match statement {
         ChainStatement::Device {
@@ -143,7 +148,8 @@ fn joined_line(
     least: &[&[u8]],
     line: &ChainLine,
 ) -> Result<ChainLine, AllocError>
-    ensures { IfOk result (λ new. new ≡ joined_line (renamed names.now (map (λ n. n.now) least.now)) line.now) }
+    ensures { IfOk result
+        (λ new. new ≡ joined_line (renamed names.now (map (λ n. n.now) least.now)) line.now) }
 {
     Ok(ChainLine {
         line: line.line,
@@ -158,7 +164,9 @@ pub fn joined_chain(
     least: &[&[u8]],
     lines: &[ChainLine],
 ) -> Result<Vec<ChainLine>, AllocError>
-    ensures { IfOk result (λ new. new.items ≡ map (joined_line (renamed names.now (map (λ n. n.now) least.now))) lines.now) }
+    ensures { IfOk result
+        (λ new. new.items
+        ≡ map (joined_line (renamed names.now (map (λ n. n.now) least.now))) lines.now) }
 {
     let mut joined = Vec::new(alloc);
     for line in lines {

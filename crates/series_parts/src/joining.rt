@@ -28,7 +28,10 @@ fn renamed_files(
     pins: &Pins<'_>,
 ) -> Result<Joined, AllocError>
     requires { pins.now ≡ nets.now }
-    ensures { IfOk result (λ joined. joined ≡ record { chain = joined_chain chain.now nets.now; nets = joined_nets chain.now nets.now }) }
+    ensures { IfOk result
+        (λ joined. joined
+        ≡ record
+        { chain = joined_chain chain.now nets.now; nets = joined_nets chain.now nets.now }) }
 {
     let chain = chain.lines();
     let nets = nets.lines();
@@ -43,8 +46,10 @@ fn renamed_files(
 /// Returns the joined files of a chain file and a net file. If some LINK pin is in no net, the
 /// fault has the place of the first such pin.
 pub fn join(alloc: Global, chain: &ChainFile, nets: &NetFile) -> Result<Joined, LinkFault>
-    ensures answer { Gives link_told (λ joined. joined) (λ answer. joined_files chain.now nets.now ≡ answer) result }
-    ensures joined { IfOk result (λ joined. AreJoinedFiles chain.now nets.now joined.chain joined.nets) }
+    ensures answer { Gives link_told (λ joined. joined)
+        (λ answer. joined_files chain.now nets.now ≡ answer) result }
+    ensures joined { IfOk result
+        (λ joined. AreJoinedFiles chain.now nets.now joined.chain joined.nets) }
 {
     let pins = Pins::of(alloc, nets.lines())?;
     if let Some(spot) = missing_link_pin(&pins, chain.lines()) {

@@ -18,7 +18,9 @@ fn names_at<'a>(
     places: &[usize],
 ) -> Result<Vec<&'a [u8]>, AllocError>
     requires { All (λ place. place < length names.now) places.now }
-    ensures { IfOk result (λ found. map (λ n. n.now) found.items ≡ map (λ place. slice_index_or names.now place []) places.now) }
+    ensures { IfOk result
+        (λ found. map (λ n. n.now) found.items
+        ≡ map (λ place. slice_index_or names.now place []) places.now) }
 {
     let mut found = Vec::new(alloc);
     for place in places {
@@ -36,7 +38,10 @@ pub fn least_names<'a>(
     pins: &Pins<'_>,
 ) -> Result<Vec<&'a [u8]>, AllocError>
     requires { names.now ≡ line_names pins.now }
-    ensures { IfOk result (λ least. (name : List ℕ) → renamed names.now (map (λ n. n.now) least.items) name ≡ joined_name (links pins.now chain.now) names.now name) }
+    ensures { IfOk result
+        (λ least. (name : List ℕ)
+        → renamed names.now (map (λ n. n.now) least.items) name
+        ≡ joined_name (links pins.now chain.now) names.now name) }
 {
     let edges = edges(alloc, chain, names, pins)?;
     let labels = labels(alloc, names.len(), &edges)?;

@@ -1,6 +1,6 @@
 // The first LINK pin that is in no net.
 ghost use Rattle.std.specs.Prelude.{◌≡◌, is_none};
-ghost use Rattle.series_parts.specs.LinkPins.{is_missing, missing_link_pin, missing_of, missing_on};
+ghost use Rattle.series_parts.specs.LinkPins.{is_missing_pin, missing_link_pin, missing_of, missing_on};
 
 use crate::pins::Pins;
 use board_defs::Spot;
@@ -8,7 +8,7 @@ use board_files::{ChainLine, ChainStatement};
 
 /// Returns whether the pin is in no net.
 fn is_missing(pins: &Pins<'_>, part: &[u8], pin: &[u8]) -> bool
-    ensures { result ≡ is_missing pins.now part.now pin.now }
+    ensures { result ≡ is_missing_pin pins.now part.now pin.now }
 {
     is_none(pins.place_of(part, pin))
 }

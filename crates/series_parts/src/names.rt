@@ -15,7 +15,10 @@ use std::marker::Model;
 /// Returns a map from each name to the place of the first line with this name.
 fn name_places<'a>(alloc: Global, names: &[&'a [u8]]) -> Result<IndexMap<&'a [u8], u32>, AllocError>
     requires { length names.now < 2 ^ 32 }
-    ensures { IfOk result (λ places. (q : Bor (List ℕ)) → get_by (λ n. same_word q.now n.now) places ≡ name_place (map (λ n. n.now) names.now) q.now) }
+    ensures { IfOk result
+        (λ places. (q : Bor (List ℕ))
+        → get_by (λ n. same_word q.now n.now) places
+        ≡ name_place (map (λ n. n.now) names.now) q.now) }
 {
     first_places(alloc, names)
 }
@@ -38,7 +41,9 @@ impl<'a> Model for Names<'a> {
 
     ghost view = { λ a. map (λ n. n.now) a.names.items };
 
-    ghost invariant = { λ a. (q : Bor (List ℕ)) → get_by (λ n. same_word q.now n.now) a.places ≡ name_place (map (λ n. n.now) a.names.items) q.now };
+    ghost invariant = { λ a. (q : Bor (List ℕ))
+        → get_by (λ n. same_word q.now n.now) a.places
+        ≡ name_place (map (λ n. n.now) a.names.items) q.now };
 }
 
 impl<'a> Names<'a> {

@@ -21,7 +21,12 @@ fn put_pins<'a>(
     words: &'a [PinWord],
     place: u32,
 ) -> Result<(), AllocError>
-    ensures { OnOk result ((q : Bor (List ℕ) × Bor (List ℕ)) → get_by (λ p. same_word q.0.now p.0.now && same_word q.1.now p.1.now) places.new ≡ (if has_word q.0.now q.1.now words.now then Some place else get_by (λ p. same_word q.0.now p.0.now && same_word q.1.now p.1.now) places.old)) }
+    ensures { OnOk result
+        ((q : Bor (List ℕ) × Bor (List ℕ))
+        → get_by (λ p. same_word q.0.now p.0.now && same_word q.1.now p.1.now) places.new
+        ≡ (if has_word q.0.now q.1.now words.now then Some place
+        else get_by (λ p. same_word q.0.now p.0.now && same_word q.1.now p.1.now)
+        places.old)) }
 {
     for word in words {
         places.insert((word.part.bytes(), word.pin.bytes()), place)?;
@@ -35,7 +40,10 @@ fn pin_places<'a>(
     lines: &'a [NetLine],
 ) -> Result<IndexMap<PinKey<'a>, u32>, AllocError>
     requires { length lines.now < 2 ^ 32 }
-    ensures { IfOk result (λ places. (q : Bor (List ℕ) × Bor (List ℕ)) → get_by (λ p. same_word q.0.now p.0.now && same_word q.1.now p.1.now) places ≡ pin_place lines.now q.0.now q.1.now) }
+    ensures { IfOk result
+        (λ places. (q : Bor (List ℕ) × Bor (List ℕ))
+        → get_by (λ p. same_word q.0.now p.0.now && same_word q.1.now p.1.now) places
+        ≡ pin_place lines.now q.0.now q.1.now) }
 {
     let mut places = IndexMap::new(alloc);
     let mut i = lines.len();
@@ -65,7 +73,9 @@ impl<'a> Model for Pins<'a> {
 
     ghost view = { λ a. a.lines.now };
 
-    ghost invariant = { λ a. (q : Bor (List ℕ) × Bor (List ℕ)) → get_by (λ p. same_word q.0.now p.0.now && same_word q.1.now p.1.now) a.places ≡ pin_place a.lines.now q.0.now q.1.now };
+    ghost invariant = { λ a. (q : Bor (List ℕ) × Bor (List ℕ))
+        → get_by (λ p. same_word q.0.now p.0.now && same_word q.1.now p.1.now) a.places
+        ≡ pin_place a.lines.now q.0.now q.1.now };
 }
 
 impl<'a> Pins<'a> {

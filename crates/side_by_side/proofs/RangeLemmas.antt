@@ -6,13 +6,16 @@ use Rattle.side_by_side.specs.Pieces.{items_between}
 
 module _ {X : Type 0} (items : List X) where
   -- the items of `from..to` are the items of `from..middle` followed by the items of `middle..to`
-  pub range_sum : (from middle to : ℕ) → from ≤ middle → middle ≤ to → items_between items from to ≡ items_between items from middle ++ items_between items middle to
+  pub range_sum : (from middle to : ℕ) → from ≤ middle → middle ≤ to
+      → items_between items from to
+      ≡ items_between items from middle ++ items_between items middle to
   range_sum from middle to low high =
       let sum : to - from ≡ (middle - from) + (to - middle) = omega arith in
       let start : from + (middle - from) ≡ middle = omega arith in
       ap (λ n. take n (drop from items)) sum
       ∙ take-add (middle - from) (to - middle) (drop from items)
-      ∙ ap (λ (l : List X). take (middle - from) (drop from items) ++ take (to - middle) l) (drop-drop (middle - from) from items ∙ ap (λ n. drop n items) start)
+      ∙ ap (λ (l : List X). take (middle - from) (drop from items) ++ take (to - middle) l)
+      (drop-drop (middle - from) from items ∙ ap (λ n. drop n items) start)
 
   pub range_none : (i : ℕ) → items_between items i i ≡ []
   range_none i = let none : i - i ≡ 0 = omega arith in ap (λ n. take n (drop i items)) none

@@ -4,11 +4,13 @@ use Rattle.side_by_side.specs.Pieces.{items_between, piece_start, together}
 
 -- ten items in four pieces, which have 2, 3, 2 and 3 items: the first item of each piece, and the
 -- number of all items
-starts : piece_start 10 4 0 ∷ piece_start 10 4 1 ∷ piece_start 10 4 2 ∷ piece_start 10 4 3 ∷ piece_start 10 4 4 ∷ [] ≡ 0 ∷ 2 ∷ 5 ∷ 7 ∷ 10 ∷ []
+starts : piece_start 10 4 0 ∷ piece_start 10 4 1 ∷ piece_start 10 4 2 ∷ piece_start 10 4 3
+    ∷ piece_start 10 4 4 ∷ [] ≡ 0 ∷ 2 ∷ 5 ∷ 7 ∷ 10 ∷ []
 starts = refl
 
 -- the items of the second of these pieces
-second : items_between {X = ℕ} (10 ∷ 11 ∷ 12 ∷ 13 ∷ 14 ∷ 15 ∷ 16 ∷ 17 ∷ 18 ∷ 19 ∷ []) (piece_start 10 4 1) (piece_start 10 4 2) ≡ 12 ∷ 13 ∷ 14 ∷ []
+second : items_between {X = ℕ} (10 ∷ 11 ∷ 12 ∷ 13 ∷ 14 ∷ 15 ∷ 16 ∷ 17 ∷ 18 ∷ 19 ∷ [])
+    (piece_start 10 4 1) (piece_start 10 4 2) ≡ 12 ∷ 13 ∷ 14 ∷ []
 second = refl
 
 abbrev all_of : List (Result (List ℕ) ℕ) → Result (List ℕ) ℕ

@@ -12,28 +12,36 @@ starts_high items pieces number some = omega (arith, lt-div-mul-add {a = number 
 
 -- the number of items in a piece, times `pieces`, is less than the number of all items plus
 -- `pieces`
-size_most : (items pieces number : ℕ) → 0 < pieces → piece_start items pieces (number + 1) * pieces < items + (piece_start items pieces number + 1) * pieces
+size_most : (items pieces number : ℕ) → 0 < pieces
+    → piece_start items pieces (number + 1) * pieces
+    < items + (piece_start items pieces number + 1) * pieces
 size_most items pieces number some =
     let next : (number + 1) * items ≡ number * items + items = omega arith in
     omega (arith, next, starts_low items pieces (number + 1), starts_high items pieces number some)
 
 -- the number of items in a piece, times `pieces`, is greater than the number of all items minus
 -- `pieces`
-size_least : (items pieces number : ℕ) → 0 < pieces → items + piece_start items pieces number * pieces < (piece_start items pieces (number + 1) + 1) * pieces
+size_least : (items pieces number : ℕ) → 0 < pieces
+    → items + piece_start items pieces number * pieces
+    < (piece_start items pieces (number + 1) + 1) * pieces
 size_least items pieces number some =
     let next : (number + 1) * items ≡ number * items + items = omega arith in
     omega (arith, next, starts_high items pieces (number + 1) some, starts_low items pieces number)
 
 -- if two pieces `first..end` and `start..stop` meet these bounds, the first has at most one item
 -- more than the second
-sizes : (items pieces first end start stop : ℕ) → end * pieces < items + (first + 1) * pieces → items + start * pieces < (stop + 1) * pieces → end + start < stop + first + 2
+sizes : (items pieces first end start stop : ℕ) → end * pieces < items + (first + 1) * pieces
+    → items + start * pieces < (stop + 1) * pieces → end + start < stop + first + 2
 sizes items pieces first end start stop most least = lt_of_mul-lt-mul_right pieces (omega (arith, most, least))
 
 -- a piece has at most one item more than any other piece
 pub even : (items pieces one other : ℕ) → 0 < pieces →
-    piece_start items pieces (one + 1) - piece_start items pieces one ≤ piece_start items pieces (other + 1) - piece_start items pieces other + 1
+    piece_start items pieces (one + 1) - piece_start items pieces one
+    ≤ piece_start items pieces (other + 1) - piece_start items pieces other + 1
 even items pieces one other some =
-    let apart : piece_start items pieces (one + 1) + piece_start items pieces other < piece_start items pieces (other + 1) + piece_start items pieces one + 2 =
-    sizes items pieces (piece_start items pieces one) (piece_start items pieces (one + 1)) (piece_start items pieces other) (piece_start items pieces (other + 1))
+    let apart : piece_start items pieces (one + 1) + piece_start items pieces other
+    < piece_start items pieces (other + 1) + piece_start items pieces one + 2 =
+    sizes items pieces (piece_start items pieces one) (piece_start items pieces (one + 1))
+    (piece_start items pieces other) (piece_start items pieces (other + 1))
     (size_most items pieces one some) (size_least items pieces other some) in
     omega (arith, apart)

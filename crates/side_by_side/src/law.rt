@@ -9,9 +9,14 @@ ghost use Rattle.side_by_side.specs.Pieces.{piece_of};
 pub fn pieces_share()
     ensures number { (items pieces number : ℕ) → (piece_of items pieces number).number ≡ number }
     ensures first { (items pieces : ℕ) → (piece_of items pieces 0).first ≡ 0 }
-    ensures next { (items pieces number : ℕ) → (piece_of items pieces (number + 1)).first ≡ (piece_of items pieces number).end }
+    ensures next { (items pieces number : ℕ)
+        → (piece_of items pieces (number + 1)).first ≡ (piece_of items pieces number).end }
     ensures last { (items before : ℕ) → (piece_of items (before + 1) before).end ≡ items }
-    ensures least { (items pieces number : ℕ) → (piece_of items pieces number).first * pieces ≤ number * items }
-    ensures most { (items pieces number : ℕ) → 0 < pieces → number * items < ((piece_of items pieces number).first + 1) * pieces }
-    ensures even { (items pieces one other : ℕ) → 0 < pieces → (piece_of items pieces one).end - (piece_of items pieces one).first ≤ (piece_of items pieces other).end - (piece_of items pieces other).first + 1 }
+    ensures least { (items pieces number : ℕ)
+        → (piece_of items pieces number).first * pieces ≤ number * items }
+    ensures most { (items pieces number : ℕ) → 0 < pieces
+        → number * items < ((piece_of items pieces number).first + 1) * pieces }
+    ensures even { (items pieces one other : ℕ) → 0 < pieces
+        → (piece_of items pieces one).end - (piece_of items pieces one).first
+        ≤ (piece_of items pieces other).end - (piece_of items pieces other).first + 1 }
 {}

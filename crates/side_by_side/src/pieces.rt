@@ -44,7 +44,9 @@ fn together<T: Drop, E: From<AllocError> + Drop>(
     alloc: Global,
     answers: Vec<Result<Vec<T>, E>>,
 ) -> Result<Vec<T>, E>
-    ensures { MatchResult result (λ all. together (λ v. v.items) answers.items ≡ Ok all.items) (λ fault. E.from_gives alloc_error fault ⊎ (together (λ v. v.items) answers.items ≡ Err fault)) }
+    ensures { MatchResult result (λ all. together (λ v. v.items) answers.items ≡ Ok all.items)
+        (λ fault. E.from_gives alloc_error fault
+        ⊎ (together (λ v. v.items) answers.items ≡ Err fault)) }
 {
     let mut all = Vec::new(alloc);
     for answer in answers {
@@ -69,14 +71,18 @@ pub fn in_pieces<
     F: Fn(Piece) -> Result<Vec<T>, E> + Sync,
 >(rt: &R, alloc: Global, items: u64, pieces: u32, work: &F) -> Result<Vec<T>, E>
     requires some { 0 < pieces }
-    requires work { (piece : Piece) → piece.number < pieces → piece.first ≤ piece.end → piece.end ≤ items → F.pre work.now piece }
-    ensures { GivesTogether (λ v. v.items) (F.post work.now) (E.from_gives alloc_error) items pieces result }
+    requires work { (piece : Piece) → piece.number < pieces → piece.first ≤ piece.end
+        → piece.end ≤ items → F.pre work.now piece }
+    ensures { GivesTogether (λ v. v.items) (F.post work.now) (E.from_gives alloc_error) items pieces
+        result }
 {
     if pieces == 1 {
         return work(piece_of(items, 1, 0));
     }
     let answer_of = move |number: usize| -> Result<Vec<T>, E>
-        requires { (number < pieces) × ((piece : Piece) → piece.number < pieces → piece.first ≤ piece.end → piece.end ≤ items → F.pre work.now piece) }
+        requires { (number < pieces)
+            × ((piece : Piece) → piece.number < pieces → piece.first ≤ piece.end
+            → piece.end ≤ items → F.pre work.now piece) }
         ensures { F.post work.entry.now (piece_of items pieces number) result }
     { work(piece_of(items, pieces, number as u32)) };
     let answers = map_indices(rt, alloc, pieces as usize, &answer_of)?;

@@ -9,13 +9,14 @@ use Rattle.board_defs.specs.Limits.{IsInstructionLength}
 use Rattle.tap_defs.specs.chain.Scan.{Scan, tdi_bits, tdo_bits, mask_bits}
 use Rattle.tap_defs.specs.chain.Codes.{sent, code_bits}
 use Rattle.tap_defs.specs.chain.Text.{scan_text, scan_texts}
-use Rattle.tap_defs.specs.chain.ChainScans.{marks, compared, chain_scans}
+use Rattle.tap_defs.specs.chain.ChainScans.{marks, compared_with, chain_scans}
 use Rattle.tap_defs.proofs.chain.RowLemmas.{tdi_bits-code_bits, tdi_bits-compared}
-use Rattle.svf_writer.specs.inner.Chain.{bypass_bits, mark_bits, marked}
+use Rattle.svf_writer.specs.inner.Chain.{bypass_bits, mark_bits, with_marks}
 
 -- if `m` equal bits follow the bits `done`, writing `y` at the place after `done` changes the first
 -- of the `m` bits to `y`
-set_first : (done : List Bool) (at m : ℕ) (x y : Bool) → length done ≡ at → 0 < m → set (done ++ replicate m x) at y ≡ done ++ y ∷ replicate (m - 1) x
+set_first : (done : List Bool) (at m : ℕ) (x y : Bool) → length done ≡ at → 0 < m
+    → set (done ++ replicate m x) at y ≡ done ++ y ∷ replicate (m - 1) x
 set_first done at zero x y is_at some = absurd (omega arith)
 set_first done at (suc m) x y is_at some =
     let less : suc m - 1 ≡ m = omega arith in
@@ -23,7 +24,9 @@ set_first done at (suc m) x y is_at some =
 
 -- if a row has `at` ones followed by zeros, writing a one at place `at` gives `at + 1` ones
 -- followed by zeros
-pub ones_more : (len at : ℕ) → at < len → set (replicate at true ++ replicate (len - at) false) at true ≡ replicate (at + 1) true ++ replicate (len - (at + 1)) false
+pub ones_more : (len at : ℕ) → at < len
+    → set (replicate at true ++ replicate (len - at) false) at true
+    ≡ replicate (at + 1) true ++ replicate (len - (at + 1)) false
 ones_more len at within =
     let less : len - at - 1 ≡ len - (at + 1) = omega arith in
     set_first (replicate at true) at (len - at) false true (length-replicate at true) (omega arith)
@@ -65,33 +68,47 @@ bypass_bits-tdi (n ∷ lengths) =
     ∙ replicate-append-replicate (sum lengths) n true ∙ ap (λ k. replicate k true) total
 
 pub length-bypass_bits : (lengths : List ℕ) → length (bypass_bits lengths) ≡ sum lengths
-length-bypass_bits lengths = sym (length-map (bypass_bits lengths) (λ b. b.tdi)) ∙ ap length (bypass_bits-tdi lengths) ∙ length-replicate (sum lengths) true
+length-bypass_bits lengths =
+    sym (length-map (bypass_bits lengths) (λ b. b.tdi)) ∙ ap length (bypass_bits-tdi lengths)
+    ∙ length-replicate (sum lengths) true
 
 -- if the row of TDO has the expected bits of the parts so far, followed by zeros, it has the
 -- expected bits of one more part as well after a one is written at the part's lowest bit
-pub tdo_step : (rest : List ℕ) (n at total : ℕ) (bits : List Bool) → 2 ≤ n → at ≡ sum rest → at + n ≤ total → bits ≡ tdo_bits (bypass_bits rest) ++ replicate (total - at) false → set bits at true ≡ tdo_bits (bypass_bits (n ∷ rest)) ++ replicate (total - (at + n)) false
+pub tdo_step : (rest : List ℕ) (n at total : ℕ) (bits : List Bool) → 2 ≤ n → at ≡ sum rest
+    → at + n ≤ total → bits ≡ tdo_bits (bypass_bits rest) ++ replicate (total - at) false
+    → set bits at true ≡ tdo_bits (bypass_bits (n ∷ rest)) ++ replicate (total - (at + n)) false
 tdo_step rest n at total bits long is_at within so_far =
     let done : List Bool = tdo_bits (bypass_bits rest) in
     let done_at : length done ≡ at = length-map (bypass_bits rest) (λ b. unwrap_or b.expect false) ∙ length-bypass_bits rest ∙ sym is_at in
     let zeros : n - 1 + (total - (at + n)) ≡ total - at - 1 = omega arith in
     ap (λ t. set t at true) so_far ∙ set_first done at (total - at) false true done_at (omega arith)
-    ∙ sym (ap (λ t. t ++ replicate (total - (at + n)) false) (map-append (λ b. unwrap_or b.expect false) (bypass_bits rest) (code_bits (replicate n true)))
+    ∙ sym
+    (ap (λ t. t ++ replicate (total - (at + n)) false)
+    (map-append (λ b. unwrap_or b.expect false) (bypass_bits rest)
+    (code_bits (replicate n true)))
     ∙ append_assoc done (tdo_bits (code_bits (replicate n true))) (replicate (total - (at + n)) false)
     ∙ ap (λ t. done ++ (t ++ replicate (total - (at + n)) false)) (bypass_tdo n long)
     ∙ ap (λ t. done ++ true ∷ t) (replicate-append-replicate (n - 1) (total - (at + n)) false)
     ∙ ap (λ k. done ++ true ∷ replicate k false) zeros)
 
-pub mask_step : (rest : List ℕ) (n at total : ℕ) (bits : List Bool) → 2 ≤ n → at ≡ sum rest → at + n ≤ total → bits ≡ mask_bits (bypass_bits rest) ++ replicate (total - at) false → set (set bits at true) (at + 1) true ≡ mask_bits (bypass_bits (n ∷ rest)) ++ replicate (total - (at + n)) false
+pub mask_step : (rest : List ℕ) (n at total : ℕ) (bits : List Bool) → 2 ≤ n → at ≡ sum rest
+    → at + n ≤ total → bits ≡ mask_bits (bypass_bits rest) ++ replicate (total - at) false
+    → set (set bits at true) (at + 1) true
+    ≡ mask_bits (bypass_bits (n ∷ rest)) ++ replicate (total - (at + n)) false
 mask_step rest n at total bits long is_at within so_far =
     let done : List Bool = mask_bits (bypass_bits rest) in
     let done_at : length done ≡ at = length-map (bypass_bits rest) (λ b. is_some b.expect) ∙ length-bypass_bits rest ∙ sym is_at in
     let zeros : n - 2 + (total - (at + n)) ≡ total - at - 1 - 1 = omega arith in
     let next : length (done ++ true ∷ []) ≡ at + 1 = omega (arith, length-append done (true ∷ [])) in
     ap (λ t. set (set t at true) (at + 1) true) so_far
-    ∙ ap (λ t. set t (at + 1) true) (set_first done at (total - at) false true done_at (omega arith) ∙ sym (append_assoc done (true ∷ []) (replicate (total - at - 1) false)))
+    ∙ ap (λ t. set t (at + 1) true)
+    (set_first done at (total - at) false true done_at (omega arith)
+    ∙ sym (append_assoc done (true ∷ []) (replicate (total - at - 1) false)))
     ∙ set_first (done ++ true ∷ []) (at + 1) (total - at - 1) false true next (omega arith)
     ∙ append_assoc done (true ∷ []) (true ∷ replicate (total - at - 1 - 1) false)
-    ∙ sym (ap (λ t. t ++ replicate (total - (at + n)) false) (map-append (λ b. is_some b.expect) (bypass_bits rest) (code_bits (replicate n true)))
+    ∙ sym
+    (ap (λ t. t ++ replicate (total - (at + n)) false)
+    (map-append (λ b. is_some b.expect) (bypass_bits rest) (code_bits (replicate n true)))
     ∙ append_assoc done (mask_bits (code_bits (replicate n true))) (replicate (total - (at + n)) false)
     ∙ ap (λ t. done ++ (t ++ replicate (total - (at + n)) false)) (bypass_mask n long)
     ∙ ap (λ t. done ++ true ∷ true ∷ t) (replicate-append-replicate (n - 2) (total - (at + n)) false)
@@ -100,49 +117,69 @@ mask_step rest n at total bits long is_at within so_far =
 set_after : (n i k : ℕ) (bits : List Bool) → i ≡ n + k → set (replicate n false ++ bits) i true ≡ replicate n false ++ set bits k true
 set_after n i k bits is_i =
     let less : i - n ≡ k = omega arith in
-    set-append_right (replicate n false) bits n i true (length-replicate n false) (omega arith) ∙ ap (λ j. replicate n false ++ set bits j true) less
+    set-append_right (replicate n false) bits n i true (length-replicate n false) (omega arith)
+    ∙ ap (λ j. replicate n false ++ set bits j true) less
 
 -- setting the marks at place `at` in a row of zeros gives `at` zeros, the marks, and zeros
-pub marked-zeros : (at rest : ℕ) → marked at (replicate (at + (8 + rest)) false) ≡ replicate at false ++ (marks ++ replicate rest false)
+pub marked-zeros : (at rest : ℕ) → with_marks at (replicate (at + (8 + rest)) false) ≡ replicate at false ++ (marks ++ replicate rest false)
 marked-zeros at rest =
     let here : at ≡ at + 0 = omega arith in
     let zeros : List Bool = false ∷ false ∷ false ∷ false ∷ false ∷ false ∷ false ∷ false ∷ replicate rest false in
     let eight : replicate (at + (8 + rest)) false ≡ replicate at false ++ zeros =
-    sym (replicate-append-replicate at (8 + rest) false) ∙ ap (λ t. replicate at false ++ t) (sym (replicate-append-replicate 8 rest false)) in
-    ap (marked at) eight
+    sym (replicate-append-replicate at (8 + rest) false)
+    ∙ ap (λ t. replicate at false ++ t) (sym (replicate-append-replicate 8 rest false)) in
+    ap (with_marks at) eight
     ∙ ap (λ t. set (set (set t (at + 2) true) (at + 5) true) (at + 7) true) (set_after at at 0 zeros here)
     ∙ ap (λ t. set (set t (at + 5) true) (at + 7) true) (set_after at (at + 2) 2 (set zeros 0 true) refl)
     ∙ ap (λ t. set t (at + 7) true) (set_after at (at + 5) 5 (set (set zeros 0 true) 2 true) refl)
     ∙ set_after at (at + 7) 7 (set (set (set zeros 0 true) 2 true) 5 true) refl
 
 -- if all bits of a scan are compared, its row of TDO is the list of expected bits
-compared_tdo : (ins out : List Bool) → length ins ≡ length out → tdo_bits (compared ins out) ≡ out
+compared_tdo : (ins out : List Bool) → length ins ≡ length out → tdo_bits (compared_with ins out) ≡ out
 compared_tdo [] [] same = refl
 compared_tdo [] (o ∷ out) same = absurd (omega arith)
 compared_tdo (i ∷ ins) [] same = absurd (omega arith)
 compared_tdo (i ∷ ins) (o ∷ out) same = ap (λ t. o ∷ t) (compared_tdo ins out (omega arith))
 
-compared_mask : (ins out : List Bool) → length ins ≡ length out → mask_bits (compared ins out) ≡ replicate (length ins) true
+compared_mask : (ins out : List Bool) → length ins ≡ length out → mask_bits (compared_with ins out) ≡ replicate (length ins) true
 compared_mask [] out same = refl
 compared_mask (i ∷ ins) [] same = absurd (omega arith)
 compared_mask (i ∷ ins) (o ∷ out) same = ap (λ t. true ∷ t) (compared_mask ins out (omega arith))
 
 -- the bits that the data scan shifts in are as many as the bits that it expects
 same_length : (parts : ℕ) → length (marks ++ replicate parts false) ≡ length (replicate parts false ++ marks)
-same_length parts = omega (arith, length-append marks (replicate parts false), length-append (replicate parts false) marks, length-replicate parts false)
+same_length parts =
+    omega (
+      arith,
+      length-append marks (replicate parts false),
+      length-append (replicate parts false) marks,
+      length-replicate parts false,
+    )
 
-pub mark_bits-tdi : (parts : ℕ) → marked 0 (replicate (parts + 8) false) ≡ tdi_bits (mark_bits parts)
+pub mark_bits-tdi : (parts : ℕ) → with_marks 0 (replicate (parts + 8) false) ≡ tdi_bits (mark_bits parts)
 mark_bits-tdi parts =
     let long : parts + 8 ≡ 0 + (8 + parts) = omega arith in
-    ap (λ k. marked 0 (replicate k false)) long ∙ marked-zeros 0 parts ∙ sym (tdi_bits-compared (marks ++ replicate parts false) (replicate parts false ++ marks) (same_length parts))
+    ap (λ k. with_marks 0 (replicate k false)) long ∙ marked-zeros 0 parts
+    ∙ sym
+    (tdi_bits-compared (marks ++ replicate parts false) (replicate parts false ++ marks)
+    (same_length parts))
 
-pub mark_bits-tdo : (parts : ℕ) → marked parts (replicate (parts + 8) false) ≡ tdo_bits (mark_bits parts)
-mark_bits-tdo parts = marked-zeros parts 0 ∙ sym (compared_tdo (marks ++ replicate parts false) (replicate parts false ++ marks) (same_length parts))
+pub mark_bits-tdo : (parts : ℕ) → with_marks parts (replicate (parts + 8) false) ≡ tdo_bits (mark_bits parts)
+mark_bits-tdo parts =
+    marked-zeros parts 0
+    ∙ sym
+    (compared_tdo (marks ++ replicate parts false) (replicate parts false ++ marks)
+    (same_length parts))
 
 pub mark_bits-mask : (parts : ℕ) → replicate (parts + 8) true ≡ mask_bits (mark_bits parts)
 mark_bits-mask parts =
-    let long : parts + 8 ≡ length (marks ++ replicate parts false) = omega (arith, length-append marks (replicate parts false), length-replicate parts false) in
-    ap (λ k. replicate k true) long ∙ sym (compared_mask (marks ++ replicate parts false) (replicate parts false ++ marks) (same_length parts))
+    let long : parts + 8
+    ≡ length (marks ++ replicate parts false) = omega
+    (arith, length-append marks (replicate parts false), length-replicate parts false) in
+    ap (λ k. replicate k true) long
+    ∙ sym
+    (compared_mask (marks ++ replicate parts false) (replicate parts false ++ marks)
+    (same_length parts))
 
 -- the lengths from part `i - 1` on are the length of part `i - 1` followed by the lengths from part
 -- `i` on
@@ -151,7 +188,8 @@ drop_before lengths i some within =
     let next : i - 1 + 1 ≡ i = omega arith in
     drop_more lengths (i - 1) 0 (omega arith) ∙ ap (λ k. get_or lengths (i - 1) 0 ∷ drop k lengths) next
 
-pub sum_before : (lengths : List ℕ) (i : ℕ) → 0 < i → i ≤ length lengths → sum (drop (i - 1) lengths) ≡ sum (drop i lengths) + get_or lengths (i - 1) 0
+pub sum_before : (lengths : List ℕ) (i : ℕ) → 0 < i → i ≤ length lengths
+    → sum (drop (i - 1) lengths) ≡ sum (drop i lengths) + get_or lengths (i - 1) 0
 sum_before lengths i some within =
     ap sum (drop_before lengths i some within) ∙ omega (arith, sum_by-cons (λ (x : ℕ). x) (get_or lengths (i - 1) 0) (drop i lengths))
 
@@ -160,7 +198,8 @@ sum_drop lengths i = omega (arith, sum_by-take-drop (λ (x : ℕ). x) lengths i)
 
 -- if `at` is the sum of the lengths from part `i` on, a row with a bit for each instruction bit has
 -- room for part `i - 1` at place `at`
-pub room_before : (lengths : List ℕ) (i at : ℕ) → 0 < i → i ≤ length lengths → at ≡ sum (drop i lengths) → at + get_or lengths (i - 1) 0 ≤ sum lengths
+pub room_before : (lengths : List ℕ) (i at : ℕ) → 0 < i → i ≤ length lengths
+    → at ≡ sum (drop i lengths) → at + get_or lengths (i - 1) 0 ≤ sum lengths
 room_before lengths i at some within is_at = omega (arith, sum_before lengths i some within, sum_drop lengths (i - 1))
 
 any_one : (a b : List Bool) → list_any (λ bit. bit) (a ++ true ∷ b) ≡ true
@@ -168,7 +207,8 @@ any_one [] b = refl
 any_one (x ∷ a) b = ap (λ t. x || t) (any_one a b) ∙ or-true x
 
 -- if there is a part and each length is at least 2, the instruction scan compares some bit
-pub bypass_bits-compared : (lengths : List ℕ) → 0 < length lengths → All (λ n. 2 ≤ n) lengths → list_any (λ bit. bit) (mask_bits (bypass_bits lengths)) ≡ true
+pub bypass_bits-compared : (lengths : List ℕ) → 0 < length lengths → All (λ n. 2 ≤ n) lengths
+    → list_any (λ bit. bit) (mask_bits (bypass_bits lengths)) ≡ true
 bypass_bits-compared [] some each = absurd (omega arith)
 bypass_bits-compared (n ∷ lengths) some each =
     ap (list_any (λ bit. bit)) (map-append (λ b. is_some b.expect) (bypass_bits lengths) (code_bits (replicate n true))
@@ -199,5 +239,7 @@ bypass_scan lengths = record { ir = true; bits = bypass_bits lengths }
 abbrev pub mark_scan : ℕ → Scan
 mark_scan parts = record { ir = false; bits = mark_bits parts }
 
-pub scan_texts-chain : (lengths : List ℕ) → scan_text (bypass_scan lengths) ++ scan_text (mark_scan (length lengths)) ≡ scan_texts (chain_scans lengths)
+pub scan_texts-chain : (lengths : List ℕ)
+    → scan_text (bypass_scan lengths) ++ scan_text (mark_scan (length lengths))
+    ≡ scan_texts (chain_scans lengths)
 scan_texts-chain lengths = ap (λ t. scan_text (bypass_scan lengths) ++ t) (sym (append-nil (scan_text (mark_scan (length lengths)))))

@@ -19,14 +19,18 @@ broken-short (suc room) (d ∷ digits) short = ap (λ t. d ∷ t) (broken-short 
 
 -- if there are more than `room` digits, a line feed follows the first `room` of them, and the
 -- others are in lines of 64
-pub broken-long : (room : ℕ) (digits : List ℕ) → room < length digits → broken room digits ≡ take room digits ++ 10 ∷ broken 64 (drop room digits)
+pub broken-long : (room : ℕ) (digits : List ℕ) → room < length digits
+    → broken room digits ≡ take room digits ++ 10 ∷ broken 64 (drop room digits)
 broken-long room [] long = absurd (omega arith)
 broken-long zero (d ∷ digits) long = refl
 broken-long (suc room) (d ∷ digits) long = ap (λ t. d ∷ t) (broken-long room digits (omega arith))
 
 -- if more than 64 digits are left from `from` on, the next 64 are written as a line, and the others
 -- follow
-pub line_more : (line digits end : List ℕ) (from : ℕ) → from + 64 < length digits → (line ++ (take 64 (drop from digits) ++ 10 ∷ [])) ++ (broken 64 (drop (from + 64) digits) ++ end) ≡ line ++ (broken 64 (drop from digits) ++ end)
+pub line_more : (line digits end : List ℕ) (from : ℕ) → from + 64 < length digits
+    → (line ++ (take 64 (drop from digits) ++ 10 ∷ []))
+    ++ (broken 64 (drop (from + 64) digits) ++ end)
+    ≡ line ++ (broken 64 (drop from digits) ++ end)
 line_more line digits end from long =
     let left : 64 < length (drop from digits) = omega (arith, length-drop from digits) in
     let next : broken 64 (drop from digits) ≡ take 64 (drop from digits) ++ 10 ∷ broken 64 (drop (from + 64) digits) =
@@ -34,10 +38,17 @@ line_more line digits end from long =
     rw next (simp append_assoc)
 
 -- if at most 64 digits are left from `from` on, they are written as the last line
-pub line_last : (line digits end : List ℕ) (from count : ℕ) → count ≡ length digits → count - from ≤ 64 → (line ++ take (count - from) (drop from digits)) ++ end ≡ line ++ (broken 64 (drop from digits) ++ end)
+pub line_last : (line digits end : List ℕ) (from count : ℕ) → count ≡ length digits
+    → count - from ≤ 64
+    → (line ++ take (count - from) (drop from digits)) ++ end
+    ≡ line ++ (broken 64 (drop from digits) ++ end)
 line_last line digits end from count is_count short =
-    let all : take (count - from) (drop from digits) ≡ drop from digits = take_all (count - from) (drop from digits) (omega (arith, length-drop from digits)) in
-    let one : broken 64 (drop from digits) ≡ drop from digits = broken-short 64 (drop from digits) (omega (arith, length-drop from digits)) in
+    let all : take (count - from) (drop from digits)
+    ≡ drop from digits = take_all (count - from) (drop from digits)
+    (omega (arith, length-drop from digits)) in
+    let one : broken 64 (drop from digits)
+    ≡ drop from digits = broken-short 64 (drop from digits)
+    (omega (arith, length-drop from digits)) in
     rw all (rw one (append_assoc line (drop from digits) end))
 
 pub puts_same : {T E : Type 0} {old new : Shown} {a b : List ℕ} {r : Result T E} → a ≡ b → Puts old new a r → Puts old new b r

@@ -7,6 +7,6 @@ IsMasked tdo mask = (i : ℕ) → slice_index_or tdo i false ≡ true → slice_
 
 -- a row with room for `room` bits has room for each of the two scans of the chain test of parts
 -- with these instruction lengths
-pub record IsRoom (lengths : List ℕ) (room : ℕ) : Type 0 where
+pub record IsChainRoom (lengths : List ℕ) (room : ℕ) : Type 0 where
   pub codes : sum lengths ≤ room
   pub marks : length lengths + 8 ≤ room

@@ -6,8 +6,8 @@ ghost use Rattle.tap_defs.specs.chain.Scan.{tdo_bits, mask_bits};
 ghost use Rattle.tap_defs.specs.chain.ScanRows.{AreSameRows, EachHasRoom, HoldBits};
 ghost use Rattle.tap_defs.specs.chain.Text.{scan_text, scan_texts};
 ghost use Rattle.tap_defs.specs.chain.ChainScans.{chain_scans};
-ghost use Rattle.svf_writer.specs.inner.Chain.{bypass_bits, mark_bits, marked};
-ghost use Rattle.svf_writer.specs.Rows.{IsRoom};
+ghost use Rattle.svf_writer.specs.inner.Chain.{bypass_bits, mark_bits, with_marks};
+ghost use Rattle.svf_writer.specs.Rows.{IsChainRoom};
 
 use crate::write_scan;
 use bt_base::{PutFault, Sink};
@@ -34,7 +34,7 @@ fn fill_ones(len: u32, row: &mut Row)
 fn set_marks(at: u32, row: &mut Row)
     requires few { at ≤ most_parts }
     requires bits { at + 8 ≤ length row.old.bits }
-    ensures bits { row.new.bits ≡ marked at row.old.bits }
+    ensures bits { row.new.bits ≡ with_marks at row.old.bits }
     ensures room { row.new.room ≡ row.old.room }
 {
     row.set(at, true);
@@ -171,8 +171,9 @@ fn write_scans<K: Sink>(
     requires some { 0 < length lengths.now }
     requires parts { length lengths.now ≤ most_parts }
     requires each { All IsInstructionLength lengths.now }
-    requires room { EachHasRoom (IsRoom lengths.now) rows.old }
-    ensures text { Puts (K.shown out.old) (K.shown out.new) (scan_texts (chain_scans lengths.now)) result }
+    requires room { EachHasRoom (IsChainRoom lengths.now) rows.old }
+    ensures text { Puts (K.shown out.old) (K.shown out.new) (scan_texts (chain_scans lengths.now))
+        result }
     ensures kept { AreSameRows rows.old rows.new }
 {
     write_codes(lengths, rows, line, out)?;
@@ -200,10 +201,11 @@ pub fn write_chain<K: Sink>(
     requires some { 0 < length lengths.now }
     requires parts { length lengths.now ≤ most_parts }
     requires each { All IsInstructionLength lengths.now }
-    requires tdi_room { IsRoom lengths.now tdi.old.room }
-    requires tdo_room { IsRoom lengths.now tdo.old.room }
-    requires mask_room { IsRoom lengths.now mask.old.room }
-    ensures text { Puts (K.shown out.old) (K.shown out.new) (scan_texts (chain_scans lengths.now)) result }
+    requires tdi_room { IsChainRoom lengths.now tdi.old.room }
+    requires tdo_room { IsChainRoom lengths.now tdo.old.room }
+    requires mask_room { IsChainRoom lengths.now mask.old.room }
+    ensures text { Puts (K.shown out.old) (K.shown out.new) (scan_texts (chain_scans lengths.now))
+        result }
     ensures tdi { tdi.new.room ≡ tdi.old.room }
     ensures tdo { tdo.new.room ≡ tdo.old.room }
     ensures mask { mask.new.room ≡ mask.old.room }

@@ -44,7 +44,8 @@ fn push_field(label: &[u8], row: &Row, line: &mut Line)
     requires bits { length row.now.bits ≤ most_bits }
     requires room { length line.old + length label.now + digit_count (length row.now.bits) ≤ 1024 }
     ensures text { line.new ≡ line.old ++ (label.now ++ hex_text row.now.bits) }
-    ensures longer { length line.new ≡ length line.old + length label.now + digit_count (length row.now.bits) }
+    ensures longer { length line.new
+        ≡ length line.old + length label.now + digit_count (length row.now.bits) }
 {
     line.push(label);
     row.put_hex(0, digit_count(row), line);
@@ -56,7 +57,9 @@ fn push_fields(compare: bool, tdi: &Row, tdo: &Row, mask: &Row, line: &mut Line)
     requires tdo { length tdo.now.bits ≡ length tdi.now.bits }
     requires mask { length mask.now.bits ≡ length tdi.now.bits }
     requires room { length line.old + 3 * digit_count (length tdi.now.bits) ≤ 1000 }
-    ensures { line.new ≡ line.old ++ (fields_text false tdi.now.bits tdo.now.bits mask.now.bits compare ++ 10 ∷ []) }
+    ensures { line.new
+        ≡ line.old
+        ++ (fields_text false tdi.now.bits tdo.now.bits mask.now.bits compare ++ 10 ∷ []) }
 {
     push_field(b" TDI (", tdi, line);
     if compare {
@@ -103,7 +106,8 @@ fn put_full_line<K: Sink>(
 // Returns whether the fields of a scan fit into the line with its command.
 fn has_room(compare: bool, tdi: &Row, line: &Line) -> bool
     requires { length tdi.now.bits ≤ most_bits }
-    ensures { IsTrue result ↔ (length line.now + fields_length compare (digit_count (length tdi.now.bits)) ≤ 80) }
+    ensures { IsTrue result
+        ↔ (length line.now + fields_length compare (digit_count (length tdi.now.bits)) ≤ 80) }
 {
     line.len() + fields_length(compare, digit_count(tdi)) <= MAX_SHORT
 }
@@ -119,7 +123,8 @@ fn put_field<K: Sink>(
     requires bits { length row.now.bits ≤ most_bits }
     requires label { length label.now ≤ 6 }
     requires end { length end.now ≤ 3 }
-    ensures { Puts (K.shown out.old) (K.shown out.new) (label.now ++ (broken 64 (hex_text row.now.bits) ++ end.now)) result }
+    ensures { Puts (K.shown out.old) (K.shown out.new)
+        (label.now ++ (broken 64 (hex_text row.now.bits) ++ end.now)) result }
 {
     let count = digit_count(row);
     let mut from = 0;

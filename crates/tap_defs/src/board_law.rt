@@ -38,23 +38,30 @@ pub fn code_widths()
 
 /// The nets that have codes are those that some pass observes. If the passes meet the requirements on passes, these are the covered nets.
 pub fn codes_number_covered()
-    ensures { (board : RawBoard) → IsBoard board → (passes : List (List Ctl)) → ArePasses board passes → (n : ℕ) (net : Net) → slice_get board.nets n ≡ Some net → is_observed board passes net ≡ is_covered board net }
+    ensures { (board : RawBoard) → IsBoard board → (passes : List (List Ctl))
+        → ArePasses board passes → (n : ℕ) (net : Net) → slice_get board.nets n ≡ Some net
+        → is_observed board passes net ≡ is_covered board net }
 {}
 
 /// A test has three scans, and then, for each pass, one scan for each row and one for the quiet row.
 pub fn scans_placed()
-    ensures { (board : RawBoard) (passes : List (List Ctl)) (width : ℕ) → AreTestScans board passes width (test_scans board passes width) }
+    ensures { (board : RawBoard) (passes : List (List Ctl)) (width : ℕ)
+        → AreTestScans board passes width (test_scans board passes width) }
 {}
 
 /// If every pass is safe, the text of the passes passes on the board without faults, and is quiet under every fault set.
 pub fn passes_harmless()
-    ensures { (board : RawBoard) (passes : List (List Ctl)) (width : ℕ) → IsBoard board → ((x : ℕ) (pass : List Ctl) → slice_get passes x ≡ Some pass → IsSafe board (holds pass)) → IsHarmless board (pass_text board passes width) }
+    ensures { (board : RawBoard) (passes : List (List Ctl)) (width : ℕ) → IsBoard board
+        → ((x : ℕ) (pass : List Ctl) → slice_get passes x ≡ Some pass → IsSafe board (holds pass))
+        → IsHarmless board (pass_text board passes width) }
 {}
 
 /// The text of passes is a test of the board if two conditions are met. The passes must meet the requirements on passes, and the codes must
 /// have enough bits for the observed nets.
 pub fn boards_tested()
-    ensures { (board : RawBoard) (passes : List (List Ctl)) (width : ℕ) → IsBoard board → ArePasses board passes → observed_count board passes + 2 ≤ 2 ^ width → IsBoardTest board (pass_text board passes width) }
+    ensures { (board : RawBoard) (passes : List (List Ctl)) (width : ℕ) → IsBoard board
+        → ArePasses board passes → observed_count board passes + 2 ≤ 2 ^ width
+        → IsBoardTest board (pass_text board passes width) }
 {}
 
 /// The text of the board's own passes is a test of the board.
@@ -64,12 +71,14 @@ pub fn board_texts_test()
 
 /// The text of a walk with a safe setting passes on the board without faults, and is quiet under every fault set.
 pub fn walks_harmless()
-    ensures { (board : RawBoard) (walk : List Ctl) → IsBoard board → IsSafe board (holds walk) → IsHarmless board (walk_text board walk) }
+    ensures { (board : RawBoard) (walk : List Ctl) → IsBoard board → IsSafe board (holds walk)
+        → IsHarmless board (walk_text board walk) }
 {}
 
 /// The fault set of a single fault of a board is observable and nonempty. Its open pin, if it has one, is not on a shorted net.
 pub fn singles_observable()
-    ensures observable { (board : RawBoard) (single : Single) → IsSingle board single → IsObservable board (set_of single) }
+    ensures observable { (board : RawBoard) (single : Single) → IsSingle board single
+        → IsObservable board (set_of single) }
     ensures nonempty { (single : Single) → IsNonempty (set_of single) }
     ensures no_open_shorted { (single : Single) → NoOpenShorted (set_of single) }
 {}
@@ -78,76 +87,135 @@ pub fn singles_observable()
 /// log has the bits that the cells capture. For each scan, the cells capture while the row of the scan before is in the
 /// latches.
 pub fn logs_captured()
-    ensures { (board : RawBoard) (faults : FaultSet) (scans : List RowScan) (log : List (List Bool)) → IsBoard board → PassOnBoard board faults (test_clocks (scans_by_log (board_scans board scans) log)) ↔ CapturesPass board faults quiet_row scans (scans_by_log (map (scan_of_row board) scans) log) }
+    ensures { (board : RawBoard) (faults : FaultSet) (scans : List RowScan) (log : List (List Bool))
+        → IsBoard board
+        → PassOnBoard board faults (test_clocks (scans_by_log (board_scans board scans) log))
+        ↔ CapturesPass board faults quiet_row scans
+        (scans_by_log (map (scan_of_row board) scans) log) }
 {}
 
 /// If no open pin is on a shorted net, a row has one response: each compared bit is the same whatever the free bits are.
 pub fn one_response()
-    ensures { (board : RawBoard) (faults : FaultSet) (scan : RowScan) → IsBoard board → IsFaultSet board faults → NoOpenShorted faults → IsSafe board scan.before.setting → (choice other : Choice) → AgreeWhereCompared (joined (row_bits board scan)) (row_captured board faults scan.before choice) (row_captured board faults scan.before other) }
+    ensures { (board : RawBoard) (faults : FaultSet) (scan : RowScan) → IsBoard board
+        → IsFaultSet board faults → NoOpenShorted faults → IsSafe board scan.before.setting
+        → (choice other : Choice)
+        → AgreeWhereCompared (joined (row_bits board scan))
+        (row_captured board faults scan.before choice)
+        (row_captured board faults scan.before other) }
 {}
 
 /// While a row with a safe setting is in the latches, each unguarded net is driven by its enabled driver, with the bit of the driver's
 /// cell. A switching driver whose cell has the disable value drives nothing.
 pub fn rows_drive()
-    ensures { (board : RawBoard) (row : TestRow) (n : ℕ) (net : Net) → IsBoard board → IsSafe board row.setting → slice_get board.nets n ≡ Some net → guarded board net ≡ false → feeding board (row_states board row) net ≡ row_feeding board row net }
+    ensures { (board : RawBoard) (row : TestRow) (n : ℕ) (net : Net) → IsBoard board
+        → IsSafe board row.setting → slice_get board.nets n ≡ Some net → guarded board net ≡ false
+        → feeding board (row_states board row) net ≡ row_feeding board row net }
 {}
 
 /// The compared SDR statements of a test are those of its compared data scans after the EXTEST codes, in order.
 pub fn statements_compared()
-    ensures statements { (board : RawBoard) (scans : List RowScan) → filter is_compared (board_scans board scans) ≡ map (scan_of_row board) (compared_scans board scans) }
-    ensures counted { (board : RawBoard) (scans : List RowScan) → count_by is_compared (board_scans board scans) ≡ length (compared_scans board scans) }
+    ensures statements { (board : RawBoard) (scans : List RowScan)
+        → filter is_compared (board_scans board scans)
+        ≡ map (scan_of_row board) (compared_scans board scans) }
+    ensures counted { (board : RawBoard) (scans : List RowScan)
+        → count_by is_compared (board_scans board scans) ≡ length (compared_scans board scans) }
 {}
 
 /// The compared scans of a test are those of the rows of its passes, each once and in order. A pass that observes no net compares nothing.
 /// Each pass of a board observes some net.
 pub fn rows_compared()
-    ensures passes { (board : RawBoard) (passes : List (List Ctl)) (width : ℕ) → IsBoard board → ArePasses board passes → CompareRows (code_row board passes) width passes (compared_scans board (row_scans (code_row board passes) width passes)) }
-    ensures any_passes { (board : RawBoard) (passes : List (List Ctl)) (width : ℕ) → IsBoard board → CompareRows (code_row board passes) width (filter (observes_some board) passes) (compared_scans board (row_scans (code_row board passes) width passes)) }
-    ensures shape { (board : RawBoard) (passes : List (List Ctl)) (width : ℕ) (log : List (List Bool)) → IsBoard board → ArePasses board passes → HasShape board (row_scans (code_row board passes) width passes) log ↔ ((length log ≡ length passes * width) × All (λ row. length row ≡ data_bits board) log) }
-    ensures walk { (board : RawBoard) (walk : List Ctl) → IsBoard board → CompareRows (walk_row board) (count_by (is_walked board walk) board.nets) (walk ∷ []) (compared_scans board (walk_row_scans board walk)) }
+    ensures passes { (board : RawBoard) (passes : List (List Ctl)) (width : ℕ) → IsBoard board
+        → ArePasses board passes
+        → CompareRows (code_row board passes) width passes
+        (compared_scans board (row_scans (code_row board passes) width passes)) }
+    ensures any_passes { (board : RawBoard) (passes : List (List Ctl)) (width : ℕ) → IsBoard board
+        → CompareRows (code_row board passes) width (filter (observes_some board) passes)
+        (compared_scans board (row_scans (code_row board passes) width passes)) }
+    ensures shape { (board : RawBoard) (passes : List (List Ctl)) (width : ℕ)
+        (log : List (List Bool)) → IsBoard board → ArePasses board passes
+        → HasShape board (row_scans (code_row board passes) width passes) log
+        ↔ ((length log ≡ length passes * width) × All (λ row. length row ≡ data_bits board) log) }
+    ensures walk { (board : RawBoard) (walk : List Ctl) → IsBoard board
+        → CompareRows (walk_row board) (count_by (is_walked board walk) board.nets) (walk ∷ [])
+        (compared_scans board (walk_row_scans board walk)) }
 {}
 
 /// If every compared bit of a log is the expected one, the faults that explain the log are those under which the text of the test passes.
 /// The reason is that the bits which SIR statements shift out depend only on the chain. So no nonempty observable fault set explains such a
 /// log.
 pub fn expected_logs()
-    ensures passing { (board : RawBoard) (faults : FaultSet) (scans : List RowScan) (log : List (List Bool)) → IsBoard board → IsExpected board scans log → ExplainedBy board faults scans log ↔ PassOnBoard board faults (test_clocks (board_scans board scans)) }
-    ensures unexplained { (board : RawBoard) (passes : List (List Ctl)) (width : ℕ) → IsBoard board → ArePasses board passes → observed_count board passes + 2 ≤ 2 ^ width → (log : List (List Bool)) → IsExpected board (row_scans (code_row board passes) width passes) log → (faults : FaultSet) → IsObservable board faults → IsNonempty faults → ExplainedBy board faults (row_scans (code_row board passes) width passes) log → ⊥ }
-    ensures own_unexplained { (board : RawBoard) → IsBoard board → (log : List (List Bool)) → IsExpected board (svf_row_scans board) log → (faults : FaultSet) → IsObservable board faults → IsNonempty faults → ExplainedBy board faults (svf_row_scans board) log → ⊥ }
+    ensures passing { (board : RawBoard) (faults : FaultSet) (scans : List RowScan)
+        (log : List (List Bool)) → IsBoard board → IsExpected board scans log
+        → ExplainedBy board faults scans log
+        ↔ PassOnBoard board faults (test_clocks (board_scans board scans)) }
+    ensures unexplained { (board : RawBoard) (passes : List (List Ctl)) (width : ℕ) → IsBoard board
+        → ArePasses board passes → observed_count board passes + 2 ≤ 2 ^ width
+        → (log : List (List Bool))
+        → IsExpected board (row_scans (code_row board passes) width passes) log
+        → (faults : FaultSet) → IsObservable board faults → IsNonempty faults
+        → ExplainedBy board faults (row_scans (code_row board passes) width passes) log → ⊥ }
+    ensures own_unexplained { (board : RawBoard) → IsBoard board → (log : List (List Bool))
+        → IsExpected board (svf_row_scans board) log → (faults : FaultSet)
+        → IsObservable board faults → IsNonempty faults
+        → ExplainedBy board faults (svf_row_scans board) log → ⊥ }
 {}
 
 /// In the test of safe passes, in a board's own test and in a walk with a safe setting, each scan compares the row that is in the latches.
 /// The setting of a compared row is safe.
 pub fn scans_in_turn()
-    ensures passes { (board : RawBoard) (passes : List (List Ctl)) (width : ℕ) → ((x : ℕ) (pass : List Ctl) → slice_get passes x ≡ Some pass → IsSafe board (holds pass)) → AreInTurn board (row_scans (code_row board passes) width passes) }
+    ensures passes { (board : RawBoard) (passes : List (List Ctl)) (width : ℕ)
+        → ((x : ℕ) (pass : List Ctl) → slice_get passes x ≡ Some pass → IsSafe board (holds pass))
+        → AreInTurn board (row_scans (code_row board passes) width passes) }
     ensures own { (board : RawBoard) → IsBoard board → AreInTurn board (svf_row_scans board) }
-    ensures walk { (board : RawBoard) (walk : List Ctl) → IsSafe board (holds walk) → AreInTurn board (walk_row_scans board walk) }
+    ensures walk { (board : RawBoard) (walk : List Ctl) → IsSafe board (holds walk)
+        → AreInTurn board (walk_row_scans board walk) }
 {}
 
 /// Faults explain a log if and only if the log has the shape of the test and each row has the bits that the cells capture under these
 /// faults, wherever its scan compares. The cells capture while the row of the scan before is in the latches.
 pub fn logs_by_rows()
-    ensures { (board : RawBoard) (faults : FaultSet) (scans : List RowScan) (log : List (List Bool)) → IsBoard board → AreInTurn board scans → ExplainedBy board faults scans log ↔ (HasShape board scans log × IsCapturedBy board faults scans log) }
+    ensures { (board : RawBoard) (faults : FaultSet) (scans : List RowScan) (log : List (List Bool))
+        → IsBoard board → AreInTurn board scans
+        → ExplainedBy board faults scans log
+        ↔ (HasShape board scans log × IsCapturedBy board faults scans log) }
 {}
 
 /// If no open pin is on a shorted net, the faults explain some log of a test, and any two logs that they explain agree wherever bits are
 /// compared. So a single fault determines every compared bit of its logs.
 pub fn one_log()
-    ensures some { (board : RawBoard) (faults : FaultSet) (scans : List RowScan) → IsBoard board → IsFaultSet board faults → NoOpenShorted faults → AreInTurn board scans → (log : List (List Bool)) × ExplainedBy board faults scans log }
-    ensures one { (board : RawBoard) (faults : FaultSet) (scans : List RowScan) (log other : List (List Bool)) → IsBoard board → AreInTurn board scans → ExplainedBy board faults scans log → ExplainedBy board faults scans other → AgreeOn board scans log other }
-    ensures single { (board : RawBoard) (single : Single) (scans : List RowScan) → IsBoard board → IsSingle board single → AreInTurn board scans → (log : List (List Bool)) × ExplainedBy board (set_of single) scans log }
+    ensures some { (board : RawBoard) (faults : FaultSet) (scans : List RowScan) → IsBoard board
+        → IsFaultSet board faults → NoOpenShorted faults → AreInTurn board scans
+        → (log : List (List Bool)) × ExplainedBy board faults scans log }
+    ensures one { (board : RawBoard) (faults : FaultSet) (scans : List RowScan)
+        (log other : List (List Bool)) → IsBoard board → AreInTurn board scans
+        → ExplainedBy board faults scans log → ExplainedBy board faults scans other
+        → AgreeOn board scans log other }
+    ensures single { (board : RawBoard) (single : Single) (scans : List RowScan) → IsBoard board
+        → IsSingle board single → AreInTurn board scans
+        → (log : List (List Bool)) × ExplainedBy board (set_of single) scans log }
 {}
 
 /// A single fault of a board explains a log if and only if the log has the shape of the test and each compared cell has the bit that the
 /// fault gives it.
 pub fn singles_respond()
-    ensures bits { (board : RawBoard) (single : Single) (scans : List RowScan) (log : List (List Bool)) → IsBoard board → IsSingle board single → AreInTurn board scans → ExplainedBy board (set_of single) scans log ↔ (HasShape board scans log × ShowsBits board scans (single_bit board single) log) }
-    ensures own { (board : RawBoard) (single : Single) (log : List (List Bool)) → IsBoard board → IsSingle board single → Explains board single log ↔ (HasShape board (svf_row_scans board) log × ShowsBits board (svf_row_scans board) (single_bit board single) log) }
+    ensures bits { (board : RawBoard) (single : Single) (scans : List RowScan)
+        (log : List (List Bool)) → IsBoard board → IsSingle board single → AreInTurn board scans
+        → ExplainedBy board (set_of single) scans log
+        ↔ (HasShape board scans log × ShowsBits board scans (single_bit board single) log) }
+    ensures own { (board : RawBoard) (single : Single) (log : List (List Bool)) → IsBoard board
+        → IsSingle board single
+        → Explains board single log
+        ↔ (HasShape board (svf_row_scans board) log
+        × ShowsBits board (svf_row_scans board) (single_bit board single) log) }
 {}
 
 /// A log is the expected one if and only if it has the shape of the test and each compared cell has its expected bit. Each compared cell
 /// reads a pin of a net.
 pub fn expected_bits()
-    ensures bits { (board : RawBoard) (scans : List RowScan) (log : List (List Bool)) → IsExpected board scans log ↔ (HasShape board scans log × ShowsBits board scans (λ row place expected. expected) log) }
-    ensures places { (board : RawBoard) (row : TestRow) (part : ℕ) (device : RawDevice) (cell : ℕ) (expected : Bool) → expect_bit board row part device cell ≡ Some expected → (place : Place) × (read_place board part device cell ≡ Some place) }
+    ensures bits { (board : RawBoard) (scans : List RowScan) (log : List (List Bool))
+        → IsExpected board scans log
+        ↔ (HasShape board scans log × ShowsBits board scans (λ row place expected. expected) log) }
+    ensures places { (board : RawBoard) (row : TestRow) (part : ℕ) (device : RawDevice) (cell : ℕ)
+        (expected : Bool) → expect_bit board row part device cell ≡ Some expected
+        → (place : Place) × (read_place board part device cell ≡ Some place) }
 {}

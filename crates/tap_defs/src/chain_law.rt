@@ -26,11 +26,13 @@ pub fn code_scans()
 /// The text of a head, any scans and a tail means the clocks of these parts. Exactly the bits that the scans compare are compared
 /// (SVF Revision E).
 pub fn texts_mean()
-    ensures { (scans : List Scan) → AllSized scans → meaning (svf_text scans) ≡ Some (test_clocks scans) }
+    ensures { (scans : List Scan) → AllSized scans
+        → meaning (svf_text scans) ≡ Some (test_clocks scans) }
 {}
 
 /// The chain test passes on every chain of parts with these instruction lengths. It fails on every chain with another number of
 /// parts whose instruction registers have no more bits in total.
 pub fn chain_tests()
-    ensures { (lengths : List ℕ) → AreIrLengths lengths → sum lengths ≤ most_bits → IsChainTest lengths (chain_text lengths) }
+    ensures { (lengths : List ℕ) → AreIrLengths lengths → sum lengths ≤ most_bits
+        → IsChainTest lengths (chain_text lengths) }
 {}

@@ -10,8 +10,8 @@ abbrev pub is_newline : ℕ → Bool
 is_newline b = b == 10
 
 -- the byte is a carriage return, a tab or a space
-abbrev pub is_blank : ℕ → Bool
-is_blank b = (b == 13) || (b == 9) || (b == 32)
+abbrev pub is_line_blank : ℕ → Bool
+is_line_blank b = (b == 13) || (b == 9) || (b == 32)
 
 abbrev pub is_filled : Word → Bool
 is_filled [] = false
@@ -24,7 +24,7 @@ begins_no_comment (b ∷ bs) = not (b == 35)
 -- the words of a line: the nonempty pieces between blanks, up to the first piece that begins with
 -- `#`
 unfoldable pub words_of : List ℕ → List Word
-words_of line = take_while begins_no_comment (filter is_filled (slice_split is_blank line))
+words_of line = take_while begins_no_comment (filter is_filled (slice_split is_line_blank line))
 
 -- the largest number of bytes that a word can have
 abbrev pub most_word_bytes : ℕ
@@ -41,14 +41,16 @@ lines_of (Some text) = slice_split is_newline text
 
 -- the two parts are the bytes before and behind the first byte that passes the test; None if no
 -- byte passes
-abbrev pub IsCut : (ℕ → Bool) → List ℕ → Option (List ℕ × List ℕ) → Type 0
-IsCut p text None = position_or_len p text ≡ length text
-IsCut p text (Some (before, behind)) = (position_or_len p text < length text) × (before ≡ before_first p text) × (behind ≡ after_first p text)
+abbrev pub IsCutAt : (ℕ → Bool) → List ℕ → Option (List ℕ × List ℕ) → Type 0
+IsCutAt p text None = position_or_len p text ≡ length text
+IsCutAt p text (Some (before, behind)) =
+    (position_or_len p text < length text) × (before ≡ before_first p text)
+    × (behind ≡ after_first p text)
 
 -- the text begins with a blank
 abbrev pub begins_blank : List ℕ → Bool
 begins_blank [] = false
-begins_blank (b ∷ bs) = is_blank b
+begins_blank (b ∷ bs) = is_line_blank b
 
 -- the text begins with a byte other than `#`
 abbrev pub begins_word : List ℕ → Bool

@@ -8,14 +8,14 @@ ghost use Rattle.std.specs.Prelude.{◌≡◌, ◌==◌, [], ◌∷◌, true, fa
 ghost use Rattle.std.specs.List.{slice_split, list_all};
 ghost use Rattle.std.specs.Char.{is_ascii_graphic};
 ghost use Rattle.memchr.specs.Find.{IsFirstByte, is_byte};
-ghost use Rattle.text_lines.specs.Words.{words_of, is_newline, is_blank, is_word, is_filled, begins_no_comment, begins_blank, begins_word, lines_of, IsCut};
+ghost use Rattle.text_lines.specs.Words.{words_of, is_newline, is_line_blank, is_word, is_filled, begins_no_comment, begins_blank, begins_word, lines_of, IsCutAt};
 
 use memchr::{memchr, memchr3};
 use std::alloc::{AllocError, Global};
 
 /// Returns whether the byte is a carriage return, a tab or a space.
 pub fn is_blank(b: u8) -> bool
-    ensures { result ≡ is_blank b }
+    ensures { result ≡ is_line_blank b }
 {
     b == b'\r' || b == b'\t' || b == b' '
 }
@@ -78,7 +78,8 @@ fn place_of(text: &[u8], byte: u8) -> Option<usize>
 /// Returns the parts before and behind the first byte that equals `byte`, or None if there is no
 /// such byte.
 pub fn cut_at(text: &[u8], byte: u8) -> Option<(&[u8], &[u8])>
-    ensures { IsCut (λ b. b == byte) text.now (option_map (λ cut. (cut.0.now, cut.1.now)) result) }
+    ensures { IsCutAt (λ b. b == byte) text.now
+        (option_map (λ cut. (cut.0.now, cut.1.now)) result) }
 {
     match place_of(text, byte) {
         Some(i) => Some((&text[..i], &text[i + 1..])),
@@ -88,8 +89,10 @@ pub fn cut_at(text: &[u8], byte: u8) -> Option<(&[u8], &[u8])>
 
 /// Returns the first line, and the text behind it if another line follows.
 pub fn first_line(text: &[u8]) -> (&[u8], Option<&[u8]>)
-    ensures lines { slice_split is_newline text.now ≡ result.0.now ∷ lines_of (option_copied result.1) }
-    ensures shorter { IfSome result.1 (λ rest. length result.0.now + length rest.now + 1 ≡ length text.now) }
+    ensures lines { slice_split is_newline text.now
+        ≡ result.0.now ∷ lines_of (option_copied result.1) }
+    ensures shorter { IfSome result.1
+        (λ rest. length result.0.now + length rest.now + 1 ≡ length text.now) }
     ensures whole { IfNone result.1 (length result.0.now ≡ length text.now) }
     ensures behind { IfSome result.1 (λ rest. rest.now ≡ drop (length result.0.now + 1) text.now) }
 {
@@ -121,7 +124,7 @@ fn begins_word(line: &[u8]) -> bool
 
 // Returns the parts before and behind the first blank, or None if there is no blank.
 fn cut_at_blank(text: &[u8]) -> Option<(&[u8], &[u8])>
-    ensures { IsCut is_blank text.now (option_map (λ cut. (cut.0.now, cut.1.now)) result) }
+    ensures { IsCutAt is_line_blank text.now (option_map (λ cut. (cut.0.now, cut.1.now)) result) }
 {
     match memchr3(b'\r', b'\t', b' ', text) {
         Some(i) => Some((&text[..i], &text[i + 1..])),
@@ -144,7 +147,8 @@ fn cut_word(text: &[u8]) -> (&[u8], &[u8])
 
 /// Returns the first word of a line and the text behind it, or None if the line has no word.
 pub fn next_word(line: &[u8]) -> Option<(&[u8], &[u8])>
-    ensures words { MatchOption result (words_of line.now ≡ []) (λ cut. words_of line.now ≡ cut.0.now ∷ words_of cut.1.now) }
+    ensures words { MatchOption result (words_of line.now ≡ [])
+        (λ cut. words_of line.now ≡ cut.0.now ∷ words_of cut.1.now) }
     ensures within { IfSome result (λ cut. length cut.0.now + length cut.1.now ≤ length line.now) }
 {
     let text = behind_blanks(line);

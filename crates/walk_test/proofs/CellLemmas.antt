@@ -31,7 +31,7 @@ use Rattle.tap_defs.specs.chain.Chain.{ChainPart, pin_states}
 use Rattle.tap_defs.specs.chain.Run.{Choice}
 use Rattle.tap_defs.specs.chain.Scan.{joined}
 use Rattle.tap_defs.specs.board.FaultSet.{Or, FaultSet, IsFaultSet}
-use Rattle.tap_defs.specs.board.NetBits.{Feeding, Undriven, Driven, live_where, feeding, fed, OfNet, is_in_short, shorted_nets, numbered, bits_fed, bits_held, first_combined, short_bit, net_bit, net_bit_by}
+use Rattle.tap_defs.specs.board.NetBits.{Feeding, Undriven, Driven, live_where, feeding, fed, OfNet, is_in_short, shorted_nets, numbered_value, bits_fed, bits_held, first_combined, short_bit, net_bit, net_bit_by}
 use Rattle.tap_defs.specs.board.TestRows.{TestRow, quiet_row, first_enabled, observing_driver}
 use Rattle.tap_defs.specs.board.BoardScans.{is_walked, walk_row}
 use Rattle.tap_defs.specs.board.RowCaptures.{row_states, row_captured, NoOpenShorted}
@@ -49,14 +49,17 @@ use Rattle.tap_defs.proofs.board.DrivingLemmas.{feeding_is}
 use Rattle.tap_defs.proofs.board.CellPlaceLemmas.{captured_cell, captured_laid, laid as laid_parts, part_laid as laid_part}
 use Rattle.net_pins.specs.declared.nets.ReaderCell.{ReaderCell}
 use Rattle.plan_tables.specs.Tables.{first_position, IsReaderCell}
-use Rattle.plan_tables.specs.inner.Laid.{CellBits, part_laid, parts_laid, laid}
+use Rattle.plan_tables.specs.inner.Laid.{CellBits, part_laid, parts_laid, bits_of_parts}
 use Rattle.plan_tables.proofs.PinLemmas.{Standing, standing, reading_entry_is}
 use Rattle.walk_test.specs.WalkTest.{is_switched_by, switches_some}
 use Rattle.walk_test.specs.Groups.{group_of, or_shorts}
 use Rattle.walk_test.specs.inner.Reading.{is_one_group, are_joined}
 
 -- if a cell reads an observed net on a pin other than the observing driver's pin, the cell is a compared cell
-module _ (board : RawBoard) (rules : IsBoard board) (walk : List Ctl) (n : ℕ) (net : Net) (is_net : slice_get board.nets n ≡ Some net) (d : ℕ) (observing : observing_driver board (holds walk) net ≡ Some d) (r : ReaderCell) (q : IsReaderCell board net r) (other : (r.place == d) ≡ false) where
+module _ (board : RawBoard) (rules : IsBoard board) (walk : List Ctl) (n : ℕ) (net : Net)
+    (is_net : slice_get board.nets n ≡ Some net) (d : ℕ)
+    (observing : observing_driver board (holds walk) net ≡ Some d) (r : ReaderCell)
+    (q : IsReaderCell board net r) (other : (r.place == d) ≡ false) where
   abbrev t : Standing board n net r.place q.at
   t = standing board rules n net r.place q.pin q.at is_net q.is_pin q.is_at
 
@@ -67,7 +70,9 @@ module _ (board : RawBoard) (rules : IsBoard board) (walk : List Ctl) (n : ℕ) 
   index = (has_place q.device.cells q.entry (contains_has q.device.cells q.entry q.is_entry)).0
 
   entry_stands : slice_get t.device.cells index ≡ Some q.entry
-  entry_stands = subst (λ (v : RawDevice). slice_get v.cells index ≡ Some q.entry) same_device (has_place q.device.cells q.entry (contains_has q.device.cells q.entry q.is_entry)).1
+  entry_stands =
+      subst (λ (v : RawDevice). slice_get v.cells index ≡ Some q.entry) same_device
+      (has_place q.device.cells q.entry (contains_has q.device.cells q.entry q.is_entry)).1
 
   entry_parts : (is_on q.at.bit q.entry.bit ≡ true) × (is_receiving q.entry.role ≡ true)
   entry_parts = and_parts (is_on q.at.bit q.entry.bit) (is_receiving q.entry.role) q.reads
@@ -117,9 +122,11 @@ parts_same f k (p ∷ ps) = cons_path (one p.kind) (parts_same f (suc k) ps)
     one (Bypass n) = refl
 
 pub captured_is : (board : RawBoard) (faults : FaultSet) (row : TestRow) (choice : Choice) →
-    row_captured board faults row choice ≡ laid (captured_cell board faults (row_states board row) choice) board
+    row_captured board faults row choice ≡ bits_of_parts (captured_cell board faults (row_states board row) choice) board
 captured_is board faults row choice =
-    captured_laid board faults row choice ∙ ap (λ (rs : List (List Bool)). joined rs) (parts_same (captured_cell board faults (row_states board row) choice) 0 board.chain)
+    captured_laid board faults row choice
+    ∙ ap (λ (rs : List (List Bool)). joined rs)
+    (parts_same (captured_cell board faults (row_states board row) choice) 0 board.chain)
 
 -- `x` is a net of `nets` with its number, and short `k` joins this net; `n` is the number of the first net of `nets`
 record InShort (faults : FaultSet) (k n : ℕ) (nets : List Net) (x : OfNet Net) : Type 0 where
@@ -128,15 +135,20 @@ record InShort (faults : FaultSet) (k n : ℕ) (nets : List Net) (x : OfNet Net)
   stands : slice_get nets place ≡ Some x.1
   short_is : faults.short x.0 ≡ Some k
 
-shorted_is : (faults : FaultSet) (k n : ℕ) (nets : List Net) (x : OfNet Net) → Has (shorted_nets faults k n nets) x → InShort faults k n nets x
+shorted_is : (faults : FaultSet) (k n : ℕ) (nets : List Net) (x : OfNet Net)
+    → Has (shorted_nets faults k n nets) x → InShort faults k n nets x
 shorted_is faults k n [] x h = absurd h
 shorted_is faults k n (net ∷ nets) x h = by_short (faults.short n) refl (shorted_is faults k (suc n) nets x) h
   where
     later : InShort faults k (suc n) nets x → InShort faults k n (net ∷ nets) x
     later s = record { place = suc s.place; number_is = omega (arith, s.number_is); stands = s.stands; short_is = s.short_is }
 
-    by_number : (j : ℕ) → faults.short n ≡ Some j → (Has (shorted_nets faults k (suc n) nets) x → InShort faults k (suc n) nets x) → (b : Bool) → (j == k) ≡ b →
-        Has (cond b ((n, net) ∷ shorted_nets faults k (suc n) nets) (shorted_nets faults k (suc n) nets)) x → InShort faults k n (net ∷ nets) x
+    by_number : (j : ℕ) → faults.short n ≡ Some j
+        → (Has (shorted_nets faults k (suc n) nets) x → InShort faults k (suc n) nets x)
+        → (b : Bool) → (j == k) ≡ b →
+        Has
+        (cond b ((n, net) ∷ shorted_nets faults k (suc n) nets)
+        (shorted_nets faults k (suc n) nets)) x → InShort faults k n (net ∷ nets) x
     by_number j s ih false e g = later (ih g)
     by_number j s ih true e (inr g) = later (ih g)
     by_number j s ih true e (inl same) =
@@ -149,11 +161,14 @@ shorted_is faults k n (net ∷ nets) x h = by_short (faults.short n) refl (short
         }
 
     by_short : (o : Option ℕ) → faults.short n ≡ o → (Has (shorted_nets faults k (suc n) nets) x → InShort faults k (suc n) nets x) →
-        Has (cond (is_in_short o k) ((n, net) ∷ shorted_nets faults k (suc n) nets) (shorted_nets faults k (suc n) nets)) x → InShort faults k n (net ∷ nets) x
+        Has
+        (cond (is_in_short o k) ((n, net) ∷ shorted_nets faults k (suc n) nets)
+        (shorted_nets faults k (suc n) nets)) x → InShort faults k n (net ∷ nets) x
     by_short None s ih g = later (ih g)
     by_short (Some j) s ih g = by_number j s ih (j == k) refl g
 
-is_shorted : (faults : FaultSet) (k n : ℕ) (nets : List Net) (place : ℕ) (net : Net) (m : ℕ) → slice_get nets place ≡ Some net → m ≡ n + place → faults.short m ≡ Some k →
+is_shorted : (faults : FaultSet) (k n : ℕ) (nets : List Net) (place : ℕ) (net : Net) (m : ℕ)
+    → slice_get nets place ≡ Some net → m ≡ n + place → faults.short m ≡ Some k →
     Has (shorted_nets faults k n nets) (m, net)
 is_shorted faults k n [] place net m e z s = cc e
 is_shorted faults k n (x ∷ nets) zero net m e z s =
@@ -161,10 +176,15 @@ is_shorted faults k n (x ∷ nets) zero net m e z s =
     let number : n ≡ m = omega (arith, z) in
     let here : faults.short n ≡ Some k = ap faults.short number ∙ s in
     subst (λ (l : List (OfNet Net)). Has l (m, net))
-    (sym (ap (λ (o : Option ℕ). cond (is_in_short o k) ((n, x) ∷ shorted_nets faults k (suc n) nets) (shorted_nets faults k (suc n) nets)) here
+    (sym
+    (ap
+    (λ (o : Option ℕ). cond (is_in_short o k) ((n, x) ∷ shorted_nets faults k (suc n) nets)
+    (shorted_nets faults k (suc n) nets)) here
     ∙ ap (λ (b : Bool). cond b ((n, x) ∷ shorted_nets faults k (suc n) nets) (shorted_nets faults k (suc n) nets)) (eq-eqb k k refl)))
     (inl (ap (λ (y : Net). (n, y)) same ∙ ap (λ (i : ℕ). (i, net)) number))
-is_shorted faults k n (x ∷ nets) (suc place) net m e z s = by_test (is_shorted faults k (suc n) nets place net m e (omega (arith, z)) s) (is_in_short (faults.short n) k)
+is_shorted faults k n (x ∷ nets) (suc place) net m e z s =
+    by_test (is_shorted faults k (suc n) nets place net m e (omega (arith, z)) s)
+    (is_in_short (faults.short n) k)
   where
     by_test : Has (shorted_nets faults k (suc n) nets) (m, net) → (b : Bool) →
         Has (cond b ((n, x) ∷ shorted_nets faults k (suc n) nets) (shorted_nets faults k (suc n) nets)) (m, net)
@@ -210,9 +230,14 @@ module _ (board : RawBoard) (rules : IsBoard board) (walk : List Ctl) (setting :
 
   -- if the setting holds a driver's control, the control cell is not the driver's own cell, since a driver that its own cell controls is a
   -- switching driver
-  not_own : (n : ℕ) (net : Net) (d : ℕ) (pin : NetPin) (at : PinAt) (entry : Cell) → slice_get board.nets n ≡ Some net → slice_get net.pins d ≡ Some pin → pin.at ≡ Some at →
-      entry_at board at ≡ Some entry → (control : Control) → entry.ctl ≡ Some control → holds walk (record { part = at.part; cell = control.cell }) ≡ true → (control.cell == entry.num) ≡ false
-  not_own n net d pin at entry en ep a e control k held = false_from_ne_true (control.cell == entry.num) (λ own. by_rules own (((board_rules board rules).nets n net en).pins d pin ep))
+  not_own : (n : ℕ) (net : Net) (d : ℕ) (pin : NetPin) (at : PinAt) (entry : Cell)
+      → slice_get board.nets n ≡ Some net → slice_get net.pins d ≡ Some pin → pin.at ≡ Some at →
+      entry_at board at ≡ Some entry → (control : Control) → entry.ctl ≡ Some control
+      → holds walk (record { part = at.part; cell = control.cell }) ≡ true
+      → (control.cell == entry.num) ≡ false
+  not_own n net d pin at entry en ep a e control k held =
+      false_from_ne_true (control.cell == entry.num)
+      (λ own. by_rules own (((board_rules board rules).nets n net en).pins d pin ep))
     where
       c : Ctl
       c = record { part = at.part; cell = control.cell }
@@ -224,12 +249,31 @@ module _ (board : RawBoard) (rules : IsBoard board) (walk : List Ctl) (setting :
           ∙ ap (λ (o : Option Bool). is_pulled_to control.disable o) pull ∙ is_same_refl control.disable in
           any_at (λ x. list_any (is_switched_by board c x) x.pins) board.nets m other em
           (any_at (is_switched_by board c other) other.pins i p ei
-          (ap (λ (o : Option PinAt). Rattle.board_defs.specs.Pins.switches_entry board other (Rattle.std.specs.Prelude.option_and_then (entry_at board) o) && is_by c (Rattle.board_defs.specs.Pins.drive_where board other o)) ea
-          ∙ ap (λ (o : Option Cell). Rattle.board_defs.specs.Pins.switches_entry board other o && is_by c (Rattle.std.specs.Prelude.option_map (λ cell. Rattle.board_defs.specs.Pins.drive_by board other at.part cell cell.ctl) o)) e
-          ∙ ap (λ (o : Option Control). Rattle.board_defs.specs.Pins.switches_by board other entry o && is_by c (Some (Rattle.board_defs.specs.Pins.drive_by board other at.part entry o))) k
+          (ap
+          (λ (o : Option PinAt). Rattle.board_defs.specs.Pins.switches_entry board other
+          (Rattle.std.specs.Prelude.option_and_then (entry_at board) o) && is_by c
+          (Rattle.board_defs.specs.Pins.drive_where board other o)) ea
+          ∙ ap
+          (λ (o : Option Cell). Rattle.board_defs.specs.Pins.switches_entry board other o
+          && is_by c
+          (Rattle.std.specs.Prelude.option_map
+          (λ cell. Rattle.board_defs.specs.Pins.drive_by board other at.part cell
+          cell.ctl) o)) e
+          ∙ ap
+          (λ (o : Option Control). Rattle.board_defs.specs.Pins.switches_by board other entry o
+          && is_by c
+          (Some (Rattle.board_defs.specs.Pins.drive_by board other at.part entry o))) k
           ∙ by_tests (control.cell == entry.num) (lets_switch board other control.disable) own lets))
         where
-          by_tests : (x y : Bool) → x ≡ true → y ≡ true → ((x && y) && is_by c (Some (cond x (cond y (Rattle.board_defs.specs.declared.board.Drive.TheVariants.By c) Rattle.board_defs.specs.declared.board.Drive.TheVariants.OneSided) (Rattle.board_defs.specs.declared.board.Drive.TheVariants.By c)))) ≡ true
+          by_tests : (x y : Bool) → x ≡ true → y ≡ true
+              → ((x && y)
+              && is_by c
+              (Some
+              (cond x
+              (cond y
+              (Rattle.board_defs.specs.declared.board.Drive.TheVariants.By c)
+              Rattle.board_defs.specs.declared.board.Drive.TheVariants.OneSided)
+              (Rattle.board_defs.specs.declared.board.Drive.TheVariants.By c)))) ≡ true
           by_tests true true p q = same_refl c
           by_tests true false p q = cc q
           by_tests false y p q = cc p
@@ -240,18 +284,27 @@ module _ (board : RawBoard) (rules : IsBoard board) (walk : List Ctl) (setting :
           let two : Some other ≡ Some at = sym b ∙ a in
           let there : other ≡ at = cc two in
           both_ways (switches_some board c) (setting.none c held)
-          (switched own (setting.safe.own at entry control (subst (λ (y : PinAt). is_pinned board y ≡ true) there pinned) e k (eqb-true control.cell entry.num own) held))
+          (switched own
+          (setting.safe.own at entry control
+          (subst (λ (y : PinAt). is_pinned board y ≡ true) there pinned) e k
+          (eqb-true control.cell entry.num own) held))
 
   -- each walk net is driven to the bit that it carries
   module _ (n : ℕ) (w : WalkedBy board walk n) where
     o : Observing board (holds walk) w.net w.driver
     o = observing_at board (holds walk) w.net w.driver w.observing
 
-    never_off : (at : PinAt) → o.pin.at ≡ Some at → (entry : Cell) → entry_at board at ≡ Some entry → (bit : Bool) (c : Option Control) → entry.ctl ≡ c → enables_by (holds walk) at.part c ≡ true → is_switched_off bit entry c ≡ false
+    never_off : (at : PinAt) → o.pin.at ≡ Some at → (entry : Cell) → entry_at board at ≡ Some entry
+        → (bit : Bool) (c : Option Control) → entry.ctl ≡ c
+        → enables_by (holds walk) at.part c ≡ true → is_switched_off bit entry c ≡ false
     never_off at a entry e bit None k on = refl
-    never_off at a entry e bit (Some control) k on = ap (λ (b : Bool). b && is_same bit control.disable) (not_own n w.net w.driver o.pin at entry w.is_net o.stands a e control k on)
+    never_off at a entry e bit (Some control) k on =
+        ap (λ (b : Bool). b && is_same bit control.disable)
+        (not_own n w.net w.driver o.pin at entry w.is_net o.stands a e control k on)
 
-    by_entry : (at : PinAt) → o.pin.at ≡ Some at → (x : Option Cell) → entry_at board at ≡ x → enables_entry (holds walk) at.part x ≡ true → entry_feeds board row at w.driver x ≡ Undriven → ⊥
+    by_entry : (at : PinAt) → o.pin.at ≡ Some at → (x : Option Cell) → entry_at board at ≡ x
+        → enables_entry (holds walk) at.part x ≡ true
+        → entry_feeds board row at w.driver x ≡ Undriven → ⊥
     by_entry at a None e on off = cc on
     by_entry at a (Some entry) e on off = by_off (never_off at a entry e bit entry.ctl refl on)
       where
@@ -259,7 +312,10 @@ module _ (board : RawBoard) (rules : IsBoard board) (walk : List Ctl) (setting :
         bit = cell_bit board row at.part (Rattle.board_defs.specs.Pins.device_at board at.part) entry.num
 
         by_off : is_switched_off bit entry entry.ctl ≡ false → ⊥
-        by_off never = let bad : ◌≡◌ {A = Feeding} (Driven w.driver bit) Undriven = sym (ap (λ (b : Bool). cond b Undriven (Driven w.driver bit)) never) ∙ off in cc bad
+        by_off never =
+            let bad : ◌≡◌ {A = Feeding} (Driven w.driver bit) Undriven = sym
+            (ap (λ (b : Bool). cond b Undriven (Driven w.driver bit)) never) ∙ off in
+            cc bad
 
     by_at : (x : Option PinAt) → o.pin.at ≡ x → enables_where board (holds walk) x ≡ true → at_feeds board row w.driver x ≡ Undriven → ⊥
     by_at None a on off = cc on
@@ -276,28 +332,38 @@ module _ (board : RawBoard) (rules : IsBoard board) (walk : List Ctl) (setting :
         inner None h = cc h
         inner (Some i) h = same (Rattle.tap_defs.specs.board.TestRows.reads_beside board i 0 w.net.pins) i h
 
-        go : (g : Bool) → cond g None (Rattle.tap_defs.specs.board.TestRows.observing_driver_by board w.net (first_enabled board (holds walk) 0 w.net.pins)) ≡ Some w.driver → first_enabled board (holds walk) 0 w.net.pins ≡ Some w.driver
+        go : (g : Bool)
+            → cond g None
+            (Rattle.tap_defs.specs.board.TestRows.observing_driver_by board w.net
+            (first_enabled board (holds walk) 0 w.net.pins)) ≡ Some w.driver
+            → first_enabled board (holds walk) 0 w.net.pins ≡ Some w.driver
         go true h = cc h
         go false h = inner (first_enabled board (holds walk) 0 w.net.pins) h
 
     not_undriven : feeding board states w.net ≡ Undriven → ⊥
     not_undriven e =
         by_at o.pin.at refl o.enabled
-        (sym (ap (λ (x : Option ℕ). driver_feeds board row w.net x) first_is ∙ ap (λ (x : Option NetPin). pin_feeds board row w.driver x) o.stands)
+        (sym
+        (ap (λ (x : Option ℕ). driver_feeds board row w.net x) first_is ∙ ap
+        (λ (x : Option NetPin). pin_feeds board row w.driver x) o.stands)
         ∙ sym (feeding_is board row setting.safe places quiet_row chain held_row n w.net w.is_net o.unguarded) ∙ e)
 
     pub carries_mark : Carries w.driver w.net.pull (is_marked n) (feeding board states w.net)
-    carries_mark = carries board row setting.safe n w.net (places.nets n w.net w.is_net) w.driver w.observing quiet_row chain held_row (is_marked n) refl
+    carries_mark =
+        carries board row setting.safe n w.net (places.nets n w.net w.is_net) w.driver w.observing
+        quiet_row chain held_row (is_marked n) refl
 
     driven_mark : feeding board states w.net ≡ Driven w.driver (is_marked n)
     driven_mark = by_carries carries_mark
       where
-        by_carries : Carries w.driver w.net.pull (is_marked n) (feeding board states w.net) → feeding board states w.net ≡ Driven w.driver (is_marked n)
+        by_carries : Carries w.driver w.net.pull (is_marked n) (feeding board states w.net)
+            → feeding board states w.net ≡ Driven w.driver (is_marked n)
         by_carries (driven e) = e
         by_carries (pulled e p) = absurd (not_undriven e)
 
   -- the walk nets under the Or shorts of groups of walk nets
-  module _ (groups : List (List ℕ)) (is_set : IsFaultSet board (or_shorts groups)) (walked : (n k : ℕ) → group_of groups n ≡ Some k → WalkedBy board walk n) where
+  module _ (groups : List (List ℕ)) (is_set : IsFaultSet board (or_shorts groups))
+      (walked : (n k : ℕ) → group_of groups n ≡ Some k → WalkedBy board walk n) where
     abbrev faults : FaultSet
     faults = or_shorts groups
 
@@ -312,22 +378,24 @@ module _ (board : RawBoard) (rules : IsBoard board) (walk : List Ctl) (setting :
       abbrev fs : List (OfNet Bool)
       fs = bits_fed board faults states nets
 
-      fed_is : (x : OfNet Net) → Has nets x → numbered x.0 (fed faults x.0 (feeding board states x.1)) ≡ Some (x.0, is_marked x.0)
+      fed_is : (x : OfNet Net) → Has nets x → numbered_value x.0 (fed faults x.0 (feeding board states x.1)) ≡ Some (x.0, is_marked x.0)
       fed_is x h =
           let s = shorted_is faults k 0 board.nets x h in
           let w = walked x.0 k s.short_is in
           let at : x.0 ≡ s.place = omega (arith, s.number_is) in
           let two : Some x.1 ≡ Some w.net = sym s.stands ∙ ap (λ (i : ℕ). slice_get board.nets i) (sym at) ∙ w.is_net in
           let same : x.1 ≡ w.net = cc two in
-          ap (λ (net : Net). numbered x.0 (fed faults x.0 (feeding board states net))) same
-          ∙ ap (λ (f : Feeding). numbered x.0 (fed faults x.0 f)) (driven_mark x.0 w)
+          ap (λ (net : Net). numbered_value x.0 (fed faults x.0 (feeding board states net))) same
+          ∙ ap (λ (f : Feeding). numbered_value x.0 (fed faults x.0 f)) (driven_mark x.0 w)
 
       has_fed : (n : ℕ) → group_of groups n ≡ Some k → Has fs (n, is_marked n)
       has_fed n e =
           let w = walked n k e in
           let z : n ≡ 0 + n = omega arith in
           let h : Has nets (n, w.net) = is_shorted faults k 0 board.nets n w.net n w.is_net z e in
-          has_filter_map (λ (x : OfNet Net). numbered x.0 (fed faults x.0 (feeding board states x.1))) nets (n, w.net) (n, is_marked n) h (fed_is (n, w.net) h)
+          has_filter_map
+          (λ (x : OfNet Net). numbered_value x.0 (fed faults x.0 (feeding board states x.1)))
+          nets (n, w.net) (n, is_marked n) h (fed_is (n, w.net) h)
 
       -- some net of the group carries 1
       abbrev HasMarked : Type 0
@@ -336,7 +404,7 @@ module _ (board : RawBoard) (rules : IsBoard board) (walk : List Ctl) (setting :
       marked_of : list_any (λ b. b.1) fs ≡ true → HasMarked
       marked_of e =
           let a = any_has (λ (b : OfNet Bool). b.1) fs e in
-          let f = filter_map_has (λ (x : OfNet Net). numbered x.0 (fed faults x.0 (feeding board states x.1))) nets a.0 a.1 in
+          let f = filter_map_has (λ (x : OfNet Net). numbered_value x.0 (fed faults x.0 (feeding board states x.1))) nets a.0 a.1 in
           let two : Some (f.0.0, is_marked f.0.0) ≡ Some a.0 = sym (fed_is f.0 f.1) ∙ f.2 in
           let same : ◌≡◌ {A = OfNet Bool} (f.0.0, is_marked f.0.0) a.0 = cc two in
           (f.0.0, (shorted_is faults k 0 board.nets f.0 f.1).short_is, ap (λ (b : OfNet Bool). b.1) same ∙ a.2)
@@ -355,14 +423,18 @@ module _ (board : RawBoard) (rules : IsBoard board) (walk : List Ctl) (setting :
       net_bit_is : (shorts : ℕ → Bool) → net_bit board faults states shorts n w.net ≡ Some (are_joined groups n one)
       net_bit_is shorts = by_group (group_of groups n) refl
         where
-          by_one : (k : ℕ) → group_of groups n ≡ Some k → (x : Option ℕ) → group_of groups one ≡ x → list_any (λ b. b.1) (fs k) ≡ ((n == one) || is_in_short x k)
-          by_one k e x f = same_answer (list_any (λ b. b.1) (fs k)) ((n == one) || is_in_short x k) (λ any. to (marked_of k any)) (λ h. of_marked k (from h))
+          by_one : (k : ℕ) → group_of groups n ≡ Some k → (x : Option ℕ) → group_of groups one ≡ x
+              → list_any (λ b. b.1) (fs k) ≡ ((n == one) || is_in_short x k)
+          by_one k e x f =
+              same_answer (list_any (λ b. b.1) (fs k)) ((n == one) || is_in_short x k)
+              (λ any. to (marked_of k any)) (λ h. of_marked k (from h))
             where
               to : HasMarked k → ((n == one) || is_in_short x k) ≡ true
               to (m, g, mark) =
                   let same : m ≡ one = eqb-true m one (sym (marked m (walked m k g)) ∙ mark) in
                   let here : x ≡ Some k = sym f ∙ ap (λ (i : ℕ). group_of groups i) (sym same) ∙ g in
-                  Rattle.std.proofs.lemmas.Bool.or_right (n == one) (is_in_short x k) (ap (λ (y : Option ℕ). is_in_short y k) here ∙ eq-eqb k k refl)
+                  Rattle.std.proofs.lemmas.Bool.or_right (n == one) (is_in_short x k)
+                  (ap (λ (y : Option ℕ). is_in_short y k) here ∙ eq-eqb k k refl)
 
               in_group : (y : Option ℕ) → group_of groups one ≡ y → is_in_short y k ≡ true → HasMarked k
               in_group None g t = cc t
@@ -381,19 +453,26 @@ module _ (board : RawBoard) (rules : IsBoard board) (walk : List Ctl) (setting :
           or_none true = refl
           or_none false = refl
 
-          by_group : (x : Option ℕ) → group_of groups n ≡ x → net_bit_by board faults states shorts n w.net None x ≡ Some ((n == one) || is_one_group x (group_of groups one))
+          by_group : (x : Option ℕ) → group_of groups n ≡ x
+              → net_bit_by board faults states shorts n w.net None x
+              ≡ Some ((n == one) || is_one_group x (group_of groups one))
           by_group None e =
               plain_is faults w.driver n w.net.pull (is_marked n) (feeding board states w.net) (carries_mark n w)
               ∙ ap (λ (b : Bool). Some b) (marked n w ∙ sym (or_none (n == one)))
           by_group (Some k) e = ap (λ (b : Bool). Some b) (short_is k n e (shorts k) ∙ by_one k e (group_of groups one) refl)
 
-      pub cell_is : (c : Compared board (holds walk) n w.net) (choice : Choice) → captured_cell board faults (row_states board row) choice c.k c.device c.cell ≡ are_joined groups n one
+      pub cell_is : (c : Compared board (holds walk) n w.net) (choice : Choice)
+          → captured_cell board faults (row_states board row) choice c.k c.device c.cell
+          ≡ are_joined groups n one
       cell_is c choice =
           let at : PinAt = record { part = c.k; bit = c.bit } in
           let ne : c.place ≢ c.driver = λ e. both_ways (c.driver == c.place) c.other (eq-eqb c.driver c.place (sym e)) in
           let dead : live_where board states (Some at) ≡ false =
           sym (ap (λ (x : Option PinAt). live_where board states x) c.pin_at)
-          ∙ dead_at board row setting.safe n w.net (places.nets n w.net w.is_net) c.driver c.observing_is quiet_row chain held_row c.place c.pin c.pin_is ne in
-          subst (λ (all : List PinState). captured_cell board faults all choice c.k c.device c.cell ≡ are_joined groups n one) (all_show board row 0 board.chain)
+          ∙ dead_at board row setting.safe n w.net (places.nets n w.net w.is_net) c.driver
+          c.observing_is quiet_row chain held_row c.place c.pin c.pin_is ne in
+          subst
+          (λ (all : List PinState). captured_cell board faults all choice c.k c.device c.cell
+          ≡ are_joined groups n one) (all_show board row 0 board.chain)
           (captures board faults (holds walk) n w.net states choice.shorts ((choice.parts c.k).cells c.cell) c dead
           ∙ ap (λ (b : Option Bool). unwrap_or b ((choice.parts c.k).cells c.cell)) (net_bit_is choice.shorts))

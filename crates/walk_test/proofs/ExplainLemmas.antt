@@ -37,14 +37,20 @@ use Rattle.walk_test.proofs.RowLemmas.{CellsOf, ComparedAt, compared_at, laid_he
 
 -- the walk nets are covered
 walked_covered : (board : RawBoard) (walk : List Ctl) (n : ℕ) → IsSafe board (holds walk) → WalkedBy board walk n → IsCovered board n
-walked_covered board walk n safe w = (holds walk, safe, (w.net, w.is_net, (w.driver, observed_by board (holds walk) w.net w.driver w.observing)))
+walked_covered board walk n safe w = (
+  holds walk,
+  safe,
+  (w.net, w.is_net, (w.driver, observed_by board (holds walk) w.net w.driver w.observing)),
+)
 
 -- the nets of groups are walk nets
-pub group_nets : (board : RawBoard) (groups : List (List ℕ)) → AreGroups board groups → (n k : ℕ) → group_of groups n ≡ Some k → Contains (walk_nets board) n
+pub group_nets : (board : RawBoard) (groups : List (List ℕ)) → AreGroups board groups → (n k : ℕ)
+    → group_of groups n ≡ Some k → Contains (walk_nets board) n
 group_nets board groups are n k e =
     let g = group_found 0 groups n k e in
     has_from_all (λ (m : ℕ). Contains (walk_nets board) m) g.group n
-    (has_from_all (λ (group : List ℕ). All (λ m. Contains (walk_nets board) m) group) groups g.group are.walked (has_at groups g.index g.group g.stands)) g.member
+    (has_from_all (λ (group : List ℕ). All (λ m. Contains (walk_nets board) m) group) groups g.group
+    are.walked (has_at groups g.index g.group g.stands)) g.member
 
 -- a group of two or more nets has a net other than `n`
 pub another : (group : List ℕ) (n : ℕ) → 2 ≤ length group → Rises group → (m : ℕ) × Has group m × (m ≢ n)
@@ -56,7 +62,9 @@ another (x ∷ y ∷ group) n some rise = by_case (cases_eq x n)
     by_case (inl same) = (y, inr (inl refl), λ e. omega (arith, same, e, rise.0 y (inl refl)))
     by_case (inr other) = (x, inl refl, other)
 
-faults_of : (board : RawBoard) (groups : List (List ℕ)) → AreOrdered groups → ((n k : ℕ) → group_of groups n ≡ Some k → IsCovered board n) → IsFaultSet board (or_shorts groups)
+faults_of : (board : RawBoard) (groups : List (List ℕ)) → AreOrdered groups
+    → ((n k : ℕ) → group_of groups n ≡ Some k → IsCovered board n)
+    → IsFaultSet board (or_shorts groups)
 faults_of board groups ordered covered = record {
   disjoint = λ n v e. cc e;
   several = λ n k e.
@@ -70,7 +78,9 @@ faults_of board groups ordered covered = record {
 }
 
 -- if the walk setting is safe, the shorts of groups are faults of the board
-pub shorts_are_faults : (board : RawBoard) (groups : List (List ℕ)) → ((walk : List Ctl) → walk_setting board ≡ Some walk → IsSafe board (holds walk)) → AreGroups board groups → IsFaultSet board (or_shorts groups)
+pub shorts_are_faults : (board : RawBoard) (groups : List (List ℕ))
+    → ((walk : List Ctl) → walk_setting board ≡ Some walk → IsSafe board (holds walk))
+    → AreGroups board groups → IsFaultSet board (or_shorts groups)
 shorts_are_faults board groups safe are = by_setting (walk_setting board) refl
   where
     by_setting : (o : Option (List Ctl)) → walk_setting board ≡ o → IsFaultSet board (or_shorts groups)
@@ -82,18 +92,23 @@ shorts_are_faults board groups safe are = by_setting (walk_setting board) refl
         (λ n k g. walked_covered board walk n (safe walk e) (walk_has board walk e n (group_nets board groups are n k g)))
 
 -- if a scan's mask has a 1 at position i, the bit of the scan at this position has an expected value
-mask_bit : (bits : List ScanBit) (i : ℕ) → get_or (mask_bits bits) i false ≡ true → (b : ScanBit) × (v : Bool) × (slice_get bits i ≡ Some b) × (b.expect ≡ Some v)
+mask_bit : (bits : List ScanBit) (i : ℕ) → get_or (mask_bits bits) i false ≡ true
+    → (b : ScanBit) × (v : Bool) × (slice_get bits i ≡ Some b) × (b.expect ≡ Some v)
 mask_bit [] i e = cc e
 mask_bit (b ∷ bits) zero e = by_expect b.expect refl e
   where
-    by_expect : (o : Option Bool) → b.expect ≡ o → is_some o ≡ true → (a : ScanBit) × (v : Bool) × (slice_get (b ∷ bits) 0 ≡ Some a) × (a.expect ≡ Some v)
+    by_expect : (o : Option Bool) → b.expect ≡ o → is_some o ≡ true
+        → (a : ScanBit) × (v : Bool) × (slice_get (b ∷ bits) 0 ≡ Some a) × (a.expect ≡ Some v)
     by_expect None q h = cc h
     by_expect (Some v) q h = (b, v, refl, q)
 mask_bit (b ∷ bits) (suc i) e = let r = mask_bit bits i e in (r.0, r.1, r.2, r.3)
 
-bit_mask : (bits : List ScanBit) (i : ℕ) (b : ScanBit) (v : Bool) → slice_get bits i ≡ Some b → b.expect ≡ Some v → get_or (mask_bits bits) i false ≡ true
+bit_mask : (bits : List ScanBit) (i : ℕ) (b : ScanBit) (v : Bool) → slice_get bits i ≡ Some b
+    → b.expect ≡ Some v → get_or (mask_bits bits) i false ≡ true
 bit_mask [] i b v e q = cc e
-bit_mask (a ∷ bits) zero b v e q = let same : a ≡ b = cc e in ap (λ (x : ScanBit). is_some x.expect) same ∙ ap (λ (o : Option Bool). is_some o) q
+bit_mask (a ∷ bits) zero b v e q =
+    let same : a ≡ b = cc e in
+    ap (λ (x : ScanBit). is_some x.expect) same ∙ ap (λ (o : Option Bool). is_some o) q
 bit_mask (a ∷ bits) (suc i) b v e q = bit_mask bits i b v e q
 
 -- the compared positions of a scan do not depend on the row that the scan shifts in
@@ -103,11 +118,14 @@ mask_any board scan = mask_laid board scan ∙ sym (mask_laid board (record { no
 -- in each row, each compared cell of a walk net reads 1 if its net is joined with the net that carries 1, and otherwise 0
 abbrev pub ShowJoined : RawBoard → List Ctl → List (List Bool) → List (List ℕ) → Type 0
 ShowJoined board walk log groups =
-    (j one : ℕ) (logged : List Bool) (d : DriverCell) (s : IsDriverCell board walk d) (r : ReaderCell) → IsReaderCell board s.net r → (r.place == d.place) ≡ false →
+    (j one : ℕ) (logged : List Bool) (d : DriverCell) (s : IsDriverCell board walk d)
+    (r : ReaderCell) → IsReaderCell board s.net r → (r.place == d.place) ≡ false →
     slice_get (walk_nets board) j ≡ Some one → slice_get log j ≡ Some logged → get_or logged r.position false ≡ are_joined groups d.net one
 
-module _ (board : RawBoard) (rules : IsBoard board) (walk : List Ctl) (is : walk_setting board ≡ Some walk) (setting : IsWalkSetting board walk)
-    (compare : CompareRows (walk_row board) (count_by (is_walked board walk) board.nets) (walk ∷ []) (compared_scans board (walk_row_scans board walk)))
+module _ (board : RawBoard) (rules : IsBoard board) (walk : List Ctl)
+    (is : walk_setting board ≡ Some walk) (setting : IsWalkSetting board walk)
+    (compare : CompareRows (walk_row board) (count_by (is_walked board walk) board.nets) (walk ∷ [])
+    (compared_scans board (walk_row_scans board walk)))
     (groups : List (List ℕ)) (are : AreGroups board groups) where
   abbrev scans : List RowScan
   scans = walk_row_scans board walk
@@ -119,7 +137,11 @@ module _ (board : RawBoard) (rules : IsBoard board) (walk : List Ctl) (is : walk
   faults = or_shorts groups
 
   is_set : IsFaultSet board faults
-  is_set = shorts_are_faults board groups (λ other e. let same : Some walk ≡ Some other = sym is ∙ e in let one : walk ≡ other = cc same in subst (λ (l : List Ctl). IsSafe board (holds l)) one setting.safe) are
+  is_set =
+      shorts_are_faults board groups
+      (λ other e. let same : Some walk ≡ Some other = sym is ∙ e in
+      let one : walk ≡ other = cc same in
+      subst (λ (l : List Ctl). IsSafe board (holds l)) one setting.safe) are
 
   walked : (n k : ℕ) → group_of groups n ≡ Some k → WalkedBy board walk n
   walked n k e = walk_has board walk is n (group_nets board groups are n k e)
@@ -139,30 +161,47 @@ module _ (board : RawBoard) (rules : IsBoard board) (walk : List Ctl) (is : walk
       one_times k = grind arith
 
   -- the bit that a compared cell captures in row j
-  module _ (j one : ℕ) (at : slice_get (walk_nets board) j ≡ Some one) (d : DriverCell) (s : IsDriverCell board walk d) (r : ReaderCell) (q : IsReaderCell board s.net r) (other : (r.place == d.place) ≡ false) (choice : Choice) where
+  module _ (j one : ℕ) (at : slice_get (walk_nets board) j ≡ Some one) (d : DriverCell)
+      (s : IsDriverCell board walk d) (r : ReaderCell) (q : IsReaderCell board s.net r)
+      (other : (r.place == d.place) ≡ false) (choice : Choice) where
     w : WalkedBy board walk d.net
     w = record { net = s.net; is_net = s.is_net; driver = d.place; observing = s.observing }
 
-    captured_at : (r.position < data_bits board) × (get_or (row_captured board faults (walk_row board walk j) choice) r.position false ≡ are_joined groups d.net one)
+    captured_at : (r.position < data_bits board)
+        × (get_or (row_captured board faults (walk_row board walk j) choice) r.position false
+        ≡ are_joined groups d.net one)
     unfolding w
     captured_at =
-        let h = laid_here board rules walk d.net s.net s.is_net d.place s.observing r q other (captured_cell board faults (row_states board (walk_row board walk j)) choice) in (
+        let h = laid_here board rules walk d.net s.net s.is_net d.place s.observing r q other
+        (captured_cell board faults (row_states board (walk_row board walk j)) choice) in (
           h.0,
           ap (λ (l : List Bool). get_or l r.position false) (captured_is board faults (walk_row board walk j) choice) ∙ h.1
-              ∙ cell_is board rules walk setting j groups is_set walked d.net w one (λ n x. marked_is board walk is j one at n x) (compared_of board rules walk d.net s.net s.is_net d.place s.observing r q other) choice,
+              ∙ cell_is board rules walk setting j groups is_set walked d.net w one
+              (λ n x. marked_is board walk is j one at n x)
+              (compared_of board rules walk d.net s.net s.is_net d.place s.observing r q other)
+              choice,
         )
 
   row_below : (j one : ℕ) → slice_get (walk_nets board) j ≡ Some one → j < m
   row_below j one at = omega (arith, slice_get_within (walk_nets board) j one at, count_is board walk is)
 
   long_captured : (row : TestRow) (choice : Choice) → length (row_captured board faults row choice) ≡ data_bits board
-  long_captured row choice = ap (λ (l : List Bool). length l) (captured_is board faults row choice) ∙ length-laid (captured_cell board faults (row_states board row) choice) board
+  long_captured row choice =
+      ap (λ (l : List Bool). length l) (captured_is board faults row choice)
+      ∙ length-laid (captured_cell board faults (row_states board row) choice) board
 
-  long_log : (log : List (List Bool)) → HasShape board scans log → (j : ℕ) (logged : List Bool) → slice_get log j ≡ Some logged → length logged ≡ data_bits board
+  long_log : (log : List (List Bool)) → HasShape board scans log → (j : ℕ) (logged : List Bool)
+      → slice_get log j ≡ Some logged → length logged ≡ data_bits board
   long_log log shape j logged e = all_stands (λ (row : List Bool). length row ≡ data_bits board) log j logged e shape.bits
 
   abbrev some_choice : Choice
-  some_choice = record { parts = λ k. record { ir = λ i. false; cells = λ i. false; latches = λ i. false; tdo = false; other = false }; shorts = λ k. false; tdi = false }
+  some_choice =
+      record {
+        parts = λ k. record
+            { ir = λ i. false; cells = λ i. false; latches = λ i. false; tdo = false; other = false };
+        shorts = λ k. false;
+        tdi = false;
+      }
 
   shows : (log : List (List Bool)) → HasShape board scans log → IsCapturedBy board faults scans log → ShowJoined board walk log groups
   shows log shape captured j one logged d s r q other at e =
@@ -170,15 +209,20 @@ module _ (board : RawBoard) (rules : IsBoard board) (walk : List Ctl) (is : walk
       let cap : List Bool = row_captured board faults (walk_row board walk j) some_choice in
       let masked : get_or (mask_bits (joined (row_bits board (scan_of j)))) r.position false ≡ true =
       ap (λ (l : List Bool). get_or l r.position false) (mask_any board (scan_of j))
-      ∙ mask_here board rules walk d.net s.net s.is_net d.place s.observing r q other (λ n. count_by (is_walked board walk) (take n board.nets) == j) in
+      ∙ mask_here board rules walk d.net s.net s.is_net d.place s.observing r q other
+      (λ n. count_by (is_walked board walk) (take n board.nets) == j) in
       let b = mask_bit (joined (row_bits board (scan_of j))) r.position masked in
       let in_log : r.position < length logged = omega (arith, c.0, long_log log shape j logged e) in
       let in_cap : r.position < length cap = omega (arith, c.0, long_captured (walk_row board walk j) some_choice) in
-      let agree = agree_at (joined (row_bits board (scan_of j))) logged cap r.position b.0 (get_or logged r.position false) (get_or cap r.position false)
-      (captured j (scan_of j) logged some_choice (scan_at j (row_below j one at)) e) b.2 (slice_get-get_or logged r.position false in_log) (slice_get-get_or cap r.position false in_cap) in
+      let agree = agree_at (joined (row_bits board (scan_of j))) logged cap r.position b.0
+      (get_or logged r.position false) (get_or cap r.position false)
+      (captured j (scan_of j) logged some_choice (scan_at j (row_below j one at)) e) b.2
+      (slice_get-get_or logged r.position false in_log)
+      (slice_get-get_or cap r.position false in_cap) in
       subst (λ (o : Option Bool). AgreeAt o (get_or logged r.position false) (get_or cap r.position false)) b.3 agree ∙ c.1
 
-  captures : (log : List (List Bool)) → HasShape board scans log → CellsOf board walk → ShowJoined board walk log groups → IsCapturedBy board faults scans log
+  captures : (log : List (List Bool)) → HasShape board scans log → CellsOf board walk
+      → ShowJoined board walk log groups → IsCapturedBy board faults scans log
   captures log shape cells shown x scan logged choice e f = by_scan (scan_at x below)
     where
       below : x < m
@@ -190,36 +234,56 @@ module _ (board : RawBoard) (rules : IsBoard board) (walk : List Ctl) (is : walk
       one_at : slice_get (walk_nets board) x ≡ Some (get_or (walk_nets board) x 0)
       one_at = net_there x (omega (arith, below, count_is board walk is))
 
-      each : (i : ℕ) (b : ScanBit) (u y : Bool) → slice_get (joined (row_bits board (scan_of x))) i ≡ Some b → slice_get logged i ≡ Some u → slice_get (row_captured board faults (walk_row board walk x) choice) i ≡ Some y → (o : Option Bool) → b.expect ≡ o → AgreeAt o u y
+      each : (i : ℕ) (b : ScanBit) (u y : Bool)
+          → slice_get (joined (row_bits board (scan_of x))) i ≡ Some b → slice_get logged i ≡ Some u
+          → slice_get (row_captured board faults (walk_row board walk x) choice) i ≡ Some y
+          → (o : Option Bool) → b.expect ≡ o → AgreeAt o u y
       each i b u y eb eu ey None q = tt
       each i b u y eb eu ey (Some v) q =
           let masked : get_or (mask_of board (walk_row board walk x)) i false ≡ true =
-          sym (ap (λ (l : List Bool). get_or l i false) (mask_any board (scan_of x))) ∙ bit_mask (joined (row_bits board (scan_of x))) i b v eb q in
-          let c : ComparedAt board rules walk cells i = compared_at board rules walk cells (λ n. count_by (is_walked board walk) (take n board.nets) == x) i masked in
+          sym (ap (λ (l : List Bool). get_or l i false) (mask_any board (scan_of x)))
+          ∙ bit_mask (joined (row_bits board (scan_of x))) i b v eb q in
+          let c : ComparedAt board rules walk cells i = compared_at board rules walk cells
+          (λ n. count_by (is_walked board walk) (take n board.nets) == x) i masked in
           let cap = captured_at x (get_or (walk_nets board) x 0) one_at c.driver c.is_driver c.reader c.is_reader c.other choice in
           let log_bit : get_or logged i false ≡ are_joined groups c.driver.net (get_or (walk_nets board) x 0) =
-          ap (λ (k : ℕ). get_or logged k false) (sym c.position_is) ∙ shown x (get_or (walk_nets board) x 0) logged c.driver c.is_driver c.reader c.is_reader c.other one_at f in
-          let cap_bit : get_or (row_captured board faults (walk_row board walk x) choice) i false ≡ are_joined groups c.driver.net (get_or (walk_nets board) x 0) =
+          ap (λ (k : ℕ). get_or logged k false) (sym c.position_is)
+          ∙ shown x (get_or (walk_nets board) x 0) logged c.driver c.is_driver c.reader
+          c.is_reader c.other one_at f in
+          let cap_bit : get_or (row_captured board faults (walk_row board walk x) choice) i false
+          ≡ are_joined groups c.driver.net (get_or (walk_nets board) x 0) =
           ap (λ (k : ℕ). get_or (row_captured board faults (walk_row board walk x) choice) k false) (sym c.position_is) ∙ cap.1 in
-          sym (get_or_from_slice_get logged i u false eu) ∙ log_bit ∙ sym cap_bit ∙ get_or_from_slice_get (row_captured board faults (walk_row board walk x) choice) i y false ey
+          sym (get_or_from_slice_get logged i u false eu) ∙ log_bit ∙ sym cap_bit
+          ∙ get_or_from_slice_get (row_captured board faults (walk_row board walk x) choice) i y
+          false ey
 
-      by_scan : slice_get (compared_scans board scans) x ≡ Some (scan_of x) → AgreeWhereCompared (joined (row_bits board scan)) logged (row_captured board faults scan.before choice)
+      by_scan : slice_get (compared_scans board scans) x ≡ Some (scan_of x)
+          → AgreeWhereCompared (joined (row_bits board scan)) logged
+          (row_captured board faults scan.before choice)
       by_scan at =
           let two : Some (scan_of x) ≡ Some scan = sym at ∙ e in
           let same : scan_of x ≡ scan = cc two in
           subst (λ (t : RowScan). AgreeWhereCompared (joined (row_bits board t)) logged (row_captured board faults t.before choice)) same
-          (agree_from (joined (row_bits board (scan_of x))) logged (row_captured board faults (walk_row board walk x) choice) (λ i b u y eb eu ey. each i b u y eb eu ey b.expect refl))
+          (agree_from (joined (row_bits board (scan_of x))) logged
+          (row_captured board faults (walk_row board walk x) choice)
+          (λ i b u y eb eu ey. each i b u y eb eu ey b.expect refl))
 
   -- a log with a row of `data_bits` bits for each walk net has the shape that the scans need
-  pub shaped : (log : List (List Bool)) → length log ≡ length (walk_nets board) → All (λ row. length row ≡ data_bits board) log → HasShape board scans log
+  pub shaped : (log : List (List Bool)) → length log ≡ length (walk_nets board)
+      → All (λ row. length row ≡ data_bits board) log → HasShape board scans log
   shaped log rows bits = record { rows = rows ∙ count_is board walk is ∙ sym rows_are ∙ sym (rows_counted board scans); bits = bits }
 
-  module _ (by_rows : (log : List (List Bool)) → ExplainedBy board faults scans log ↔ (HasShape board scans log × IsCapturedBy board faults scans log)) (log : List (List Bool)) where
-    pub explained_shows : ExplainedBy board faults scans log → ShowJoined board walk log groups
-    explained_shows h = let r = (by_rows log).0 h in shows log r.0 r.1
+  module _
+      (by_rows : (log : List (List Bool))
+      → ExplainedBy board faults scans log
+      ↔ (HasShape board scans log × IsCapturedBy board faults scans log)) (log : List (List Bool))
+    where
+      pub explained_shows : ExplainedBy board faults scans log → ShowJoined board walk log groups
+      explained_shows h = let r = (by_rows log).0 h in shows log r.0 r.1
 
-    pub shows_explained : HasShape board scans log → CellsOf board walk → ShowJoined board walk log groups → ExplainedBy board faults scans log
-    shows_explained shape cells shown = (by_rows log).1 (shape, captures log shape cells shown)
+      pub shows_explained : HasShape board scans log → CellsOf board walk
+          → ShowJoined board walk log groups → ExplainedBy board faults scans log
+      shows_explained shape cells shown = (by_rows log).1 (shape, captures log shape cells shown)
 
-    pub explained_rows : ExplainedBy board faults scans log → length log ≡ length (walk_nets board)
-    explained_rows h = h.shape.rows ∙ rows_counted board scans ∙ rows_are ∙ sym (count_is board walk is)
+      pub explained_rows : ExplainedBy board faults scans log → length log ≡ length (walk_nets board)
+      explained_rows h = h.shape.rows ∙ rows_counted board scans ∙ rows_are ∙ sym (count_is board walk is)

@@ -68,7 +68,14 @@ pub record AreOrdered (groups : List (List ℕ)) : Type 0 where
   pub order : InOrder Before groups
 
 tail_ordered : (group : List ℕ) (groups : List (List ℕ)) → AreOrdered (group ∷ groups) → AreOrdered groups
-tail_ordered group groups p = record { several = λ g has. p.several g (inr has); rise = λ g has. p.rise g (inr has); apart = p.apart.1; order = p.order.1 }
+tail_ordered group groups p =
+    record {
+      several = λ g has. p.several g (inr has);
+      rise = λ g has. p.rise g (inr has);
+      apart =
+          p.apart.1;
+      order = p.order.1;
+    }
 
 apart_of : (groups : List (List ℕ)) → InOrder (λ one other. (n : ℕ) → Contains one n → Contains other n → ⊥) groups → InOrder Apart groups
 apart_of [] p = tt
@@ -87,15 +94,20 @@ abbrev pub Together : List (List ℕ) → ℕ → ℕ → Type 0
 Together groups a b = (group : List ℕ) × Has groups group × Has group a × Has group b
 
 -- a net of the first group is in no later group
-first_only : (group : List ℕ) (groups : List (List ℕ)) (other : List ℕ) (n : ℕ) → AreOrdered (group ∷ groups) → Has group n → Has (group ∷ groups) other → Has other n → group ≡ other
+first_only : (group : List ℕ) (groups : List (List ℕ)) (other : List ℕ) (n : ℕ)
+    → AreOrdered (group ∷ groups) → Has group n → Has (group ∷ groups) other → Has other n
+    → group ≡ other
 first_only group groups other n p in_first (inl same) in_other = same
 first_only group groups other n p in_first (inr has) in_other = absurd (p.apart.0 other has n in_first in_other)
 
-least_low : (group : List ℕ) (groups : List (List ℕ)) (other : List ℕ) → AreOrdered (group ∷ groups) → Has (group ∷ groups) other → least_of group ≤ least_of other
+least_low : (group : List ℕ) (groups : List (List ℕ)) (other : List ℕ) → AreOrdered (group ∷ groups)
+    → Has (group ∷ groups) other → least_of group ≤ least_of other
 least_low group groups other p (inl same) = let e : least_of group ≡ least_of other = ap least_of same in omega (arith, e)
 least_low group groups other p (inr has) = omega (arith, p.order.0 other has)
 
-module _ (g : List ℕ) (gs : List (List ℕ)) (h : List ℕ) (hs : List (List ℕ)) (p : AreOrdered (g ∷ gs)) (q : AreOrdered (h ∷ hs)) (to : (a b : ℕ) → Together (g ∷ gs) a b → Together (h ∷ hs) a b) where
+module _ (g : List ℕ) (gs : List (List ℕ)) (h : List ℕ) (hs : List (List ℕ))
+    (p : AreOrdered (g ∷ gs)) (q : AreOrdered (h ∷ hs))
+    (to : (a b : ℕ) → Together (g ∷ gs) a b → Together (h ∷ hs) a b) where
   own_least : Has g (least_of g)
   own_least = least_has g (p.several g (inl refl))
 
@@ -119,7 +131,9 @@ module _ (g : List ℕ) (gs : List (List ℕ)) (h : List ℕ) (hs : List (List �
       by_place (l, inr later, la, lb) = (l, later, la, lb)
 
 -- if any two nets that are in one group of either list are also in one group of the other list, the lists are equal
-pub one_list : (groups others : List (List ℕ)) → AreOrdered groups → AreOrdered others → ((a b : ℕ) → Together groups a b → Together others a b) → ((a b : ℕ) → Together others a b → Together groups a b) → groups ≡ others
+pub one_list : (groups others : List (List ℕ)) → AreOrdered groups → AreOrdered others
+    → ((a b : ℕ) → Together groups a b → Together others a b)
+    → ((a b : ℕ) → Together others a b → Together groups a b) → groups ≡ others
 one_list [] [] p q to from = refl
 one_list [] (h ∷ hs) p q to from =
     let low = least_has h (q.several h (inl refl)) in
@@ -129,8 +143,12 @@ one_list (g ∷ gs) [] p q to from =
     absurd ((to (least_of g) (least_of g) (g, inl refl, low, low)).1)
 one_list (g ∷ gs) (h ∷ hs) p q to from =
     let least : least_of g ≡ least_of h = omega (arith, least_above g gs h hs p q to, least_above h hs g gs q p from) in
-    let same : g ≡ h = rising_same g h (p.rise g (inl refl)) (q.rise h (inl refl)) (first_within g gs h hs p q to least) (first_within h hs g gs q p from (sym least)) in
-    cons_path same (one_list gs hs (tail_ordered g gs p) (tail_ordered h hs q) (rest_within g gs h hs p q to same) (rest_within h hs g gs q p from (sym same)))
+    let same : g
+    ≡ h = rising_same g h (p.rise g (inl refl)) (q.rise h (inl refl))
+    (first_within g gs h hs p q to least) (first_within h hs g gs q p from (sym least)) in
+    cons_path same
+    (one_list gs hs (tail_ordered g gs p) (tail_ordered h hs q)
+    (rest_within g gs h hs p q to same) (rest_within h hs g gs q p from (sym same)))
 
 -- if a group has net `n`, comparing the group's nets with `n` finds an equal net
 any_in : (group : List ℕ) (n : ℕ) → Has group n → list_any (λ m. m == n) group ≡ true
@@ -151,19 +169,46 @@ pub group_found : (k : ℕ) (groups : List (List ℕ)) (n y : ℕ) → group_fro
 group_found k [] n y e = cc e
 group_found k (group ∷ groups) n y e = by_test (group_found (suc k) groups n y) (list_any (λ m. m == n) group) refl e
   where
-    by_test : (group_from (suc k) groups n ≡ Some y → GroupOf (suc k) groups n y) → (b : Bool) → list_any (λ m. m == n) group ≡ b → cond b (Some k) (group_from (suc k) groups n) ≡ Some y → GroupOf k (group ∷ groups) n y
-    by_test later true t f = let same : k ≡ y = cc f in record { index = 0; group = group; number_is = omega (arith, same); stands = refl; member = in_any group n t }
-    by_test later false t f = let r = later f in record { index = suc r.index; group = r.group; number_is = omega (arith, r.number_is); stands = r.stands; member = r.member }
+    by_test : (group_from (suc k) groups n ≡ Some y → GroupOf (suc k) groups n y) → (b : Bool)
+        → list_any (λ m. m == n) group ≡ b → cond b (Some k) (group_from (suc k) groups n) ≡ Some y
+        → GroupOf k (group ∷ groups) n y
+    by_test later true t f =
+        let same : k ≡ y = cc f in
+        record {
+          index = 0;
+          group = group;
+          number_is = omega (arith, same);
+          stands = refl;
+          member =
+              in_any group n t;
+        }
+    by_test later false t f =
+        let r = later f in
+        record {
+          index = suc r.index;
+          group = r.group;
+          number_is = omega (arith, r.number_is);
+          stands =
+              r.stands;
+          member = r.member;
+        }
 
-pub group_is : (k : ℕ) (groups : List (List ℕ)) (index : ℕ) (group : List ℕ) (n : ℕ) → InOrder Apart groups → slice_get groups index ≡ Some group → Has group n → group_from k groups n ≡ Some (k + index)
+pub group_is : (k : ℕ) (groups : List (List ℕ)) (index : ℕ) (group : List ℕ) (n : ℕ)
+    → InOrder Apart groups → slice_get groups index ≡ Some group → Has group n
+    → group_from k groups n ≡ Some (k + index)
 group_is k [] index group n apart e has = cc e
 group_is k (first ∷ groups) zero group n apart e has =
     let same : first ≡ group = cc e in
     let z : k ≡ k + 0 = omega arith in
-    ap (λ (b : Bool). cond b (Some k) (group_from (suc k) groups n)) (any_in first n (subst (λ (l : List ℕ). Has l n) (sym same) has)) ∙ ap (λ (m : ℕ). Some m) z
-group_is k (first ∷ groups) (suc index) group n apart e has = by_test (group_is (suc k) groups index group n apart.1 e has) (list_any (λ m. m == n) first) refl
+    ap (λ (b : Bool). cond b (Some k) (group_from (suc k) groups n))
+    (any_in first n (subst (λ (l : List ℕ). Has l n) (sym same) has)) ∙ ap (λ (m : ℕ). Some m) z
+group_is k (first ∷ groups) (suc index) group n apart e has =
+    by_test (group_is (suc k) groups index group n apart.1 e has) (list_any (λ m. m == n) first)
+    refl
   where
-    by_test : group_from (suc k) groups n ≡ Some (suc k + index) → (b : Bool) → list_any (λ m. m == n) first ≡ b → cond b (Some k) (group_from (suc k) groups n) ≡ Some (k + suc index)
+    by_test : group_from (suc k) groups n ≡ Some (suc k + index) → (b : Bool)
+        → list_any (λ m. m == n) first ≡ b
+        → cond b (Some k) (group_from (suc k) groups n) ≡ Some (k + suc index)
     by_test later true t = absurd (apart.0 group (has_at groups index group e) n (in_any first n t) has)
     by_test later false t =
         let z : suc k + index ≡ k + suc index = omega arith in
@@ -182,7 +227,8 @@ together_of groups a b e = by_first (group_of groups a) refl e
         let one : q.group ≡ p.group = cc two in
         (p.group, has_at groups p.index p.group p.stands, p.member, subst (λ (l : List ℕ). Has l b) one q.member)
 
-    by_second : (x : ℕ) → group_of groups a ≡ Some x → (o : Option ℕ) → group_of groups b ≡ o → is_one_group (Some x) o ≡ true → Together groups a b
+    by_second : (x : ℕ) → group_of groups a ≡ Some x → (o : Option ℕ) → group_of groups b ≡ o
+        → is_one_group (Some x) o ≡ true → Together groups a b
     by_second x ea None eb same = cc same
     by_second x ea (Some y) eb same = by_both x y ea eb same
 
@@ -190,7 +236,8 @@ together_of groups a b e = by_first (group_of groups a) refl e
     by_first None ea same = cc same
     by_first (Some x) ea same = by_second x ea (group_of groups b) refl same
 
-pub one_group : (groups : List (List ℕ)) (a b : ℕ) → InOrder Apart groups → Together groups a b → is_one_group (group_of groups a) (group_of groups b) ≡ true
+pub one_group : (groups : List (List ℕ)) (a b : ℕ) → InOrder Apart groups → Together groups a b
+    → is_one_group (group_of groups a) (group_of groups b) ≡ true
 one_group groups a b apart (group, has, in_a, in_b) =
     let at = has_place groups group has in
     let z : 0 + at.0 ≡ at.0 = omega arith in
@@ -225,7 +272,9 @@ module _ (groups : List (List ℕ)) (ordered : AreOrdered groups) where
   one_of group other n has also in_one in_other =
       let p = has_place groups group has in
       let q = has_place groups other also in
-      let two : Some (0 + p.0) ≡ Some (0 + q.0) = sym (group_is 0 groups p.0 group n ordered.apart p.1 in_one) ∙ group_is 0 groups q.0 other n ordered.apart q.1 in_other in
+      let two : Some (0 + p.0)
+      ≡ Some (0 + q.0) = sym (group_is 0 groups p.0 group n ordered.apart p.1 in_one)
+      ∙ group_is 0 groups q.0 other n ordered.apart q.1 in_other in
       let sum : 0 + p.0 ≡ 0 + q.0 = cc two in
       let at : p.0 ≡ q.0 = omega (arith, sum) in
       let same : Some group ≡ Some other = sym p.1 ∙ ap (λ (i : ℕ). slice_get groups i) at ∙ q.1 in
@@ -243,7 +292,9 @@ module _ (groups : List (List ℕ)) (ordered : AreOrdered groups) where
 
   -- if nets `a` and `b` are joined, `a` is joined with net `c` if and only if `b` is
   pub joined_same : (a b c : ℕ) → are_joined groups a b ≡ true → are_joined groups a c ≡ are_joined groups b c
-  joined_same a b c e = same_answer (are_joined groups a c) (are_joined groups b c) (λ f. joined_across b a c (joined_swap a b e) f) (λ f. joined_across a b c e f)
+  joined_same a b c e =
+      same_answer (are_joined groups a c) (are_joined groups b c)
+      (λ f. joined_across b a c (joined_swap a b e) f) (λ f. joined_across a b c e f)
 
   pub joined_by : (a b c : ℕ) → are_joined groups a c ≡ true → are_joined groups b c ≡ true → are_joined groups a b ≡ true
   joined_by a b c e f = joined_across a c b e (joined_swap b c f)

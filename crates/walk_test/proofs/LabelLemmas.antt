@@ -19,7 +19,7 @@ use Rattle.response_log.specs.LogRows.{bit_in}
 use Rattle.walk_test.specs.declared.tables.NetCells.{NetCells}
 use Rattle.walk_test.specs.WalkTest.{walk_nets}
 use Rattle.walk_test.specs.Groups.{Rise, least_of, AreGroups}
-use Rattle.walk_test.specs.inner.Reading.{are_joined, first_one, label_of, net_shows, ShowsIn, ShowsAll, members, group_at, groups_by}
+use Rattle.walk_test.specs.inner.Reading.{are_joined, first_one, label_of, net_shows, ShowsLabelsIn, ShowsLabels, members, group_at, groups_by}
 use Rattle.walk_test.proofs.GroupLemmas.{Rises, least_has, least_le, Before, AreOrdered, Together, joined_cases, joined_self, joined_in}
 
 -- if row `j` reads 1 at a position, the first row that reads 1 there is row `j` or an earlier row
@@ -38,27 +38,36 @@ pub first_holds : (log : List (List Bool)) (at : ℕ) → first_one log at < len
 first_holds [] at less = absurd (omega (arith, less))
 first_holds (row ∷ log) at less = by_test (get_or row at false) refl (first_holds log at) less
   where
-    by_test : (b : Bool) → get_or row at false ≡ b → (first_one log at < length log → bit_in log (first_one log at) at ≡ true) → cond b 0 (suc (first_one log at)) < length (row ∷ log) →
+    by_test : (b : Bool) → get_or row at false ≡ b
+        → (first_one log at < length log → bit_in log (first_one log at) at ≡ true)
+        → cond b 0 (suc (first_one log at)) < length (row ∷ log) →
         bit_in (row ∷ log) (cond b 0 (suc (first_one log at))) at ≡ true
     by_test true e rest h = e
     by_test false e rest h = rest (omega (arith, h))
 
 -- if two positions read the same bits in all rows, they have the same first row
-pub first_same : (log : List (List Bool)) (p q : ℕ) → ((j : ℕ) → j < length log → bit_in log j p ≡ bit_in log j q) → first_one log p ≡ first_one log q
+pub first_same : (log : List (List Bool)) (p q : ℕ)
+    → ((j : ℕ) → j < length log → bit_in log j p ≡ bit_in log j q)
+    → first_one log p ≡ first_one log q
 first_same [] p q same = refl
 first_same (row ∷ log) p q same =
     let rest : first_one log p ≡ first_one log q = first_same log p q (λ j less. same (suc j) (omega (arith, less))) in
     ap (λ (b : Bool). cond b 0 (suc (first_one log p))) (same 0 (omega arith)) ∙ ap (λ (k : ℕ). cond (get_or row q false) 0 (suc k)) rest
 
 -- if row `i` reads 1 at a position, and no earlier row does, row `i` is the first row of the position
-pub first_here : (log : List (List Bool)) (at i : ℕ) → i < length log → bit_in log i at ≡ true → ((j : ℕ) → j < i → bit_in log j at ≡ false) → first_one log at ≡ i
+pub first_here : (log : List (List Bool)) (at i : ℕ) → i < length log → bit_in log i at ≡ true
+    → ((j : ℕ) → j < i → bit_in log j at ≡ false) → first_one log at ≡ i
 first_here log at i less on off = by_side (cases_lt (first_one log at) i)
   where
     low : first_one log at ≤ i
     low = first_low log at i on
 
     by_side : (first_one log at < i) ⊎ (i ≤ first_one log at) → first_one log at ≡ i
-    by_side (inl before) = let bad : true ≡ false = sym (first_holds log at (omega (arith, before, less))) ∙ off (first_one log at) before in cc bad
+    by_side (inl before) =
+        let bad : true
+        ≡ false = sym (first_holds log at (omega (arith, before, less)))
+        ∙ off (first_one log at) before in
+        cc bad
     by_side (inr past) = omega (arith, low, past)
 
 pub first_none : (log : List (List Bool)) (at : ℕ) → ((j : ℕ) → j < length log → bit_in log j at ≡ false) → first_one log at ≡ length log
@@ -68,33 +77,39 @@ first_none (row ∷ log) at off =
     ap (λ (b : Bool). cond b 0 (suc (first_one log at))) (off 0 (omega arith)) ∙ ap (λ (k : ℕ). suc k) rest
 
 -- the label at place `i` is the label of the net whose cells are at place `i`
-pub label_is : (log : List (List Bool)) (cells : List NetCells) (i : ℕ) (c : NetCells) → slice_get cells i ≡ Some c → slice_get (map (label_of log) cells) i ≡ Some (label_of log c)
+pub label_is : (log : List (List Bool)) (cells : List NetCells) (i : ℕ) (c : NetCells)
+    → slice_get cells i ≡ Some c → slice_get (map (label_of log) cells) i ≡ Some (label_of log c)
 label_is log cells i c e = slice_get-map (label_of log) cells i ∙ ap (λ (o : Option NetCells). option_map (label_of log) o) e
 
 pub first_compared : (c : NetCells) → 0 < length c.compared → Has c.compared (get_or c.compared 0 0)
 first_compared c some = has_at c.compared 0 (get_or c.compared 0 0) (slice_get-get_or c.compared 0 0 some)
 
 -- A log with at least one row for each net. Each net has a compared cell.
-module _ (log : List (List Bool)) (cells : List NetCells) (long : length cells ≤ length log) (some : (i : ℕ) (c : NetCells) → slice_get cells i ≡ Some c → 0 < length c.compared) where
+module _ (log : List (List Bool)) (cells : List NetCells) (long : length cells ≤ length log)
+    (some : (i : ℕ) (c : NetCells) → slice_get cells i ≡ Some c → 0 < length c.compared) where
   abbrev log_labels : List ℕ
   log_labels = map (label_of log) cells
 
-  -- in each row, each compared cell reads 1 if and only if its net has the same label as the net of the row; this is the same as `ShowsAll`
+  -- in each row, each compared cell reads 1 if and only if its net has the same label as the net of the row; this is the same as `ShowsLabels`
   abbrev EachShows : Type 0
-  EachShows = (j i p : ℕ) (c : NetCells) → j < length cells → slice_get cells i ≡ Some c → Has c.compared p → bit_in log j p ≡ (get_or log_labels i 0 == get_or log_labels j 0)
+  EachShows =
+      (j i p : ℕ) (c : NetCells) → j < length cells → slice_get cells i ≡ Some c → Has c.compared p
+      → bit_in log j p ≡ (get_or log_labels i 0 == get_or log_labels j 0)
 
-  pub each_shows : ShowsAll log log_labels cells → EachShows
+  pub each_shows : ShowsLabels log log_labels cells → EachShows
   each_shows shows j i p c less e has =
       same_of_is_same (bit_in log j p) (get_or log_labels i 0 == get_or log_labels j 0)
       (all_has (λ at. is_same (bit_in log j at) (get_or log_labels i 0 == get_or log_labels j 0)) c.compared p (shows j less i c e) has)
 
-  pub shows_each : EachShows → ShowsAll log log_labels cells
+  pub shows_each : EachShows → ShowsLabels log log_labels cells
   shows_each each j less i c e =
       all_from (λ at. is_same (bit_in log j at) (get_or log_labels i 0 == get_or log_labels j 0)) c.compared
-      (λ k p f. is_same_of_same (bit_in log j p) (get_or log_labels i 0 == get_or log_labels j 0) (each j i p c less e (has_at c.compared k p f)))
+      (λ k p f. is_same_of_same (bit_in log j p) (get_or log_labels i 0 == get_or log_labels j 0)
+      (each j i p c less e (has_at c.compared k p f)))
 
   -- if the log shows the labels, label `k` is the place of a net with label `k`, and no net with this label comes before this place
-  pub own_label : ShowsAll log log_labels cells → (i k : ℕ) → slice_get log_labels i ≡ Some k → (k ≤ i) × (slice_get log_labels k ≡ Some k)
+  pub own_label : ShowsLabels log log_labels cells → (i k : ℕ) → slice_get log_labels i ≡ Some k
+      → (k ≤ i) × (slice_get log_labels k ≡ Some k)
   own_label shows i k e =
       let below : i < length cells = omega (arith, slice_get_within log_labels i k e, length-map cells (label_of log)) in
       let none : NetCells = record { driver = 0; compared = [] } in
@@ -105,12 +120,16 @@ module _ (log : List (List Bool)) (cells : List NetCells) (long : length cells �
       let two : Some (first_one log p) ≡ Some k = sym (label_is log cells i c at) ∙ e in
       let label : first_one log p ≡ k = cc two in
       let mine : get_or log_labels i 0 ≡ k = get_or_from_slice_get log_labels i k 0 e in
-      let on : bit_in log i p ≡ true = each_shows shows i i p c below at has ∙ eq-eqb (get_or log_labels i 0) (get_or log_labels i 0) refl in
+      let on : bit_in log i p
+      ≡ true = each_shows shows i i p c below at has
+      ∙ eq-eqb (get_or log_labels i 0) (get_or log_labels i 0) refl in
       let low : k ≤ i = omega (arith, first_low log p i on, label) in
       let first : bit_in log (first_one log p) p ≡ true = first_holds log p (omega (arith, label, low, below, long)) in
       let row : bit_in log k p ≡ true = ap (λ (j : ℕ). bit_in log j p) (sym label) ∙ first in
       let within : k < length cells = omega (arith, low, below) in
-      let same : get_or log_labels i 0 ≡ get_or log_labels k 0 = eqb-true (get_or log_labels i 0) (get_or log_labels k 0) (sym (each_shows shows k i p c within at has) ∙ row) in
+      let same : get_or log_labels i 0
+      ≡ get_or log_labels k 0 = eqb-true (get_or log_labels i 0) (get_or log_labels k 0)
+      (sym (each_shows shows k i p c within at has) ∙ row) in
       let in_labels : k < length log_labels = omega (arith, within, length-map cells (label_of log)) in
       (low, slice_get-get_or log_labels k 0 in_labels ∙ ap (λ (l : ℕ). Some l) (sym same ∙ mine))
 
@@ -122,8 +141,12 @@ pub decided_below : (P : ℕ → Type 0) → ((j : ℕ) → IsDecided (P j)) →
 decided_below P each zero = (true, (λ e j less. absurd (omega (arith, less)), λ h. refl))
 decided_below P each (suc n) =
     let rest = decided_below P each n in
-    let last = each n in
-    (rest.0 && last.0, Decides-like (rest.0 && last.0) together (λ h. (λ j less. h j (omega (arith, less)), h n (omega arith))) (Decides-and rest.0 last.0 rest.1 last.1))
+    let last = each n in (
+      rest.0 && last.0,
+      Decides-like (rest.0 && last.0) together
+          (λ h. (λ j less. h j (omega (arith, less)), h n (omega arith)))
+          (Decides-and rest.0 last.0 rest.1 last.1),
+    )
   where
     together : ((j : ℕ) → j < n → P j) × P n → (j : ℕ) → j < suc n → P j
     together h j less = by_side (cases_lt j n)
@@ -132,18 +155,25 @@ decided_below P each (suc n) =
         by_side (inl before) = h.0 j before
         by_side (inr past) = let same : n ≡ j = omega (arith, less, past) in subst P same h.1
 
-pub shows_decided : (log : List (List Bool)) (labels : List ℕ) (cells : List NetCells) → IsDecided (ShowsAll log labels cells)
-shows_decided log labels cells = decided_below (ShowsIn log labels cells) in_row (length cells)
+pub shows_decided : (log : List (List Bool)) (labels : List ℕ) (cells : List NetCells) → IsDecided (ShowsLabels log labels cells)
+shows_decided log labels cells = decided_below (ShowsLabelsIn log labels cells) in_row (length cells)
   where
     Shows : ℕ → ℕ → Type 0
     Shows j i = (c : NetCells) → slice_get cells i ≡ Some c → net_shows log labels j i c ≡ true
 
     by_net : (j i : ℕ) (o : Option NetCells) → slice_get cells i ≡ o → IsDecided (Shows j i)
     by_net j i None e = (true, (λ t c f. let bad : None ≡ Some c = sym e ∙ f in cc bad, λ h. refl))
-    by_net j i (Some c) e =
-        (net_shows log labels j i c, (λ t d f. let two : Some c ≡ Some d = sym e ∙ f in let same : c ≡ d = cc two in subst (λ (x : NetCells). net_shows log labels j i x ≡ true) same t, λ h. h c e))
+    by_net j i (Some c) e = (
+      net_shows log labels j i c,
+      (
+        λ t d f. let two : Some c ≡ Some d = sym e ∙ f in
+            let same : c ≡ d = cc two in
+            subst (λ (x : NetCells). net_shows log labels j i x ≡ true) same t,
+        λ h. h c e,
+      ),
+    )
 
-    in_row : (j : ℕ) → IsDecided (ShowsIn log labels cells j)
+    in_row : (j : ℕ) → IsDecided (ShowsLabelsIn log labels cells j)
     in_row j =
         let all = decided_below (Shows j) (λ i. by_net j i (slice_get cells i) refl) (length cells) in
         (all.0, Decides-like all.0 (λ h i c e. h i (slice_get_within cells i c e) c e) (λ h i less c e. h i c e) all.1)
@@ -173,19 +203,24 @@ members_has [] labels k n h = absurd h
 members_has (x ∷ nets) [] k n h = absurd h
 members_has (x ∷ nets) (l ∷ labels) k n h = by_test (l == k) refl (members_has nets labels k n) h
   where
-    by_test : (b : Bool) → (l == k) ≡ b → (Has (members nets labels k) n → Labelled nets labels k n) → Has (cond b (x ∷ members nets labels k) (members nets labels k)) n →
+    by_test : (b : Bool) → (l == k) ≡ b → (Has (members nets labels k) n → Labelled nets labels k n)
+        → Has (cond b (x ∷ members nets labels k) (members nets labels k)) n →
         Labelled (x ∷ nets) (l ∷ labels) k n
     by_test true e rest (inl same) = (0, ap (λ (m : ℕ). Some m) same, ap (λ (m : ℕ). Some m) (eqb-true l k e))
     by_test true e rest (inr g) = let r = rest g in (suc r.0, r.1, r.2)
     by_test false e rest g = let r = rest g in (suc r.0, r.1, r.2)
 
-pub has_member : (nets labels : List ℕ) (k n i : ℕ) → slice_get nets i ≡ Some n → slice_get labels i ≡ Some k → Has (members nets labels k) n
+pub has_member : (nets labels : List ℕ) (k n i : ℕ) → slice_get nets i ≡ Some n
+    → slice_get labels i ≡ Some k → Has (members nets labels k) n
 has_member [] labels k n i e f = cc e
 has_member (x ∷ nets) [] k n i e f = cc f
 has_member (x ∷ nets) (l ∷ labels) k n zero e f =
     let same : x ≡ n = cc e in
     let label : l ≡ k = cc f in
-    subst (λ (xs : List ℕ). Has xs n) (sym (ap (λ (b : Bool). cond b (x ∷ members nets labels k) (members nets labels k)) (eq-eqb l k label))) (inl same)
+    subst (λ (xs : List ℕ). Has xs n)
+    (sym
+    (ap (λ (b : Bool). cond b (x ∷ members nets labels k) (members nets labels k))
+    (eq-eqb l k label))) (inl same)
 has_member (x ∷ nets) (l ∷ labels) k n (suc i) e f = by_test (l == k) (has_member nets labels k n i e f)
   where
     by_test : (b : Bool) → Has (members nets labels k) n → Has (cond b (x ∷ members nets labels k) (members nets labels k)) n
@@ -215,7 +250,9 @@ members_more (x ∷ nets) (y ∷ labels) k (suc i) n l e f =
     let on : suc i + 1 ≡ suc (i + 1) = omega arith in
     ap (λ (m : ℕ). members (take m (x ∷ nets)) (take m (y ∷ labels)) k) on ∙ by_test (y == k) (members_more nets labels k i n l e f)
   where
-    by_test : (b : Bool) → members (take (i + 1) nets) (take (i + 1) labels) k ≡ members (take i nets) (take i labels) k ++ cond (l == k) (n ∷ []) [] →
+    by_test : (b : Bool)
+        → members (take (i + 1) nets) (take (i + 1) labels) k
+        ≡ members (take i nets) (take i labels) k ++ cond (l == k) (n ∷ []) [] →
         cond b (x ∷ members (take (i + 1) nets) (take (i + 1) labels) k) (members (take (i + 1) nets) (take (i + 1) labels) k)
         ≡ cond b (x ∷ members (take i nets) (take i labels) k) (members (take i nets) (take i labels) k) ++ cond (l == k) (n ∷ []) []
     by_test true rest = ap (λ (ms : List ℕ). x ∷ ms) rest
@@ -224,17 +261,22 @@ members_more (x ∷ nets) (y ∷ labels) k (suc i) n l e f =
 -- if the nets are in ascending order, so are the nets with label `k`
 pub rise_members : (nets labels : List ℕ) (k : ℕ) (group : List ℕ) → Rise nets → group ≡ members nets labels k → Rise group
 rise_members nets labels k group rise is =
-    subst (λ (g : List ℕ). Rise g) (sym is) (order_pairs (λ a b. a < b) (members nets labels k) (members_rise nets labels k (pairs_order (λ a b. a < b) nets rise)))
+    subst (λ (g : List ℕ). Rise g) (sym is)
+    (order_pairs (λ a b. a < b) (members nets labels k)
+    (members_rise nets labels k (pairs_order (λ a b. a < b) nets rise)))
 
 -- the groups of the labels up to `k` are the groups of the labels below `k`, followed by the group of label `k` if there is one
-pub groups_more : (nets labels : List ℕ) (k : ℕ) → flat_map (group_at nets labels) (range_with_len 0 (k + 1)) ≡ flat_map (group_at nets labels) (range_with_len 0 k) ++ group_at nets labels k
+pub groups_more : (nets labels : List ℕ) (k : ℕ)
+    → flat_map (group_at nets labels) (range_with_len 0 (k + 1))
+    ≡ flat_map (group_at nets labels) (range_with_len 0 k) ++ group_at nets labels k
 groups_more nets labels k =
     let on : k + 1 ≡ suc k = omega arith in
     let z : 0 + k ≡ k = omega arith in
     ap (λ (n : ℕ). flat_map (group_at nets labels) (range_with_len 0 n)) on
     ∙ ap (λ (l : List ℕ). flat_map (group_at nets labels) l) (range_with_len_more 0 k)
     ∙ flat_map-append (group_at nets labels) (range_with_len 0 k) ((0 + k) ∷ [])
-    ∙ ap (λ (l : List (List ℕ)). flat_map (group_at nets labels) (range_with_len 0 k) ++ l) (append-nil (group_at nets labels (0 + k)) ∙ ap (λ (n : ℕ). group_at nets labels n) z)
+    ∙ ap (λ (l : List (List ℕ)). flat_map (group_at nets labels) (range_with_len 0 k) ++ l)
+    (append-nil (group_at nets labels (0 + k)) ∙ ap (λ (n : ℕ). group_at nets labels n) z)
 
 two_items : (xs : List ℕ) (a b : ℕ) → Has xs a → Has xs b → a ≢ b → 2 ≤ length xs
 two_items [] a b h k ne = absurd h
@@ -244,7 +286,8 @@ two_items (x ∷ []) a b (inr h) k ne = absurd h
 two_items (x ∷ y ∷ xs) a b h k ne = omega arith
 
 -- Lemmas about the groups of nets in ascending order. Each label is the place of a net with this label.
-module _ (nets labels : List ℕ) (rise : Rises nets) (count : length labels ≡ length nets) (own : (i k : ℕ) → slice_get labels i ≡ Some k → (k ≤ i) × (slice_get labels k ≡ Some k)) where
+module _ (nets labels : List ℕ) (rise : Rises nets) (count : length labels ≡ length nets)
+    (own : (i k : ℕ) → slice_get labels i ≡ Some k → (k ≤ i) × (slice_get labels k ≡ Some k)) where
   abbrev groups : List (List ℕ)
   groups = groups_by nets labels
 
@@ -260,7 +303,12 @@ module _ (nets labels : List ℕ) (rise : Rises nets) (count : length labels ≡
   group_at_has k g h = by_test (nat_le 2 (length (group k))) refl h
     where
       by_test : (b : Bool) → nat_le 2 (length (group k)) ≡ b → Has (cond b (group k ∷ []) []) g → IsGroupAt k g
-      by_test true e (inl same) = record { nets_are = same; several = subst (λ (l : List ℕ). 2 ≤ length l) same (leb-true 2 (length (group k)) e) }
+      by_test true e (inl same) =
+          record {
+            nets_are = same;
+            several = subst (λ (l : List ℕ). 2 ≤ length l) same
+                (leb-true 2 (length (group k)) e);
+          }
       by_test true e (inr h) = absurd h
       by_test false e h = absurd h
 
@@ -269,10 +317,13 @@ module _ (nets labels : List ℕ) (rise : Rises nets) (count : length labels ≡
 
   has_group : (k : ℕ) → k < length labels → 2 ≤ length (group k) → Has groups (group k)
   has_group k less several =
-      has_flat_map (group_at nets labels) (range_with_len 0 (length labels)) k (group k) (has_range 0 (length labels) k (omega arith) (omega (arith, less)))
+      has_flat_map (group_at nets labels) (range_with_len 0 (length labels)) k (group k)
+      (has_range 0 (length labels) k (omega arith) (omega (arith, less)))
       (subst (λ (b : Bool). Has (cond b (group k ∷ []) []) (group k)) (sym (le-leb 2 (length (group k)) several)) (inl refl))
 
-  in_order : (R : List ℕ → List ℕ → Type 0) → ((x z : ℕ) → x < z → (a b : List ℕ) → IsGroupAt x a → IsGroupAt z b → R a b) → InOrder R groups
+  in_order : (R : List ℕ → List ℕ → Type 0)
+      → ((x z : ℕ) → x < z → (a b : List ℕ) → IsGroupAt x a → IsGroupAt z b → R a b)
+      → InOrder R groups
   in_order R across =
       order_flat_map (λ x z. x < z) R (group_at nets labels) (range_with_len 0 (length labels)) (order_range 0 (length labels))
       (λ x h. alone x (nat_le 2 (length (group x))))
@@ -306,9 +357,12 @@ module _ (nets labels : List ℕ) (rise : Rises nets) (count : length labels ≡
       let later = (own s.0 z s.2).0 in
       let within : x < length nets = omega (arith, slice_get_within labels x x first, count) in
       let at : slice_get nets x ≡ Some (get_or nets x 0) = slice_get-get_or nets x 0 within in
-      let member : Has a (get_or nets x 0) = subst (λ (l : List ℕ). Has l (get_or nets x 0)) p.nets_are (has_member nets labels x (get_or nets x 0) x at first) in
+      let member : Has a (get_or nets x 0) = subst (λ (l : List ℕ). Has l (get_or nets x 0))
+      p.nets_are (has_member nets labels x (get_or nets x 0) x at first) in
       let low : least_of a ≤ get_or nets x 0 = least_le a (get_or nets x 0) (rises x a p) member in
-      let high : get_or nets x 0 < least_of b = place_order nets rise x s.0 (get_or nets x 0) (least_of b) at s.1 (omega (arith, less, later)) in
+      let high : get_or nets x 0
+      < least_of b = place_order nets rise x s.0 (get_or nets x 0) (least_of b) at s.1
+      (omega (arith, less, later)) in
       omega (arith, low, high)
 
   pub are_groups : (board : RawBoard) → walk_nets board ≡ nets → AreGroups board groups
@@ -318,16 +372,22 @@ module _ (nets labels : List ℕ) (rise : Rises nets) (count : length labels ≡
         (λ g h.
         let r = groups_has g h in
         all_from_has (λ (n : ℕ). Contains (walk_nets board) n) g
-        (λ n k. let s = labelled r.0 g r.1 n k in subst (λ (l : List ℕ). Contains l n) (sym walked) (has_contains nets n (has_at nets s.0 n s.1))));
+        (λ n k. let s = labelled r.0 g r.1 n k in subst (λ (l : List ℕ). Contains l n) (sym walked)
+        (has_contains nets n (has_at nets s.0 n s.1))));
     rise = all_from_has Rise groups (λ g h. let r = groups_has g h in order_pairs (λ a b. a < b) g (rises r.0 g r.1));
-    disjoint = order_pairs (λ one other. (n : ℕ) → Contains one n → Contains other n → ⊥) groups (in_order (λ one other. (n : ℕ) → Contains one n → Contains other n → ⊥) apart);
+    disjoint =
+        order_pairs (λ one other. (n : ℕ) → Contains one n → Contains other n → ⊥) groups
+        (in_order (λ one other. (n : ℕ) → Contains one n → Contains other n → ⊥) apart);
     order = order_pairs Before groups (in_order Before before);
   }
 
   -- two nets are joined if and only if their labels are equal
-  pub joined_labels : AreOrdered groups → (i j a b k l : ℕ) → slice_get nets i ≡ Some a → slice_get nets j ≡ Some b → slice_get labels i ≡ Some k → slice_get labels j ≡ Some l →
+  pub joined_labels : AreOrdered groups → (i j a b k l : ℕ) → slice_get nets i ≡ Some a
+      → slice_get nets j ≡ Some b → slice_get labels i ≡ Some k → slice_get labels j ≡ Some l →
       are_joined groups a b ≡ (k == l)
-  joined_labels ordered i j a b k l ni nj li lj = same_answer (are_joined groups a b) (k == l) (λ e. to (joined_cases groups a b e)) (λ e. from (eqb-true k l e) (cases_eq a b))
+  joined_labels ordered i j a b k l ni nj li lj =
+      same_answer (are_joined groups a b) (k == l) (λ e. to (joined_cases groups a b e))
+      (λ e. from (eqb-true k l e) (cases_eq a b))
     where
       label_at : (m n x y : ℕ) → slice_get nets m ≡ Some n → slice_get labels m ≡ Some y → Labelled nets labels x n → y ≡ x
       label_at m n x y nm lm r =

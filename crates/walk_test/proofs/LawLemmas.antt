@@ -20,7 +20,7 @@ use Rattle.tap_defs.proofs.board.ScanPlaceLemmas.{length-pass_scans}
 use Rattle.walk_test.specs.WalkTest.{walk_setting, walk_nets, scans_by, walk_row_list, walk_scans, board_walk_text}
 use Rattle.walk_test.specs.Groups.{AreGroups, group_of, or_shorts, Explain}
 use Rattle.walk_test.specs.inner.Reading.{are_joined}
-use Rattle.walk_test.specs.Tables.{AreNetCells, rows_count, scan_count}
+use Rattle.walk_test.specs.Tables.{AreNetCells, rows_count, count_walk_scans}
 use Rattle.walk_test.specs.Laws.{WalkSafe, WalkHarmless, ShortsAreFaults, OneSet, ScansCounted}
 use Rattle.walk_test.proofs.GroupLemmas.{AreOrdered, groups_ordered, Together, joined_cases, joined_in, one_list}
 use Rattle.walk_test.proofs.SettingLemmas.{none_switches}
@@ -30,19 +30,32 @@ use Rattle.walk_test.proofs.RowLemmas.{cells_there}
 use Rattle.walk_test.proofs.ExplainLemmas.{ShowJoined, explained_shows, explained_rows, shorts_are_faults}
 
 -- the text of the walking test is harmless, whether or not the board has a walk setting
-pub walk_harmless : WalkSafe → ((board : RawBoard) (walk : List Ctl) → IsBoard board → IsSafe board (holds walk) → IsHarmless board (walk_text board walk)) →
-    ((board : RawBoard) (passes : List (List Ctl)) (width : ℕ) → IsBoard board → ((x : ℕ) (pass : List Ctl) → slice_get passes x ≡ Some pass → IsSafe board (holds pass)) → IsHarmless board (pass_text board passes width)) → WalkHarmless
+pub walk_harmless : WalkSafe
+    → ((board : RawBoard) (walk : List Ctl) → IsBoard board → IsSafe board (holds walk)
+    → IsHarmless board (walk_text board walk)) →
+    ((board : RawBoard) (passes : List (List Ctl)) (width : ℕ) → IsBoard board
+    → ((x : ℕ) (pass : List Ctl) → slice_get passes x ≡ Some pass
+    → IsSafe board (holds pass)) → IsHarmless board (pass_text board passes width))
+    → WalkHarmless
 walk_harmless safe walks passes board rules = by_setting (walk_setting board) refl
   where
     by_setting : (o : Option (List Ctl)) → walk_setting board ≡ o → IsHarmless board (board_walk_text board)
-    by_setting None e = subst (λ (o : Option (List Ctl)). IsHarmless board (svf_text (board_scans board (scans_by board o)))) (sym e) (passes board [] 0 rules (λ x pass at. cc at))
-    by_setting (Some walk) e = subst (λ (o : Option (List Ctl)). IsHarmless board (svf_text (board_scans board (scans_by board o)))) (sym e) (walks board walk rules (safe board walk rules e))
+    by_setting None e =
+        subst
+        (λ (o : Option (List Ctl)). IsHarmless board
+        (svf_text (board_scans board (scans_by board o)))) (sym e)
+        (passes board [] 0 rules (λ x pass at. cc at))
+    by_setting (Some walk) e =
+        subst
+        (λ (o : Option (List Ctl)). IsHarmless board
+        (svf_text (board_scans board (scans_by board o)))) (sym e)
+        (walks board walk rules (safe board walk rules e))
 
--- `scan_count` of a board's walk is the number of scans of the board's walking test
+-- `count_walk_scans` of a board's walk is the number of scans of the board's walking test
 pub scans_counted : ScansCounted
 scans_counted board t is = by_setting (walk_setting board) refl
   where
-    by_setting : (o : Option (List Ctl)) → walk_setting board ≡ o → scan_count t ≡ length (walk_scans board)
+    by_setting : (o : Option (List Ctl)) → walk_setting board ≡ o → count_walk_scans t ≡ length (walk_scans board)
     by_setting None e =
         let passes : t.plan.passes ≡ [] = is.passes ∙ ap (λ (o : Option (List Ctl)). option_to_list o) e in
         ap (λ (l : List (List Ctl)). 3 + rows_count l t.nets) passes
@@ -52,21 +65,31 @@ scans_counted board t is = by_setting (walk_setting board) refl
         let m : ℕ = count_by (is_walked board walk) board.nets in
         let rows : List RowScan = walk_row_scans board walk in
         let nets : length t.nets ≡ m = ap (λ (l : List ℕ). length l) is.nets ∙ count_is board walk e in
-        let long : length rows ≡ suc m = length-append (pass_scans (walk_row board walk) m 0 quiet_row) [] ∙ omega (arith, length-pass_scans (walk_row board walk) m 0 quiet_row) in
+        let long : length rows
+        ≡ suc m = length-append (pass_scans (walk_row board walk) m 0 quiet_row) []
+        ∙ omega (arith, length-pass_scans (walk_row board walk) m 0 quiet_row) in
         let all : length (board_scans board rows) ≡ 3 + length rows = omega (arith, length-map rows (scan_of_row board)) in
         ap (λ (l : List (List Ctl)). 3 + rows_count l t.nets) passes
         ∙ omega (arith, nets, long, all)
         ∙ sym (ap (λ (o : Option (List Ctl)). length (board_scans board (scans_by board o))) e)
 
 -- the rows of the walking test follow each other as the scans of a board's test must
-pub in_turn : WalkSafe → ((board : RawBoard) (walk : List Ctl) → IsSafe board (holds walk) → AreInTurn board (walk_row_scans board walk)) → (board : RawBoard) → IsBoard board → AreInTurn board (walk_row_list board)
+pub in_turn : WalkSafe
+    → ((board : RawBoard) (walk : List Ctl) → IsSafe board (holds walk)
+    → AreInTurn board (walk_row_scans board walk)) → (board : RawBoard) → IsBoard board
+    → AreInTurn board (walk_row_list board)
 in_turn safe walks board rules = by_setting (walk_setting board) refl
   where
     by_setting : (o : Option (List Ctl)) → walk_setting board ≡ o → AreInTurn board (walk_row_list board)
-    by_setting None e = subst (λ (o : Option (List Ctl)). AreInTurn board (scans_by board o)) (sym e) (record { follow = tt; safe = λ x scan at. cc at })
-    by_setting (Some walk) e = subst (λ (o : Option (List Ctl)). AreInTurn board (scans_by board o)) (sym e) (walks board walk (safe board walk rules e))
+    by_setting None e =
+        subst (λ (o : Option (List Ctl)). AreInTurn board (scans_by board o)) (sym e)
+        (record { follow = tt; safe = λ x scan at. cc at })
+    by_setting (Some walk) e =
+        subst (λ (o : Option (List Ctl)). AreInTurn board (scans_by board o)) (sym e)
+        (walks board walk (safe board walk rules e))
 
-pub setting_is : WalkSafe → (board : RawBoard) → IsBoard board → (walk : List Ctl) → walk_setting board ≡ Some walk → IsWalkSetting board walk
+pub setting_is : WalkSafe → (board : RawBoard) → IsBoard board → (walk : List Ctl)
+    → walk_setting board ≡ Some walk → IsWalkSetting board walk
 setting_is safe board rules walk is = record { safe = safe board walk rules is; none = none_switches board walk is }
 
 pub faults_are : WalkSafe → ShortsAreFaults
@@ -78,27 +101,48 @@ no_groups board [] none are = refl
 no_groups board (group ∷ groups) none are =
     let ordered = groups_ordered board (group ∷ groups) are in
     let least = Rattle.walk_test.proofs.GroupLemmas.least_has group (ordered.several group (inl refl)) in
-    let walked = has_from_all (λ (n : ℕ). Contains (walk_nets board) n) group _ (has_from_all (λ (g : List ℕ). Rattle.std.specs.Prelude.All (λ n. Contains (walk_nets board) n) g) (group ∷ groups) group are.walked (inl refl)) least in
-    absurd (contains_has [] _ (subst (λ (l : List ℕ). Contains l (Rattle.walk_test.specs.Groups.least_of group)) (no_nets board none) walked))
+    let walked = has_from_all (λ (n : ℕ). Contains (walk_nets board) n) group _
+    (has_from_all
+    (λ (g : List ℕ). Rattle.std.specs.Prelude.All (λ n. Contains (walk_nets board) n) g)
+    (group ∷ groups) group are.walked (inl refl)) least in
+    absurd
+    (contains_has [] _
+    (subst (λ (l : List ℕ). Contains l (Rattle.walk_test.specs.Groups.least_of group))
+    (no_nets board none) walked))
 
-module _ (safe : WalkSafe) (by_rows : (board : RawBoard) (faults : FaultSet) (scans : List RowScan) (log : List (List Bool)) → IsBoard board → AreInTurn board scans → ExplainedBy board faults scans log ↔ (HasShape board scans log × IsCapturedBy board faults scans log))
-    (compare : (board : RawBoard) (walk : List Ctl) → IsBoard board → CompareRows (walk_row board) (count_by (is_walked board walk) board.nets) (walk ∷ []) (compared_scans board (walk_row_scans board walk)))
+module _ (safe : WalkSafe)
+    (by_rows : (board : RawBoard) (faults : FaultSet) (scans : List RowScan)
+    (log : List (List Bool)) → IsBoard board → AreInTurn board scans
+    → ExplainedBy board faults scans log
+    ↔ (HasShape board scans log × IsCapturedBy board faults scans log))
+    (compare : (board : RawBoard) (walk : List Ctl) → IsBoard board
+    → CompareRows (walk_row board) (count_by (is_walked board walk) board.nets) (walk ∷ [])
+    (compared_scans board (walk_row_scans board walk)))
     (turns : (board : RawBoard) (walk : List Ctl) → IsSafe board (holds walk) → AreInTurn board (walk_row_scans board walk)) where
   -- if a set of groups explains a log, the log has a row for each walk net, and each compared cell reads 1 exactly if the set joins the
   -- cell's net with the net that carries 1 in the row
-  pub shown_by : (board : RawBoard) (walk : List Ctl) (log : List (List Bool)) (groups : List (List ℕ)) → IsBoard board → walk_setting board ≡ Some walk → Explain board log groups →
+  pub shown_by : (board : RawBoard) (walk : List Ctl) (log : List (List Bool))
+      (groups : List (List ℕ)) → IsBoard board → walk_setting board ≡ Some walk
+      → Explain board log groups →
       ShowJoined board walk log groups × (length log ≡ length (walk_nets board))
   shown_by board walk log groups rules is explain =
       let set = setting_is safe board rules walk is in
-      let e : ExplainedBy board (or_shorts groups) (walk_row_scans board walk) log = subst (λ (o : Option (List Ctl)). ExplainedBy board (or_shorts groups) (scans_by board o) log) is explain.explained in
-      let rows : (l : List (List Bool)) → ExplainedBy board (or_shorts groups) (walk_row_scans board walk) l ↔ (HasShape board (walk_row_scans board walk) l × IsCapturedBy board (or_shorts groups) (walk_row_scans board walk) l) =
+      let e : ExplainedBy board (or_shorts groups) (walk_row_scans board walk) log = subst
+      (λ (o : Option (List Ctl)). ExplainedBy board (or_shorts groups) (scans_by board o) log)
+      is explain.explained in
+      let rows : (l : List (List Bool))
+      → ExplainedBy board (or_shorts groups) (walk_row_scans board walk) l
+      ↔ (HasShape board (walk_row_scans board walk) l
+      × IsCapturedBy board (or_shorts groups) (walk_row_scans board walk) l) =
       λ l. by_rows board (or_shorts groups) (walk_row_scans board walk) l rules (turns board walk set.safe) in (
         explained_shows board rules walk is set (compare board walk rules) groups explain.are rows log e,
         explained_rows board rules walk is set (compare board walk rules) groups explain.are rows log e,
       )
 
   -- if two sets of groups explain one log, they join the same nets
-  module _ (board : RawBoard) (walk : List Ctl) (log : List (List Bool)) (groups others : List (List ℕ)) (rules : IsBoard board) (is : walk_setting board ≡ Some walk) (first : Explain board log groups) (second : Explain board log others) where
+  module _ (board : RawBoard) (walk : List Ctl) (log : List (List Bool))
+      (groups others : List (List ℕ)) (rules : IsBoard board) (is : walk_setting board ≡ Some walk)
+      (first : Explain board log groups) (second : Explain board log others) where
     joined_alike : (a b : ℕ) → Contains (walk_nets board) a → Contains (walk_nets board) b → are_joined groups a b ≡ are_joined others a b
     joined_alike a b has_a has_b =
         let one = shown_by board walk log groups rules is first in
@@ -109,21 +153,36 @@ module _ (safe : WalkSafe) (by_rows : (board : RawBoard) (faults : FaultSet) (sc
         let r = (c.1.compared p).0 (has_contains c.0.compared p (has_at c.0.compared 0 p (slice_get-get_or c.0.compared 0 0 c.1.some))) in
         let within : place.0 < length log = omega (arith, slice_get_within (walk_nets board) place.0 b place.1, one.1) in
         let at = slice_get-get_or log place.0 [] within in
-        let reader = subst (λ (n : Rattle.board_defs.specs.declared.board.Net.Net). Rattle.plan_tables.specs.Tables.IsReaderCell board n r.0) (same_net a c.0 c.1) r.1 in
+        let reader = subst
+        (λ (n : Rattle.board_defs.specs.declared.board.Net.Net). Rattle.plan_tables.specs.Tables.IsReaderCell
+        board n r.0) (same_net a c.0 c.1) r.1 in
         let left = one.0 place.0 b (get_or log place.0 []) c.1.driver c.1.is_driver r.0 reader r.2 place.1 at in
         let right = two.0 place.0 b (get_or log place.0 []) c.1.driver c.1.is_driver r.0 reader r.2 place.1 at in
         sym (ap (λ (n : ℕ). are_joined groups n b) c.1.of_net) ∙ sym left ∙ right ∙ ap (λ (n : ℕ). are_joined others n b) c.1.of_net
       where
-        same_net : (a : ℕ) (cells : Rattle.walk_test.specs.declared.tables.NetCells.NetCells) (c : AreNetCells board walk a cells) → c.net ≡ c.is_driver.net
-        same_net a cells c = let both : Some c.net ≡ Some c.is_driver.net = sym c.is_net ∙ ap (λ (n : ℕ). slice_get board.nets n) (sym c.of_net) ∙ c.is_driver.is_net in cc both
+        same_net : (a : ℕ) (cells : Rattle.walk_test.specs.declared.tables.NetCells.NetCells)
+            (c : AreNetCells board walk a cells) → c.net ≡ c.is_driver.net
+        same_net a cells c =
+            let both : Some c.net
+            ≡ Some c.is_driver.net = sym c.is_net
+            ∙ ap (λ (n : ℕ). slice_get board.nets n) (sym c.of_net) ∙ c.is_driver.is_net in
+            cc both
 
-    net_of : (list : List (List ℕ)) → AreGroups board list → (a b : ℕ) → Together list a b → Contains (walk_nets board) a × Contains (walk_nets board) b
+    net_of : (list : List (List ℕ)) → AreGroups board list → (a b : ℕ) → Together list a b
+        → Contains (walk_nets board) a × Contains (walk_nets board) b
     net_of list are a b (group, has, in_a, in_b) =
-        let all = has_from_all (λ (g : List ℕ). Rattle.std.specs.Prelude.All (λ n. Contains (walk_nets board) n) g) list group are.walked has in
-        (has_from_all (λ (n : ℕ). Contains (walk_nets board) n) group a all in_a, has_from_all (λ (n : ℕ). Contains (walk_nets board) n) group b all in_b)
+        let all = has_from_all
+        (λ (g : List ℕ). Rattle.std.specs.Prelude.All (λ n. Contains (walk_nets board) n) g)
+        list group are.walked has in (
+          has_from_all (λ (n : ℕ). Contains (walk_nets board) n) group a all in_a,
+          has_from_all (λ (n : ℕ). Contains (walk_nets board) n) group b all in_b,
+        )
 
-  together_in : (board : RawBoard) (list other : List (List ℕ)) → AreGroups board list → ((a b : ℕ) → Contains (walk_nets board) a → Contains (walk_nets board) b → are_joined list a b ≡ are_joined other a b) →
-      ((a b : ℕ) → Together list a b → Contains (walk_nets board) a × Contains (walk_nets board) b) → (a b : ℕ) → Together list a b → Together other a b
+  together_in : (board : RawBoard) (list other : List (List ℕ)) → AreGroups board list
+      → ((a b : ℕ) → Contains (walk_nets board) a → Contains (walk_nets board) b
+      → are_joined list a b ≡ are_joined other a b) →
+      ((a b : ℕ) → Together list a b → Contains (walk_nets board) a × Contains (walk_nets board) b)
+      → (a b : ℕ) → Together list a b → Together other a b
   together_in board list other are alike nets a b t = by_case (cases_eq a b)
     where
       ordered : AreOrdered list
@@ -150,5 +209,10 @@ module _ (safe : WalkSafe) (by_rows : (board : RawBoard) (faults : FaultSet) (sc
       by_setting None e = no_groups board groups e first.are ∙ sym (no_groups board others e second.are)
       by_setting (Some walk) e =
           one_list groups others (groups_ordered board groups first.are) (groups_ordered board others second.are)
-          (together_in board groups others first.are (λ a b h k. joined_alike board walk log groups others rules e first second a b h k) (net_of board walk log groups others rules e first second groups first.are))
-          (together_in board others groups second.are (λ a b h k. sym (joined_alike board walk log groups others rules e first second a b h k)) (net_of board walk log groups others rules e first second others second.are))
+          (together_in board groups others first.are
+          (λ a b h k. joined_alike board walk log groups others rules e first second a b h k)
+          (net_of board walk log groups others rules e first second groups first.are))
+          (together_in board others groups second.are
+          (λ a b h k. sym
+          (joined_alike board walk log groups others rules e first second a b h k))
+          (net_of board walk log groups others rules e first second others second.are))

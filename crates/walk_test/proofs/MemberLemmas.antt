@@ -18,9 +18,14 @@ with_item f l x k = f k ++ cond (l == k) (x ∷ []) []
 others_kept : (f : ℕ → List ℕ) (a n l x : ℕ) → l < a → map f (range_with_len a n) ≡ map (with_item f l x) (range_with_len a n)
 others_kept f a zero l x less = refl
 others_kept f a (suc n) l x less =
-    cons_path (sym (ap (λ (b : Bool). f a ++ cond b (x ∷ []) []) (ne_eqb l a (λ e. omega (arith, less, e))) ∙ append-nil (f a))) (others_kept f (a + 1) n l x (omega (arith, less)))
+    cons_path
+    (sym
+    (ap (λ (b : Bool). f a ++ cond b (x ∷ []) []) (ne_eqb l a (λ e. omega (arith, less, e)))
+    ∙ append-nil (f a))) (others_kept f (a + 1) n l x (omega (arith, less)))
 
-noted_from : (f : ℕ → List ℕ) (a n l x : ℕ) → noted (map f (range_with_len a n)) (Some l) x ≡ map (with_item f (a + l) x) (range_with_len a n)
+noted_from : (f : ℕ → List ℕ) (a n l x : ℕ)
+    → noted (map f (range_with_len a n)) (Some l) x
+    ≡ map (with_item f (a + l) x) (range_with_len a n)
 noted_from f a zero l x = refl
 noted_from f a (suc n) zero x =
     let z : a + 0 ≡ a = omega arith in
@@ -36,7 +41,8 @@ same_over f g same (k ∷ ks) = cons_path (same k) (same_over f g same ks)
 
 -- if the list of each label has the nets with this label among the first `i` nets, then after net `i` is added to the list of its label,
 -- the lists have the nets with their labels among the first `i + 1` nets
-pub all_members_more : (nets labels : List ℕ) (count i n l : ℕ) (now new : List (List ℕ)) → slice_get nets i ≡ Some n → slice_get labels i ≡ Some l →
+pub all_members_more : (nets labels : List ℕ) (count i n l : ℕ) (now new : List (List ℕ))
+    → slice_get nets i ≡ Some n → slice_get labels i ≡ Some l →
     now ≡ map (members (take i nets) (take i labels)) (range_with_len 0 count) → new ≡ noted now (Some l) n →
     new ≡ map (members (take (i + 1) nets) (take (i + 1) labels)) (range_with_len 0 count)
 all_members_more nets labels count i n l now new e f now_is new_is =
@@ -44,7 +50,8 @@ all_members_more nets labels count i n l now new e f now_is new_is =
     let before = members (take i nets) (take i labels) in
     new_is ∙ ap (λ (v : List (List ℕ)). noted v (Some l) n) now_is ∙ noted_from before 0 count l n
     ∙ ap (λ (m : ℕ). map (with_item before m n) (range_with_len 0 count)) z
-    ∙ same_over (with_item before l n) (members (take (i + 1) nets) (take (i + 1) labels)) (λ k. sym (members_more nets labels k i n l e f)) (range_with_len 0 count)
+    ∙ same_over (with_item before l n) (members (take (i + 1) nets) (take (i + 1) labels))
+    (λ k. sym (members_more nets labels k i n l e f)) (range_with_len 0 count)
 
 -- if there are no nets yet, all lists are empty
 pub no_members : (a n : ℕ) → replicate n [] ≡ map (members [] []) (range_with_len a n)
@@ -52,14 +59,20 @@ no_members a zero = refl
 no_members a (suc n) = ap (λ (l : List (List ℕ)). [] ∷ l) (no_members (a + 1) n)
 
 -- the groups of labels are the lists of nets with a label, without the lists that have fewer than two nets
-several_over : (nets labels : List ℕ) (ks : List ℕ) → flat_map where_several (map (members nets labels) ks) ≡ flat_map (group_at nets labels) ks
+several_over : (nets labels : List ℕ) (ks : List ℕ)
+    → flat_map where_several (map (members nets labels) ks) ≡ flat_map (group_at nets labels) ks
 several_over nets labels [] = refl
 several_over nets labels (k ∷ ks) = ap (λ (l : List (List ℕ)). group_at nets labels k ++ l) (several_over nets labels ks)
 
-pub groups_are : (nets labels : List ℕ) (lists groups : List (List ℕ)) → lists ≡ map (members nets labels) (range_with_len 0 (length labels)) → groups ≡ flat_map where_several lists → groups ≡ groups_by nets labels
-groups_are nets labels lists groups lists_are is = is ∙ ap (λ (l : List (List ℕ)). flat_map where_several l) lists_are ∙ several_over nets labels (range_with_len 0 (length labels))
+pub groups_are : (nets labels : List ℕ) (lists groups : List (List ℕ))
+    → lists ≡ map (members nets labels) (range_with_len 0 (length labels))
+    → groups ≡ flat_map where_several lists → groups ≡ groups_by nets labels
+groups_are nets labels lists groups lists_are is =
+    is ∙ ap (λ (l : List (List ℕ)). flat_map where_several l) lists_are
+    ∙ several_over nets labels (range_with_len 0 (length labels))
 
-pub all_rise : (nets labels : List ℕ) (lists : List (List ℕ)) → Rise nets → lists ≡ map (members nets labels) (range_with_len 0 (length labels)) → All Rise lists
+pub all_rise : (nets labels : List ℕ) (lists : List (List ℕ)) → Rise nets
+    → lists ≡ map (members nets labels) (range_with_len 0 (length labels)) → All Rise lists
 all_rise nets labels lists rise are =
     subst (λ (l : List (List ℕ)). All Rise l) (sym are)
     (all_from_has Rise (map (members nets labels) (range_with_len 0 (length labels)))

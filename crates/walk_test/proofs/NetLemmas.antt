@@ -36,9 +36,12 @@ module _ {X : Type 0} (p : X → Bool) (q : ℕ → Bool) where
 
   pub kept_length : (k : ℕ) (xs : List X) → Tests k xs → length (kept k xs) ≡ count_by p xs
   kept_length k [] tests = refl
-  kept_length k (y ∷ xs) tests = by_test (p y) (first_tests k y xs tests) (kept_length (k + 1) xs (next_tests k y xs tests)) ∙ sym (count_cons p y xs)
+  kept_length k (y ∷ xs) tests =
+      by_test (p y) (first_tests k y xs tests) (kept_length (k + 1) xs (next_tests k y xs tests))
+      ∙ sym (count_cons p y xs)
     where
-      by_test : (b : Bool) → q k ≡ b → length (kept (k + 1) xs) ≡ count_by p xs → length (cond (q k) (k ∷ kept (k + 1) xs) (kept (k + 1) xs)) ≡ cond b 1 0 + count_by p xs
+      by_test : (b : Bool) → q k ≡ b → length (kept (k + 1) xs) ≡ count_by p xs
+          → length (cond (q k) (k ∷ kept (k + 1) xs) (kept (k + 1) xs)) ≡ cond b 1 0 + count_by p xs
       by_test true e rest = ap (λ (b : Bool). length (cond b (k ∷ kept (k + 1) xs) (kept (k + 1) xs))) e ∙ omega (arith, rest)
       by_test false e rest = ap (λ (b : Bool). length (cond b (k ∷ kept (k + 1) xs) (kept (k + 1) xs))) e ∙ omega (arith, rest)
 
@@ -62,10 +65,15 @@ module _ {X : Type 0} (p : X → Bool) (q : ℕ → Bool) where
         number_is = omega (arith, r.number_is);
         stands = r.stands;
         passes = r.passes;
-        counted = count_cons p y (take r.place xs) ∙ ap (λ (t : Bool). cond t 1 0 + count_by p (take r.place xs)) e ∙ ap (λ (m : ℕ). cond b 1 0 + m) r.counted;
+        counted =
+            count_cons p y (take r.place xs)
+            ∙ ap (λ (t : Bool). cond t 1 0 + count_by p (take r.place xs)) e
+            ∙ ap (λ (m : ℕ). cond b 1 0 + m) r.counted;
       }
 
-      by_place : q k ≡ p y → q k ≡ true → ((i n : ℕ) → slice_get (kept (k + 1) xs) i ≡ Some n → KeptAt (k + 1) xs i n) → (i : ℕ) → slice_get (k ∷ kept (k + 1) xs) i ≡ Some n → KeptAt k (y ∷ xs) i n
+      by_place : q k ≡ p y → q k ≡ true
+          → ((i n : ℕ) → slice_get (kept (k + 1) xs) i ≡ Some n → KeptAt (k + 1) xs i n) → (i : ℕ)
+          → slice_get (k ∷ kept (k + 1) xs) i ≡ Some n → KeptAt k (y ∷ xs) i n
       by_place t on ih zero g =
           let same : k ≡ n = cc g in
           record { place = 0; item = y; number_is = omega (arith, same); stands = refl; passes = sym t ∙ on; counted = refl }
@@ -73,35 +81,52 @@ module _ {X : Type 0} (p : X → Bool) (q : ℕ → Bool) where
           let z : 1 + i ≡ suc i = omega arith in
           subst (λ (m : ℕ). KeptAt k (y ∷ xs) m n) z (later i true (sym t ∙ on) (ih i n g))
 
-      by_test : (b : Bool) → b ≡ p y → ((i n : ℕ) → slice_get (kept (k + 1) xs) i ≡ Some n → KeptAt (k + 1) xs i n) → (i : ℕ) → slice_get (cond b (k ∷ kept (k + 1) xs) (kept (k + 1) xs)) i ≡ Some n → KeptAt k (y ∷ xs) i n
+      by_test : (b : Bool) → b ≡ p y
+          → ((i n : ℕ) → slice_get (kept (k + 1) xs) i ≡ Some n → KeptAt (k + 1) xs i n) → (i : ℕ)
+          → slice_get (cond b (k ∷ kept (k + 1) xs) (kept (k + 1) xs)) i ≡ Some n
+          → KeptAt k (y ∷ xs) i n
       by_test true t ih i g = by_place (first_tests k y xs tests) (first_tests k y xs tests ∙ sym t) ih i g
       by_test false t ih i g =
           let z : 0 + i ≡ i = omega arith in
           subst (λ (m : ℕ). KeptAt k (y ∷ xs) m n) z (later i false (sym t) (ih i n g))
 
-  pub at_kept : (k : ℕ) (xs : List X) → Tests k xs → (place : ℕ) (x : X) → slice_get xs place ≡ Some x → p x ≡ true → slice_get (kept k xs) (count_by p (take place xs)) ≡ Some (k + place)
+  pub at_kept : (k : ℕ) (xs : List X) → Tests k xs → (place : ℕ) (x : X)
+      → slice_get xs place ≡ Some x → p x ≡ true
+      → slice_get (kept k xs) (count_by p (take place xs)) ≡ Some (k + place)
   at_kept k [] tests place x e passes = cc e
   at_kept k (y ∷ xs) tests zero x e passes =
       let same : y ≡ x = cc e in
       let z : k ≡ k + 0 = omega arith in
-      ap (λ (b : Bool). slice_get (cond b (k ∷ kept (k + 1) xs) (kept (k + 1) xs)) 0) (first_tests k y xs tests ∙ ap p same ∙ passes) ∙ ap (λ (m : ℕ). Some m) z
+      ap (λ (b : Bool). slice_get (cond b (k ∷ kept (k + 1) xs) (kept (k + 1) xs)) 0)
+      (first_tests k y xs tests ∙ ap p same ∙ passes) ∙ ap (λ (m : ℕ). Some m) z
   at_kept k (y ∷ xs) tests (suc place) x e passes =
       let z : k + 1 + place ≡ k + suc place = omega arith in
       ap (λ (m : ℕ). slice_get (cond (q k) (k ∷ kept (k + 1) xs) (kept (k + 1) xs)) m) (count_cons p y (take place xs))
       ∙ by_test (p y) (first_tests k y xs tests)
       ∙ at_kept (k + 1) xs (next_tests k y xs tests) place x e passes ∙ ap (λ (m : ℕ). Some m) z
     where
-      by_test : (b : Bool) → q k ≡ b → slice_get (cond (q k) (k ∷ kept (k + 1) xs) (kept (k + 1) xs)) (cond b 1 0 + count_by p (take place xs)) ≡ slice_get (kept (k + 1) xs) (count_by p (take place xs))
+      by_test : (b : Bool) → q k ≡ b
+          → slice_get (cond (q k) (k ∷ kept (k + 1) xs) (kept (k + 1) xs))
+          (cond b 1 0 + count_by p (take place xs))
+          ≡ slice_get (kept (k + 1) xs) (count_by p (take place xs))
       by_test true t =
           let z : 1 + count_by p (take place xs) ≡ suc (count_by p (take place xs)) = omega arith in
-          ap (λ (b : Bool). slice_get (cond b (k ∷ kept (k + 1) xs) (kept (k + 1) xs)) (1 + count_by p (take place xs))) t ∙ ap (λ (m : ℕ). slice_get (k ∷ kept (k + 1) xs) m) z
+          ap
+          (λ (b : Bool). slice_get (cond b (k ∷ kept (k + 1) xs) (kept (k + 1) xs))
+          (1 + count_by p (take place xs))) t
+          ∙ ap (λ (m : ℕ). slice_get (k ∷ kept (k + 1) xs) m) z
       by_test false t =
           let z : 0 + count_by p (take place xs) ≡ count_by p (take place xs) = omega arith in
-          ap (λ (b : Bool). slice_get (cond b (k ∷ kept (k + 1) xs) (kept (k + 1) xs)) (0 + count_by p (take place xs))) t ∙ ap (λ (m : ℕ). slice_get (kept (k + 1) xs) m) z
+          ap
+          (λ (b : Bool). slice_get (cond b (k ∷ kept (k + 1) xs) (kept (k + 1) xs))
+          (0 + count_by p (take place xs))) t ∙ ap (λ (m : ℕ). slice_get (kept (k + 1) xs) m) z
 
 -- the walk nets are in ascending order
 pub nets_rise : (board : RawBoard) → Rises (walk_nets board)
-nets_rise board = order_filter (λ a b. a < b) (λ n. is_walk_net board (walk_setting board) (slice_get board.nets n)) (range_with_len 0 (length board.nets)) (order_range 0 (length board.nets))
+nets_rise board =
+    order_filter (λ a b. a < b)
+    (λ n. is_walk_net board (walk_setting board) (slice_get board.nets n))
+    (range_with_len 0 (length board.nets)) (order_range 0 (length board.nets))
 
 -- if a board has no walk setting, it has no walk nets
 pub no_nets : (board : RawBoard) → walk_setting board ≡ None → walk_nets board ≡ []
@@ -110,7 +135,12 @@ no_nets board none = drop_all' (range_with_len 0 (length board.nets))
     drop_all' : (xs : List ℕ) → filter (λ n. is_walk_net board (walk_setting board) (slice_get board.nets n)) xs ≡ []
     drop_all' [] = refl
     drop_all' (n ∷ xs) =
-        ap (λ (o : Option (List Ctl)). cond (is_walk_net board o (slice_get board.nets n)) (n ∷ filter (λ m. is_walk_net board (walk_setting board) (slice_get board.nets m)) xs) (filter (λ m. is_walk_net board (walk_setting board) (slice_get board.nets m)) xs)) none
+        ap
+        (λ (o : Option (List Ctl)). cond (is_walk_net board o (slice_get board.nets n))
+        (n
+        ∷ filter (λ m. is_walk_net board (walk_setting board) (slice_get board.nets m))
+        xs)
+        (filter (λ m. is_walk_net board (walk_setting board) (slice_get board.nets m)) xs)) none
         ∙ drop_all' xs
 
 module _ (board : RawBoard) (walk : List Ctl) (is : walk_setting board ≡ Some walk) where
@@ -151,17 +181,26 @@ module _ (board : RawBoard) (walk : List Ctl) (is : walk_setting board ≡ Some 
   pub walk_has : (n : ℕ) → Contains (walk_nets board) n → WalkedBy board walk n
   walk_has n has = let at = has_place (walk_nets board) n (contains_has (walk_nets board) n has) in (walk_at at.0 n at.1).by
 
-  pub place_of_walk : (n : ℕ) → WalkedBy board walk n → slice_get (walk_nets board) (count_by (is_walked board walk) (take n board.nets)) ≡ Some n
+  pub place_of_walk : (n : ℕ) → WalkedBy board walk n
+      → slice_get (walk_nets board) (count_by (is_walked board walk) (take n board.nets)) ≡ Some n
   place_of_walk n w =
       let z : 0 + n ≡ n = omega arith in
-      at_kept (is_walked board walk) test 0 board.nets tests n w.net w.is_net (ap (λ (o : Option ℕ). is_some o) w.observing) ∙ ap (λ (m : ℕ). Some m) z
+      at_kept (is_walked board walk) test 0 board.nets tests n w.net w.is_net
+      (ap (λ (o : Option ℕ). is_some o) w.observing) ∙ ap (λ (m : ℕ). Some m) z
 
   -- in row `j`, the walk net at place `j` carries 1, and no other walk net does
-  pub marked_is : (j one : ℕ) → slice_get (walk_nets board) j ≡ Some one → (n : ℕ) → WalkedBy board walk n → (count_by (is_walked board walk) (take n board.nets) == j) ≡ (n == one)
+  pub marked_is : (j one : ℕ) → slice_get (walk_nets board) j ≡ Some one → (n : ℕ)
+      → WalkedBy board walk n
+      → (count_by (is_walked board walk) (take n board.nets) == j) ≡ (n == one)
   marked_is j one at n w =
       same_answer (count_by (is_walked board walk) (take n board.nets) == j) (n == one)
       (λ e.
-      let two : Some n ≡ Some one = sym (place_of_walk n w) ∙ ap (λ (i : ℕ). slice_get (walk_nets board) i) (eqb-true (count_by (is_walked board walk) (take n board.nets)) j e) ∙ at in
+      let two : Some n
+      ≡ Some one = sym (place_of_walk n w)
+      ∙ ap (λ (i : ℕ). slice_get (walk_nets board) i)
+      (eqb-true (count_by (is_walked board walk) (take n board.nets)) j e) ∙ at in
       let same : n ≡ one = cc two in
       eq-eqb n one same)
-      (λ e. eq-eqb (count_by (is_walked board walk) (take n board.nets)) j (ap (λ (m : ℕ). count_by (is_walked board walk) (take m board.nets)) (eqb-true n one e) ∙ (walk_at j one at).counted))
+      (λ e. eq-eqb (count_by (is_walked board walk) (take n board.nets)) j
+      (ap (λ (m : ℕ). count_by (is_walked board walk) (take m board.nets)) (eqb-true n one e)
+      ∙ (walk_at j one at).counted))

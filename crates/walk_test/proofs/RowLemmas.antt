@@ -24,7 +24,7 @@ use Rattle.net_pins.specs.declared.nets.ReaderCell.{ReaderCell}
 use Rattle.net_pins.specs.NetCells.{readers_of as readers_in_order}
 use Rattle.plan_tables.specs.declared.tables.PlanTables.{PlanTables}
 use Rattle.plan_tables.specs.Assigned.{assigned}
-use Rattle.plan_tables.specs.inner.Laid.{laid, steady}
+use Rattle.plan_tables.specs.inner.Laid.{bits_of_parts, steady}
 use Rattle.scan_planner.specs.Plans.{IsPlanOf}
 use Rattle.plan_tables.specs.Tables.{first_position, IsDriverCell, IsReaderCell}
 use Rattle.plan_tables.proofs.AssignLemmas.{assigned_is, mark_has}
@@ -44,9 +44,13 @@ use Rattle.walk_test.proofs.CellLemmas.{WalkedBy, compared_of, compared_device, 
 -- rows agree at place `i` before that, they agree there afterwards, or f and g give an item with this place two different bits.
 apart_at : {X : Type 0} (place : X → ℕ) (f g : X → Bool) (xs : List X) (s t : List Bool) (i : ℕ) → length s ≡ length t →
     (get_or s i false ≡ get_or t i false) ⊎ ((x : X) × Has xs x × (place x ≡ i) × (f x ≡ g x → ⊥)) →
-    (get_or (assigned place f s xs) i false ≡ get_or (assigned place g t xs) i false) ⊎ ((x : X) × Has xs x × (place x ≡ i) × (f x ≡ g x → ⊥))
+    (get_or (assigned place f s xs) i false ≡ get_or (assigned place g t xs) i false)
+    ⊎ ((x : X) × Has xs x × (place x ≡ i) × (f x ≡ g x → ⊥))
 apart_at place f g [] s t i long h = h
-apart_at {X} place f g (x ∷ xs) s t i long h = by_rest (apart_at place f g xs (set s (place x) (f x)) (set t (place x) (g x)) i (length-set s (place x) (f x) ∙ long ∙ sym (length-set t (place x) (g x))))
+apart_at {X} place f g (x ∷ xs) s t i long h =
+    by_rest
+    (apart_at place f g xs (set s (place x) (f x)) (set t (place x) (g x)) i
+    (length-set s (place x) (f x) ∙ long ∙ sym (length-set t (place x) (g x))))
     (by_place (cases_eq i (place x)) (same_bits (f x) (g x)))
   where
     Differ : List X → Type 0
@@ -64,13 +68,18 @@ apart_at {X} place f g (x ∷ xs) s t i long h = by_rest (apart_at place f g xs 
     set_both : f x ≡ g x → i ≡ place x → (i < length s) ⊎ (length s ≤ i) → after
     set_both e at (inl less) =
         ap (λ (k : ℕ). get_or (set s (place x) (f x)) k false) at ∙ get_or-set_same s (place x) (f x) false (omega (arith, less, at)) ∙ e
-        ∙ sym (ap (λ (k : ℕ). get_or (set t (place x) (g x)) k false) at ∙ get_or-set_same t (place x) (g x) false (omega (arith, less, at, long)))
+        ∙ sym
+        (ap (λ (k : ℕ). get_or (set t (place x) (g x)) k false) at
+        ∙ get_or-set_same t (place x) (g x) false (omega (arith, less, at, long)))
     set_both e at (inr past) =
         get_or_past (set s (place x) (f x)) i false (omega (arith, past, length-set s (place x) (f x)))
         ∙ sym (get_or_past (set t (place x) (g x)) i false (omega (arith, past, long, length-set t (place x) (g x))))
 
     earlier : (i ≡ place x → ⊥) → (get_or s i false ≡ get_or t i false) ⊎ Differ (x ∷ xs) → after ⊎ Differ (x ∷ xs)
-    earlier other (inl e) = inl (get_or-set_other s (place x) i (f x) false other ∙ e ∙ sym (get_or-set_other t (place x) i (g x) false other))
+    earlier other (inl e) =
+        inl
+        (get_or-set_other s (place x) i (f x) false other ∙ e
+        ∙ sym (get_or-set_other t (place x) i (g x) false other))
     earlier other (inr d) = inr d
 
     by_place : (i ≡ place x) ⊎ (i ≡ place x → ⊥) → (f x ≡ g x) ⊎ (f x ≡ g x → ⊥) → after ⊎ Differ (x ∷ xs)
@@ -82,30 +91,52 @@ apart_at {X} place f g (x ∷ xs) s t i long h = by_rest (apart_at place f g xs 
     lift (y, has, at, ne) = (y, inr has, at, ne)
 
     -- if the lemma holds for the remaining items, it also holds for `x` followed by the remaining items
-    by_rest : (after ⊎ Differ xs → (get_or (assigned place f (set s (place x) (f x)) xs) i false ≡ get_or (assigned place g (set t (place x) (g x)) xs) i false) ⊎ Differ xs) →
-        after ⊎ Differ (x ∷ xs) → (get_or (assigned place f (set s (place x) (f x)) xs) i false ≡ get_or (assigned place g (set t (place x) (g x)) xs) i false) ⊎ Differ (x ∷ xs)
+    by_rest :
+        (after ⊎ Differ xs
+        → (get_or (assigned place f (set s (place x) (f x)) xs) i false
+        ≡ get_or (assigned place g (set t (place x) (g x)) xs) i false) ⊎ Differ xs) →
+        after ⊎ Differ (x ∷ xs)
+        → (get_or (assigned place f (set s (place x) (f x)) xs) i false
+        ≡ get_or (assigned place g (set t (place x) (g x)) xs) i false) ⊎ Differ (x ∷ xs)
     by_rest ih (inr d) = inr d
     by_rest ih (inl e) = by_end (ih (inl e))
       where
-        by_end : (get_or (assigned place f (set s (place x) (f x)) xs) i false ≡ get_or (assigned place g (set t (place x) (g x)) xs) i false) ⊎ Differ xs →
-            (get_or (assigned place f (set s (place x) (f x)) xs) i false ≡ get_or (assigned place g (set t (place x) (g x)) xs) i false) ⊎ Differ (x ∷ xs)
+        by_end :
+            (get_or (assigned place f (set s (place x) (f x)) xs) i false
+            ≡ get_or (assigned place g (set t (place x) (g x)) xs) i false) ⊎ Differ xs →
+            (get_or (assigned place f (set s (place x) (f x)) xs) i false
+            ≡ get_or (assigned place g (set t (place x) (g x)) xs) i false) ⊎ Differ (x ∷ xs)
         by_end (inl k) = inl k
         by_end (inr d) = inr (lift d)
 
 -- if a bit is 1 after the items are set, it was 1 before, or an item set it to 1
-one_from : {X : Type 0} (place : X → ℕ) (f : X → Bool) (xs : List X) (s : List Bool) (i : ℕ) → get_or (assigned place f s xs) i false ≡ true →
+one_from : {X : Type 0} (place : X → ℕ) (f : X → Bool) (xs : List X) (s : List Bool) (i : ℕ)
+    → get_or (assigned place f s xs) i false ≡ true →
     (get_or s i false ≡ true) ⊎ ((x : X) × Has xs x × (place x ≡ i) × (f x ≡ true))
 one_from place f [] s i e = inl e
 one_from {X} place f (x ∷ xs) s i e = by_later (one_from place f xs (set s (place x) (f x)) i e)
   where
-    by_place : (i ≡ place x) ⊎ (i ≡ place x → ⊥) → (i < length s) ⊎ (length s ≤ i) → get_or (set s (place x) (f x)) i false ≡ true → (get_or s i false ≡ true) ⊎ ((y : X) × Has (x ∷ xs) y × (place y ≡ i) × (f y ≡ true))
+    by_place : (i ≡ place x) ⊎ (i ≡ place x → ⊥) → (i < length s) ⊎ (length s ≤ i)
+        → get_or (set s (place x) (f x)) i false ≡ true
+        → (get_or s i false ≡ true) ⊎ ((y : X) × Has (x ∷ xs) y × (place y ≡ i) × (f y ≡ true))
     by_place (inr other) k one = inl (sym (get_or-set_other s (place x) i (f x) false other) ∙ one)
     by_place (inl at) (inl less) one =
-        inr (x, inl refl, sym at, sym (get_or-set_same s (place x) (f x) false (omega (arith, less, at))) ∙ sym (ap (λ (k : ℕ). get_or (set s (place x) (f x)) k false) at) ∙ one)
+        inr (
+          x,
+          inl refl,
+          sym at,
+          sym (get_or-set_same s (place x) (f x) false (omega (arith, less, at)))
+              ∙ sym (ap (λ (k : ℕ). get_or (set s (place x) (f x)) k false) at) ∙ one,
+        )
     by_place (inl at) (inr past) one =
-        absurd (both_ways (get_or (set s (place x) (f x)) i false) (get_or_past (set s (place x) (f x)) i false (omega (arith, past, length-set s (place x) (f x)))) one)
+        absurd
+        (both_ways (get_or (set s (place x) (f x)) i false)
+        (get_or_past (set s (place x) (f x)) i false
+        (omega (arith, past, length-set s (place x) (f x)))) one)
 
-    by_later : (get_or (set s (place x) (f x)) i false ≡ true) ⊎ ((y : X) × Has xs y × (place y ≡ i) × (f y ≡ true)) → (get_or s i false ≡ true) ⊎ ((y : X) × Has (x ∷ xs) y × (place y ≡ i) × (f y ≡ true))
+    by_later : (get_or (set s (place x) (f x)) i false ≡ true)
+        ⊎ ((y : X) × Has xs y × (place y ≡ i) × (f y ≡ true))
+        → (get_or s i false ≡ true) ⊎ ((y : X) × Has (x ∷ xs) y × (place y ≡ i) × (f y ≡ true))
     by_later (inl k) = by_place (cases_eq i (place x)) (cases_lt i (length s)) k
     by_later (inr (y, has, at, one)) = inr (y, inr has, at, one)
 
@@ -118,7 +149,8 @@ pub record CellsOf (board : RawBoard) (walk : List Ctl) : Type 0 where
   pub are : ReadersOf board readers
 
 -- if a plan has the setting as its only pass, the plan gives the driver cells of this setting and the cells that read each net
-pub cells_of_plan : (board : RawBoard) (plan : PlanTables) (walk : List Ctl) → IsPlanOf board plan → plan.passes ≡ walk ∷ [] → CellsOf board walk
+pub cells_of_plan : (board : RawBoard) (plan : PlanTables) (walk : List Ctl) → IsPlanOf board plan
+    → plan.passes ≡ walk ∷ [] → CellsOf board walk
 cells_of_plan board plan walk p is =
     let t = p.tables.cells 0 walk (ap (λ (l : List (List Ctl)). slice_get l 0) is) in
     let all : List DriverCell = plan.steady ++ t.0.drivers in
@@ -136,25 +168,39 @@ cells_of_plan board plan walk p is =
     }
 
 -- a net has at most one driver cell in a setting
-pub one_driver : (board : RawBoard) (walk : List Ctl) (d e : DriverCell) → IsDriverCell board walk d → IsDriverCell board walk e → d.net ≡ e.net → (d.place ≡ e.place) × (d.position ≡ e.position)
+pub one_driver : (board : RawBoard) (walk : List Ctl) (d e : DriverCell) → IsDriverCell board walk d
+    → IsDriverCell board walk e → d.net ≡ e.net → (d.place ≡ e.place) × (d.position ≡ e.position)
 one_driver board walk d e p q same =
     let nets : Some p.net ≡ Some q.net = sym p.is_net ∙ ap (λ (n : ℕ). slice_get board.nets n) same ∙ q.is_net in
     let net : p.net ≡ q.net = cc nets in
-    let places : Some d.place ≡ Some e.place = sym p.observing ∙ ap (λ (n : Net). observing_driver board (holds walk) n) net ∙ q.observing in
+    let places : Some d.place
+    ≡ Some e.place = sym p.observing
+    ∙ ap (λ (n : Net). observing_driver board (holds walk) n) net ∙ q.observing in
     let place : d.place ≡ e.place = cc places in
-    let pins : Some p.pin ≡ Some q.pin = sym p.is_pin ∙ ap (λ (n : Net). slice_get n.pins d.place) net ∙ ap (λ (i : ℕ). slice_get q.net.pins i) place ∙ q.is_pin in
+    let pins : Some p.pin
+    ≡ Some q.pin = sym p.is_pin ∙ ap (λ (n : Net). slice_get n.pins d.place) net
+    ∙ ap (λ (i : ℕ). slice_get q.net.pins i) place ∙ q.is_pin in
     let pin : p.pin ≡ q.pin = cc pins in
     let ats : Some p.at ≡ Some q.at = sym p.is_at ∙ ap (λ (x : NetPin). x.at) pin ∙ q.is_at in
     let at : p.at ≡ q.at = cc ats in
     let entries : Some p.entry ≡ Some q.entry = sym p.is_entry ∙ ap (λ (a : PinAt). entry_at board a) at ∙ q.is_entry in
-    let entry : p.entry ≡ q.entry = cc entries in
-    (place, p.position_is ∙ ap (λ (a : PinAt). first_position board a.part + p.entry.num) at ∙ ap (λ (c : Cell). first_position board q.at.part + c.num) entry ∙ sym q.position_is)
+    let entry : p.entry ≡ q.entry = cc entries in (
+      place,
+      p.position_is ∙ ap (λ (a : PinAt). first_position board a.part + p.entry.num) at
+          ∙ ap (λ (c : Cell). first_position board q.at.part + c.num) entry ∙ sym q.position_is,
+    )
 
-pub driver_within : (board : RawBoard) → IsBoard board → (walk : List Ctl) (d : DriverCell) → IsDriverCell board walk d → d.position < data_bits board
+pub driver_within : (board : RawBoard) → IsBoard board → (walk : List Ctl) (d : DriverCell)
+    → IsDriverCell board walk d → d.position < data_bits board
 driver_within board rules walk d s =
     let t : Standing board d.net s.net d.place s.at = standing board rules d.net s.net d.place s.pin s.at s.is_net s.is_pin s.is_at in
     let drives = drives_by t.device s.at.bit s.entry (sym (entry_on board s.at t.device t.is_device) ∙ s.is_entry) in
-    omega (arith, s.position_is, (laid_at (steady board (λ c. false)) board s.at.part t.device s.entry.num t.is_device (t.wired.num_below drives.index s.entry drives.stands)).0)
+    omega (
+      arith,
+      s.position_is,
+      (laid_at (steady board (λ c. false)) board s.at.part t.device s.entry.num t.is_device
+          (t.wired.num_below drives.index s.entry drives.stands)).0,
+    )
 
 -- rows in which each walk net carries a bit of its own
 module _ (board : RawBoard) (rules : IsBoard board) (walk : List Ctl) (cells : CellsOf board walk) where
@@ -164,28 +210,44 @@ module _ (board : RawBoard) (rules : IsBoard board) (walk : List Ctl) (cells : C
   abbrev bit : (ℕ → Bool) → DriverCell → Bool
   bit f d = f d.net
 
-  tdi_is : (f : ℕ → Bool) → tdi_of board (mark_row f) ≡ assigned (λ d. d.position) (bit f) (laid (steady board (holds walk)) board) cells.drivers
+  tdi_is : (f : ℕ → Bool)
+      → tdi_of board (mark_row f)
+      ≡ assigned (λ d. d.position) (bit f) (bits_of_parts (steady board (holds walk)) board)
+      cells.drivers
   tdi_is f =
       tdi_laid board (record { now = mark_row f; before = quiet_row })
       ∙ sym (drivers_laid board rules walk (λ n. Some (f n)) (bit f) cells.drivers cells.only cells.every (λ d has. refl))
 
   pub length-tdi : (row : TestRow) → length (tdi_of board row) ≡ data_bits board
-  length-tdi row = ap (λ (l : List Bool). length l) (tdi_laid board (record { now = row; before = quiet_row })) ∙ length-laid (row_cells board row) board
+  length-tdi row =
+      ap (λ (l : List Bool). length l) (tdi_laid board (record { now = row; before = quiet_row }))
+      ∙ length-laid (row_cells board row) board
 
   -- two rows differ only at the driver cells of nets that carry different bits
-  tdi_differ : (f g : ℕ → Bool) (i : ℕ) → (get_or (tdi_of board (mark_row f)) i false ≡ get_or (tdi_of board (mark_row g)) i false) ⊎ ((d : DriverCell) × Has cells.drivers d × (d.position ≡ i) × (f d.net ≡ g d.net → ⊥))
+  tdi_differ : (f g : ℕ → Bool) (i : ℕ)
+      → (get_or (tdi_of board (mark_row f)) i false ≡ get_or (tdi_of board (mark_row g)) i false)
+      ⊎ ((d : DriverCell) × Has cells.drivers d × (d.position ≡ i) × (f d.net ≡ g d.net → ⊥))
   tdi_differ f g i = by_case (apart_at (λ (d : DriverCell). d.position) (bit f) (bit g) cells.drivers start start i refl (inl refl))
     where
       start : List Bool
-      start = laid (steady board (holds walk)) board
+      start = bits_of_parts (steady board (holds walk)) board
 
-      by_case : (get_or (assigned (λ d. d.position) (bit f) start cells.drivers) i false ≡ get_or (assigned (λ d. d.position) (bit g) start cells.drivers) i false) ⊎ ((d : DriverCell) × Has cells.drivers d × (d.position ≡ i) × (f d.net ≡ g d.net → ⊥)) →
-          (get_or (tdi_of board (mark_row f)) i false ≡ get_or (tdi_of board (mark_row g)) i false) ⊎ ((d : DriverCell) × Has cells.drivers d × (d.position ≡ i) × (f d.net ≡ g d.net → ⊥))
-      by_case (inl e) = inl (ap (λ (l : List Bool). get_or l i false) (tdi_is f) ∙ e ∙ sym (ap (λ (l : List Bool). get_or l i false) (tdi_is g)))
+      by_case :
+          (get_or (assigned (λ d. d.position) (bit f) start cells.drivers) i false
+          ≡ get_or (assigned (λ d. d.position) (bit g) start cells.drivers) i false)
+          ⊎ ((d : DriverCell) × Has cells.drivers d × (d.position ≡ i) × (f d.net ≡ g d.net → ⊥)) →
+          (get_or (tdi_of board (mark_row f)) i false ≡ get_or (tdi_of board (mark_row g)) i false)
+          ⊎ ((d : DriverCell) × Has cells.drivers d × (d.position ≡ i) × (f d.net ≡ g d.net → ⊥))
+      by_case (inl e) =
+          inl
+          (ap (λ (l : List Bool). get_or l i false) (tdi_is f) ∙ e
+          ∙ sym (ap (λ (l : List Bool). get_or l i false) (tdi_is g)))
       by_case (inr d) = inr d
 
   -- the driver cell of a net has the bit that the net carries
-  tdi_at : (f : ℕ → Bool) (d : DriverCell) → IsDriverCell board walk d → (d.position < length (tdi_of board (mark_row f))) × (get_or (tdi_of board (mark_row f)) d.position false ≡ f d.net)
+  tdi_at : (f : ℕ → Bool) (d : DriverCell) → IsDriverCell board walk d
+      → (d.position < length (tdi_of board (mark_row f)))
+      × (get_or (tdi_of board (mark_row f)) d.position false ≡ f d.net)
   tdi_at f d s = (within, value)
     where
       within : d.position < length (tdi_of board (mark_row f))
@@ -201,60 +263,100 @@ module _ (board : RawBoard) (rules : IsBoard board) (walk : List Ctl) (cells : C
           let drives = drives_by t.device s.at.bit s.entry (sym (entry_on board s.at t.device t.is_device) ∙ s.is_entry) in
           let below = t.wired.num_below drives.index s.entry drives.stands in
           ap (λ (l : List Bool). get_or l d.position false) (tdi_laid board (record { now = mark_row f; before = quiet_row }))
-          ∙ ap (λ (i : ℕ). get_or (laid (row_cells board (mark_row f)) board) i false) s.position_is
+          ∙ ap (λ (i : ℕ). get_or (bits_of_parts (row_cells board (mark_row f)) board) i false) s.position_is
           ∙ (laid_at (row_cells board (mark_row f)) board s.at.part t.device s.entry.num t.is_device below).1
-          ∙ ap (λ (o : Option Cell). unwrap_or (Rattle.std.specs.Prelude.option_and_then (λ e. Rattle.tap_defs.specs.board.TestRows.data_pin board (mark_row f) s.at.part e.bit) o) off) (Rattle.plan_tables.proofs.PinLemmas.driving_cell_is t.device t.wired s.at.bit s.entry drives)
-          ∙ ap (λ (o : Option ℕ). unwrap_or (Rattle.tap_defs.specs.board.TestRows.data_pin board (mark_row f) s.at.part o) off) drives.bit_is
-          ∙ ap (λ (o : Option Rattle.tap_defs.specs.board.NetBits.Place). unwrap_or (Rattle.tap_defs.specs.board.TestRows.data_place board (mark_row f) o) off) t.is_place
+          ∙ ap
+          (λ (o : Option Cell). unwrap_or
+          (Rattle.std.specs.Prelude.option_and_then
+          (λ e. Rattle.tap_defs.specs.board.TestRows.data_pin board (mark_row f)
+          s.at.part e.bit) o) off)
+          (Rattle.plan_tables.proofs.PinLemmas.driving_cell_is t.device t.wired s.at.bit s.entry
+          drives)
+          ∙ ap
+          (λ (o : Option ℕ). unwrap_or
+          (Rattle.tap_defs.specs.board.TestRows.data_pin board (mark_row f) s.at.part o) off)
+          drives.bit_is
+          ∙ ap
+          (λ (o : Option Rattle.tap_defs.specs.board.NetBits.Place). unwrap_or
+          (Rattle.tap_defs.specs.board.TestRows.data_place board (mark_row f) o) off) t.is_place
           ∙ ap (λ (o : Option ℕ). unwrap_or (Rattle.tap_defs.specs.board.TestRows.data_observed (Some (f d.net)) d.place o) off) s.observing
           ∙ ap (λ (b : Bool). unwrap_or (Rattle.tap_defs.specs.board.TestRows.only_if b (Some (f d.net))) off) (eq-eqb d.place d.place refl)
         where
           off : Bool
-          off = Rattle.tap_defs.specs.board.TestRows.steady_bit board (holds walk) s.at.part (standing board rules d.net s.net d.place s.pin s.at s.is_net s.is_pin s.is_at).device s.entry.num
+          off =
+              Rattle.tap_defs.specs.board.TestRows.steady_bit board (holds walk) s.at.part
+              (standing board rules d.net s.net d.place s.pin s.at s.is_net s.is_pin s.is_at).device
+              s.entry.num
 
   -- If only one net carries 1, the row is the row without a 1 in which the net's driver cell is set to 1.
-  pub marked_row : (f : ℕ → Bool) (d : DriverCell) → IsDriverCell board walk d → f d.net ≡ true → ((n : ℕ) → WalkedBy board walk n → f n ≡ true → n ≡ d.net) → set (tdi_of board (still_row walk)) d.position true ≡ tdi_of board (mark_row f)
+  pub marked_row : (f : ℕ → Bool) (d : DriverCell) → IsDriverCell board walk d → f d.net ≡ true
+      → ((n : ℕ) → WalkedBy board walk n → f n ≡ true → n ≡ d.net)
+      → set (tdi_of board (still_row walk)) d.position true ≡ tdi_of board (mark_row f)
   marked_row f d s on alone =
-      assigned_is (λ (x : DriverCell). x.position) (λ x. true) (d ∷ []) (tdi_of board (still_row walk)) (tdi_of board (mark_row f)) (length-tdi (still_row walk) ∙ sym (length-tdi (mark_row f)))
+      assigned_is (λ (x : DriverCell). x.position) (λ x. true) (d ∷ [])
+      (tdi_of board (still_row walk)) (tdi_of board (mark_row f))
+      (length-tdi (still_row walk) ∙ sym (length-tdi (mark_row f)))
       (λ x has. by_item x has)
       (λ i less. by_place i (tdi_differ (λ n. false) f i))
     where
-      by_item : (x : DriverCell) → Has (d ∷ []) x → (x.position < length (tdi_of board (mark_row f))) × (get_or (tdi_of board (mark_row f)) x.position false ≡ true)
+      by_item : (x : DriverCell) → Has (d ∷ []) x
+          → (x.position < length (tdi_of board (mark_row f)))
+          × (get_or (tdi_of board (mark_row f)) x.position false ≡ true)
       by_item x (inl e) =
           let r = tdi_at f d s in
-          subst (λ (y : DriverCell). (y.position < length (tdi_of board (mark_row f))) × (get_or (tdi_of board (mark_row f)) y.position false ≡ true)) e (r.0, r.1 ∙ on)
+          subst
+          (λ (y : DriverCell). (y.position < length (tdi_of board (mark_row f)))
+          × (get_or (tdi_of board (mark_row f)) y.position false ≡ true)) e (r.0, r.1 ∙ on)
       by_item x (inr none) = absurd none
 
       true_of : (b : Bool) → (false ≡ b → ⊥) → b ≡ true
       true_of true ne = refl
       true_of false ne = absurd (ne refl)
 
-      by_place : (i : ℕ) → (get_or (tdi_of board (mark_row (λ n. false))) i false ≡ get_or (tdi_of board (mark_row f)) i false) ⊎ ((x : DriverCell) × Has cells.drivers x × (x.position ≡ i) × (false ≡ f x.net → ⊥)) →
-          (get_or (tdi_of board (still_row walk)) i false ≡ get_or (tdi_of board (mark_row f)) i false) ⊎ ((x : DriverCell) × Has (d ∷ []) x × (x.position ≡ i))
+      by_place : (i : ℕ)
+          → (get_or (tdi_of board (mark_row (λ n. false))) i false
+          ≡ get_or (tdi_of board (mark_row f)) i false)
+          ⊎ ((x : DriverCell) × Has cells.drivers x × (x.position ≡ i) × (false ≡ f x.net → ⊥)) →
+          (get_or (tdi_of board (still_row walk)) i false
+          ≡ get_or (tdi_of board (mark_row f)) i false)
+          ⊎ ((x : DriverCell) × Has (d ∷ []) x × (x.position ≡ i))
       by_place i (inl e) = inl e
       by_place i (inr (x, has, at, ne)) =
           let q = cells.only x has in
-          let same : x.net ≡ d.net = alone x.net (record { net = q.net; is_net = q.is_net; driver = x.place; observing = q.observing }) (true_of (f x.net) ne) in
+          let same : x.net
+          ≡ d.net = alone x.net
+          (record
+          { net = q.net; is_net = q.is_net; driver = x.place; observing = q.observing })
+          (true_of (f x.net) ne) in
           inr (d, inl refl, sym (one_driver board walk x d q s same).1 ∙ at)
 
   -- clearing all driver cells of a row gives the row without a 1
-  pub cleared_row : {X : Type 0} (place : X → ℕ) (xs : List X) (f : ℕ → Bool) → ((x : X) → Has xs x → (d : DriverCell) × IsDriverCell board walk d × (place x ≡ d.position)) → ((d : DriverCell) → IsDriverCell board walk d → (x : X) × Has xs x × (place x ≡ d.position)) →
+  pub cleared_row : {X : Type 0} (place : X → ℕ) (xs : List X) (f : ℕ → Bool)
+      → ((x : X) → Has xs x → (d : DriverCell) × IsDriverCell board walk d × (place x ≡ d.position))
+      → ((d : DriverCell) → IsDriverCell board walk d → (x : X) × Has xs x × (place x ≡ d.position))
+      →
       assigned place (λ x. false) (tdi_of board (mark_row f)) xs ≡ tdi_of board (still_row walk)
   cleared_row {X} place xs f right cover =
-      assigned_is place (λ x. false) xs (tdi_of board (mark_row f)) (tdi_of board (still_row walk)) (length-tdi (mark_row f) ∙ sym (length-tdi (still_row walk)))
+      assigned_is place (λ x. false) xs (tdi_of board (mark_row f)) (tdi_of board (still_row walk))
+      (length-tdi (mark_row f) ∙ sym (length-tdi (still_row walk)))
       (λ x has. let r = right x has in
       let v = tdi_at (λ n. false) r.0 r.1 in
       (omega (arith, v.0, r.2), ap (λ (i : ℕ). get_or (tdi_of board (still_row walk)) i false) r.2 ∙ v.1))
       (λ i less. by_place i (tdi_differ f (λ n. false) i))
     where
-      by_place : (i : ℕ) → (get_or (tdi_of board (mark_row f)) i false ≡ get_or (tdi_of board (mark_row (λ n. false))) i false) ⊎ ((d : DriverCell) × Has cells.drivers d × (d.position ≡ i) × (f d.net ≡ false → ⊥)) →
-          (get_or (tdi_of board (mark_row f)) i false ≡ get_or (tdi_of board (still_row walk)) i false) ⊎ ((x : X) × Has xs x × (place x ≡ i))
+      by_place : (i : ℕ)
+          → (get_or (tdi_of board (mark_row f)) i false
+          ≡ get_or (tdi_of board (mark_row (λ n. false))) i false)
+          ⊎ ((d : DriverCell) × Has cells.drivers d × (d.position ≡ i) × (f d.net ≡ false → ⊥)) →
+          (get_or (tdi_of board (mark_row f)) i false
+          ≡ get_or (tdi_of board (still_row walk)) i false)
+          ⊎ ((x : X) × Has xs x × (place x ≡ i))
       by_place i (inl e) = inl e
       by_place i (inr (d, has, at, ne)) = let c = cover d (cells.only d has) in inr (c.0, c.1, c.2 ∙ at)
 
   -- the row of zeros from which the compared bits are set
   abbrev zeros : List Bool
-  zeros = laid (λ part device cell. false) board
+  zeros = bits_of_parts (λ part device cell. false) board
 
   zeros_at : (i : ℕ) → get_or zeros i false ≡ true → ⊥
   zeros_at i e = by_side (cases_lt i (data_bits board))
@@ -263,22 +365,37 @@ module _ (board : RawBoard) (rules : IsBoard board) (walk : List Ctl) (cells : C
       here = ap (λ (l : List Bool). get_or l i false) (zeros_laid board) ∙ e
 
       by_side : (i < data_bits board) ⊎ (data_bits board ≤ i) → ⊥
-      by_side (inl less) = both_ways (get_or (replicate (data_bits board) false) i false) (get_or-replicate (data_bits board) i false false less) here
-      by_side (inr past) = both_ways (get_or (replicate (data_bits board) false) i false) (get_or_past (replicate (data_bits board) false) i false (omega (arith, past, length-replicate (data_bits board) false))) here
+      by_side (inl less) =
+          both_ways (get_or (replicate (data_bits board) false) i false)
+          (get_or-replicate (data_bits board) i false false less) here
+      by_side (inr past) =
+          both_ways (get_or (replicate (data_bits board) false) i false)
+          (get_or_past (replicate (data_bits board) false) i false
+          (omega (arith, past, length-replicate (data_bits board) false))) here
 
-  pub mask_is : (f : ℕ → Bool) → mask_of board (mark_row f) ≡ assigned (λ (x : Pair). x.1.position) (λ x. true) zeros (pairs cells.readers cells.drivers)
+  pub mask_is : (f : ℕ → Bool)
+      → mask_of board (mark_row f)
+      ≡ assigned (λ (x : Pair). x.1.position) (λ x. true) zeros
+      (pairs cells.readers cells.drivers)
   mask_is f =
       mask_laid board (record { now = quiet_row; before = mark_row f })
-      ∙ sym (mask_compared board rules walk (λ n. Some (f n)) (bit f) cells.drivers cells.only cells.every (λ d has. refl) cells.readers cells.are)
+      ∙ sym
+      (mask_compared board rules walk (λ n. Some (f n)) (bit f) cells.drivers cells.only
+      cells.every (λ d has. refl) cells.readers cells.are)
 
   -- the compared positions do not depend on the bits that the nets carry
   pub mask_same : (f g : ℕ → Bool) → mask_of board (mark_row f) ≡ mask_of board (mark_row g)
   mask_same f g = mask_is f ∙ sym (mask_is g)
 
-  tdo_is : (f : ℕ → Bool) → tdo_of board (mark_row f) ≡ assigned (λ (x : Pair). x.1.position) (λ x. bit f x.0) zeros (pairs cells.readers cells.drivers)
+  tdo_is : (f : ℕ → Bool)
+      → tdo_of board (mark_row f)
+      ≡ assigned (λ (x : Pair). x.1.position) (λ x. bit f x.0) zeros
+      (pairs cells.readers cells.drivers)
   tdo_is f =
       tdo_laid board (record { now = quiet_row; before = mark_row f })
-      ∙ sym (tdo_compared board rules walk (λ n. Some (f n)) (bit f) cells.drivers cells.only cells.every (λ d has. refl) cells.readers cells.are)
+      ∙ sym
+      (tdo_compared board rules walk (λ n. Some (f n)) (bit f) cells.drivers cells.only
+      cells.every (λ d has. refl) cells.readers cells.are)
 
   -- `position` is the position of a compared cell, that is, of a cell that reads a net on a pin other than the observing driver's pin
   pub record ComparedAt (position : ℕ) : Type 0 where
@@ -306,51 +423,69 @@ module _ (board : RawBoard) (rules : IsBoard board) (walk : List Ctl) (cells : C
       )
 
   pub compared_at : (f : ℕ → Bool) (i : ℕ) → get_or (mask_of board (mark_row f)) i false ≡ true → ComparedAt i
-  compared_at f i e = by_case (mark_has (λ (x : Pair). x.1.position) (pairs cells.readers cells.drivers) zeros i (sym (ap (λ (l : List Bool). get_or l i false) (mask_is f)) ∙ e))
+  compared_at f i e =
+      by_case
+      (mark_has (λ (x : Pair). x.1.position) (pairs cells.readers cells.drivers) zeros i
+      (sym (ap (λ (l : List Bool). get_or l i false) (mask_is f)) ∙ e))
     where
       by_case : (get_or zeros i false ≡ true) ⊎ ((x : Pair) × Has (pairs cells.readers cells.drivers) x × (x.1.position ≡ i)) → ComparedAt i
       by_case (inl z) = absurd (zeros_at i z)
       by_case (inr (x, has, at)) = (of_pair x i has at).0
 
   pub one_at : (f : ℕ → Bool) (i : ℕ) → get_or (tdo_of board (mark_row f)) i false ≡ true → (c : ComparedAt i) × (f c.driver.net ≡ true)
-  one_at f i e = by_case (one_from (λ (x : Pair). x.1.position) (λ x. bit f x.0) (pairs cells.readers cells.drivers) zeros i (sym (ap (λ (l : List Bool). get_or l i false) (tdo_is f)) ∙ e))
+  one_at f i e =
+      by_case
+      (one_from (λ (x : Pair). x.1.position) (λ x. bit f x.0) (pairs cells.readers cells.drivers)
+      zeros i (sym (ap (λ (l : List Bool). get_or l i false) (tdo_is f)) ∙ e))
     where
-      by_case : (get_or zeros i false ≡ true) ⊎ ((x : Pair) × Has (pairs cells.readers cells.drivers) x × (x.1.position ≡ i) × (bit f x.0 ≡ true)) → (c : ComparedAt i) × (f c.driver.net ≡ true)
+      by_case : (get_or zeros i false ≡ true)
+          ⊎ ((x : Pair) × Has (pairs cells.readers cells.drivers) x × (x.1.position ≡ i)
+          × (bit f x.0 ≡ true)) → (c : ComparedAt i) × (f c.driver.net ≡ true)
       by_case (inl z) = absurd (zeros_at i z)
       by_case (inr (x, has, at, on)) = let c = of_pair x i has at in (c.0, ap (λ (d : DriverCell). f d.net) c.1 ∙ on)
 
 -- a compared cell of a walk net, in any row of the walking test
-module _ (board : RawBoard) (rules : IsBoard board) (walk : List Ctl) (n : ℕ) (net : Net) (is_net : slice_get board.nets n ≡ Some net) (d : ℕ) (observing : observing_driver board (holds walk) net ≡ Some d) (r : ReaderCell) (q : IsReaderCell board net r) (other : (r.place == d) ≡ false) where
+module _ (board : RawBoard) (rules : IsBoard board) (walk : List Ctl) (n : ℕ) (net : Net)
+    (is_net : slice_get board.nets n ≡ Some net) (d : ℕ)
+    (observing : observing_driver board (holds walk) net ≡ Some d) (r : ReaderCell)
+    (q : IsReaderCell board net r) (other : (r.place == d) ≡ false) where
   abbrev c : Compared board (holds walk) n net
   c = compared_of board rules walk n net is_net d observing r q other
 
   -- if a row has a bit for each cell, it has the bit of this cell at the cell's position
-  pub laid_here : (g : ℕ → RawDevice → ℕ → Bool) → (r.position < data_bits board) × (get_or (laid g board) r.position false ≡ g c.k c.device c.cell)
+  pub laid_here : (g : ℕ → RawDevice → ℕ → Bool)
+      → (r.position < data_bits board)
+      × (get_or (bits_of_parts g board) r.position false ≡ g c.k c.device c.cell)
   laid_here g =
       let l = laid_at g board c.k c.device c.cell (compared_device board rules walk n net is_net d observing r q other) c.below in
       let at = compared_position board rules walk n net is_net d observing r q other in
-      (omega (arith, l.0, at), ap (λ (i : ℕ). get_or (laid g board) i false) at ∙ l.1)
+      (omega (arith, l.0, at), ap (λ (i : ℕ). get_or (bits_of_parts g board) i false) at ∙ l.1)
 
   pub mask_here : (f : ℕ → Bool) → get_or (mask_of board (pass_row walk (λ m. Some (f m)))) r.position false ≡ true
   mask_here f =
-      ap (λ (l : List Bool). get_or l r.position false) (mask_laid board (record { now = quiet_row; before = pass_row walk (λ m. Some (f m)) }))
+      ap (λ (l : List Bool). get_or l r.position false)
+      (mask_laid board (record { now = quiet_row; before = pass_row walk (λ m. Some (f m)) }))
       ∙ (laid_here (λ part device cell. is_some (expect_bit board (pass_row walk (λ m. Some (f m))) part device cell))).1
       ∙ ap (λ (o : Option Bool). is_some o) (expects board (pass_row walk (λ m. Some (f m))) n net c)
 
   pub tdo_here : (f : ℕ → Bool) → get_or (tdo_of board (pass_row walk (λ m. Some (f m)))) r.position false ≡ f n
   tdo_here f =
-      ap (λ (l : List Bool). get_or l r.position false) (tdo_laid board (record { now = quiet_row; before = pass_row walk (λ m. Some (f m)) }))
+      ap (λ (l : List Bool). get_or l r.position false)
+      (tdo_laid board (record { now = quiet_row; before = pass_row walk (λ m. Some (f m)) }))
       ∙ (laid_here (λ part device cell. unwrap_or (expect_bit board (pass_row walk (λ m. Some (f m))) part device cell) false)).1
       ∙ ap (λ (o : Option Bool). unwrap_or o false) (expects board (pass_row walk (λ m. Some (f m))) n net c)
 
 -- each position in `positions_beside` is the position of a cell that reads a pin other than the pin at this place
-beside_positions : (place : ℕ) (readers : List ReaderCell) (position : ℕ) → Has (positions_beside place readers) position → (r : ReaderCell) × Has readers r × ((r.place == place) ≡ false) × (r.position ≡ position)
+beside_positions : (place : ℕ) (readers : List ReaderCell) (position : ℕ)
+    → Has (positions_beside place readers) position
+    → (r : ReaderCell) × Has readers r × ((r.place == place) ≡ false) × (r.position ≡ position)
 beside_positions place readers position h =
     let m = map_has (λ (r : ReaderCell). r.position) (filter (λ r. not (r.place == place)) readers) position h in
     let f = filter_has (λ (r : ReaderCell). not (r.place == place)) readers m.0 m.1 in
     (m.0, f.0, not-true (m.0.place == place) f.1, m.2)
 
-positions_has : (place : ℕ) (readers : List ReaderCell) (r : ReaderCell) → Has readers r → (r.place == place) ≡ false → Has (positions_beside place readers) r.position
+positions_has : (place : ℕ) (readers : List ReaderCell) (r : ReaderCell) → Has readers r
+    → (r.place == place) ≡ false → Has (positions_beside place readers) r.position
 positions_has place readers r h other =
     has_map (λ (x : ReaderCell). x.position) (filter (λ x. not (x.place == place)) readers) r
     (has_filter (λ (x : ReaderCell). not (x.place == place)) readers r h (ap not other))
@@ -359,7 +494,10 @@ some_items : {X : Type 0} (xs : List X) (x : X) → Has xs x → 0 < length xs
 some_items [] x h = absurd h
 some_items (y ∷ xs) x h = omega arith
 
-pub net_cells : (board : RawBoard) (walk : List Ctl) (n : ℕ) (w : WalkedBy board walk n) (position : ℕ) (readers : List ReaderCell) → ((r : ReaderCell) → Has readers r → IsReaderCell board w.net r) → ((r : ReaderCell) → IsReaderCell board w.net r → Has readers r) →
+pub net_cells : (board : RawBoard) (walk : List Ctl) (n : ℕ) (w : WalkedBy board walk n)
+    (position : ℕ) (readers : List ReaderCell)
+    → ((r : ReaderCell) → Has readers r → IsReaderCell board w.net r)
+    → ((r : ReaderCell) → IsReaderCell board w.net r → Has readers r) →
     ((d : DriverCell) → IsDriverCell board walk d → d.net ≡ n → position ≡ d.position) →
     AreNetCells board walk n (record { driver = position; compared = positions_beside w.driver readers })
 net_cells board walk n w position readers only every at =
@@ -377,16 +515,21 @@ net_cells board walk n w position readers only every at =
             (b.0, only b.0 b.1, ap (λ (i : ℕ). b.0.place == i) d.3 ∙ b.2, b.3),
         λ r.
             let other : (r.0.place == w.driver) ≡ false = sym (ap (λ (i : ℕ). r.0.place == i) d.3) ∙ r.2 in
-            has_contains (positions_beside w.driver readers) p (subst (λ (i : ℕ). Has (positions_beside w.driver readers) i) r.3 (positions_has w.driver readers r.0 (every r.0 r.1) other)),
+            has_contains (positions_beside w.driver readers) p
+            (subst (λ (i : ℕ). Has (positions_beside w.driver readers) i) r.3
+            (positions_has w.driver readers r.0 (every r.0 r.1) other)),
       );
-      some = some_items (positions_beside w.driver readers) first.0.position (positions_has w.driver readers first.0 (every first.0 first.1) first.2);
+      some =
+          some_items (positions_beside w.driver readers) first.0.position
+          (positions_has w.driver readers first.0 (every first.0 first.1) first.2);
     }
   where
     -- some cell reads the net on a pin other than the driver's pin
     first : (r : ReaderCell) × IsReaderCell board w.net r × ((r.place == w.driver) ≡ false)
     first =
         let beside : reads_beside board w.driver 0 w.net.pins ≡ true = beside_observing board (holds walk) w.net w.driver w.observing in
-        let a = any_has (λ (r : ReaderCell). not (r.place == w.driver)) (readers_in_order board w.net.pins) (beside_is board w.driver 0 w.net.pins ∙ beside) in
+        let a = any_has (λ (r : ReaderCell). not (r.place == w.driver))
+        (readers_in_order board w.net.pins) (beside_is board w.driver 0 w.net.pins ∙ beside) in
         (a.0, reader_is board w.net a.0 a.1, not_false (a.0.place == w.driver) a.2)
       where
         not_false : (b : Bool) → not b ≡ true → b ≡ false

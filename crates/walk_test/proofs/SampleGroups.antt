@@ -32,7 +32,14 @@ use Rattle.walk_test.proofs.SampleTests.{two_passes, two_passes_nets}
 
 -- every free bit is 0
 abbrev all_off : Choice
-all_off = record { parts = λ k. record { ir = λ i. off; cells = λ i. off; latches = λ i. off; tdo = off; other = off }; shorts = λ k. off; tdi = off }
+all_off =
+    record {
+      parts = λ k. record
+          { ir = λ i. off; cells = λ i. off; latches = λ i. off; tdo = off; other = off };
+      shorts = λ
+          k. off;
+      tdi = off;
+    }
 
 abbrev shown : List (List ℕ) → List (List Bool)
 shown groups = map (λ j. row_captured three_wires (or_shorts groups) (walk_row_of three_wires j) all_off) (0 ∷ 1 ∷ 2 ∷ [])
@@ -83,8 +90,11 @@ one_short = (0 ∷ 2 ∷ []) ∷ []
 one_short_is : AreGroups four_wires one_short
 one_short_is = record {
   several = All-from_recursion (λ (group : List ℕ). 2 ≤ length group) one_short (omega arith, tt);
-  walked = All-from_recursion (λ (group : List ℕ). All (λ n. Contains (walk_nets four_wires) n) group) one_short
-      (All-from_recursion (λ (n : ℕ). Contains (walk_nets four_wires) n) (0 ∷ 2 ∷ []) ((0, omega arith, refl), ((2, omega arith, refl), tt)), tt);
+  walked = All-from_recursion (λ (group : List ℕ). All (λ n. Contains (walk_nets four_wires) n) group) one_short (
+    All-from_recursion (λ (n : ℕ). Contains (walk_nets four_wires) n) (0 ∷ 2 ∷ [])
+        ((0, omega arith, refl), ((2, omega arith, refl), tt)),
+    tt,
+  );
   rise = All-from_recursion Rise one_short (order_pairs (λ a b. a < b) (0 ∷ 2 ∷ []) (above, (λ n has. absurd has, tt)), tt);
   disjoint = λ i j d less within. absurd (omega arith);
   order = λ i j d less within. absurd (omega arith);
@@ -132,7 +142,13 @@ or_explained : Explain four_wires or_log one_short
 or_explained = record {
   are = one_short_is;
   explained = record {
-    shape = record { rows = refl; bits = All-from_recursion (λ (row : List Bool). length row ≡ data_bits four_wires) or_log (refl, (refl, (refl, (refl, tt)))) };
+    shape =
+        record {
+          rows = refl;
+          bits = All-from_recursion
+              (λ (row : List Bool). length row ≡ data_bits four_wires) or_log
+              (refl, (refl, (refl, (refl, tt))));
+        };
     passes = (log_captured four_wires four_wires_rules (or_shorts one_short) (walk_row_list four_wires) or_log).1
         (λ choice. refl, (λ choice. refl, (λ choice. refl, (λ choice. refl, (λ choice. refl, tt)))));
   };
@@ -140,7 +156,8 @@ or_explained = record {
 
 -- if the group explains a log, each row of the log is what the cells capture
 rows_pass : (log : List (List Bool)) → Explain four_wires log one_short →
-    CapturesPass four_wires (or_shorts one_short) quiet_row (walk_row_list four_wires) (scans_by_log (map (scan_of_row four_wires) (walk_row_list four_wires)) log)
+    CapturesPass four_wires (or_shorts one_short) quiet_row (walk_row_list four_wires)
+    (scans_by_log (map (scan_of_row four_wires) (walk_row_list four_wires)) log)
 rows_pass log h = (log_captured four_wires four_wires_rules (or_shorts one_short) (walk_row_list four_wires) log).0 h.explained.passes
 
 -- The group does not explain the log. The samples are a log of the And of the two nets, and a log in which the first net reads the 1 of the
@@ -155,6 +172,7 @@ one_way_log : IsUnexplained (log_of (read_row on off off) (read_row off on off) 
 one_way_log h = both_ways _ refl ((rows_pass _ h).1.0 all_off)
 
 -- the text names the nets of each group in net order
-two_groups_text : groups_text four_wires (Some ((0 ∷ 2 ∷ []) ∷ (1 ∷ 3 ∷ []) ∷ [])) ≡ codes "GROUPS 2\nGROUP 2\nNET A\nNET C\nGROUP 2\nNET B\nNET D\n"
+two_groups_text : groups_text four_wires (Some ((0 ∷ 2 ∷ []) ∷ (1 ∷ 3 ∷ []) ∷ []))
+    ≡ codes "GROUPS 2\nGROUP 2\nNET A\nNET C\nGROUP 2\nNET B\nNET D\n"
 unfolding groups_text digits
 two_groups_text = refl

@@ -60,7 +60,8 @@ pulled_nets = refl
 
 -- the test has only one data scan after the EXTEST codes, and this scan compares nothing
 pulled_text : board_walk_text pulled_up ≡ whole (
-    codes "SIR 4 TDI (A) TDO (5) MASK (F);" ∷ codes "SDR 2 TDI (2);" ∷ codes "SIR 4 TDI (0) TDO (5) MASK (F);" ∷ codes "SDR 2 TDI (2);" ∷ [])
+    codes "SIR 4 TDI (A) TDO (5) MASK (F);" ∷ codes "SDR 2 TDI (2);" ∷ codes
+    "SIR 4 TDI (0) TDO (5) MASK (F);" ∷ codes "SDR 2 TDI (2);" ∷ [])
 unfolding svf_text digits
 pulled_text = refl
 
@@ -90,7 +91,9 @@ abbrev ts0 : RawDevice
 ts0 = device (one_bit Outward) (entry 1 Output3 4 (by 0) ∷ control 0 ∷ []) 2
 
 abbrev beside_three_state : RawDevice → RawBoard
-beside_three_state driver = board (Described od ∷ Described rcv1 ∷ Described driver ∷ Described rcv1 ∷ []) (pulled (Some true) (pin 0 0 ∷ pin 1 0 ∷ []) ∷ net (pin 2 0 ∷ pin 3 0 ∷ []) ∷ [])
+beside_three_state driver =
+    board (Described od ∷ Described rcv1 ∷ Described driver ∷ Described rcv1 ∷ [])
+    (pulled (Some true) (pin 0 0 ∷ pin 1 0 ∷ []) ∷ net (pin 2 0 ∷ pin 3 0 ∷ []) ∷ [])
 
 -- A switching driver takes only its own control out of the setting. Here a three-state driver of another part keeps its control, although
 -- the control is cell 0, like the control of the switching driver.
@@ -113,7 +116,16 @@ beside_text = refl
 
 -- an open-source driver: its own cell is its control, with the disable value 0
 abbrev os : RawDevice
-os = device (one_bit Outward) (record { num = 0; role = Output2; bit = Some 4; safe = Zero; ctl = Some (record { cell = 0; disable = false }) } ∷ []) 1
+os =
+    device (one_bit Outward)
+    (record {
+      num = 0;
+      role = Output2;
+      bit = Some 4;
+      safe = Zero;
+      ctl = Some
+          (record { cell = 0; disable = false });
+    } ∷ []) 1
 
 abbrev pulled_down : RawBoard
 pulled_down = board (Described os ∷ Described rcv1 ∷ Described drv ∷ Described rcv ∷ []) (
@@ -171,7 +183,8 @@ open_drain_nets : walk_nets open_drain_first ≡ []
 open_drain_nets = refl
 
 open_drain_text : board_walk_text open_drain_first ≡ whole (
-    codes "SIR 6 TDI (2A) TDO (15) MASK (3F);" ∷ codes "SDR 4 TDI (C);" ∷ codes "SIR 6 TDI (00) TDO (15) MASK (3F);" ∷ codes "SDR 4 TDI (C);" ∷ [])
+    codes "SIR 6 TDI (2A) TDO (15) MASK (3F);" ∷ codes "SDR 4 TDI (C);" ∷ codes
+    "SIR 6 TDI (00) TDO (15) MASK (3F);" ∷ codes "SDR 4 TDI (C);" ∷ [])
 unfolding svf_text digits
 open_drain_text = refl
 
@@ -189,7 +202,8 @@ two_passes_nets = refl
 
 two_passes_text : board_walk_text two_passes ≡ whole (
     codes "SIR 8 TDI (AA) TDO (55) MASK (FF);" ∷ codes "SDR 14 TDI (2100);" ∷ codes "SIR 8 TDI (00) TDO (55) MASK (FF);"
-    ∷ codes "SDR 14 TDI (0500);" ∷ codes "SDR 14 TDI (0300) TDO (0004) MASK (000C);" ∷ codes "SDR 14 TDI (2100) TDO (0008) MASK (000C);" ∷ [])
+    ∷ codes "SDR 14 TDI (0500);" ∷ codes "SDR 14 TDI (0300) TDO (0004) MASK (000C);" ∷ codes
+    "SDR 14 TDI (2100) TDO (0008) MASK (000C);" ∷ [])
 unfolding svf_text digits
 two_passes_text = refl
 
@@ -201,7 +215,10 @@ no_pass : walk_setting no_nets ≡ None
 no_pass = refl
 
 -- the test of a board without a pass has only the first three scans
-no_pass_text : board_walk_text no_nets ≡ whole (codes "SIR 4 TDI (A) TDO (5) MASK (F);" ∷ codes "SDR 4 TDI (0);" ∷ codes "SIR 4 TDI (0) TDO (5) MASK (F);" ∷ [])
+no_pass_text : board_walk_text no_nets
+    ≡ whole
+    (codes "SIR 4 TDI (A) TDO (5) MASK (F);" ∷ codes "SDR 4 TDI (0);"
+    ∷ codes "SIR 4 TDI (0) TDO (5) MASK (F);" ∷ [])
 unfolding svf_text digits
 no_pass_text = refl
 

@@ -46,9 +46,9 @@ abbrev pub AreFound : RawBoard → List (List Bool) → Option (List (List ℕ))
 AreFound board log found = MatchOption found ((groups : List (List ℕ)) → Explain board log groups → ⊥) (λ groups. Explain board log groups)
 
 -- the nets of a group are on the board
-abbrev pub IsNamed : RawBoard → List ℕ → Type 0
-IsNamed board group = All (λ n. n < length board.nets) group
+abbrev pub IsGroupOnBoard : RawBoard → List ℕ → Type 0
+IsGroupOnBoard board group = All (λ n. n < length board.nets) group
 
 -- the nets of each group are on the board, if there are groups
 abbrev pub AreNamed : RawBoard → Option (List (List ℕ)) → Type 0
-AreNamed board groups = MatchOption groups (Unit {0}) (λ list. All (IsNamed board) list)
+AreNamed board groups = MatchOption groups (Unit {0}) (λ list. All (IsGroupOnBoard board) list)

@@ -11,7 +11,7 @@ use Rattle.tap_defs.specs.board.FaultSet.{IsFaultSet}
 use Rattle.walk_test.specs.declared.tables.WalkTables.{WalkTables}
 use Rattle.walk_test.specs.WalkTest.{switches_some, walk_setting, walk_row_list, walk_scans, board_walk_text}
 use Rattle.walk_test.specs.Groups.{AreGroups, or_shorts, Explain}
-use Rattle.walk_test.specs.Tables.{IsWalkOf, scan_count}
+use Rattle.walk_test.specs.Tables.{IsWalkOf, count_walk_scans}
 
 -- the walk setting is safe
 abbrev pub WalkSafe : Type 0
@@ -19,7 +19,9 @@ WalkSafe = (board : RawBoard) (walk : List Ctl) → IsBoard board → walk_setti
 
 -- the walk setting holds a control if and only if the first pass holds the control and the control belongs to no switching driver
 abbrev pub WalkKept : Type 0
-WalkKept = (board : RawBoard) (pass walk : List Ctl) (c : Ctl) → slice_get (passes_of board) 0 ≡ Some pass → walk_setting board ≡ Some walk → holds walk c ≡ (holds pass c && not (switches_some board c))
+WalkKept =
+    (board : RawBoard) (pass walk : List Ctl) (c : Ctl) → slice_get (passes_of board) 0 ≡ Some pass
+    → walk_setting board ≡ Some walk → holds walk c ≡ (holds pass c && not (switches_some board c))
 
 -- the walk text passes on the board without faults, and is quiet under every fault set
 abbrev pub WalkHarmless : Type 0
@@ -31,16 +33,23 @@ ShortsAreFaults = (board : RawBoard) (groups : List (List ℕ)) → IsBoard boar
 
 -- each set of groups explains some log
 abbrev pub GroupsRespond : Type 0
-GroupsRespond = (board : RawBoard) (groups : List (List ℕ)) → IsBoard board → AreGroups board groups → (log : List (List Bool)) × Explain board log groups
+GroupsRespond =
+    (board : RawBoard) (groups : List (List ℕ)) → IsBoard board → AreGroups board groups
+    → (log : List (List Bool)) × Explain board log groups
 
 -- any two logs that one set of groups explains agree at every compared bit
 abbrev pub OneResponse : Type 0
-OneResponse = (board : RawBoard) (groups : List (List ℕ)) (log other : List (List Bool)) → IsBoard board → Explain board log groups → Explain board other groups → AgreeOn board (walk_row_list board) log other
+OneResponse =
+    (board : RawBoard) (groups : List (List ℕ)) (log other : List (List Bool)) → IsBoard board
+    → Explain board log groups → Explain board other groups
+    → AgreeOn board (walk_row_list board) log other
 
 -- at most one set of groups explains a log
 abbrev pub OneSet : Type 0
-OneSet = (board : RawBoard) (log : List (List Bool)) (groups others : List (List ℕ)) → IsBoard board → Explain board log groups → Explain board log others → groups ≡ others
+OneSet =
+    (board : RawBoard) (log : List (List Bool)) (groups others : List (List ℕ)) → IsBoard board
+    → Explain board log groups → Explain board log others → groups ≡ others
 
--- `scan_count` of a board's walk is the number of scans of the board's walking test
+-- `count_walk_scans` of a board's walk is the number of scans of the board's walking test
 abbrev pub ScansCounted : Type 0
-ScansCounted = (board : RawBoard) (walk : WalkTables) → IsWalkOf board walk → scan_count walk ≡ length (walk_scans board)
+ScansCounted = (board : RawBoard) (walk : WalkTables) → IsWalkOf board walk → count_walk_scans walk ≡ length (walk_scans board)

@@ -37,7 +37,10 @@ pub record AreNetCells (board : RawBoard) (walk : List Ctl) (n : ℕ) (cells : N
   pub is_driver : IsDriverCell board walk driver
   pub of_net : driver.net ≡ n
   pub driver_is : cells.driver ≡ driver.position
-  pub compared : (position : ℕ) → Contains cells.compared position ↔ ((r : ReaderCell) × IsReaderCell board net r × ((r.place == driver.place) ≡ false) × (r.position ≡ position))
+  pub compared : (position : ℕ)
+      → Contains cells.compared position
+      ↔ ((r : ReaderCell) × IsReaderCell board net r × ((r.place == driver.place) ≡ false)
+      × (r.position ≡ position))
   pub some : 0 < length cells.compared
 
 -- `t` has the tables of a walk with this setting
@@ -59,5 +62,5 @@ abbrev pub rows_count : List (List Ctl) → List ℕ → ℕ
 rows_count [] nets = 0
 rows_count (pass ∷ passes) nets = suc (length nets)
 
-abbrev pub scan_count : WalkTables → ℕ
-scan_count t = 3 + rows_count t.plan.passes t.nets
+abbrev pub count_walk_scans : WalkTables → ℕ
+count_walk_scans t = 3 + rows_count t.plan.passes t.nets

@@ -83,7 +83,8 @@ impl MaskedRow<'_> {
         requires few { length self.now.digits.now < 2 ^ 60 }
         requires at { at / 4 < length self.now.digits.now }
         ensures past { at < result }
-        ensures none { (p : ℕ) → at < p → p < result → is_one self.now.digits.now self.now.mask.now p ≡ false }
+        ensures none { (p : ℕ) → at < p → p < result
+            → is_one self.now.digits.now self.now.mask.now p ≡ false }
     {
         if at % 4 < 3 {
             at + 1
@@ -96,7 +97,9 @@ impl MaskedRow<'_> {
     /// digits without a branch, so the processor can compare many digits at a time.
     pub fn is_alike(&self, other: &[u8]) -> bool
         requires { length other.now ≡ length self.now.digits.now }
-        ensures { IsTrue result ↔ ((k : ℕ) → k < length self.now.mask.now → differing self.now.digits.now other.now self.now.mask.now k ≡ 0) }
+        ensures { IsTrue result
+            ↔ ((k : ℕ) → k < length self.now.mask.now
+            → differing self.now.digits.now other.now self.now.mask.now k ≡ 0) }
     {
         let mut different = 0u8;
         for k in 0..self.mask.len() {

@@ -4,9 +4,9 @@ ghost use Rattle.board_defs.specs.Pins.{data_bits};
 ghost use Rattle.plan_tables.specs.Assigned.{assigned};
 ghost use Rattle.scan_planner.specs.Plans.{IsRoom};
 ghost use Rattle.tap_defs.specs.chain.ScanRows.{AreSameRows, EachHasRoom};
-ghost use Rattle.walk_test.specs.Tables.{IsWalkOf, scan_count};
-ghost use Rattle.walk_test.specs.inner.Tables.{board_walk, cells_before, compared_in, expected_in, shifted_in};
-ghost use Rattle.walk_test.specs.inner.Filled.{FillsRows};
+ghost use Rattle.walk_test.specs.Tables.{IsWalkOf, count_walk_scans};
+ghost use Rattle.walk_test.specs.inner.Tables.{board_walk, cells_before, walk_mask, walk_expected, shifted_in};
+ghost use Rattle.walk_test.specs.inner.Filled.{FillsWalkRows};
 
 use crate::tables::{NetCells, WalkTables};
 use board_defs::Board;
@@ -30,7 +30,8 @@ impl<'a> Model for RowFiller<'a> {
 
     ghost view = { λ a. board_walk a.board.now a.tables.now };
 
-    ghost invariant = { λ a. IsWalkOf a.board.now a.tables.now × (0 < length a.tables.now.plan.passes) };
+    ghost invariant = { λ a. IsWalkOf a.board.now a.tables.now
+        × (0 < length a.tables.now.plan.passes) };
 }
 
 // Returns the cells of walk net `j`, if there is one.
@@ -90,8 +91,8 @@ impl<'a> RowFiller<'a> {
         requires row { j ≤ length self.now.tables.nets }
         requires tdo_room { data_bits self.now.board ≤ tdo.old.room }
         requires mask_room { data_bits self.now.board ≤ mask.old.room }
-        ensures tdo { tdo.new.bits ≡ expected_in self.now j }
-        ensures mask { mask.new.bits ≡ compared_in self.now j }
+        ensures tdo { tdo.new.bits ≡ walk_expected self.now j }
+        ensures mask { mask.new.bits ≡ walk_mask self.now j }
         ensures tdo_kept { tdo.new.room ≡ tdo.old.room }
         ensures mask_kept { mask.new.room ≡ mask.old.room }
     {
@@ -111,7 +112,7 @@ impl<'a> RowFiller<'a> {
     fn fill(&self, j: usize, rows: &mut ScanRows) -> Shape
         requires row { j ≤ length self.now.tables.nets }
         requires room { EachHasRoom (IsRoom self.now.board) rows.old }
-        ensures filled { FillsRows self.now.board (3 + j) result rows.new }
+        ensures filled { FillsWalkRows self.now.board (3 + j) result rows.new }
         ensures kept { AreSameRows rows.old rows.new }
     {
         let _rules = self.board.raw();
@@ -127,9 +128,9 @@ impl<'a> RowFiller<'a> {
 /// Fills the rows with scan `k`, and returns its shape.
 pub fn fill_scan(board: &Board, tables: &WalkTables, k: u64, rows: &mut ScanRows) -> Shape
     requires walk { IsWalkOf board.now tables.now }
-    requires scan { k < scan_count tables.now }
+    requires scan { k < count_walk_scans tables.now }
     requires room { EachHasRoom (IsRoom board.now) rows.old }
-    ensures filled { FillsRows board.now k result rows.new }
+    ensures filled { FillsWalkRows board.now k result rows.new }
     ensures kept { AreSameRows rows.old rows.new }
 {
     let _rules = board.raw();

@@ -20,7 +20,9 @@ use tap_defs::board_law::{logs_by_rows, rows_compared, scans_in_turn};
 // Returns, for each place of a net, the list of the nets that have this place as their label, in net order.
 fn all_members(alloc: Global, nets: &[u32], labels: &[u32]) -> Result<Vec<Items<u32>>, AllocError>
     requires { length labels.now ≡ length nets.now }
-    ensures { IfOk result (λ lists. lists.items ≡ map (members nets.now labels.now) (range_with_len 0 (length labels.now))) }
+    ensures { IfOk result
+        (λ lists. lists.items
+        ≡ map (members nets.now labels.now) (range_with_len 0 (length labels.now))) }
 {
     let mut lists = blank(alloc, labels.len())?;
     for i in 0..nets.len() {
@@ -77,8 +79,10 @@ pub fn groups(
     requires walk { IsWalkOf board.now walk.now }
     requires rows { length log.now ≡ length walk.now.nets }
     requires bits { All (λ row. length row ≡ data_bits board.now) log.now }
-    ensures found { IfOk result (λ found. AreFound board.now log.now (option_map (λ groups. groups.items) found)) }
-    ensures named { IfOk result (λ found. AreNamed board.now (option_map (λ groups. groups.items) found)) }
+    ensures found { IfOk result
+        (λ found. AreFound board.now log.now (option_map (λ groups. groups.items) found)) }
+    ensures named { IfOk result
+        (λ found. AreNamed board.now (option_map (λ groups. groups.items) found)) }
 {
     let _rules = board.raw();
     walk_safe();

@@ -1,7 +1,7 @@
 // The label of each walk net: the place of the first walk net whose 1 the net reads.
 ghost use Rattle.std.specs.Prelude.{◌≡◌, map, slice_index_or, IfOk, MatchOption};
 ghost use Rattle.std.specs.List.{list_all};
-ghost use Rattle.walk_test.specs.inner.Reading.{first_at, first_in, is_even, label_of, ShowsAll};
+ghost use Rattle.walk_test.specs.inner.Reading.{first_at, first_in, is_even, label_of, ShowsLabels};
 
 use crate::reading::read_rows;
 use crate::tables::NetCells;
@@ -66,7 +66,11 @@ fn labels_in(
 /// Returns the labels of the walk nets of a log. Returns `None` if, in some row, some compared cell reads a bit that contradicts the
 /// labels. Reads the log once, row by row.
 pub fn shown_labels(alloc: Global, log: &WalkLog<'_>) -> Result<Option<Vec<u32>>, AllocError>
-    ensures { IfOk result (λ found. MatchOption found (ShowsAll log.now.log (map (label_of log.now.log) log.now.nets) log.now.nets → ⊥) (λ labels. (labels.items ≡ map (label_of log.now.log) log.now.nets) × ShowsAll log.now.log labels.items log.now.nets)) }
+    ensures { IfOk result
+        (λ found. MatchOption found
+        (ShowsLabels log.now.log (map (label_of log.now.log) log.now.nets) log.now.nets → ⊥)
+        (λ labels. (labels.items ≡ map (label_of log.now.log) log.now.nets)
+        × ShowsLabels log.now.log labels.items log.now.nets)) }
 {
     log.laws();
     let none = log.rows();

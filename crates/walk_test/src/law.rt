@@ -59,7 +59,8 @@ pub fn one_set()
 
 /// Each log of a board's walking test has exactly one answer: the set of groups that explains the log, or the answer that no set does.
 pub fn logs_have_one_set()
-    ensures some { (board : RawBoard) (log : List (List Bool)) → IsBoard board → (found : Option (List (List ℕ))) × AreFound board log found }
+    ensures some { (board : RawBoard) (log : List (List Bool)) → IsBoard board
+        → (found : Option (List (List ℕ))) × AreFound board log found }
     ensures one { OneSet }
 {
     walk_safe();

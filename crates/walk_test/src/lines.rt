@@ -1,7 +1,7 @@
 // Writes the lines of a set of groups.
 ghost use Rattle.std.specs.Prelude.{◌≡◌, [], ◌∷◌, codes};
 ghost use Rattle.line_printer.specs.Prints.{Prints, line_of};
-ghost use Rattle.walk_test.specs.GroupText.{size_line, count_line};
+ghost use Rattle.walk_test.specs.GroupText.{size_line, group_count_line};
 
 use bt_base::{PutFault, Sink};
 use bt_bits::Line;
@@ -10,14 +10,15 @@ use line_printer::put_line;
 
 /// Writes the line that says that no set of groups explains the log.
 pub fn put_none<K: Sink>(line: &mut Line, out: &mut K) -> Result<(), PutFault>
-    ensures { Prints (K.shown out.old) (K.shown out.new) [] [] (line_of (codes "GROUPS none" ∷ [])) result }
+    ensures { Prints (K.shown out.old) (K.shown out.new) [] [] (line_of (codes "GROUPS none" ∷ []))
+        result }
 {
     put_line(&[b"GROUPS none"], line, out)
 }
 
 /// Writes the line with the number of groups.
 pub fn put_count<K: Sink>(count: u64, line: &mut Line, out: &mut K) -> Result<(), PutFault>
-    ensures { Prints (K.shown out.old) (K.shown out.new) [] [] (count_line count) result }
+    ensures { Prints (K.shown out.old) (K.shown out.new) [] [] (group_count_line count) result }
 {
     let mut buffer = Buffer::new();
     let count = buffer.format(count).as_bytes();
@@ -35,7 +36,8 @@ pub fn put_size<K: Sink>(size: u64, line: &mut Line, out: &mut K) -> Result<(), 
 
 /// Writes the line of a net of a group.
 pub fn put_net<K: Sink>(name: &[u8], line: &mut Line, out: &mut K) -> Result<(), PutFault>
-    ensures { Prints (K.shown out.old) (K.shown out.new) [] [] (line_of (codes "NET " ∷ name.now ∷ [])) result }
+    ensures { Prints (K.shown out.old) (K.shown out.new) [] []
+        (line_of (codes "NET " ∷ name.now ∷ [])) result }
 {
     put_line(&[b"NET ".as_slice(), name], line, out)
 }

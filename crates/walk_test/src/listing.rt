@@ -1,9 +1,10 @@
 // Writes the text of a set of groups.
+ghost use Rattle.board_defs.specs.Pins.{net_name};
 ghost use Rattle.std.specs.Prelude.{◌≡◌, ◌++◌, [], length, option_map};
 ghost use Rattle.std.specs.List.{flat_map};
 ghost use Rattle.bt_base.specs.Puts.{Puts};
 ghost use Rattle.line_printer.specs.Prints.{Prints};
-ghost use Rattle.walk_test.specs.GroupText.{net_name, net_line, group_text, count_line, groups_text};
+ghost use Rattle.walk_test.specs.GroupText.{net_line, group_text, group_count_line, groups_text};
 
 use crate::group::Group;
 use crate::lines::{put_count, put_net, put_none, put_size};
@@ -38,7 +39,8 @@ fn put_nets<K: Sink>(
     line: &mut Line,
     out: &mut K,
 ) -> Result<(), PutFault>
-    ensures { Prints (K.shown out.old) (K.shown out.new) [] [] (flat_map (net_line board.now) nets.now) result }
+    ensures { Prints (K.shown out.old) (K.shown out.new) [] []
+        (flat_map (net_line board.now) nets.now) result }
 {
     for n in nets {
         put_numbered(board, *n, line, out)?;
@@ -53,7 +55,8 @@ fn put_members<K: Sink>(
     line: &mut Line,
     out: &mut K,
 ) -> Result<(), PutFault>
-    ensures { Prints (K.shown out.old) (K.shown out.new) [] [] (group_text board.now nets.now) result }
+    ensures { Prints (K.shown out.old) (K.shown out.new) [] [] (group_text board.now nets.now)
+        result }
 {
     put_size(nets.len() as u64, line, out)?;
     put_nets(board, nets, line, out)
@@ -65,7 +68,8 @@ fn put_group<K: Sink>(
     line: &mut Line,
     out: &mut K,
 ) -> Result<(), PutFault>
-    ensures { Prints (K.shown out.old) (K.shown out.new) [] [] (group_text board.now group.now) result }
+    ensures { Prints (K.shown out.old) (K.shown out.new) [] [] (group_text board.now group.now)
+        result }
 {
     put_members(board, group.nets(), line, out)
 }
@@ -76,7 +80,8 @@ fn put_groups<K: Sink>(
     line: &mut Line,
     out: &mut K,
 ) -> Result<(), PutFault>
-    ensures { Prints (K.shown out.old) (K.shown out.new) [] [] (flat_map (group_text board.now) groups.now) result }
+    ensures { Prints (K.shown out.old) (K.shown out.new) [] []
+        (flat_map (group_text board.now) groups.now) result }
 {
     for group in groups {
         put_group(board, group, line, out)?;
@@ -91,7 +96,9 @@ fn put_all<K: Sink>(
     line: &mut Line,
     out: &mut K,
 ) -> Result<(), PutFault>
-    ensures { Prints (K.shown out.old) (K.shown out.new) [] [] (count_line (length groups.now) ++ flat_map (group_text board.now) groups.now) result }
+    ensures { Prints (K.shown out.old) (K.shown out.new) [] []
+        (group_count_line (length groups.now) ++ flat_map (group_text board.now) groups.now)
+        result }
 {
     put_count(groups.len() as u64, line, out)?;
     put_groups(board, groups, line, out)
@@ -108,7 +115,8 @@ pub fn write_groups<K: Sink>(
     line: &mut Line,
     out: &mut K,
 ) -> Result<(), PutFault>
-    ensures { Puts (K.shown out.old) (K.shown out.new) (groups_text board.now (option_map (λ groups. groups.now) groups.entry)) result }
+    ensures { Puts (K.shown out.old) (K.shown out.new)
+        (groups_text board.now (option_map (λ groups. groups.now) groups.entry)) result }
 {
     match groups {
         None => put_none(line, out),

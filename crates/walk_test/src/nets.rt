@@ -6,7 +6,7 @@ ghost use Rattle.board_defs.specs.Pins.{data_bits};
 ghost use Rattle.net_pins.specs.Tables.{AreNetPins};
 ghost use Rattle.scan_planner.specs.Plans.{ArePlannable};
 ghost use Rattle.walk_test.specs.WalkTest.{walk_setting};
-ghost use Rattle.walk_test.specs.inner.Tables.{positions_beside, cells_by, cells_in, nets_in, nets_by, cells_of, cleared, AreMade, HasRoom};
+ghost use Rattle.walk_test.specs.inner.Tables.{positions_beside, cells_by, cells_in, nets_in, nets_by, cells_in_walk, cleared, AreMade, HasRoom};
 
 use crate::setting::walk_settings;
 use crate::tables::{NetCells, WalkParts, WalkRows};
@@ -17,7 +17,9 @@ use scan_planner::BoardPlan;
 use std::alloc::{AllocError, Global};
 
 fn push_beside(positions: &mut Vec<u32>, reader: ReaderCell, place: u32) -> Result<(), AllocError>
-    ensures { OnOk result (positions.new.items ≡ positions.old.items ++ (if reader.place == place then [] else reader.position ∷ [])) }
+    ensures { OnOk result
+        (positions.new.items
+        ≡ positions.old.items ++ (if reader.place == place then [] else reader.position ∷ [])) }
 {
     if reader.place != place {
         positions.push(reader.position)?;
@@ -138,7 +140,8 @@ fn walk_nets(
     pins: &NetPins,
     passes: &[Setting],
 ) -> Result<Items<u32>, AllocError>
-    ensures { IfOk result (λ nets. nets ≡ nets_by pins.now (slice_get passes.now 0) (length board.now.nets)) }
+    ensures { IfOk result
+        (λ nets. nets ≡ nets_by pins.now (slice_get passes.now 0) (length board.now.nets)) }
 {
     let count = board.raw().nets.len() as u32;
     Ok(Items::of(first_nets(alloc, pins, passes, count)?))
@@ -151,7 +154,8 @@ fn first_cells(
     passes: &[Setting],
     nets: &[u32],
 ) -> Result<Vec<NetCells>, AllocError>
-    ensures { IfOk result (λ all. all.items ≡ cells_of pins.now (slice_get passes.now 0) nets.now) }
+    ensures { IfOk result
+        (λ all. all.items ≡ cells_in_walk pins.now (slice_get passes.now 0) nets.now) }
 {
     match passes.first() {
         None => Ok(Vec::new(alloc)),
@@ -166,7 +170,8 @@ fn walk_cells(
     passes: &[Setting],
     nets: &[u32],
 ) -> Result<Items<NetCells>, AllocError>
-    ensures { IfOk result (λ cells. cells ≡ cells_of pins.now (slice_get passes.now 0) nets.now) }
+    ensures { IfOk result
+        (λ cells. cells ≡ cells_in_walk pins.now (slice_get passes.now 0) nets.now) }
 {
     Ok(Items::of(first_cells(alloc, pins, passes, nets)?))
 }
@@ -192,11 +197,14 @@ pub fn walk_parts(
 ) -> Result<WalkParts, AllocError>
     requires pins { AreNetPins board.now pins.now }
     requires passes { slice_get passes.now 0 ≡ slice_get (passes_of board.now) 0 }
-    ensures settings { IfOk result (λ parts. parts.settings.items ≡ option_to_list (walk_setting board.now)) }
+    ensures settings { IfOk result
+        (λ parts. parts.settings.items ≡ option_to_list (walk_setting board.now)) }
     ensures few { IfOk result (λ parts. length parts.settings.items < 2 ^ 32) }
     ensures plannable { IfOk result (λ parts. ArePlannable board.now parts.settings.items) }
-    ensures nets { IfOk result (λ parts. parts.nets ≡ nets_by pins.now (walk_setting board.now) (length board.now.nets)) }
-    ensures cells { IfOk result (λ parts. parts.cells ≡ cells_of pins.now (walk_setting board.now) parts.nets) }
+    ensures nets { IfOk result
+        (λ parts. parts.nets ≡ nets_by pins.now (walk_setting board.now) (length board.now.nets)) }
+    ensures cells { IfOk result
+        (λ parts. parts.cells ≡ cells_in_walk pins.now (walk_setting board.now) parts.nets) }
     ensures rows { IfOk result (λ parts. HasRoom (data_bits board.now) parts.rows) }
 {
     let settings = walk_settings(alloc, &BoardPins::of(board, &pins.tables), passes)?;

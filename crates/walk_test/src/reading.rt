@@ -3,7 +3,7 @@ ghost use Rattle.std.specs.Prelude.{◌≡◌, ℕ, ◌<◌, nat_lt, length, map
 ghost use Rattle.std.specs.Bool.{OnFalse, OnTrue};
 ghost use Rattle.bt_bits.specs.Hex.{digit_count};
 ghost use Rattle.walk_test.specs.inner.Digits.{IsFresh, IsMarked};
-ghost use Rattle.walk_test.specs.inner.Reading.{label_of, AreRead, AreSameRows, AreStarted, StartsGroup, ShowsAll};
+ghost use Rattle.walk_test.specs.inner.Reading.{label_of, AreRead, ReadTheSame, AreStarted, StartsGroup, ShowsLabels};
 
 use crate::digits::MaskedRow;
 use crate::labels::{first_of, row_at};
@@ -13,8 +13,11 @@ use crate::walk_log::WalkLog;
 // `none` for a position without a row. If the result is false, some of `firsts` may have changed.
 fn mark_row(firsts: &mut [u32], row: &MaskedRow<'_>, j: u32, none: u32) -> bool
     requires { length row.now.digits.now ≡ digit_count (length firsts.old) }
-    ensures fresh { IsTrue result ↔ IsFresh row.now.digits.now row.now.mask.now none firsts.old (length firsts.old) }
-    ensures marked { OnTrue result (IsMarked row.now.digits.now row.now.mask.now j none firsts.old firsts.new (length firsts.old)) }
+    ensures fresh { IsTrue result
+        ↔ IsFresh row.now.digits.now row.now.mask.now none firsts.old (length firsts.old) }
+    ensures marked { OnTrue result
+        (IsMarked row.now.digits.now row.now.mask.now j none firsts.old firsts.new
+        (length firsts.old)) }
 {
     let mut at = 0;
     while at < firsts.len() {
@@ -35,7 +38,8 @@ fn start_group(log: &WalkLog<'_>, firsts: &mut [u32], at: u32, j: u32, none: u32
     requires row { j < length log.now.log }
     requires firsts { length firsts.old ≡ length log.now.mask }
     ensures starts { IsTrue result ↔ StartsGroup log.now.log log.now.mask j at none firsts.old }
-    ensures started { OnTrue result (AreStarted log.now.log log.now.mask j none firsts.old firsts.new) }
+    ensures started { OnTrue result
+        (AreStarted log.now.log log.now.mask j none firsts.old firsts.new) }
 {
     let row = log.row(j);
     row.is_one(at as usize) && mark_row(firsts, &row, j, none)
@@ -45,7 +49,7 @@ fn start_group(log: &WalkLog<'_>, firsts: &mut [u32], at: u32, j: u32, none: u32
 fn are_same_rows(log: &WalkLog<'_>, j: u32, other: u32) -> bool
     requires row { j < length log.now.log }
     requires other { other < length log.now.log }
-    ensures { IsTrue result ↔ AreSameRows log.now.log log.now.mask j other }
+    ensures { IsTrue result ↔ ReadTheSame log.now.log log.now.mask j other }
 {
     log.row(j).is_alike(log.row(other).digits)
 }
@@ -55,8 +59,13 @@ fn are_same_rows(log: &WalkLog<'_>, j: u32, other: u32) -> bool
 fn read_row(log: &WalkLog<'_>, firsts: &mut [u32], at: u32, j: u32, none: u32) -> bool
     requires row { j < length log.now.log }
     requires firsts { length firsts.old ≡ length log.now.mask }
-    ensures again { OnTrue (nat_lt (slice_index_or firsts.old at none) j) ((IsTrue result ↔ AreSameRows log.now.log log.now.mask j (slice_index_or firsts.old at none)) × (firsts.new ≡ firsts.old)) }
-    ensures starts { OnFalse (nat_lt (slice_index_or firsts.old at none) j) ((IsTrue result ↔ StartsGroup log.now.log log.now.mask j at none firsts.old) × OnTrue result (AreStarted log.now.log log.now.mask j none firsts.old firsts.new)) }
+    ensures again { OnTrue (nat_lt (slice_index_or firsts.old at none) j)
+        ((IsTrue result
+        ↔ ReadTheSame log.now.log log.now.mask j (slice_index_or firsts.old at none))
+        × (firsts.new ≡ firsts.old)) }
+    ensures starts { OnFalse (nat_lt (slice_index_or firsts.old at none) j)
+        ((IsTrue result ↔ StartsGroup log.now.log log.now.mask j at none firsts.old)
+        × OnTrue result (AreStarted log.now.log log.now.mask j none firsts.old firsts.new)) }
 {
     let first = row_at(firsts, at, none);
     if first < j {
@@ -70,8 +79,12 @@ fn read_row(log: &WalkLog<'_>, firsts: &mut [u32], at: u32, j: u32, none: u32) -
 /// compared position, the first row in which it reads 1. Before the call, each item of `firsts` must be the number of rows.
 pub fn read_rows(log: &WalkLog<'_>, firsts: &mut [u32]) -> bool
     requires firsts { length firsts.old ≡ length log.now.mask }
-    requires blank { (at : ℕ) → slice_index_or firsts.old at (length log.now.log) ≡ length log.now.log }
-    ensures { MatchBool result (AreRead log.now.log log.now.mask log.now.nets (length log.now.log) (length log.now.nets) firsts.new) (ShowsAll log.now.log (map (label_of log.now.log) log.now.nets) log.now.nets → ⊥) }
+    requires blank { (at : ℕ)
+        → slice_index_or firsts.old at (length log.now.log) ≡ length log.now.log }
+    ensures { MatchBool result
+        (AreRead log.now.log log.now.mask log.now.nets (length log.now.log) (length log.now.nets)
+        firsts.new)
+        (ShowsLabels log.now.log (map (label_of log.now.log) log.now.nets) log.now.nets → ⊥) }
 {
     log.laws();
     let none = log.rows();

@@ -79,7 +79,10 @@ fn add_net(
     net: &Net,
     setting: &mut Setting,
 ) -> Result<(), AllocError>
-    ensures { OnOk result (setting.new ≡ (if guarded_at board.now n then setting.old else with_pins board.now net.now.pull setting.old net.now.pins)) }
+    ensures { OnOk result
+        (setting.new
+        ≡ (if guarded_at board.now n then setting.old
+        else with_pins board.now net.now.pull setting.old net.now.pins)) }
 {
     if board.is_guarded(n) {
         return Ok(());
@@ -100,7 +103,8 @@ fn switching_of(alloc: Global, board: &BoardPins<'_>) -> Result<Setting, AllocEr
 }
 
 fn push_unless(controls: &mut Vec<Ctl>, c: Ctl, is_left_out: bool) -> Result<(), AllocError>
-    ensures { OnOk result (controls.new.items ≡ controls.old.items ++ (if is_left_out then [] else c ∷ [])) }
+    ensures { OnOk result
+        (controls.new.items ≡ controls.old.items ++ (if is_left_out then [] else c ∷ [])) }
 {
     if !is_left_out {
         controls.push(c)?;
@@ -147,7 +151,8 @@ pub fn walk_settings(
     passes: &[Setting],
 ) -> Result<Vec<Setting>, AllocError>
     requires { slice_get passes.now 0 ≡ slice_get (passes_of board.now) 0 }
-    ensures settings { IfOk result (λ settings. settings.items ≡ option_to_list (walk_setting board.now)) }
+    ensures settings { IfOk result
+        (λ settings. settings.items ≡ option_to_list (walk_setting board.now)) }
     ensures few { IfOk result (λ settings. length settings.items < 2 ^ 32) }
     ensures plannable { IfOk result (λ settings. ArePlannable board.now settings.items) }
 {

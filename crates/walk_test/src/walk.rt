@@ -3,7 +3,7 @@ ghost use Rattle.std.specs.Prelude.{◌≡◌, ◌<◌, slice_get, IfOk};
 ghost use Rattle.board_defs.specs.Passes.{passes_of};
 ghost use Rattle.net_pins.specs.Tables.{AreNetPins};
 ghost use Rattle.scan_planner.specs.Plans.{IsRoom};
-ghost use Rattle.walk_test.specs.Tables.{IsWalkOf, scan_count};
+ghost use Rattle.walk_test.specs.Tables.{IsWalkOf, count_walk_scans};
 ghost use Rattle.walk_test.specs.Scans.{FillsWalk};
 
 use crate::filling::fill_scan;
@@ -88,7 +88,7 @@ impl Walk {
 
     /// Returns the number of scans. There are three, and if the board has a pass, one more for each walk net and one for the quiet row.
     pub fn scans(&self) -> u64
-        ensures { result ≡ scan_count self.now }
+        ensures { result ≡ count_walk_scans self.now }
     {
         if self.tables.plan.pass_count() == 0 {
             3
@@ -101,7 +101,7 @@ impl Walk {
     /// `k` must be below the number of scans, and each row must have room for the longer register. Allocates nothing.
     pub fn fill(&self, board: &Board, k: u64, tdi: &mut Row, tdo: &mut Row, mask: &mut Row) -> Shape
         requires walk { IsWalkOf board.now self.now }
-        requires scan { k < scan_count self.now }
+        requires scan { k < count_walk_scans self.now }
         requires tdi_room { IsRoom board.now tdi.old.room }
         requires tdo_room { IsRoom board.now tdo.old.room }
         requires mask_room { IsRoom board.now mask.old.room }

@@ -1,10 +1,10 @@
 -- The steps that cut the text of a batch into the texts of its blocks.
 use Rattle.std.specs.Prelude.{ℕ, ◌+◌, ◌≤◌, ◌==◌, Bool, false, not, ◌&&◌, List, [], ◌∷◌, filter, Option, Some, None, Result, Ok, Err}
 use Rattle.std.specs.List.{slice_split}
-use Rattle.text_lines.specs.Words.{is_newline, is_blank}
+use Rattle.text_lines.specs.Words.{is_newline, is_line_blank}
 use Rattle.response_log.specs.declared.fault.LogFault.{LogFault}
 use Rattle.response_log.specs.declared.fault.LogFault.TheVariants.{Digit, Length, Missing, Extra, Memory as LogMemory}
-use Rattle.response_log.specs.LogRows.{NumberedLine, numbered, has_words, Answer as LogAnswer}
+use Rattle.response_log.specs.LogRows.{NumberedLine, numbered_lines, has_words, LogAnswer}
 use Rattle.batch_diag.specs.declared.fault.BatchFault.{BatchFault}
 use Rattle.batch_diag.specs.declared.fault.BatchFault.TheVariants.{Inner, Memory}
 use Rattle.batch_diag.specs.declared.lines.Title.{Title}
@@ -12,12 +12,12 @@ use Rattle.batch_diag.specs.Batch.{BlockLines, blocks_of, up_to_title}
 
 -- The lines of a text that have words. The first line of the text has the number `n`.
 abbrev pub rows_from : ℕ → List ℕ → List NumberedLine
-rows_from n text = filter has_words (numbered n (slice_split is_newline text))
+rows_from n text = filter has_words (numbered_lines n (slice_split is_newline text))
 
 -- the line begins with a byte with which no title begins
 abbrev pub begins_row : List ℕ → Bool
 begins_row [] = false
-begins_row (b ∷ bs) = not (b == 66) && not (is_blank b)
+begins_row (b ∷ bs) = not (b == 66) && not (is_line_blank b)
 
 -- the text, or no bytes if there is no text
 abbrev pub or_nothing : Option (List ℕ) → List ℕ

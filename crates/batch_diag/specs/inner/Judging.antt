@@ -1,7 +1,7 @@
 -- The verdicts on all blocks of a batch or on a range of the blocks.
 use Rattle.std.specs.Prelude.{ℕ, List, All}
 use Rattle.fault_sim.specs.Places.{IsUniverse}
-use Rattle.diagnoser.specs.Diagnosis.{IsNamed}
+use Rattle.diagnoser.specs.Diagnosis.{IsFaultOnBoard}
 use Rattle.side_by_side.specs.Pieces.{items_between}
 use Rattle.batch_diag.specs.declared.block.Block.{Block}
 use Rattle.batch_diag.specs.declared.judging.Batch.{Batch}
@@ -15,7 +15,7 @@ pub record IsBatch (b : Batch) : Type 0 where
 
 -- the verdict is the verdict on the block, and its faults name nets and pins of the board
 abbrev pub Judges : Batch → Block → Verdict → Type 0
-Judges b block verdict = IsVerdict b.test.now.board block verdict × All (IsNamed b.test.now.board) verdict.faults
+Judges b block verdict = IsVerdict b.test.now.board block verdict × All (IsFaultOnBoard b.test.now.board) verdict.faults
 
 -- the verdicts are the verdicts on the blocks `from..to`, in order
 abbrev pub Judged : Batch → ℕ → ℕ → List Verdict → Type 0

@@ -7,7 +7,7 @@ use Rattle.batch_diag.specs.declared.block.Block.{Block}
 use Rattle.batch_diag.specs.declared.fault.BatchFault.{BatchFault}
 use Rattle.batch_diag.specs.declared.lines.UnreadBlock.{UnreadBlock}
 use Rattle.batch_diag.specs.declared.reader.Reading.{Reading}
-use Rattle.batch_diag.specs.Batch.{Answer, BlockLines, IsOfLines, batch_told, logs_from}
+use Rattle.batch_diag.specs.Batch.{BatchAnswer, BlockLines, IsOfLines, batch_told, logs_from}
 use Rattle.batch_diag.specs.inner.Cutting.{rows_from}
 
 -- the id and the lines of a block whose log has yet to be read
@@ -15,19 +15,21 @@ abbrev pub lines_of_unread : UnreadBlock → BlockLines
 lines_of_unread block = record { id = block.id.now; lines = rows_from (block.line + 1) block.own.now }
 
 -- There are fewer than 2^32 blocks. For each block, the sum of its title's line number and its text's length is less than 2^32.
-abbrev pub AreShort : List UnreadBlock → Type 0
-AreShort blocks = (length blocks < 2 ^ 32) × All (λ block. block.line + length block.own.now < 2 ^ 32) blocks
+abbrev pub AreShortBlocks : List UnreadBlock → Type 0
+AreShortBlocks blocks = (length blocks < 2 ^ 32) × All (λ block. block.line + length block.own.now < 2 ^ 32) blocks
 
 -- the answer for the blocks `from..to`: their logs, or the fault of the first block whose lines are not a log
-abbrev pub said_between : Reading → ℕ → ℕ → Answer
+abbrev pub said_between : Reading → ℕ → ℕ → BatchAnswer
 said_between r from to = logs_from r.rows r.len (from + 1) (map lines_of_unread (items_between r.unread.items from to))
 
 -- the answer for all blocks
-abbrev pub said_of : Reading → Answer
+abbrev pub said_of : Reading → BatchAnswer
 said_of r = logs_from r.rows r.len 1 (map lines_of_unread r.unread.items)
 
 -- The result is the answer `said`, or lack of memory. All logs in the result have this size. If the result is the fault of a block, it is a
 -- fault of the block's lines.
-abbrev pub IsRead : {V : Type 0} → (V → List Block) → ℕ → ℕ → Answer → Result V BatchFault → Type 0
-IsRead view rows len said result =
-    Gives batch_told view (λ answer. said ≡ answer) result × IfOk result (λ v. All (λ block. HasSize rows len block.log) (view v)) × MatchResult result (λ _. Unit {0}) IsOfLines
+abbrev pub AreBlocksRead : {V : Type 0} → (V → List Block) → ℕ → ℕ → BatchAnswer → Result V BatchFault → Type 0
+AreBlocksRead view rows len said result =
+    Gives batch_told view (λ answer. said ≡ answer) result
+    × IfOk result (λ v. All (λ block. HasSize rows len block.log) (view v))
+    × MatchResult result (λ _. Unit {0}) IsOfLines

@@ -25,32 +25,32 @@ use Rattle.board_lines.specs.Names.{named, names_of}
 use Rattle.board_lines.specs.LineRules.{Pulled, pulls_of, pull_of_net, line_fault}
 use Rattle.board_build.specs.BoardRules.{data_limit, net_limit, is_kept}
 use Rattle.board_build.specs.declared.marked.MarkedWord.{MarkedWord}
-use Rattle.board_lines.specs.NetWords.{Pin, NetWord, same_pin, net_of, pin_of, spot_of, is_among}
+use Rattle.board_lines.specs.NetWords.{Pin, NetWord, same_pin, word_net, word_pin, spot_of, is_among}
 use Rattle.board_lines.specs.ChainParts.{PinPlace, place_of_pin, described_names}
 
 -- there is an entry, and it has no control
-abbrev pub is_free : Option Cell → Bool
-is_free None = false
-is_free (Some cell) = is_none cell.ctl
+abbrev pub has_no_control : Option Cell → Bool
+has_no_control None = false
+has_no_control (Some cell) = is_none cell.ctl
 
 -- there is a device, and its port bit has an always-on driver
 abbrev pub is_free_bit : Option RawDevice → ℕ → Bool
 is_free_bit None bit = false
-is_free_bit (Some device) bit = is_free (driving_entry device bit)
+is_free_bit (Some device) bit = has_no_control (driving_entry device bit)
 
 -- there are `bits` flags. The flag of a port bit is set if and only if some entry in `cells` drives
 -- the bit and the first such entry has no control.
 pub record AreFlags (cells : List Cell) (bits : ℕ) (flags : List Bool) : Type 0 where
   pub size : length flags ≡ bits
-  pub each : (bit : ℕ) → bit < bits → slice_index_or flags bit false ≡ is_free (find (drives_bit bit) cells)
+  pub each : (bit : ℕ) → bit < bits → slice_index_or flags bit false ≡ has_no_control (find (drives_bit bit) cells)
 
-abbrev pub device_of : List Part → ℕ → Option RawDevice
-device_of parts n = option_and_then (λ part. described part.kind) (slice_get parts n)
+abbrev pub device_of_part : List Part → ℕ → Option RawDevice
+device_of_part parts n = option_and_then (λ part. described part.kind) (slice_get parts n)
 
 -- an always-on driver is at this place of the chain
 abbrev pub is_free_at : List Part → Option PinAt → Bool
 is_free_at parts None = false
-is_free_at parts (Some at) = is_free_bit (device_of parts at.part) at.bit
+is_free_at parts (Some at) = is_free_bit (device_of_part parts at.part) at.bit
 
 -- a word with facts about its pin: whether the pin's part is described, the pin's place, whether
 -- the part is inert, and whether the pin is an always-on driver
@@ -61,18 +61,18 @@ pub record Marked : Type 0 where
   pub inert : Bool
   pub always_on : Bool
 
-abbrev pub mark : List Part → List PinPlace → List (List ℕ) → NetWord → Marked
-mark parts places inerts word = record {
+abbrev pub mark_word : List Part → List PinPlace → List (List ℕ) → NetWord → Marked
+mark_word parts places inerts word = record {
   word = word;
-  described = is_among (described_names parts) (pin_of word).0;
-  at = place_of_pin places (pin_of word);
-  inert = is_among inerts (pin_of word).0;
-  always_on = is_free_at parts (place_of_pin places (pin_of word));
+  described = is_among (described_names parts) (word_pin word).0;
+  at = place_of_pin places (word_pin word);
+  inert = is_among inerts (word_pin word).0;
+  always_on = is_free_at parts (place_of_pin places (word_pin word));
 }
 
 -- the marked word of the code, as a record of the definitions
-abbrev pub seen : MarkedWord → Marked
-seen m = record {
+abbrev pub seen_word : MarkedWord → Marked
+seen_word m = record {
   word = ((m.net, (m.part.now, m.pin.now)), m.spot);
   described = m.described;
   at = m.at;
@@ -82,7 +82,9 @@ seen m = record {
 
 -- the marked word for a borrowed word; the given functions look up the facts about the word's pin,
 -- and a part is described if one of its pins has a place
-abbrev pub mark_by : List Part → (Bor (List ℕ) → Bool) → (Bor (List ℕ) × Bor (List ℕ) → Option PinAt) → (Bor (List ℕ) → Bool) → (ℕ × (Bor (List ℕ) × Bor (List ℕ))) × Spot → MarkedWord
+abbrev pub mark_by : List Part → (Bor (List ℕ) → Bool)
+    → (Bor (List ℕ) × Bor (List ℕ) → Option PinAt) → (Bor (List ℕ) → Bool)
+    → (ℕ × (Bor (List ℕ) × Bor (List ℕ))) × Spot → MarkedWord
 mark_by parts described place inert w = record {
   net = w.0.0;
   part = w.0.1.0;
@@ -99,25 +101,28 @@ mark_by parts described place inert w = record {
 abbrev pub net_by : (Bor (List ℕ) → Bool) → (Bor (List ℕ) → Option Bool) → Bor (List ℕ) × List NetPin → Net
 net_by supply pull p = record { name = p.0.now; supply = supply p.0; pull = pull p.0; pins = p.1 }
 
-abbrev pub number_of : Marked → ℕ
-number_of m = net_of m.word
+abbrev pub marked_net : Marked → ℕ
+marked_net m = word_net m.word
 
-abbrev pub place_of : Marked → Spot
-place_of m = spot_of m.word
+abbrev pub marked_spot : Marked → Spot
+marked_spot m = spot_of m.word
 
 -- the pin of a marked word
 abbrev pub pin_with : Marked → NetPin
-pin_with m = record { part = (pin_of m.word).0; pin = (pin_of m.word).1; at = m.at; inert = m.inert }
+pin_with m = record { part = (word_pin m.word).0; pin = (word_pin m.word).1; at = m.at; inert = m.inert }
 
 -- the pins of net `n`, in the order of the words
-abbrev pub group_of : List Marked → ℕ → List NetPin
-group_of words n = map pin_with (filter (λ m. number_of m == n) words)
+abbrev pub marked_group : List Marked → ℕ → List NetPin
+marked_group words n = map pin_with (filter (λ m. marked_net m == n) words)
 
 -- appends the pin of the word to the group of the word's net, if there is a word and there is a
 -- group for its net
 abbrev pub groups_after : Option MarkedWord → ℕ → List (List NetPin) → List (List NetPin)
 groups_after None count groups = groups
-groups_after (Some word) count groups = if nat_lt word.net count then slice_set groups word.net (slice_index_or groups word.net [] ++ pin_with (seen word) ∷ []) else groups
+groups_after (Some word) count groups =
+    if nat_lt word.net count
+    then slice_set groups word.net
+    (slice_index_or groups word.net [] ++ pin_with (seen_word word) ∷ []) else groups
 
 -- appends the net with this name and this group, or leaves the nets unchanged if the name or the group is missing
 abbrev pub nets_after : {A G N : Type 0} → (A × G → N) → Option A → Option G → List N → List N
@@ -130,7 +135,14 @@ marks_after f None marks = marks
 marks_after f (Some word) marks = marks ++ f word ∷ []
 
 abbrev pub net_with : List (List ℕ) → List Pulled → List Marked → ℕ → List ℕ → Net
-net_with supplies pulls words n name = record { name = name; supply = is_among supplies name; pull = pull_of_net pulls name; pins = group_of words n }
+net_with supplies pulls words n name =
+    record {
+      name = name;
+      supply = is_among supplies name;
+      pull = pull_of_net pulls name;
+      pins =
+          marked_group words n;
+    }
 
 -- the nets with these names, numbered from `n` on
 abbrev pub nets_with : List (List ℕ) → List Pulled → List Marked → ℕ → List (List ℕ) → List Net
@@ -142,7 +154,7 @@ abbrev pub board_by : List ChainLine → List Part → List (List ℕ) → List 
 board_by chain parts names words = record { chain = parts; nets = nets_with (names_of (named Supply chain)) (pulls_of chain) words 0 names }
 
 abbrev pub pin_in : Marked → Pin
-pin_in m = pin_of m.word
+pin_in m = word_pin m.word
 
 abbrev pub same_pins : Marked → Marked → Bool
 same_pins a b = same_pin (pin_in a) (pin_in b)
@@ -154,19 +166,21 @@ marked_limit words = if nat_lt most_pins (length (once same_pins words)) then So
 -- the fault of the first word that names a pin of a described part that is not in the part's pin
 -- map
 unfoldable pub marked_unknown : List Marked → Option BoardFault
-marked_unknown words = option_map (λ m. NoPin (place_of m)) (find (λ m. m.described && is_none m.at) words)
+marked_unknown words = option_map (λ m. NoPin (marked_spot m)) (find (λ m. m.described && is_none m.at) words)
 
 -- the fault of the first word whose pin an earlier word names
 unfoldable pub marked_twice : List Marked → Option BoardFault
-marked_twice words = option_map (λ m. PinTwice (place_of m)) (first_repeated same_pins words)
+marked_twice words = option_map (λ m. PinTwice (marked_spot m)) (first_repeated same_pins words)
 
 -- the fault of the first of these drivers on a net that must not have an always-on driver
 unfoldable pub marked_guarded : RawBoard → List Marked → Option BoardFault
-marked_guarded board drivers = option_map (λ m. GuardedDriver (place_of m)) (find (λ m. is_kept board (slice_get board.nets (number_of m))) drivers)
+marked_guarded board drivers =
+    option_map (λ m. GuardedDriver (marked_spot m))
+    (find (λ m. is_kept board (slice_get board.nets (marked_net m))) drivers)
 
 -- the fault of the first of these drivers whose net has an earlier driver
 unfoldable pub marked_two : List Marked → Option BoardFault
-marked_two drivers = option_map (λ m. TwoAlwaysOn (place_of m)) (first_repeated (λ a b. number_of a == number_of b) drivers)
+marked_two drivers = option_map (λ m. TwoAlwaysOn (marked_spot m)) (first_repeated (λ a b. marked_net a == marked_net b) drivers)
 
 unfoldable pub marked_drivers : RawBoard → List Marked → Option BoardFault
 marked_drivers board drivers = marked_guarded board drivers then marked_two drivers
@@ -180,11 +194,13 @@ file_fault chain parts names words = data_limit parts then net_limit names then 
 
 -- the words that name always-on drivers and whose net has a number below `nets`
 abbrev pub always_on : ℕ → List Marked → List Marked
-always_on nets words = filter (λ m. nat_lt (number_of m) nets && m.always_on) words
+always_on nets words = filter (λ m. nat_lt (marked_net m) nets && m.always_on) words
 
 unfoldable pub marked_fault : List ChainLine → List Part → List (List ℕ) → List Marked → Option BoardFault
 marked_fault chain parts names words =
-    file_fault chain parts names words then marked_drivers (board_by chain parts names words) (always_on (length (board_by chain parts names words).nets) words)
+    file_fault chain parts names words
+    then marked_drivers (board_by chain parts names words)
+    (always_on (length (board_by chain parts names words).nets) words)
 
 unfoldable pub marked_answer : List ChainLine → List Part → List (List ℕ) → List Marked → Result RawBoard BoardFault
 marked_answer chain parts names words = unless (marked_fault chain parts names words) (board_by chain parts names words)

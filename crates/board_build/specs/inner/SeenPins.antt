@@ -23,7 +23,8 @@ abbrev pub is_flagged : List (List Bool) → PinAt → Bool
 is_flagged rows at = slice_index_or (slice_index_or rows at.part []) at.bit false
 
 -- the pin is known: the flag of its place is set, or it has no place and the set has its names
-abbrev pub is_known_at : {S : Type 0} → List (List Bool) → IndexSet (Bor (List ℕ) × Bor (List ℕ)) S → Option PinAt → Bor (List ℕ) × Bor (List ℕ) → Bool
+abbrev pub is_known_at : {S : Type 0} → List (List Bool) → IndexSet (Bor (List ℕ) × Bor (List ℕ)) S
+    → Option PinAt → Bor (List ℕ) × Bor (List ℕ) → Bool
 is_known_at rows unplaced None pin = contains (λ a b. same_pin (lent_pin a) (lent_pin b)) unplaced pin
 is_known_at rows unplaced (Some at) pin = is_flagged rows at
 

@@ -4,7 +4,7 @@ use Rattle.std.specs.List.{prefix_len}
 use Rattle.std.specs.Char.{is_ascii_alphabetic, is_ascii_digit}
 use Rattle.bsdl_lexer.specs.declared.token.TokenKind.{TokenKind}
 use Rattle.bsdl_lexer.specs.declared.token.TokenKind.TheVariants.{Word, Number, Text, Mark}
-use Rattle.bsdl_lexer.specs.Forms.{is_blank, is_word_byte, is_text_byte, is_mark, is_exponent_letter, is_sign, begins_comment, line_feed, quote, point}
+use Rattle.bsdl_lexer.specs.Forms.{is_bsdl_blank, is_word_byte, is_text_byte, is_mark_byte, is_exponent_letter, is_sign, begins_comment, line_feed, quote, point}
 
 -- `front`, the number of bytes in front of the digits, plus the number of digits; or 0 if there are
 -- no digits
@@ -47,12 +47,12 @@ token_at (first ∷ others) =
     if is_ascii_alphabetic first then Some (Word, suc (prefix_len is_word_byte others)) else
     if is_ascii_digit first then Some (Number, number_len (first ∷ others)) else
     if first == quote then closed_len (slice_get others (prefix_len is_text_byte others)) (prefix_len is_text_byte others) else
-    if is_mark first then Some (Mark, 1) else None
+    if is_mark_byte first then Some (Mark, 1) else None
 
 -- the length of the gap at the front; if `in_comment` is true, the front is inside a comment
 abbrev pub gap_len : Bool → List ℕ → ℕ
 gap_len in_comment [] = 0
 gap_len true (first ∷ others) = suc (gap_len (if first == line_feed then false else true) others)
 gap_len false (first ∷ others) =
-    if is_blank first then suc (gap_len false others) else
+    if is_bsdl_blank first then suc (gap_len false others) else
     if begins_comment (first ∷ others) then suc (gap_len true others) else 0

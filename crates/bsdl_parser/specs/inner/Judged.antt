@@ -17,20 +17,20 @@ abbrev pub front_of : List Lexeme → Option Front
 front_of [] = None
 front_of (token ∷ after) = Some (record { is_package = is_package token; line = token.line })
 
-abbrev pub fault_at : Bool → ℕ → ParseFault
-fault_at starts_package line = if starts_package then Package line else Expected line
+abbrev pub fault_on_line : Bool → ℕ → ParseFault
+fault_on_line starts_package line = if starts_package then Package line else Expected line
 
 -- the answer if a whole file was found and these are the facts about the token behind it, which is
 -- stray
 abbrev pub behind_file : Entity → Option Front → Result Entity ParseFault
 behind_file entity None = Ok entity
-behind_file entity (Some front) = Err (fault_at front.is_package front.line)
+behind_file entity (Some front) = Err (fault_on_line front.is_package front.line)
 
 -- The answer if the text stops being a prefix of a file at this token, or if it ends inside a file.
 -- The word `package` begins a package text only if it is the first token.
 abbrev pub inside_file : List ℕ → Bool → Option Front → Result Entity ParseFault
 inside_file text is_first None = Err (Expected (last_line text))
-inside_file text is_first (Some front) = Err (fault_at (front.is_package && is_first) front.line)
+inside_file text is_first (Some front) = Err (fault_on_line (front.is_package && is_first) front.line)
 
 abbrev pub judged : List ℕ → List Lexeme → Outcome Lexeme Entity → Result Entity ParseFault
 judged text tokens (found entity after) = behind_file entity (front_of after)

@@ -20,8 +20,10 @@ has_failed (Err e) = true
 -- `given` has bytes that the opened file had left: all of them on Ok, and the first `cap + 1` of
 -- them if there are more than `cap`. The result is Failed if and only if the file could not be
 -- opened or a read failed.
-pub record IsHandedOn {F E : Type 0} (remaining : F → Option (List ℕ)) (cap : ℕ) (opened left : Result (Watched F) E) (given : List ℕ) (result : Result ⊤ FetchFault) : Type 0 where
-  pub whole : OnOk result (IsOkAnd opened (λ file. IfSome (remaining file.from) (λ text. given ≡ text)))
-  pub too_long : IsErrOf result TooLong → IsOkAnd opened (λ file. IfSome (remaining file.from) (λ text. given ≡ take (cap + 1) text))
-  pub not_opened : IsErr opened → IsErrOf result Failed
-  pub failed : is_failed result ≡ has_failed left
+pub record IsHandedOn {F E : Type 0} (remaining : F → Option (List ℕ)) (cap : ℕ)
+    (opened left : Result (Watched F) E) (given : List ℕ) (result : Result ⊤ FetchFault) : Type 0
+  where
+    pub whole : OnOk result (IsOkAnd opened (λ file. IfSome (remaining file.from) (λ text. given ≡ text)))
+    pub too_long : IsErrOf result TooLong → IsOkAnd opened (λ file. IfSome (remaining file.from) (λ text. given ≡ take (cap + 1) text))
+    pub not_opened : IsErr opened → IsErrOf result Failed
+    pub failed : is_failed result ≡ has_failed left

@@ -22,6 +22,6 @@ IsValueOf c x = MatchBool (nat_lt x 16) (digit_bits c ≡ Some (bits_of (x ∷ [
 
 -- If `all` is true, `digits` has the digits of the text from place `at` on. If `all` is false, some
 -- byte of the text is not a digit.
-abbrev pub AreRead : List ℕ → ℕ → List ℕ → Bool → Type 0
-AreRead text at digits all =
+abbrev pub AreDigitsFrom : List ℕ → ℕ → List ℕ → Bool → Type 0
+AreDigitsFrom text at digits all =
     MatchBool all ((text_bits (drop at text) ≡ Some (bits_of digits)) × All (λ x. x < 16) digits) (text_bits text ≡ None)

@@ -45,7 +45,7 @@ unput_line names unput.Write = write_line
 unput_line names unput.Memory = memory_line
 
 -- the sink took some first bytes of the text that a request gives, and its count of faults rose
-pub record IsCut (names : Names) (request : Request) (old new : Shown) : Type 0 where
+pub record IsSinkCut (names : Names) (request : Request) (old new : Shown) : Type 0 where
   pub rose : Rose old.faults new.faults
   pub text : Text
   pub gives : IsGiven names request (Ok text)
@@ -64,7 +64,7 @@ abbrev pub IsUnput : Names → Request → Shown → Shown → Unput → Type 0
 IsUnput names request old new (unput.Input fault) = IsGiven names request (Err (input_fault_line names fault)) × (new ≡ old)
 IsUnput names request old new (unput.Log rows fault) = IsGiven names request (Err (log_fault_line names.log rows fault)) × (new ≡ old)
 IsUnput names request old new (unput.Batch rows fault) = IsGiven names request (Err (batch_fault_line names.log rows fault)) × (new ≡ old)
-IsUnput names request old new unput.Write = IsCut names request old new
+IsUnput names request old new unput.Write = IsSinkCut names request old new
 IsUnput names request old new unput.Memory = new ≡ old
 
 -- The answer to a request is right. If it succeeded, the sink took the whole text. Otherwise `IsUnput` holds for the failure.

@@ -17,7 +17,9 @@ behind front (TooLong wanted) = TooLong wanted
 -- The texts of `wanted` were read, and they are `front`. If `reading` is a reading of the texts after them, `reading` with `front` in front
 -- is a reading of all.
 abbrev pub Continues : Held → List Wanted → List Text → Type 0
-Continues held wanted front = (rest : List Wanted) (reading : Reading) → IsRead held rest reading → IsRead held (wanted ++ rest) (behind front reading)
+Continues held wanted front =
+    (rest : List Wanted) (reading : Reading) → IsRead held rest reading
+    → IsRead held (wanted ++ rest) (behind front reading)
 
 -- the store was asked for some first texts of `wanted`, and for no others
 pub record AsksFirst (wanted : List Wanted) (asked asked' : List Text) : Type 0 where
@@ -27,7 +29,8 @@ pub record AsksFirst (wanted : List Wanted) (asked asked' : List Text) : Type 0 
   pub asks : Asks asked asked' first
 
 -- The read gave `value`, which has the texts of `wanted`. The store was asked for each of these texts once and in order.
-pub record IsReadOf {A : Type 0} (Of : A → List Text → Type 0) (wanted : List Wanted) (held : Held) (asked asked' : List Text) (value : A) : Type 0 where
+pub record IsReadOf {A : Type 0} (Of : A → List Text → Type 0) (wanted : List Wanted) (held : Held)
+    (asked asked' : List Text) (value : A) : Type 0 where
   pub texts : List Text
   pub stands : Of value texts
   pub continues : Continues held wanted texts
@@ -36,17 +39,24 @@ pub record IsReadOf {A : Type 0} (Of : A → List Text → Type 0) (wanted : Lis
 -- The reason says why the texts were not all read, and the store was asked for the names up to there. If a text is too long, this is the
 -- reason whatever texts come after `wanted`.
 abbrev pub IsUnread : List Wanted → Held → (Text → ℕ) → (Text → ℕ) → List Text → List Text → Unread → Type 0
-IsUnread wanted held before now asked asked' (unread.TooLong last) = ((rest : List Wanted) → IsRead held (wanted ++ rest) (TooLong (wanted_view last))) × IsReadUpTo held wanted (wanted_view last) asked asked'
-IsUnread wanted held before now asked asked' (unread.Failed last) = IsReadUpTo held wanted (wanted_view last) asked asked' × Rose (before last.name.now) (now last.name.now)
+IsUnread wanted held before now asked asked' (unread.TooLong last) =
+    ((rest : List Wanted) → IsRead held (wanted ++ rest) (TooLong (wanted_view last)))
+    × IsReadUpTo held wanted (wanted_view last) asked asked'
+IsUnread wanted held before now asked asked' (unread.Failed last) =
+    IsReadUpTo held wanted (wanted_view last) asked asked'
+    × Rose (before last.name.now) (now last.name.now)
 IsUnread wanted held before now asked asked' unread.Memory = AsksFirst wanted asked asked'
 
-abbrev pub TellsRead : {A : Type 0} → (A → List Text → Type 0) → List Wanted → Held → (Text → ℕ) → (Text → ℕ) → List Text → List Text → Result A Unread → Type 0
+abbrev pub TellsRead : {A : Type 0} → (A → List Text → Type 0) → List Wanted → Held → (Text → ℕ)
+    → (Text → ℕ) → List Text → List Text → Result A Unread → Type 0
 TellsRead Of wanted held before now asked asked' (Ok value) = IsReadOf Of wanted held asked asked' value
 TellsRead Of wanted held before now asked asked' (Err lost) = IsUnread wanted held before now asked asked' lost
 
 -- The effect of reading texts in turn. The store holds the same texts as before, no count of faults fell, and the result agrees with the
 -- names for which the store was asked.
-pub record Reads {A : Type 0} (Of : A → List Text → Type 0) (wanted : List Wanted) (held held' : Held) (before now : Text → ℕ) (asked asked' : List Text) (result : Result A Unread) : Type 0 where
+pub record Reads {A : Type 0} (Of : A → List Text → Type 0) (wanted : List Wanted)
+    (held held' : Held) (before now : Text → ℕ) (asked asked' : List Text)
+    (result : Result A Unread) : Type 0 where
   pub same : held' ≡ held
   pub later : (name : Text) → before name ≤ now name
   pub told : TellsRead Of wanted held before now asked asked' result

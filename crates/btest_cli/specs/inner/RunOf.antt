@@ -9,7 +9,8 @@ use Rattle.refusal_lines.specs.Refusals.{write_line, memory_line}
 use Rattle.btest_cli.specs.Texts.{Held}
 use Rattle.btest_cli.specs.Outcome.{AsksSome, IsCutShort, IsDone, IsNotRead, IsRefused, TookOrCut}
 
-pub record IsRunOf (command : Command) (held : Held) (before now : Text → ℕ) (asked asked' : List Text) (out out' notes notes' : Shown) (status : Status) : Type 0 where
+pub record IsRunOf (command : Command) (held : Held) (before now : Text → ℕ)
+    (asked asked' : List Text) (out out' notes notes' : Shown) (status : Status) : Type 0 where
   pub no_usage : status ≢ Usage
   pub done : status ≡ Done → IsDone held command asked asked' out out'
   pub silent : status ≡ Done → notes' ≡ notes

@@ -14,4 +14,6 @@ choices_of chosen = map (λ choice. (choice.0, option_copied choice.1)) chosen
 
 -- the device at each place belongs to the choice at the same place
 abbrev pub AreOfChoices : List Entity → List Chosen → List RawDevice → Type 0
-AreOfChoices entities choices devices = (i : ℕ) (choice : Chosen) (device : RawDevice) → slice_get choices i ≡ Some choice → slice_get devices i ≡ Some device → IsDeviceOf entities choice (Ok device)
+AreOfChoices entities choices devices =
+    (i : ℕ) (choice : Chosen) (device : RawDevice) → slice_get choices i ≡ Some choice
+    → slice_get devices i ≡ Some device → IsDeviceOf entities choice (Ok device)

@@ -3,7 +3,7 @@ use Rattle.std.specs.Prelude.{◌≡◌, List}
 use Rattle.std.specs.List.{AllByRecursion}
 use Rattle.board_files.specs.declared.chain_file.ChainLine.{ChainLine}
 use Rattle.board_files.specs.declared.net_file.NetLine.{NetLine}
-use Rattle.board_files.specs.ChainLines.{HasLength}
+use Rattle.board_files.specs.ChainLines.{HasBypassLength}
 use Rattle.board_lines.specs.ChainParts.{IsChain}
 use Rattle.board_lines.specs.Names.{named}
 use Rattle.board_lines.specs.declared.names.Naming.TheVariants.{Entity as EntityName}
@@ -13,5 +13,6 @@ use Rattle.series_parts.specs.declared.joining.Joined.{Joined}
 -- property, too. Both files name the same entities.
 pub record Kept (chain : List ChainLine) (nets : List NetLine) (joined : Joined) : Type 0 where
   pub is_chain : IsChain chain → IsChain joined.chain
-  pub lengths : AllByRecursion (λ line. HasLength line.statement) chain → AllByRecursion (λ line. HasLength line.statement) joined.chain
+  pub lengths : AllByRecursion (λ line. HasBypassLength line.statement) chain
+      → AllByRecursion (λ line. HasBypassLength line.statement) joined.chain
   pub entities : named EntityName joined.chain ≡ named EntityName chain

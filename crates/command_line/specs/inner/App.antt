@@ -22,7 +22,14 @@ abbrev pub worded_app : Text → List Text → App
 worded_app name words = fold with_word (new_app name) words
 
 abbrev pub top_app : App
-top_app = on_top (λ s. record s { no_binary_name = true; subcommand_required = true; disable_help_flag = true; disable_help_subcommand = true }) (new_app (codes "btest"))
+top_app =
+    on_top
+    (λ s. record s {
+      no_binary_name = true;
+      subcommand_required = true;
+      disable_help_flag = true;
+      disable_help_subcommand = true;
+    }) (new_app (codes "btest"))
 
 -- a command with its words, and then the argument for the BSDL file names, if it has them
 abbrev pub entry_app : Entry → App

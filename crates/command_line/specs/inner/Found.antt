@@ -18,12 +18,18 @@ few_in rows = with_names (bsdl_in rows) (bsdl_in rows)
 
 -- the file names of a chain in the matches
 abbrev pub chain_in : List Row → Option ChainNames
-chain_in rows = option_and_then (λ chain. option_map (λ bsdl. record { chain = chain; bsdl = bsdl }) (few_in rows)) (first_of (codes "CHAIN") rows)
+chain_in rows =
+    option_and_then
+    (λ chain. option_map (λ bsdl. record { chain = chain; bsdl = bsdl }) (few_in rows))
+    (first_of (codes "CHAIN") rows)
 
 -- the file names of a board in the matches
 abbrev pub board_in : List Row → Option BoardNames
 board_in rows =
-    option_and_then (λ chain. option_and_then (λ nets. option_map (λ bsdl. record { chain = chain; nets = nets; bsdl = bsdl }) (few_in rows)) (first_of (codes "NETS") rows)) (first_of (codes "CHAIN") rows)
+    option_and_then
+    (λ chain. option_and_then
+    (λ nets. option_map (λ bsdl. record { chain = chain; nets = nets; bsdl = bsdl })
+    (few_in rows)) (first_of (codes "NETS") rows)) (first_of (codes "CHAIN") rows)
 
 -- the command `device` that the matches of its subcommand give
 abbrev pub device_in : List Row → Option Command
@@ -37,7 +43,10 @@ workers_in rows = option_and_then (number_of most_workers) (first_of (codes "WOR
 
 abbrev pub worked_in : (ℕ → Text → BoardNames → Command) → List Row → Option Command
 worked_in command rows =
-    option_and_then (λ log. option_and_then (λ board. option_map (λ workers. command workers log board) (workers_in rows)) (board_in rows)) (first_of (codes "LOG") rows)
+    option_and_then
+    (λ log. option_and_then
+    (λ board. option_map (λ workers. command workers log board) (workers_in rows))
+    (board_in rows)) (first_of (codes "LOG") rows)
 
 abbrev pub groups_in : List Row → Option Command
 groups_in rows = option_and_then (λ log. option_map (Groups log) (board_in rows)) (first_of (codes "LOG") rows)

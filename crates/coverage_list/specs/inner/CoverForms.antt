@@ -26,14 +26,14 @@ abbrev pub reason_at : RawBoard → ℕ → List ℕ
 reason_at board n = of_item (net_reason board) (slice_get board.nets n)
 
 -- the line of the pin at this place of the net if the pin is untested in this role, or no text if not
-abbrev pub place_text : RawBoard → PinUse → Net → ℕ → List ℕ
-place_text board pin_use net place = cond (is_untested board pin_use net place) (pin_line pin_use (slice_get net.pins place)) []
+abbrev pub pin_text_at : RawBoard → PinUse → Net → ℕ → List ℕ
+pin_text_at board pin_use net place = cond (is_untested board pin_use net place) (pin_line pin_use (slice_get net.pins place)) []
 
-abbrev pub net_pins : RawBoard → PinUse → Net → List ℕ
-net_pins board pin_use net = cond (is_covered board net) (texts_from (place_text board pin_use net) 0 (length net.pins)) []
+abbrev pub untested_pin_lines : RawBoard → PinUse → Net → List ℕ
+untested_pin_lines board pin_use net = cond (is_covered board net) (texts_from (pin_text_at board pin_use net) 0 (length net.pins)) []
 
-abbrev pub pins_at : RawBoard → PinUse → ℕ → List ℕ
-pins_at board pin_use n = of_item (net_pins board pin_use) (slice_get board.nets n)
+abbrev pub untested_lines_at : RawBoard → PinUse → ℕ → List ℕ
+untested_lines_at board pin_use n = of_item (untested_pin_lines board pin_use) (slice_get board.nets n)
 
 -- net `high` is covered and not paired with net `low`
 abbrev pub is_unpaired : RawBoard → Net → Net → Bool
@@ -48,14 +48,14 @@ pair_at board low n = of_item (pair_text board low) (slice_get board.nets n)
 abbrev pub net_pairs : RawBoard → ℕ → Net → List ℕ
 net_pairs board n low = cond (is_covered board low) (texts_from (pair_at board low) (n + 1) (length board.nets)) []
 
-abbrev pub pairs_at : RawBoard → ℕ → List ℕ
-pairs_at board n = of_item (net_pairs board n) (slice_get board.nets n)
+abbrev pub untested_pair_lines : RawBoard → ℕ → List ℕ
+untested_pair_lines board n = of_item (net_pairs board n) (slice_get board.nets n)
 
 -- the lines that a section has for the net with this number
 abbrev pub section_at : RawBoard → Section → ℕ → List ℕ
 section_at board Reasons = reason_at board
-section_at board (Untested pin_use) = pins_at board pin_use
-section_at board Pairs = pairs_at board
+section_at board (Untested pin_use) = untested_lines_at board pin_use
+section_at board Pairs = untested_pair_lines board
 
 abbrev pub section_lines : RawBoard → Section → List ℕ
 section_lines board Reasons = reason_lines board

@@ -16,8 +16,8 @@ use Rattle.device_check.specs.declared.needed.Needed.{Needed}
 use Rattle.device_check.specs.declared.sources.Source.{Source}
 use Rattle.device_check.specs.declared.strings.Strings.{Strings}
 use Rattle.device_check.specs.Sources.{source_number}
-use Rattle.device_check.specs.Needed.{FoundTaps, FoundRegisters, FoundPackage, Found}
-use Rattle.device_check.specs.DeviceStrings.{LeavesFirst, in_order, AreStrings}
+use Rattle.device_check.specs.Needed.{FoundTaps, FoundRegisters, FoundPackage, FoundValues}
+use Rattle.device_check.specs.DeviceStrings.{LeavesFirst, strings_in_order, AreStrings}
 
 -- the definition's record of the TAP ports that the function returns
 abbrev pub taps_view : NeededTaps → FoundTaps
@@ -37,8 +37,14 @@ abbrev pub package_view : NeededPackage → FoundPackage
 package_view chosen = record { name = chosen.name.now; pin_map = chosen.pin_map.now }
 
 -- the definition's record of all values that the function returns
-abbrev pub needed_view : Needed → Found
-needed_view needed = record { taps = taps_view needed.taps; registers = registers_view needed.registers; chosen = package_view needed.chosen }
+abbrev pub needed_view : Needed → FoundValues
+needed_view needed =
+    record {
+      taps = taps_view needed.taps;
+      registers = registers_view needed.registers;
+      chosen =
+          package_view needed.chosen;
+    }
 
 -- `said` is the function's result, with `view` applied to an Ok value
 abbrev pub Says : {T A E : Type 0} → (T → A) → Result A E → Result T E → Type 0
@@ -46,7 +52,7 @@ Says view said (Ok value) = said ≡ Ok (view value)
 Says view said (Err error) = said ≡ Err error
 
 -- each mandatory string has fewer than 2^32 bytes
-pub record HasShortStrings (found : Found) : Type 0 where
+pub record HasShortStrings (found : FoundValues) : Type 0 where
   pub pin_map : length found.chosen.pin_map < 2 ^ 32
   pub opcodes : length found.registers.opcodes < 2 ^ 32
   pub capture : length found.registers.capture < 2 ^ 32
@@ -59,20 +65,20 @@ NamesPlace P (faults.Text attribute entry) = P attribute entry
 NamesPlace P (faults.Memory error) = Unit {0}
 
 -- the fault of the device for a fault in the string of this source
-abbrev pub fault_of : Source → StringFault → DeviceFault
-fault_of source (At entry) = faults.Text (source_number source) entry
-fault_of source (Memory error) = faults.Memory error
+abbrev pub source_fault : Source → StringFault → DeviceFault
+source_fault source (At entry) = faults.Text (source_number source) entry
+source_fault source (Memory error) = faults.Memory error
 
 -- the result is the values of all strings, or the fault of the first string that leaves its
 -- grammar, or memory ran out
-abbrev pub Gathers : Entity → Found → Result Strings DeviceFault → Type 0
+abbrev pub Gathers : Entity → FoundValues → Result Strings DeviceFault → Type 0
 Gathers entity found (Ok strings) = AreStrings entity found strings
-Gathers entity found (Err fault) = NamesPlace (LeavesFirst entity found in_order) fault
+Gathers entity found (Err fault) = NamesPlace (LeavesFirst entity found strings_in_order) fault
 
 -- the draft breaks no rule and the result is its device, or the result is the first rule that fails
 -- with the first item that breaks it, or memory ran out
-abbrev pub IsJudged : Draft → Result RawDevice DeviceFault → Type 0
-IsJudged draft (Ok device) = (first_rule draft ≡ None) × (device ≡ raw_device draft)
-IsJudged draft (Err (faults.Rule number item)) = first_rule draft ≡ Some (record { rule = number; item = item })
-IsJudged draft (Err (faults.Text attribute entry)) = ⊥
-IsJudged draft (Err (faults.Memory error)) = Unit {0}
+abbrev pub IsJudgedDraft : Draft → Result RawDevice DeviceFault → Type 0
+IsJudgedDraft draft (Ok device) = (first_rule draft ≡ None) × (device ≡ raw_device draft)
+IsJudgedDraft draft (Err (faults.Rule number item)) = first_rule draft ≡ Some (record { rule = number; item = item })
+IsJudgedDraft draft (Err (faults.Text attribute entry)) = ⊥
+IsJudgedDraft draft (Err (faults.Memory error)) = Unit {0}

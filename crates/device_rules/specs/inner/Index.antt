@@ -12,40 +12,40 @@ use Rattle.bsdl_parser.specs.declared.entity.Range.{Range}
 use Rattle.bsdl_strings.specs.declared.values.Compliance.{Compliance}
 use Rattle.bsdl_strings.specs.declared.values.PortWord.{PortWord}
 use Rattle.bsdl_strings.specs.declared.values.PortWord.TheVariants.{Star, Plain, Index}
-use Rattle.device_rules.specs.Ports.{Bit, bits_of, v2}
+use Rattle.device_rules.specs.Ports.{Bit, bit_total, v2}
 
 -- the borrowed names, in order, are `names`
 abbrev pub AreLent : List (Bor (List ℕ)) → List (List ℕ) → Type 0
 AreLent lent names = map (λ n. n.now) lent ≡ names
 
 -- for every name, the look-up in the map returns what `place` returns
-abbrev pub Finds : {S : Type 0} → IndexMap (Bor (List ℕ)) ℕ S → (List ℕ → Option ℕ) → Type 0
-Finds places place = (q : Bor (List ℕ)) → get_by (λ n. bytes_eq q.now n.now) places ≡ place q.now
+abbrev pub FindsPlaces : {S : Type 0} → IndexMap (Bor (List ℕ)) ℕ S → (List ℕ → Option ℕ) → Type 0
+FindsPlaces places place = (q : Bor (List ℕ)) → get_by (λ n. bytes_eq q.now n.now) places ≡ place q.now
 
 -- `starts` has the number of bits before each port, followed by the number of all bits
-pub record AreStarts (ports : List Port) (starts : List ℕ) : Type 0 where
+pub record AreBitStarts (ports : List Port) (starts : List ℕ) : Type 0 where
   pub size : length starts ≡ length ports + 1
-  pub each : (n : ℕ) → n ≤ length ports → slice_index starts n ≡ bits_of (take n ports)
+  pub each : (n : ℕ) → n ≤ length ports → slice_index starts n ≡ bit_total (take n ports)
 
 -- the ports keep rule V2, and `starts` has the number of bits before each port
 pub record IsIndex (ports : List Port) (starts : List ℕ) : Type 0 where
   pub rule : v2 ports ≡ None
-  pub counted : AreStarts ports starts
+  pub counted : AreBitStarts ports starts
 
 -- the item has this name
-abbrev pub is_called : {A : Type 0} → (A → List ℕ) → List ℕ → A → Bool
-is_called name_in name = λ item. bytes_eq (name_in item) name
+abbrev pub is_item_called : {A : Type 0} → (A → List ℕ) → List ℕ → A → Bool
+is_item_called name_in name = λ item. bytes_eq (name_in item) name
 
 -- the place of the first item with this name
 abbrev pub place_called : {A : Type 0} → (A → List ℕ) → List A → List ℕ → Option ℕ
-place_called name_in items name = position_from (is_called name_in name) 0 items
+place_called name_in items name = position_from (is_item_called name_in name) 0 items
 
 -- the place of an index in a range, counted from 0 and from left to right
-abbrev pub place_in : Option Range → Option ℕ → Option ℕ
-place_in None None = Some 0
-place_in None (Some number) = None
-place_in (Some range) None = None
-place_in (Some range) (Some number) =
+abbrev pub index_place : Option Range → Option ℕ → Option ℕ
+index_place None None = Some 0
+index_place None (Some number) = None
+index_place (Some range) None = None
+index_place (Some range) (Some number) =
     if range.up then (if nat_le range.left number && nat_le number range.right then Some (number - range.left) else None) else
     if nat_le range.right number && nat_le number range.left then Some (range.left - number) else None
 
@@ -56,7 +56,15 @@ index_at (Some range) place = Some (if range.up then range.left + place else ran
 
 -- the bit at `place` of the port
 abbrev pub bit_of_port : ℕ → Port → ℕ → Bit
-bit_of_port number port place = record { port = number; name = port.name; index = index_at port.range place; place = place; mode = port.mode }
+bit_of_port number port place =
+    record {
+      port = number;
+      name = port.name;
+      index = index_at port.range place;
+      place = place;
+      mode =
+          port.mode;
+    }
 
 -- the key of a word: the name and the index of the bit that the word names, or None for `*`
 abbrev pub key_of : PortWord → Option (List ℕ × Option ℕ)
@@ -73,9 +81,9 @@ abbrev pub names_bit : List ℕ → Option ℕ → PortWord → Bool
 names_bit name index word = is_key (key_of word) name index
 
 -- the words of the compliance patterns
-abbrev pub words_of : Option Compliance → List PortWord
-words_of None = []
-words_of (Some compliance) = compliance.ports
+abbrev pub compliance_words : Option Compliance → List PortWord
+compliance_words None = []
+compliance_words (Some compliance) = compliance.ports
 
 -- the set has the bit with this name and this index
 abbrev pub has_key : {S : Type 0} → HashSet (Bor (List ℕ) × Option ℕ) S → Bor (List ℕ) × Option ℕ → Bool

@@ -21,5 +21,7 @@ abbrev pub faults_between : Search → ℕ → ℕ → List Single
 faults_between s from to = filter_map (fault_at s.logged.now.test.board) (items_between s.suspects.now from to)
 
 -- `faults` are the faults at the candidates `from..to` that explain the log, in order
-abbrev pub Found : Search → ℕ → ℕ → List Single → Type 0
-Found s from to faults = Picks (λ single. Explains s.logged.now.test.board single s.logged.now.log) (faults_between s from to) faults
+abbrev pub AreFoundBetween : Search → ℕ → ℕ → List Single → Type 0
+AreFoundBetween s from to faults =
+    Picks (λ single. Explains s.logged.now.test.board single s.logged.now.log)
+    (faults_between s from to) faults

@@ -5,7 +5,7 @@ use Rattle.std.specs.List.{list_any}
 use Rattle.board_defs.specs.declared.board.Ctl.{Ctl}
 use Rattle.board_defs.specs.declared.board.RawBoard.{RawBoard}
 use Rattle.board_defs.specs.Settings.{inserted}
-use Rattle.board_defs.specs.Passes.{fits, useful_controls}
+use Rattle.board_defs.specs.Passes.{joins_setting, useful_controls}
 use Rattle.driver_passes.specs.inner.NumberSets.{is_in}
 
 -- a pass that is being made: its board, and the setting so far
@@ -17,13 +17,15 @@ abbrev pub drafted : RawBoard → List Ctl → Drafted
 drafted board setting = record { board = board; setting = setting }
 
 -- the pass with the control added
-abbrev pub with_control : Drafted → Ctl → Drafted
-with_control draft c = drafted draft.board (inserted c draft.setting)
+abbrev pub draft_with : Drafted → Ctl → Drafted
+draft_with draft c = drafted draft.board (inserted c draft.setting)
 
 -- the controls whose places satisfy the test; `place` is the place of the first control in the list
-abbrev pub chosen : (ℕ → Bool) → ℕ → List Ctl → List Ctl
-chosen passes place [] = []
-chosen passes place (c ∷ controls) = cond (passes place) (c ∷ chosen passes (suc place) controls) (chosen passes (suc place) controls)
+abbrev pub passing_controls : (ℕ → Bool) → ℕ → List Ctl → List Ctl
+passing_controls passes place [] = []
+passing_controls passes place (c ∷ controls) =
+    cond (passes place) (c ∷ passing_controls passes (suc place) controls)
+    (passing_controls passes (suc place) controls)
 
 -- the number is in the list
 abbrev pub has_number : List ℕ → ℕ → Bool
@@ -31,10 +33,11 @@ has_number numbers n = list_any (λ m. m == n) numbers
 
 -- the setting of the useful controls whose places are in the set
 abbrev pub setting_of : RawBoard → List ℕ → List Ctl
-setting_of board held = chosen (is_in held) 0 (useful_controls board)
+setting_of board held = passing_controls (is_in held) 0 (useful_controls board)
 
 -- `held` has room for each useful control. `free` has the places of the useful controls that are not in `held` and are together with each
 -- control whose place is in `held`.
 pub record IsDraft (board : RawBoard) (held free : List ℕ) : Type 0 where
   pub held_length : length held ≡ length (useful_controls board) / 64 + 1
-  pub free_are : (place : ℕ) (c : Ctl) → slice_get (useful_controls board) place ≡ Some c → is_in free place ≡ (not (is_in held place) && fits board (setting_of board held) c)
+  pub free_are : (place : ℕ) (c : Ctl) → slice_get (useful_controls board) place ≡ Some c
+      → is_in free place ≡ (not (is_in held place) && joins_setting board (setting_of board held) c)

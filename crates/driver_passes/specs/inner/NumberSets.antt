@@ -15,7 +15,7 @@ abbrev pub is_of_word : ℕ → ℕ → ℕ → Bool
 is_of_word word bits n = n / 64 == word && has_bit bits (n % 64)
 
 -- `first` is the first number from `from` on that satisfies the test
-pub record IsFirst (passes : ℕ → Bool) (from first : ℕ) : Type 0 where
+pub record IsFirstNumber (passes : ℕ → Bool) (from first : ℕ) : Type 0 where
   pub least : from ≤ first
   pub found : passes first ≡ true
   pub earlier : (n : ℕ) → from ≤ n → n < first → passes n ≡ false

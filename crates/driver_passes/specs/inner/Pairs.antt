@@ -10,12 +10,12 @@ use Rattle.driver_passes.specs.declared.pairs.Pairing.{Pairing}
 use Rattle.driver_passes.specs.inner.NumberSets.{is_in}
 use Rattle.driver_passes.specs.inner.Progress.{EnableTested}
 use Rattle.driver_passes.specs.Useful.{HoldUseful}
-use Rattle.driver_passes.specs.inner.Shown.{AreRows, AreShownByAll, IsColumn}
+use Rattle.driver_passes.specs.inner.Shown.{AreShownRows, AreShownByAll, IsColumn}
 
 -- The rows belong to the passes so far, which enable each tested driver and hold only useful controls. The column belongs to the rows.
 -- `always` has the nets that all passes show, and `left` has room for each net.
 pub record ArePairing (board : RawBoard) (pairing : Pairing) : Type 0 where
-  pub rows : AreRows board pairing.passes.items pairing.rows.items
+  pub rows : AreShownRows board pairing.passes.items pairing.rows.items
   pub column : IsColumn pairing.rows.items pairing.column
   pub tested : EnableTested board pairing.passes.items
   pub useful : HoldUseful board pairing.passes.items
@@ -24,7 +24,9 @@ pub record ArePairing (board : RawBoard) (pairing : Pairing) : Type 0 where
 
 -- `left` has those nets from net `a` on that no pass shows together with net `a`
 abbrev pub AreLeft : RawBoard → List (List Ctl) → ℕ → List ℕ → Type 0
-AreLeft board passes a left = (n : ℕ) → a ≤ n → n < length board.nets → is_in left n ≡ not (are_shown passes (drivers_at board a) (drivers_at board n))
+AreLeft board passes a left =
+    (n : ℕ) → a ≤ n → n < length board.nets
+    → is_in left n ≡ not (are_shown passes (drivers_at board a) (drivers_at board n))
 
 -- net `a` is the current net: `left` has those nets from net `a` on that no pass shows together with net `a`
 pub record LooksAt (board : RawBoard) (pairing : Pairing) (a : ℕ) : Type 0 where
@@ -37,12 +39,14 @@ abbrev pub is_wanted : RawBoard → List ℕ → ℕ → ℕ → Bool
 is_wanted board left a n = is_in left n && pairs_with board a n
 
 -- no pass is needed for the two nets: some pass shows both, or no safe setting enables a tested driver of each
-abbrev pub IsDone : RawBoard → List (List Ctl) → ℕ → ℕ → Type 0
-IsDone board passes a b = (are_shown passes (drivers_at board a) (drivers_at board b) ≡ true) ⊎ (first_pair board (drivers_at board a) (drivers_at board b) ≡ None)
+abbrev pub NeedsNoPass : RawBoard → List (List Ctl) → ℕ → ℕ → Type 0
+NeedsNoPass board passes a b =
+    (are_shown passes (drivers_at board a) (drivers_at board b) ≡ true)
+    ⊎ (first_pair board (drivers_at board a) (drivers_at board b) ≡ None)
 
 -- for each net n after net `a` and before net `b`, no pass is needed for nets `a` and n
 abbrev pub IsDoneTo : RawBoard → List (List Ctl) → ℕ → ℕ → Type 0
-IsDoneTo board passes a b = (n : ℕ) → a < n → n < b → IsDone board passes a n
+IsDoneTo board passes a b = (n : ℕ) → a < n → n < b → NeedsNoPass board passes a n
 
 -- for each net m before net `a` and each net n after net m, no pass is needed for nets m and n
 abbrev pub AreDone : RawBoard → List (List Ctl) → ℕ → Type 0
@@ -50,7 +54,7 @@ AreDone board passes a = (m : ℕ) → m < a → IsDoneTo board passes m (length
 
 -- if no pass is needed for two nets after the passes `before`, none is needed for them after the passes `after`
 abbrev pub StaysDone : RawBoard → List (List Ctl) → List (List Ctl) → Type 0
-StaysDone board before after = (m n : ℕ) → IsDone board before m n → IsDone board after m n
+StaysDone board before after = (m n : ℕ) → NeedsNoPass board before m n → NeedsNoPass board after m n
 
 -- each of the two drivers has no control or a useful control
 abbrev pub IsUsefulPair : RawBoard → Drive × Drive → Type 0

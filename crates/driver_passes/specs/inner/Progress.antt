@@ -10,7 +10,7 @@ use Rattle.net_classes.specs.Pairs.{drivers_at}
 use Rattle.driver_passes.specs.declared.drivers.Progress.{Progress}
 use Rattle.driver_passes.specs.inner.NumberSets.{is_in}
 use Rattle.driver_passes.specs.Useful.{HoldUseful}
-use Rattle.driver_passes.specs.inner.Shown.{AreRows}
+use Rattle.driver_passes.specs.inner.Shown.{AreShownRows}
 
 -- the control is in some pass
 abbrev pub is_held : List (List Ctl) → Ctl → Bool
@@ -25,11 +25,13 @@ pub record AreHeld (board : RawBoard) (passes : List (List Ctl)) (held : List �
 pub record IsProgress (board : RawBoard) (progress : Progress) : Type 0 where
   pub held : AreHeld board progress.passes.items progress.held
   pub useful : HoldUseful board progress.passes.items
-  pub rows : AreRows board progress.passes.items progress.rows.items
+  pub rows : AreShownRows board progress.passes.items progress.rows.items
 
 -- for each tested driver, some pass enables the driver
 abbrev pub EnableTested : RawBoard → List (List Ctl) → Type 0
-EnableTested board passes = (n : ℕ) (d : Drive) → n < length board.nets → Contains (drivers_at board n) d → list_any (λ pass. is_enabled pass d) passes ≡ true
+EnableTested board passes =
+    (n : ℕ) (d : Drive) → n < length board.nets → Contains (drivers_at board n) d
+    → list_any (λ pass. is_enabled pass d) passes ≡ true
 
 -- the passes, followed by a pass for the driver unless some pass enables the driver
 abbrev pub enabling : RawBoard → List (List Ctl) → Drive → List (List Ctl)

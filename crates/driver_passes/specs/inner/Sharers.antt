@@ -15,11 +15,16 @@ use Rattle.driver_passes.specs.inner.NumberSets.{is_in}
 -- the list of each net has the places below `most` of the useful controls that share the net with another control
 pub record AreSharersBelow (board : RawBoard) (most : ℕ) (sharers : List (List ℕ)) : Type 0 where
   pub sharers_length : length sharers ≡ length board.nets
-  pub sharers_are : (place : ℕ) (c : Ctl) → slice_get (useful_controls board) place ≡ Some c → (n : ℕ) → has_number (slice_index_or sharers n []) place ≡ (ltb place most && has_number (shared_nets board c) n)
+  pub sharers_are : (place : ℕ) (c : Ctl) → slice_get (useful_controls board) place ≡ Some c
+      → (n : ℕ)
+      → has_number (slice_index_or sharers n []) place
+      ≡ (ltb place most && has_number (shared_nets board c) n)
 
 -- the set of each net has the places of the useful controls that share the net with another control
 abbrev pub AreSharers : RawBoard → List (List Block) → Type 0
-AreSharers board sharers = (place : ℕ) (c : Ctl) → slice_get (useful_controls board) place ≡ Some c → (n : ℕ) → has_place (slice_index_or sharers n []) place ≡ has_number (shared_nets board c) n
+AreSharers board sharers =
+    (place : ℕ) (c : Ctl) → slice_get (useful_controls board) place ≡ Some c → (n : ℕ)
+    → has_place (slice_index_or sharers n []) place ≡ has_number (shared_nets board c) n
 
 -- the place is in the set of one of these nets
 abbrev pub is_listed : List (List Block) → List ℕ → ℕ → Bool
@@ -28,4 +33,6 @@ is_listed sharers nets place = list_any (λ n. has_place (slice_index_or sharers
 -- The set loses the places of those useful controls that are not together with `c`, and no other place. The definition does not say whether
 -- the place of `c` itself stays.
 abbrev pub LosesApart : RawBoard → Ctl → List ℕ → List ℕ → Type 0
-LosesApart board c before after = (q : ℕ) (e : Ctl) → slice_get (useful_controls board) q ≡ Some e → same_ctl e c ≡ false → is_in after q ≡ (is_in before q && are_together board e c)
+LosesApart board c before after =
+    (q : ℕ) (e : Ctl) → slice_get (useful_controls board) q ≡ Some e → same_ctl e c ≡ false
+    → is_in after q ≡ (is_in before q && are_together board e c)

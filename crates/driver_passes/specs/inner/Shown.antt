@@ -14,8 +14,8 @@ pub record AreShownBy (board : RawBoard) (pass : List Ctl) (row : List ℕ) : Ty
   pub row_are : (n : ℕ) → n < length board.nets → is_in row n ≡ shows (drivers_at board n) pass
 
 -- there is one row for each pass, and row x is the set of the nets that pass x shows
-abbrev pub AreRows : RawBoard → List (List Ctl) → List (List ℕ) → Type 0
-AreRows board passes rows = AllZip (AreShownBy board) passes rows
+abbrev pub AreShownRows : RawBoard → List (List Ctl) → List (List ℕ) → Type 0
+AreShownRows board passes rows = AllZip (AreShownBy board) passes rows
 
 -- the set has the nets that every pass shows, with room for each net
 pub record AreShownByAll (board : RawBoard) (passes : List (List Ctl)) (always : List ℕ) : Type 0 where

@@ -18,12 +18,15 @@ drives c drivers = list_any (λ d. is_by c (Some d)) drivers
 -- net `net` is added to the list of each useful control that satisfies the test, and nothing else changes
 abbrev pub AreNoted : RawBoard → ℕ → (Ctl → Bool) → List (List ℕ) → List (List ℕ) → Type 0
 AreNoted board net passes before after =
-    (place : ℕ) (c : Ctl) → slice_get (useful_controls board) place ≡ Some c → (n : ℕ) → has_number (slice_index_or after place []) n ≡ ((n == net && passes c) || has_number (slice_index_or before place []) n)
+    (place : ℕ) (c : Ctl) → slice_get (useful_controls board) place ≡ Some c → (n : ℕ)
+    → has_number (slice_index_or after place []) n
+    ≡ ((n == net && passes c) || has_number (slice_index_or before place []) n)
 
 -- the list of each useful control has the nets below `most` with a tested driver of this control
 pub record AreListed (board : RawBoard) (most : ℕ) (lists : List (List ℕ)) : Type 0 where
   pub lists_length : length lists ≡ length (useful_controls board)
-  pub lists_are : (place : ℕ) (c : Ctl) → slice_get (useful_controls board) place ≡ Some c → (n : ℕ) → has_number (slice_index_or lists place []) n ≡ (ltb n most && drives c (drivers_at board n))
+  pub lists_are : (place : ℕ) (c : Ctl) → slice_get (useful_controls board) place ≡ Some c → (n : ℕ)
+      → has_number (slice_index_or lists place []) n ≡ (ltb n most && drives c (drivers_at board n))
 
 -- `steady` has the nets with a tested driver that is always on, and `by_control` the nets that each useful control tests
 pub record AreTestedNets (board : RawBoard) (nets : TestedNets) : Type 0 where

@@ -6,7 +6,9 @@ use Rattle.driver_passes.specs.inner.Drafts.{Drafted, drafted}
 
 -- the draft after the first walk over the useful controls from this place on
 abbrev pub first_walked : Drafted → ℕ → List (List Ctl) → Drafted
-first_walked draft from earlier = drafted draft.board (first_walk draft.board (drop from (useful_controls draft.board)) earlier draft.setting)
+first_walked draft from earlier =
+    drafted draft.board
+    (first_walk draft.board (drop from (useful_controls draft.board)) earlier draft.setting)
 
 -- the draft after the second walk over the useful controls from this place on
 abbrev pub second_walked : Drafted → ℕ → Drafted

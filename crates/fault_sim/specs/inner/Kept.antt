@@ -14,17 +14,17 @@ rows_of None = []
 rows_of (Some pass) = pass.rows
 
 -- the kept rows of pass x
-abbrev pub kept_rows : List KeptPass → ℕ → List ComparedRow
-kept_rows kept x = rows_of (slice_get kept x)
+abbrev pub rows_of_kept : List KeptPass → ℕ → List ComparedRow
+rows_of_kept kept x = rows_of (slice_get kept x)
 
 -- the drivers of a kept pass, or no drivers if there is no such pass
-abbrev pub drivers_of : Option KeptPass → List (Option EnabledDriver)
-drivers_of None = []
-drivers_of (Some pass) = pass.drivers
+abbrev pub drivers_of_kept : Option KeptPass → List (Option EnabledDriver)
+drivers_of_kept None = []
+drivers_of_kept (Some pass) = pass.drivers
 
 -- the kept drivers of pass x
 abbrev pub kept_drivers : List KeptPass → ℕ → List (Option EnabledDriver)
-kept_drivers kept x = drivers_of (slice_get kept x)
+kept_drivers kept x = drivers_of_kept (slice_get kept x)
 
 -- the feed that an enabled driver gives its net; `pull` is the value that the net is pulled to, if any
 abbrev pub feed_of : Option Bool → EnabledDriver → Feed
@@ -35,11 +35,11 @@ abbrev pub net_fed_by : Option EnabledDriver → Option Bool → FedNet
 net_fed_by driver pull = record { feed = option_map (feed_of pull) driver; pull = pull }
 
 -- true if the source has the bits of a net's code
-abbrev pub is_code : Source → Bool
-is_code (Code code) = true
-is_code (Fixed bit) = false
+abbrev pub is_code_source : Source → Bool
+is_code_source (Code code) = true
+is_code_source (Fixed bit) = false
 
 -- the pass observes the net of this driver, that is, the driver's cell carries the bits of the net's code
 abbrev pub observes_coded : Option EnabledDriver → Bool
 observes_coded None = false
-observes_coded (Some d) = is_code d.source
+observes_coded (Some d) = is_code_source d.source

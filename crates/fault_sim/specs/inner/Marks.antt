@@ -10,13 +10,15 @@ use Rattle.fault_sim.specs.declared.kept.ComparedRow.{ComparedRow}
 use Rattle.fault_sim.specs.Kept.{compared_in, expected_in}
 
 -- the TDO bits and the MASK bits of the row each have room for the bits of a data scan
-pub record HaveRoom (board : RawBoard) (row : ComparedRow) : Type 0 where
+pub record HasScanRoom (board : RawBoard) (row : ComparedRow) : Type 0 where
   pub tdo : data_bits board ≤ row.tdo.room
   pub mask : data_bits board ≤ row.mask.room
 
 -- if the test compares row j of pass x at a position, the log has the expected bit there
 abbrev pub HasExpected : RawBoard → PlanTables → List (List Bool) → ℕ → ℕ → ℕ → Type 0
-HasExpected board plan log x j at = slice_index_or (compared_in board plan x j) at false ≡ true → bit_in log (x * plan.width + j) at ≡ slice_index_or (expected_in board plan x j) at false
+HasExpected board plan log x j at =
+    slice_index_or (compared_in board plan x j) at false ≡ true
+    → bit_in log (x * plan.width + j) at ≡ slice_index_or (expected_in board plan x j) at false
 
 -- the digit of this position is not marked
 abbrev pub IsUnmarked : List ℕ → ℕ → Type 0
@@ -25,15 +27,21 @@ IsUnmarked marks at = slice_index_or marks (at / 4) 0 ≡ 0
 -- While row j of pass x is checked, the marks change from `old` to `new`. If the digit of a position is unmarked in `new`, it is unmarked
 -- in `old`, and the log has the expected bit at this position of the row.
 abbrev pub MarkRow : RawBoard → PlanTables → List (List Bool) → ℕ → ℕ → List ℕ → List ℕ → Type 0
-MarkRow board plan log x j old new = (at : ℕ) → at < data_bits board → IsUnmarked new at → IsUnmarked old at × HasExpected board plan log x j at
+MarkRow board plan log x j old new =
+    (at : ℕ) → at < data_bits board → IsUnmarked new at
+    → IsUnmarked old at × HasExpected board plan log x j at
 
 -- like `MarkRow`, but for the first `rows` rows of pass x
 abbrev pub MarkRows : RawBoard → PlanTables → List (List Bool) → ℕ → ℕ → List ℕ → List ℕ → Type 0
-MarkRows board plan log x rows old new = (at : ℕ) → at < data_bits board → IsUnmarked new at → IsUnmarked old at × ((j : ℕ) → j < rows → HasExpected board plan log x j at)
+MarkRows board plan log x rows old new =
+    (at : ℕ) → at < data_bits board → IsUnmarked new at
+    → IsUnmarked old at × ((j : ℕ) → j < rows → HasExpected board plan log x j at)
 
 -- if the digit of a position is unmarked, the log has the expected bits at this position in all rows of the first `passes` passes
 abbrev pub AreMarks : RawBoard → PlanTables → List (List Bool) → ℕ → List ℕ → Type 0
-AreMarks board plan log passes marks = (at : ℕ) → at < data_bits board → IsUnmarked marks at → (x : ℕ) → x < passes → (j : ℕ) → j < plan.width → HasExpected board plan log x j at
+AreMarks board plan log passes marks =
+    (at : ℕ) → at < data_bits board → IsUnmarked marks at → (x : ℕ) → x < passes → (j : ℕ)
+    → j < plan.width → HasExpected board plan log x j at
 
 -- the digit of at least one of these cells is marked
 abbrev pub are_marked : List ℕ → List ReaderCell → Bool

@@ -1,7 +1,7 @@
 -- The rows of a pass of a log, with the compared cells of a net.
 use Rattle.std.specs.Prelude.{ℕ, ◌+◌, ◌*◌, ◌<◌, ◌≤◌, ◌^◌, Bool, List, length, All}
 use Rattle.net_pins.specs.declared.nets.ReaderCell.{ReaderCell}
-use Rattle.fault_sim.specs.Effects.{readers_in}
+use Rattle.fault_sim.specs.Effects.{plan_readers}
 use Rattle.fault_sim.specs.Planned.{PassOfLog}
 
 -- `width` rows of a log, from row `first` on, and the compared cells of a net
@@ -16,7 +16,9 @@ rows_of_net log first width readers = record { log = log; first = first; width =
 
 -- the rows of a pass of a log, with the compared cells of a net
 abbrev pub net_rows_in : PassOfLog → ℕ → RowsOfNet
-net_rows_in pass net = rows_of_net pass.logged.log (pass.number * pass.logged.test.plan.width) pass.logged.test.plan.width (readers_in pass.logged.test.plan net)
+net_rows_in pass net =
+    rows_of_net pass.logged.log (pass.number * pass.logged.test.plan.width)
+    pass.logged.test.plan.width (plan_readers pass.logged.test.plan net)
 
 -- The log has `width` rows from row `first` on, and `width` is less than 32. Every row of the log has a bit at the position of each cell in
 -- `readers`.

@@ -5,17 +5,19 @@ use Rattle.tap_defs.specs.board.TestRows.{code_bit}
 use Rattle.fault_sim.specs.declared.shown.ShownWords.{ShownWords}
 use Rattle.fault_sim.specs.declared.words.FedWords.{FedWords}
 use Rattle.fault_sim.specs.Effects.{code_in, driver_in, effect_bit, effect_in, fed_net, first_net, place_of_driver, second_net}
-use Rattle.fault_sim.specs.Planned.{NetInPass, PassOfLog, controls_in}
+use Rattle.fault_sim.specs.Planned.{NetInPass, PassOfLog, held_controls}
 use Rattle.fault_sim.specs.inner.NetRows.{net_rows_in}
 use Rattle.fault_sim.specs.inner.Words.{AreShown, AreWordsOf, word_bit}
 
 -- `shown` has the rows of the pass in which some compared cell of the net shows 1, and the rows in which some compared cell shows 0
 abbrev pub IsShownIn : NetInPass → ShownWords → Type 0
-IsShownIn n shown = AreShown (net_rows_in n.pass n.net) (place_of_driver (driver_in n.pass.logged.test.plan (controls_in n.pass) n.net)) shown
+IsShownIn n shown =
+    AreShown (net_rows_in n.pass n.net)
+    (place_of_driver (driver_in n.pass.logged.test.plan (held_controls n.pass) n.net)) shown
 
 -- `words` has, for each row of the pass, the bit to which the net is driven, and it has the pull of the net
 abbrev pub AreWordsIn : PassOfLog → ℕ → FedWords → Type 0
-AreWordsIn pass net words = AreWordsOf (fed_net pass.logged.test.board pass.logged.test.plan (controls_in pass) net) words
+AreWordsIn pass net words = AreWordsOf (fed_net pass.logged.test.board pass.logged.test.plan (held_controls pass) net) words
 
 -- `code` is the code of the net, `fed` has the bits to which the net is driven in the pass, and `shown` has the rows in which the net's
 -- cells show 1 or 0
@@ -28,4 +30,7 @@ pub record IsTellingNet (n : NetInPass) (code : ℕ) (fed : FedWords) (shown : S
 pub record IsWordOn (n : NetInPass) (fault : Single) (word : ℕ) : Type 0 where
   pub is_own : (n.net ≡ first_net fault) ⊎ (n.net ≡ second_net fault)
   pub bits : (j : ℕ) → j < 32 → (place : ℕ) →
-      word_bit word j ≡ effect_bit (effect_in n.pass.logged.test.board n.pass.logged.test.plan (controls_in n.pass) (Some fault) n.net) j place (code_bit (code_in n.pass.logged.test.plan n.net) j)
+      word_bit word j
+      ≡ effect_bit
+      (effect_in n.pass.logged.test.board n.pass.logged.test.plan (held_controls n.pass)
+      (Some fault) n.net) j place (code_bit (code_in n.pass.logged.test.plan n.net) j)

@@ -10,7 +10,7 @@ use Rattle.net_pins.specs.declared.nets.ReaderCell.{ReaderCell}
 use Rattle.net_pins.specs.Enabled.{is_read_beside}
 use Rattle.plan_tables.specs.declared.tables.PlanTables.{PlanTables}
 use Rattle.plan_tables.specs.Assigned.{assigned}
-use Rattle.fault_sim.specs.Effects.{driver_in, readers_in, code_in}
+use Rattle.fault_sim.specs.Effects.{driver_in, plan_readers, code_in}
 
 -- the nets below `count` that have a code
 abbrev pub coded_nets : PlanTables → ℕ → List ℕ
@@ -23,7 +23,7 @@ observes_by (Some d) readers = is_read_beside readers d
 
 -- true if the pass observes net n
 abbrev pub observes_in : PlanTables → List Ctl → ℕ → Bool
-observes_in plan pass n = observes_by (driver_in plan pass n) (readers_in plan n)
+observes_in plan pass n = observes_by (driver_in plan pass n) (plan_readers plan n)
 
 -- true if some pass observes both nets
 abbrev pub paired_in : PlanTables → ℕ → ℕ → Bool
@@ -41,7 +41,7 @@ marked_by (Some d) readers flags = cond (is_read_beside readers d) (marked_reade
 
 -- like `marked_by`, for the driver that the pass enables on net n and the cells that read this net
 abbrev pub marked_in : PlanTables → ℕ → List Bool → List Ctl → List Bool
-marked_in plan n flags pass = marked_by (driver_in plan pass n) (readers_in plan n) flags
+marked_in plan n flags pass = marked_by (driver_in plan pass n) (plan_readers plan n) flags
 
 -- for each of the first `count` pins of a net, a flag that is true if some pass tests the pin
 abbrev pub tested_flags : PlanTables → ℕ → ℕ → List Bool
@@ -53,24 +53,26 @@ pin_where is_tested n place = cond is_tested (record { net = n; place = place } 
 
 -- the pins whose flags are true, among the first `count` pins of a net
 abbrev pub flagged_before : ℕ → List Bool → ℕ → List PinRef
-flagged_before n flags count = map (λ place. record { net = n; place = place }) (filter (λ place. slice_index_or flags place false) (range_with_len 0 count))
+flagged_before n flags count =
+    map (λ place. record { net = n; place = place })
+    (filter (λ place. slice_index_or flags place false) (range_with_len 0 count))
 
 -- the pins of net n whose flags are true
 abbrev pub flagged_pins : ℕ → List Bool → List PinRef
 flagged_pins n flags = flagged_before n flags (length flags)
 
 -- the number of pins of a net, or 0 if there is no such net
-abbrev pub pins_of_net : Option Net → ℕ
-pins_of_net None = 0
-pins_of_net (Some net) = length net.pins
+abbrev pub pin_count_of : Option Net → ℕ
+pin_count_of None = 0
+pin_count_of (Some net) = length net.pins
 
 abbrev pub pin_count : RawBoard → ℕ → ℕ
-pin_count board n = pins_of_net (slice_get board.nets n)
+pin_count board n = pin_count_of (slice_get board.nets n)
 
 -- the pins of a net that some pass tests
-abbrev pub net_pins : RawBoard → PlanTables → ℕ → List PinRef
-net_pins board plan n = flagged_pins n (tested_flags plan (pin_count board n) n)
+abbrev pub tested_pins_of : RawBoard → PlanTables → ℕ → List PinRef
+tested_pins_of board plan n = flagged_pins n (tested_flags plan (pin_count board n) n)
 
 -- the pins that some pass tests, among the pins of the first `count` nets
 abbrev pub all_pins : RawBoard → PlanTables → ℕ → List PinRef
-all_pins board plan count = flat_map (net_pins board plan) (range_with_len 0 count)
+all_pins board plan count = flat_map (tested_pins_of board plan) (range_with_len 0 count)

@@ -4,7 +4,7 @@ use Rattle.std.specs.Int.{bit_at}
 use Rattle.std.specs.List.{list_any}
 use Rattle.board_defs.specs.declared.fault.Kind.{Kind}
 use Rattle.board_defs.specs.Pins.{is_same}
-use Rattle.tap_defs.specs.board.NetBits.{or_else}
+use Rattle.tap_defs.specs.board.NetBits.{bit_or_else}
 use Rattle.tap_defs.specs.board.SingleBits.{shorted}
 use Rattle.net_pins.specs.declared.nets.ReaderCell.{ReaderCell}
 use Rattle.response_log.specs.LogRows.{bit_in}
@@ -27,7 +27,9 @@ driven_bit words j = if word_bit words.driven j then Some (word_bit words.value 
 -- cells are compared.
 abbrev pub short_word_bit : Kind → FedWords → FedWords → ℕ → ℕ → Bool
 short_word_bit kind first second code j =
-    unwrap_or (or_else (shorted kind (driven_bit first.feed j) (driven_bit second.feed j)) (shorted kind first.pull second.pull)) (word_bit code j)
+    unwrap_or
+    (bit_or_else (shorted kind (driven_bit first.feed j) (driven_bit second.feed j))
+    (shorted kind first.pull second.pull)) (word_bit code j)
 
 -- in each row j, `words` has the bit to which the net `fed` is driven; `words` also has the pull of the net
 pub record AreWordsOf (fed : FedNet) (words : FedWords) : Type 0 where
@@ -45,15 +47,21 @@ some_shows log row bit readers (Some driver) = list_any (shows_beside log row bi
 
 -- Bit j of the word is 1 exactly if the pass has a row j, and in this row some cell that does not read the driver's pin has the bit `bit`.
 -- If there is no driver, every bit of the word is 0.
-abbrev pub AreRowsOf : RowsOfNet → Bool → Option ℕ → ℕ → Type 0
-AreRowsOf rows bit driver word = (j : ℕ) → j < 32 → word_bit word j ≡ (nat_lt j rows.width && some_shows rows.log (rows.first + j) bit rows.readers driver)
+abbrev pub AreShownBits : RowsOfNet → Bool → Option ℕ → ℕ → Type 0
+AreShownBits rows bit driver word =
+    (j : ℕ) → j < 32
+    → word_bit word j
+    ≡ (nat_lt j rows.width && some_shows rows.log (rows.first + j) bit rows.readers driver)
 
 -- `shown` has the rows in which some cell shows 1, and the rows in which some cell shows 0. Cells that read the driver's pin are not
 -- counted.
 pub record AreShown (rows : RowsOfNet) (driver : Option ℕ) (shown : ShownWords) : Type 0 where
-  pub ones : AreRowsOf rows true driver shown.ones
-  pub zeros : AreRowsOf rows false driver shown.zeros
+  pub ones : AreShownBits rows true driver shown.ones
+  pub zeros : AreShownBits rows false driver shown.zeros
 
 -- if some cell shows a bit in row j, bit j of `word` is this bit
 abbrev pub AgreesWith : ShownWords → ℕ → Type 0
-AgreesWith shown word = (j : ℕ) → j < 32 → (word_bit shown.ones j ≡ true → word_bit word j ≡ true) × (word_bit shown.zeros j ≡ true → word_bit word j ≡ false)
+AgreesWith shown word =
+    (j : ℕ) → j < 32
+    → (word_bit shown.ones j ≡ true → word_bit word j ≡ true)
+    × (word_bit shown.zeros j ≡ true → word_bit word j ≡ false)

@@ -11,5 +11,8 @@ loop-i-preserved g c =
     let next : c.loop-i.i ≡ c.loop-i.i - 1 + 1 = omega (arith, c.loop-i-test.true) in
     record {
       within = omega (arith, within);
-      values = λ q. value_step eq c.args.items.now (c.loop-i.i - 1) c.loop-i.i c.index-items-i.result q (get eq c.insert.new.self q) (get eq c.loop-i.values q) within (sym c.index-items-i.is) next (c.loop-i.invariant.values q) (c.in_ok-insert.ensures.updates.0 q);
+      values =
+          λ q. value_step eq c.args.items.now (c.loop-i.i - 1) c.loop-i.i c.index-items-i.result q
+          (get eq c.insert.new.self q) (get eq c.loop-i.values q) within (sym c.index-items-i.is)
+          next (c.loop-i.invariant.values q) (c.in_ok-insert.ensures.updates.0 q);
     }

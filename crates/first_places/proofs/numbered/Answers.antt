@@ -14,7 +14,16 @@ overflow_cast-number g c =
     let x = c.key-item.result in
     let most = prefix_len-le-length (λ k. not (eq x k)) c.loop-key.seen.keys in
     let size = ap length c.loop-key.invariant.same in
-    omega (arith, c.in_ok-number.ensures.number, most, size, c.loop-key.kept.ok.0, c.loop-key.invariant.few, c.loop-key-test.true, c.requires)
+    omega (
+      arith,
+      c.in_ok-number.ensures.number,
+      most,
+      size,
+      c.loop-key.kept.ok.0,
+      c.loop-key.invariant.few,
+      c.loop-key-test.true,
+      c.requires,
+    )
 
 pub loop-key-preserved : goal.loop-key-preserved
 loop-key-preserved g c =
@@ -25,16 +34,28 @@ loop-key-preserved g c =
     let was = c.in_ok-number.number.1 in
     let old = c.loop-key.kept.items in
     let kept : once eq keys ≡ c.push_unless.new.list.items ++ once_from eq (take (i + 1) keys) (drop (i + 1) keys) =
-    once_step eq keys i x old c.push_unless.new.list.items (once eq keys) was c.loop-key-test.true (sym c.key-item.is) (c.in_ok-number.ensures.was ∙ c.loop-key.invariant.seen x) c.in_ok-push_unless.ensures.items c.loop-key.invariant.kept in
+    once_step eq keys i x old c.push_unless.new.list.items (once eq keys) was c.loop-key-test.true
+    (sym c.key-item.is) (c.in_ok-number.ensures.was ∙ c.loop-key.invariant.seen x)
+    c.in_ok-push_unless.ensures.items c.loop-key.invariant.kept in
     record {
       same =
-          c.in_ok-number.ensures.keys ∙ ap (λ b. cond b c.loop-key.seen.keys (c.loop-key.seen.keys ++ x ∷ [])) (sym c.in_ok-number.ensures.was)
+          c.in_ok-number.ensures.keys
+          ∙ ap (λ b. cond b c.loop-key.seen.keys (c.loop-key.seen.keys ++ x ∷ []))
+          (sym c.in_ok-number.ensures.was)
           ∙ ap (λ v. cond was v (v ++ x ∷ [])) c.loop-key.invariant.same ∙ sym c.in_ok-push_unless.ensures.items;
-      seen = λ q. seen_step (λ s. eq s q) keys i x (contains eq c.number_of.new.seen q) (contains eq c.loop-key.seen q) c.loop-key-test.true (sym c.key-item.is) (c.loop-key.invariant.seen q) (c.in_ok-number.ensures.seen q);
+      seen =
+          λ q. seen_step (λ s. eq s q) keys i x (contains eq c.number_of.new.seen q)
+          (contains eq c.loop-key.seen q) c.loop-key-test.true (sym c.key-item.is)
+          (c.loop-key.invariant.seen q) (c.in_ok-number.ensures.seen q);
       kept = kept;
       few = omega (arith, c.in_ok-push_unless.ensures.count, c.loop-key.invariant.few);
       numbers =
-          number_step eq g.met.K.Eq.laws keys i x old c.push_unless.new.list.items (once_from eq (take (i + 1) keys) (drop (i + 1) keys)) (once eq keys) was c.in_ok-number.number.0 c.loop-key.numbers.items c.push.new.self.items c.loop-key-test.true (sym c.key-item.is)
-          (c.in_ok-number.ensures.was ∙ ap (list_any (eq x)) c.loop-key.invariant.same) c.in_ok-push_unless.ensures.items kept (c.in_ok-number.ensures.number ∙ ap (position_or_len (eq x)) c.loop-key.invariant.same)
+          number_step eq g.met.K.Eq.laws keys i x old c.push_unless.new.list.items
+          (once_from eq (take (i + 1) keys) (drop (i + 1) keys)) (once eq keys) was
+          c.in_ok-number.number.0 c.loop-key.numbers.items c.push.new.self.items
+          c.loop-key-test.true (sym c.key-item.is)
+          (c.in_ok-number.ensures.was ∙ ap (list_any (eq x)) c.loop-key.invariant.same)
+          c.in_ok-push_unless.ensures.items kept
+          (c.in_ok-number.ensures.number ∙ ap (position_or_len (eq x)) c.loop-key.invariant.same)
           c.loop-key.invariant.numbers c.in_ok-push.ensures.items;
     }

@@ -1,7 +1,7 @@
 use Rattle.std.proofs.Common.{◌≡◌, ◌≤◌, ◌++◌, map, take, drop, vec_len}
 use Rattle.std.specs.List.{list_any}
 use Rattle.indexmap.specs.IndexSet.{contains}
-use Rattle.first_places.specs.Places.{number_in, once, once_from}
+use Rattle.first_places.specs.Places.{place_or_zero, once, once_from}
 use Rattle.first_places.proofs.numbered.Given as goal
 
 -- The keys visited so far are in the set and have their numbers. The kept keys, followed by the new
@@ -12,5 +12,5 @@ invariant-loop-key g l = record {
   seen : (q : g.row.K.Denot) → contains g.K.PartialEq.eq l.seen q ≡ list_any (λ s. g.K.PartialEq.eq s q) (take l.key-index l.keys);
   kept : once g.K.PartialEq.eq l.keys ≡ l.kept.items ++ once_from g.K.PartialEq.eq (take l.key-index l.keys) (drop l.key-index l.keys);
   few : vec_len l.kept ≤ l.key-index;
-  numbers : l.numbers.items ≡ map (number_in g.K.PartialEq.eq (once g.K.PartialEq.eq l.keys)) (take l.key-index l.keys);
+  numbers : l.numbers.items ≡ map (place_or_zero g.K.PartialEq.eq (once g.K.PartialEq.eq l.keys)) (take l.key-index l.keys);
 }

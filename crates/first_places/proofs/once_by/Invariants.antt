@@ -9,5 +9,8 @@ use Rattle.first_places.proofs.once_by.Given as goal
 abbrev pub invariant-loop-item : goal.invariant-loop-item
 invariant-loop-item g l = record {
   seen : (q : g.row.K.Denot) → contains g.K.PartialEq.eq l.seen q ≡ list_any (λ s. g.K.PartialEq.eq s.0 q) (take l.item-index l.items);
-  kept : once (λ a b. g.K.PartialEq.eq a.0 b.0) l.items ≡ l.kept.items ++ once_from (λ a b. g.K.PartialEq.eq a.0 b.0) (take l.item-index l.items) (drop l.item-index l.items);
+  kept : once (λ a b. g.K.PartialEq.eq a.0 b.0) l.items
+      ≡ l.kept.items
+      ++ once_from (λ a b. g.K.PartialEq.eq a.0 b.0) (take l.item-index l.items)
+      (drop l.item-index l.items);
 }

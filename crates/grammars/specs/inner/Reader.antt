@@ -12,12 +12,12 @@ abbrev pub Reader : Type 0 → Type 0 → Type 0
 Reader T A = List T → Outcome T A
 
 -- the outcome of running the reader `next` on the rest if a value was found, or the refusal
-abbrev pub after : {T A B : Type 0} → Outcome T A → (A → Reader T B) → Outcome T B
-after (found a rest) next = next a rest
-after (refused rest) next = refused rest
+abbrev pub read_on : {T A B : Type 0} → Outcome T A → (A → Reader T B) → Outcome T B
+read_on (found a rest) next = next a rest
+read_on (refused rest) next = refused rest
 
 abbrev pub in_turn : {T A B : Type 0} → Reader T A → (A → Reader T B) → Reader T B
-in_turn p q tokens = after (p tokens) q
+in_turn p q tokens = read_on (p tokens) q
 
 abbrev pub value_then : {T A : Type 0} → Option A → T → List T → Outcome T A
 value_then (Some a) token tokens = found a tokens

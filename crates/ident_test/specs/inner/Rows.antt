@@ -2,5 +2,5 @@
 use Rattle.std.specs.Prelude.{ℕ, ◌+◌, Bool, List, ◌++◌, length, take, drop}
 
 -- the bits after these values are written from position `at` on
-abbrev pub placed : ℕ → List Bool → List Bool → List Bool
-placed at values bits = take at bits ++ (values ++ drop (at + length values) bits)
+abbrev pub with_values : ℕ → List Bool → List Bool → List Bool
+with_values at values bits = take at bits ++ (values ++ drop (at + length values) bits)

@@ -53,7 +53,9 @@ has_either set others c = has_control set c || has_control others c
 
 -- net `n` is covered, and each of its tested drivers has a control in one of the two sets
 abbrev pub closes_beside : RawBoard → ControlSet → ControlSet → ℕ → Bool
-closes_beside board set others n = nat_lt 0 (length (drivers_at board n)) && list_all (is_by_one (has_either set others)) (drivers_at board n)
+closes_beside board set others n =
+    nat_lt 0 (length (drivers_at board n))
+    && list_all (is_by_one (has_either set others)) (drivers_at board n)
 
 -- the covered nets with a driver of control `c` on which each tested driver has a control in one of the two sets
 abbrev pub closed_beside : KnownBoard → ControlSet → ControlSet → Ctl → List ℕ

@@ -4,15 +4,15 @@ use Rattle.board_defs.specs.declared.board.Ctl.{Ctl}
 use Rattle.board_defs.specs.declared.board.RawBoard.{RawBoard}
 use Rattle.board_defs.specs.Pins.{IsCell}
 use Rattle.net_classes.specs.declared.control_sets.ControlSet.{ControlSet}
-use Rattle.net_facts.specs.Cells.{put, item_of, table, at_control, holds_there}
+use Rattle.net_facts.specs.Cells.{put, item_of_cell, table, at_control, holds_there}
 
 -- the control is marked
 abbrev pub has_control : ControlSet → Ctl → Bool
-has_control set c = holds_there (item_of (table set.marks.items) c)
+has_control set c = holds_there (item_of_cell (table set.marks.items) c)
 
 -- the set is the set of the board's cells of which `passes` is true
 pub record IsSet (board : RawBoard) (passes : Ctl → Bool) (set : ControlSet) : Type 0 where
-  pub marks_are : (c : Ctl) → IsCell board c → item_of (table set.marks.items) c ≡ Some (passes c)
+  pub marks_are : (c : Ctl) → IsCell board c → item_of_cell (table set.marks.items) c ≡ Some (passes c)
   pub members_are : (c : Ctl) → IsCell board c → passes c ≡ true → Contains set.members.items c
 
 -- the table of marks in which the mark of each of these controls is `mark`

@@ -4,5 +4,5 @@ use Rattle.board_defs.specs.declared.board.Net.{Net}
 use Rattle.board_defs.specs.declared.board.RawBoard.{RawBoard}
 
 -- `P` is true of net number `n`
-abbrev pub OfNet : RawBoard → ℕ → (Net → Type 0) → Type 0
-OfNet board n P = (net : Net) → slice_get board.nets n ≡ Some net → P net
+abbrev pub HoldsOfNet : RawBoard → ℕ → (Net → Type 0) → Type 0
+HoldsOfNet board n P = (net : Net) → slice_get board.nets n ≡ Some net → P net

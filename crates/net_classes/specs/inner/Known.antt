@@ -7,7 +7,7 @@ use Rattle.board_defs.specs.BoardRules.{IsBoard}
 use Rattle.board_defs.specs.Pins.{IsCell}
 use Rattle.net_facts.specs.declared.classes.ControlClass.{ControlClass}
 use Rattle.net_facts.specs.declared.facts.PinFacts.{PinFacts}
-use Rattle.net_facts.specs.Cells.{item_of}
+use Rattle.net_facts.specs.Cells.{item_of_cell}
 use Rattle.net_facts.specs.Facts.{pin_facts_of}
 use Rattle.net_facts.specs.Kept.{control_class_of}
 
@@ -22,7 +22,7 @@ known_board board controls = record { board = board; controls = controls }
 -- the board keeps the rules, and the table has the class of each control
 pub record IsKnown (known : KnownBoard) : Type 0 where
   pub rules : IsBoard known.board
-  pub controls_are : (c : Ctl) → IsCell known.board c → item_of known.controls c ≡ Some (control_class_of known.board c)
+  pub controls_are : (c : Ctl) → IsCell known.board c → item_of_cell known.controls c ≡ Some (control_class_of known.board c)
 
 -- the facts about the pins of the net, or no facts if there is no net
 abbrev pub pins_there : RawBoard → Option Net → List PinFacts
@@ -35,4 +35,4 @@ nets_of None = []
 nets_of (Some class) = class.nets
 
 abbrev pub driven_in : KnownBoard → Ctl → List ℕ
-driven_in known c = nets_of (item_of known.controls c)
+driven_in known c = nets_of (item_of_cell known.controls c)

@@ -9,8 +9,8 @@ use Rattle.board_defs.specs.Pins.{IsCell}
 use Rattle.board_defs.specs.Settings.{same_ctl}
 use Rattle.board_defs.specs.Decided.{is_by}
 use Rattle.net_classes.specs.declared.pair_rows.PairRows.{PairRows}
-use Rattle.net_classes.specs.Kept.{number_in, row_in}
-use Rattle.net_facts.specs.Cells.{item_of, table}
+use Rattle.net_classes.specs.Kept.{row_number, row_in}
+use Rattle.net_facts.specs.Cells.{item_of_cell, table}
 use Rattle.net_classes.specs.NetRows.{AreRowBits}
 use Rattle.net_classes.specs.Pairs.{drivers_at, fits_at}
 
@@ -23,12 +23,12 @@ pub record HasCovered (board : RawBoard) (pairs : PairRows) : Type 0 where
   pub some : 0 < length pairs.rows.items
   pub covered : AreRowBits (fits_at board AlwaysOn) (row_in pairs 0)
   pub room : length (row_in pairs 0) ≡ length board.nets / 64 + 1
-  pub cells : (c : Ctl) → IsCell board c → is_some (item_of (table pairs.numbers.items) c) ≡ true
+  pub cells : (c : Ctl) → IsCell board c → is_some (item_of_cell (table pairs.numbers.items) c) ≡ true
 
 -- the row of control `c` has a 1 for each net that some safe setting with `c` observes
 pub record IsRowOf (board : RawBoard) (pairs : PairRows) (c : Ctl) : Type 0 where
-  pub there : number_in pairs c < length pairs.rows.items
-  pub bits : AreRowBits (fits_at board (By c)) (row_in pairs (number_in pairs c))
+  pub there : row_number pairs c < length pairs.rows.items
+  pub bits : AreRowBits (fits_at board (By c)) (row_in pairs (row_number pairs c))
 
 -- `row` is the row of control `c`. If `row` is None, the row of `c` is `covered`, the row of the covered nets.
 abbrev pub IsRowFor : RawBoard → Ctl → List ℕ → Option (List ℕ) → Type 0
@@ -49,4 +49,4 @@ pub record AddsRow (board : RawBoard) (before after : PairRows) (c : Ctl) : Type
 abbrev pub drive_word : PairRows → Drive → ℕ → ℕ
 drive_word pairs AlwaysOn w = slice_index (row_in pairs 0) w
 drive_word pairs OneSided w = 0
-drive_word pairs (By c) w = slice_index (row_in pairs (number_in pairs c)) w
+drive_word pairs (By c) w = slice_index (row_in pairs (row_number pairs c)) w

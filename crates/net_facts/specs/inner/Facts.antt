@@ -28,7 +28,9 @@ drive_where_in board guarded pull None = None
 drive_where_in board guarded pull (Some at) = option_map (λ cell. drive_from guarded pull at.part cell cell.ctl) (entry_at board at)
 
 abbrev pub pin_facts_in : RawBoard → Bool → Option Bool → NetPin → PinFacts
-pin_facts_in board guarded pull pin = record { at = pin.at; drive = drive_where_in board guarded pull pin.at; receives = receives board pin }
+pin_facts_in board guarded pull pin =
+    record
+    { at = pin.at; drive = drive_where_in board guarded pull pin.at; receives = receives board pin }
 
 -- the facts about the pins of a net; `guarded` says whether the net is guarded
 abbrev pub pins_in : RawBoard → Bool → Net → List PinFacts

@@ -4,10 +4,10 @@ use Rattle.net_facts.specs.declared.found.Found.{Found}
 use Rattle.net_facts.specs.declared.found.Found.TheVariants.{Nowhere, At, Several}
 
 -- the places after `place` is added
-abbrev pub with_place : Found → ℕ → Found
-with_place Nowhere place = At place
-with_place (At other) place = Several
-with_place Several place = Several
+abbrev pub found_with : Found → ℕ → Found
+found_with Nowhere place = At place
+found_with (At other) place = Several
+found_with Several place = Several
 
 -- some remembered or counted place differs from `place`
 abbrev pub is_elsewhere_of : Found → ℕ → Bool
@@ -18,4 +18,4 @@ is_elsewhere_of Several place = true
 -- the numbers below the bound that satisfy `test`, as places
 abbrev pub found_below : (ℕ → Bool) → ℕ → Found
 found_below test zero = Nowhere
-found_below test (suc k) = cond (test k) (with_place (found_below test k) k) (found_below test k)
+found_below test (suc k) = cond (test k) (found_with (found_below test k) k) (found_below test k)

@@ -7,24 +7,26 @@ use Rattle.board_defs.specs.declared.device.Control.{Control}
 use Rattle.board_defs.specs.declared.board.Drive.{Drive}
 use Rattle.board_defs.specs.declared.board.Drive.TheVariants.{AlwaysOn, OneSided, By}
 use Rattle.board_defs.specs.Pins.{described, cell_count, is_pinned}
-use Rattle.board_defs.specs.Decided.{own_control, is_switching, port_bits}
+use Rattle.board_defs.specs.Decided.{own_control, is_switching, count_port_bits}
 use Rattle.net_facts.specs.Cells.{at_control}
 use Rattle.net_facts.specs.declared.facts.PinFacts.{PinFacts}
 use Rattle.net_facts.specs.declared.facts.NetFacts.{NetFacts}
 use Rattle.net_facts.specs.declared.classes.ControlClass.{ControlClass}
 use Rattle.net_facts.specs.declared.classes.NetClass.{NetClass}
 
-abbrev pub is_number : ℕ → Option ℕ → Bool
-is_number n None = false
-is_number n (Some x) = x == n
+abbrev pub is_net_number : ℕ → Option ℕ → Bool
+is_net_number n None = false
+is_net_number n (Some x) = x == n
 
 abbrev pub ends_with : List ℕ → ℕ → Bool
-ends_with nets n = is_number n (slice_get nets (length nets - 1))
+ends_with nets n = is_net_number n (slice_get nets (length nets - 1))
 
 -- The control with one more driver, on net `n`. If the control already has a driver on net `n`, it becomes unsafe. It also becomes unsafe
 -- if no control may enable a driver of the net.
-abbrev pub added : ℕ → Bool → ControlClass → ControlClass
-added n closed row = cond (ends_with row.nets n) (record row { safe = false }) (record row { nets = row.nets ++ n ∷ []; safe = row.safe && not closed })
+abbrev pub with_one_driver : ℕ → Bool → ControlClass → ControlClass
+with_one_driver n closed row =
+    cond (ends_with row.nets n) (record row { safe = false })
+    (record row { nets = row.nets ++ n ∷ []; safe = row.safe && not closed })
 
 -- the control, marked as unsafe because it enables a one-sided driver
 abbrev pub unsafe_too : ControlClass → ControlClass
@@ -40,7 +42,7 @@ abbrev pub note_drive : ℕ → Bool → Option Drive → List (List ControlClas
 note_drive n closed None rows = rows
 note_drive n closed (Some AlwaysOn) rows = rows
 note_drive n closed (Some OneSided) rows = rows
-note_drive n closed (Some (By c)) rows = at_control c (added n closed) rows
+note_drive n closed (Some (By c)) rows = at_control c (with_one_driver n closed) rows
 
 abbrev pub note_pins : ℕ → Bool → List (List ControlClass) → List PinFacts → List (List ControlClass)
 note_pins n closed rows pins = fold (λ r pin. note_drive n closed pin.drive r) rows pins
@@ -69,7 +71,9 @@ fresh_rows chain = map (λ part. copies fresh (cell_count (described part.kind))
 -- marks the control of the driver at `at` as unsafe, if that driver is one-sided
 abbrev pub block_where : RawBoard → PinAt → Option Control → List (List ControlClass) → List (List ControlClass)
 block_where board at None rows = rows
-block_where board at (Some control) rows = cond (is_pinned board at && not (is_switching board at control.disable)) (at_control (record { part = at.part; cell = control.cell }) unsafe_too rows) rows
+block_where board at (Some control) rows =
+    cond (is_pinned board at && not (is_switching board at control.disable))
+    (at_control (record { part = at.part; cell = control.cell }) unsafe_too rows) rows
 
 abbrev pub block_bit : RawBoard → PinAt → List (List ControlClass) → List (List ControlClass)
 block_bit board at rows = block_where board at (own_control board at) rows
@@ -80,7 +84,7 @@ block_bits board part (suc k) rows = block_bit board (record { part = part; bit 
 
 abbrev pub block_parts : RawBoard → ℕ → List (List ControlClass) → List (List ControlClass)
 block_parts board zero rows = rows
-block_parts board (suc k) rows = block_bits board k (port_bits board k) (block_parts board k rows)
+block_parts board (suc k) rows = block_bits board k (count_port_bits board k) (block_parts board k rows)
 
 -- the table after all nets and all one-sided drivers are noted
 abbrev pub made_rows : RawBoard → List NetFacts → List (List ControlClass)

@@ -24,8 +24,8 @@ with_drive seen (Some (By c)) = with_control seen c
 abbrev pub controls_from : Controls → List PinFacts → Controls
 controls_from seen pins = fold (λ s pin. with_drive s pin.drive) seen pins
 
-abbrev pub controls_in : List PinFacts → Controls
-controls_in pins = controls_from Nobody pins
+abbrev pub controls_of_pins : List PinFacts → Controls
+controls_of_pins pins = controls_from Nobody pins
 
 abbrev pub is_several : Controls → Bool
 is_several Nobody = false
@@ -33,7 +33,7 @@ is_several (One c) = false
 is_several Several = true
 
 abbrev pub contended_in : List PinFacts → Bool
-contended_in pins = is_several (controls_in pins)
+contended_in pins = is_several (controls_of_pins pins)
 
 abbrev pub flags_of : List NetFacts → List Bool
 flags_of nets = map (λ net. contended_in net.pins) nets

@@ -4,10 +4,10 @@ use Rattle.board_defs.specs.declared.board.Part.{Part}
 use Rattle.board_defs.specs.declared.board.PinAt.{PinAt}
 use Rattle.board_defs.specs.declared.board.RawBoard.{RawBoard}
 use Rattle.board_defs.specs.Pins.{described, is_pulled_to}
-use Rattle.board_defs.specs.Decided.{bit_count, is_switching, port_bits}
+use Rattle.board_defs.specs.Decided.{bit_count, is_switching, count_port_bits}
 use Rattle.net_facts.specs.declared.facts.PinFacts.{PinFacts}
 use Rattle.net_facts.specs.declared.facts.NetFacts.{NetFacts}
-use Rattle.net_facts.specs.Cells.{put, item_of, at_control, holds_there}
+use Rattle.net_facts.specs.Cells.{put, item_of_cell, at_control, holds_there}
 
 abbrev pub mark_at : Option PinAt → List (List Bool) → List (List Bool)
 mark_at None rows = rows
@@ -26,8 +26,8 @@ abbrev pub pulled_bits : List Part → List NetFacts → Bool → List (List Boo
 pulled_bits chain nets value = fold (mark_pulled value) (blank_bits chain) nets
 
 abbrev pub is_marked : List (List Bool) → PinAt → Bool
-is_marked rows at = holds_there (item_of rows (record { part = at.part; cell = at.bit }))
+is_marked rows at = holds_there (item_of_cell rows (record { part = at.part; cell = at.bit }))
 
 -- the flag of each port bit says whether the bit's pin is on an unguarded net that is pulled to `value`
 abbrev pub SaysPulled : RawBoard → List (List Bool) → Bool → Type 0
-SaysPulled board rows value = (at : PinAt) → at.bit < port_bits board at.part → is_marked rows at ≡ is_switching board at value
+SaysPulled board rows value = (at : PinAt) → at.bit < count_port_bits board at.part → is_marked rows at ≡ is_switching board at value

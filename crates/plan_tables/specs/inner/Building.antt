@@ -38,13 +38,13 @@ abbrev pub observers : RawBoard → List Net → List Observer
 observers board nets = gathered (observers_at board) 0 nets
 
 -- the cells of the observers that are always on
-abbrev pub always_on : List Observer → List DriverCell
-always_on observers = map (λ x. x.cell) (filter (λ x. is_none x.control) observers)
+abbrev pub always_on_cells : List Observer → List DriverCell
+always_on_cells observers = map (λ x. x.cell) (filter (λ x. is_none x.control) observers)
 
 -- appends the cell of each of these observers to the row of the observer's control
-abbrev pub all_noted : List (List DriverCell) → List Observer → List (List DriverCell)
-all_noted rows observers = fold (λ done x. noted done x.control x.cell) rows observers
+abbrev pub observers_noted : List (List DriverCell) → List Observer → List (List DriverCell)
+observers_noted rows observers = fold (λ done x. noted done x.control x.cell) rows observers
 
 -- the table of these observers, for data scans of `bits` bits
 abbrev pub table_of : List Observer → ℕ → DriverTable
-table_of observers bits = record { always = always_on observers; rows = all_noted (replicate bits []) observers }
+table_of observers bits = record { always = always_on_cells observers; rows = observers_noted (replicate bits []) observers }

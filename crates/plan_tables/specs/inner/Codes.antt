@@ -20,12 +20,12 @@ code_for Preload kind = preload_code kind
 code_for Extest kind = extest_code kind
 
 -- the code has the length of the part's instruction register, which is at least 2
-pub record IsCoded (instruction : Instruction) (kind : PartKind) : Type 0 where
+pub record HasCodeFor (instruction : Instruction) (kind : PartKind) : Type 0 where
   pub least : 2 ≤ instruction_length kind
   pub length_is : length (code_for instruction kind) ≡ instruction_length kind
 
-abbrev pub AreCoded : Instruction → List Part → Type 0
-AreCoded instruction chain = All (λ part. IsCoded instruction part.kind) chain
+abbrev pub HaveCodes : Instruction → List Part → Type 0
+HaveCodes instruction chain = All (λ part. HasCodeFor instruction part.kind) chain
 
 -- the expected bits of an instruction register of this length: the bits nearest TDO are 1 and 0, in this order, and the bits that are not
 -- compared are 0
@@ -33,23 +33,27 @@ abbrev pub captured_bits : ℕ → List Bool
 captured_bits length = true ∷ replicate (length - 1) false
 
 -- the mask of an instruction register of this length: only the two bits nearest TDO are compared
-abbrev pub compared_bits : ℕ → List Bool
-compared_bits length = true ∷ true ∷ replicate (length - 2) false
+abbrev pub compared_code_bits : ℕ → List Bool
+compared_code_bits length = true ∷ true ∷ replicate (length - 2) false
 
 -- sets the flag of each cell's net
-abbrev pub marked : List Bool → List DriverCell → List Bool
-marked flags cells = assigned (λ d. d.net) (λ d. true) flags cells
+abbrev pub with_nets_marked : List Bool → List DriverCell → List Bool
+with_nets_marked flags cells = assigned (λ d. d.net) (λ d. true) flags cells
 
 -- sets the flags of the nets of a pass's driver cells
 abbrev pub marked_on : RawBoard → DriverTable → List Bool → List Ctl → List Bool
-marked_on board table flags pass = fold (λ done c. marked done (controlled board table.rows c)) (marked flags table.always) pass
+marked_on board table flags pass =
+    fold (λ done c. with_nets_marked done (controlled board table.rows c))
+    (with_nets_marked flags table.always) pass
 
 -- for each of the first `nets` nets, a flag that is true if the net has a driver cell that is steady or belongs to a pass
 abbrev pub seen_in : RawBoard → ℕ → List DriverCell → DriverTable → List (List Ctl) → List Bool
-seen_in board nets steady table passes = fold (marked_on board table) (marked (replicate nets false) steady) passes
+seen_in board nets steady table passes = fold (marked_on board table) (with_nets_marked (replicate nets false) steady) passes
 
 -- the nets with a flag have the codes 1, 2 and so on in net order, and the other nets have the code 0
 pub record AreCodes (seen : List Bool) (codes : NetCodes) : Type 0 where
   pub count_is : codes.count ≡ count_by (λ b. b) seen
   pub length_is : length codes.codes ≡ length seen
-  pub each : (n : ℕ) → n < length seen → slice_index_or codes.codes n 0 ≡ cond (slice_index_or seen n false) (suc (count_by (λ b. b) (take n seen))) 0
+  pub each : (n : ℕ) → n < length seen
+      → slice_index_or codes.codes n 0
+      ≡ cond (slice_index_or seen n false) (suc (count_by (λ b. b) (take n seen))) 0

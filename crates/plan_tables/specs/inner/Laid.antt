@@ -24,8 +24,8 @@ parts_laid g part [] = []
 parts_laid g part (p ∷ parts) = part_laid g part p.kind ∷ parts_laid g (suc part) parts
 
 -- the bits of all parts, in the order in which they are shifted
-abbrev pub laid : CellBits → RawBoard → List Bool
-laid g board = joined (parts_laid g 0 board.chain)
+abbrev pub bits_of_parts : CellBits → RawBoard → List Bool
+bits_of_parts g board = joined (parts_laid g 0 board.chain)
 
 -- the bit of a cell in this setting, if the cell carries no net's bit
 abbrev pub steady : RawBoard → (Ctl → Bool) → ℕ → RawDevice → ℕ → Bool

@@ -14,11 +14,16 @@ safe_value_in roles entry = cond (roles entry.role) (Some (record { cell = entry
 
 -- the entry belongs to a driver: it is a driving entry, and its port bit has a pin
 abbrev pub is_driver : RawBoard → ℕ → Cell → Bool
-is_driver board part entry = is_driving entry.role && unwrap_or (option_map (λ bit. is_pinned board (record { part = part; bit = bit })) entry.bit) false
+is_driver board part entry =
+    is_driving entry.role
+    && unwrap_or (option_map (λ bit. is_pinned board (record { part = part; bit = bit })) entry.bit)
+    false
 
 -- the control cell and the disable value of a driver's entry, if the entry has a control
 abbrev pub disable_value_in : RawBoard → ℕ → Cell → Option CellBit
-disable_value_in board part entry = cond (is_driver board part entry) (option_map (λ control. record { cell = control.cell; bit = control.disable }) entry.ctl) None
+disable_value_in board part entry =
+    cond (is_driver board part entry)
+    (option_map (λ control. record { cell = control.cell; bit = control.disable }) entry.ctl) None
 
 -- sets the bit of the cell, or leaves the bits unchanged if no cell is given
 abbrev pub set_some : List Bool → Option CellBit → List Bool
@@ -33,4 +38,7 @@ set_by gives bits entries = fold (λ done entry. set_some done (gives entry)) bi
 -- controls.
 abbrev pub quiet_values : RawBoard → ℕ → RawDevice → List Bool
 quiet_values board part device =
-    set_by (disable_value_in board part) (set_by (safe_value_in is_writing) (set_by (safe_value_in is_reading) (replicate device.boundary false) device.cells) device.cells) device.cells
+    set_by (disable_value_in board part)
+    (set_by (safe_value_in is_writing)
+    (set_by (safe_value_in is_reading) (replicate device.boundary false) device.cells)
+    device.cells) device.cells

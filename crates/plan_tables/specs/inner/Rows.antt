@@ -5,10 +5,10 @@ use Rattle.tap_defs.specs.chain.ScanRows.{AreRowsOf}
 use Rattle.tap_defs.specs.chain.Codes.{instructs}
 use Rattle.tap_defs.specs.board.BoardScans.{preload_code, extest_code}
 use Rattle.plan_tables.specs.declared.tables.BoardRows.{BoardRows}
-use Rattle.plan_tables.specs.inner.Laid.{laid, quiet_bits}
+use Rattle.plan_tables.specs.inner.Laid.{bits_of_parts, quiet_bits}
 
 -- the rows are the quiet row of the board and its two instruction scans
 pub record AreBoardRows (board : RawBoard) (rows : BoardRows) : Type 0 where
-  pub quiet : rows.quiet.bits ≡ laid (quiet_bits board) board
+  pub quiet : rows.quiet.bits ≡ bits_of_parts (quiet_bits board) board
   pub preload : AreRowsOf ((instructs (map (λ part. preload_code part.kind) board.chain)).bits) rows.preload
   pub extest : AreRowsOf ((instructs (map (λ part. extest_code part.kind) board.chain)).bits) rows.extest

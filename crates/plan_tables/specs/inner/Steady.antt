@@ -61,7 +61,8 @@ moving uses passes observers = filter (λ x. not (is_steady uses passes x)) obse
 
 -- `cells` gives the cells of each pass. Each steady cell belongs to a net of the board and has a position in data scans. If there are no
 -- passes, no cell is steady.
-pub record ArePassTables (board : RawBoard) (passes : List (List Ctl)) (steady : List DriverCell) (cells : List Ctl → PassCells) : Type 0 where
+pub record ArePassTables (board : RawBoard) (passes : List (List Ctl)) (steady : List DriverCell)
+    (cells : List Ctl → PassCells) : Type 0 where
   pub each : (x : ℕ) (pass : List Ctl) → slice_get passes x ≡ Some pass → ArePassCells board steady pass (cells pass)
   pub some : (d : DriverCell) → Contains steady d → 0 < length passes
   pub nets : (d : DriverCell) → Contains steady d → d.net < length board.nets

@@ -14,12 +14,12 @@ use Rattle.lists.specs.Rows.{noted}
 use Rattle.port_entries.specs.Entries.{entries_at}
 
 -- the rows of a part after these entries are added
-abbrev pub all_noted : List (List Cell) → List Cell → List (List Cell)
-all_noted rows cells = fold (λ done cell. noted done cell.bit cell) rows cells
+abbrev pub entries_noted : List (List Cell) → List Cell → List (List Cell)
+entries_noted rows cells = fold (λ done cell. noted done cell.bit cell) rows cells
 
 abbrev pub part_rows : Option RawDevice → List (List Cell)
 part_rows None = []
-part_rows (Some device) = all_noted (replicate (length device.bits) []) device.cells
+part_rows (Some device) = entries_noted (replicate (length device.bits) []) device.cells
 
 abbrev pub entry_rows : List Part → List (List (List Cell))
 entry_rows chain = map (λ part. part_rows (described part.kind)) chain
@@ -28,7 +28,9 @@ entry_rows chain = map (λ part. part_rows (described part.kind)) chain
 abbrev pub dark_by : Option PortBit → List Cell → Bool
 dark_by None entries = true
 dark_by (Some bit) entries =
-    not bit.tap && (is_linkage bit.mode || (length entries == 0) || (may_drive bit.mode && not (list_any (λ cell. is_driving cell.role) entries)))
+    not bit.tap
+    && (is_linkage bit.mode || (length entries == 0)
+    || (may_drive bit.mode && not (list_any (λ cell. is_driving cell.role) entries)))
 
 abbrev pub dark_where : List (List (List Cell)) → RawBoard → Option PinAt → Bool → Bool
 dark_where rows board None inert = not inert
@@ -43,6 +45,6 @@ abbrev pub guards_in : List (List (List Cell)) → RawBoard → NetPin → Bool
 guards_in rows board pin = is_test_pin board pin || dark_in rows board pin
 
 -- a port bit with these entries is a receiver
-abbrev pub receives_by : Option PortBit → List Cell → Bool
-receives_by None entries = false
-receives_by (Some bit) entries = may_receive bit.mode && list_any (λ cell. is_receiving cell.role) entries
+abbrev pub receives_with : Option PortBit → List Cell → Bool
+receives_with None entries = false
+receives_with (Some bit) entries = may_receive bit.mode && list_any (λ cell. is_receiving cell.role) entries

@@ -11,9 +11,12 @@ use Rattle.plan_tables.specs.Tables.{controlled}
 -- not steady, and the drivers of the pass's controls.
 abbrev pub driven : RawBoard → PlanTables → (DriverCell → Bool) → List Bool → List Ctl → List Bool
 driven board plan bit bits pass =
-    fold (λ done c. assigned (λ d. d.position) bit done (controlled board plan.by_control.rows c)) (assigned (λ d. d.position) bit bits plan.by_control.always) pass
+    fold (λ done c. assigned (λ d. d.position) bit done (controlled board plan.by_control.rows c))
+    (assigned (λ d. d.position) bit bits plan.by_control.always) pass
 
 -- the row after the bit of each of the pass's own drivers is set at the cells on other pins that read the driver's net
-abbrev pub compared : RawBoard → PlanTables → (DriverCell → Bool) → List Bool → List Ctl → List Bool
-compared board plan bit bits pass =
-    fold (λ done c. set_compared bit plan.nets.readers done (controlled board plan.by_control.rows c)) (set_compared bit plan.nets.readers bits plan.by_control.always) pass
+abbrev pub with_compared_bits : RawBoard → PlanTables → (DriverCell → Bool) → List Bool → List Ctl → List Bool
+with_compared_bits board plan bit bits pass =
+    fold
+    (λ done c. set_compared bit plan.nets.readers done (controlled board plan.by_control.rows c))
+    (set_compared bit plan.nets.readers bits plan.by_control.always) pass

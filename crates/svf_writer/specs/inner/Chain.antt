@@ -2,7 +2,7 @@
 use Rattle.std.specs.Prelude.{ℕ, ◌+◌, Bool, true, false, List, ◌++◌, map, replicate, slice_set}
 use Rattle.tap_defs.specs.chain.Scan.{ScanBit}
 use Rattle.tap_defs.specs.chain.Codes.{instructs}
-use Rattle.tap_defs.specs.chain.ChainScans.{marks, compared}
+use Rattle.tap_defs.specs.chain.ChainScans.{marks, compared_with}
 
 -- the bits of a scan that shifts ones, the code of BYPASS, into the instruction register of each
 -- part
@@ -11,8 +11,8 @@ bypass_bits lengths = (instructs (map (λ n. replicate n true) lengths)).bits
 
 -- the bits of a scan that shifts the marks in and expects them at TDO `parts` bits later
 abbrev pub mark_bits : ℕ → List ScanBit
-mark_bits parts = compared (marks ++ replicate parts false) (replicate parts false ++ marks)
+mark_bits parts = compared_with (marks ++ replicate parts false) (replicate parts false ++ marks)
 
 -- the bits after the ones of the marks are set; the lowest bit of the marks is at position `at`
-abbrev pub marked : ℕ → List Bool → List Bool
-marked at bits = slice_set (slice_set (slice_set (slice_set bits at true) (at + 2) true) (at + 5) true) (at + 7) true
+abbrev pub with_marks : ℕ → List Bool → List Bool
+with_marks at bits = slice_set (slice_set (slice_set (slice_set bits at true) (at + 2) true) (at + 5) true) (at + 7) true

@@ -12,7 +12,9 @@ command_text ir tdi = command_word ir ++ 32 ∷ decimal (length tdi)
 abbrev pub rest_text : Bool → List Bool → List Bool → Bool → List ℕ
 rest_text long tdo mask false = codes ");"
 rest_text long tdo mask true =
-    41 ∷ gap long ∷ codes "TDO (" ++ (laid long (hex_text tdo) ++ (41 ∷ gap long ∷ codes "MASK (" ++ (laid long (hex_text mask) ++ codes ");")))
+    41 ∷ gap long ∷ codes "TDO ("
+    ++ (laid long (hex_text tdo)
+    ++ (41 ∷ gap long ∷ codes "MASK (" ++ (laid long (hex_text mask) ++ codes ");")))
 
 -- the text of all fields of a scan
 abbrev pub fields_text : Bool → List Bool → List Bool → List Bool → Bool → List ℕ
@@ -27,4 +29,6 @@ fields_length false digits = digits + 8
 abbrev pub fields_lines : List Bool → List Bool → List Bool → Bool → List ℕ
 fields_lines tdi tdo mask false = codes "TDI (" ++ (broken 64 (hex_text tdi) ++ codes ");\n")
 fields_lines tdi tdo mask true =
-    (codes "TDI (" ++ (broken 64 (hex_text tdi) ++ codes ")\n")) ++ ((codes "TDO (" ++ (broken 64 (hex_text tdo) ++ codes ")\n")) ++ (codes "MASK (" ++ (broken 64 (hex_text mask) ++ codes ");\n")))
+    (codes "TDI (" ++ (broken 64 (hex_text tdi) ++ codes ")\n"))
+    ++ ((codes "TDO (" ++ (broken 64 (hex_text tdo) ++ codes ")\n"))
+    ++ (codes "MASK (" ++ (broken 64 (hex_text mask) ++ codes ");\n")))

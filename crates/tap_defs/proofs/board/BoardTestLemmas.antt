@@ -30,7 +30,14 @@ use Rattle.tap_defs.proofs.board.EntryLemmas.{CodesFit, Parts, codes_total, part
 codes_most : (code : PartKind → List Bool) (ps : List Part) → CodesFit code ps → Parts ps →
     length (joined (map (λ p. code p.kind) ps)) ≤ 255 * length ps
 codes_most code [] f h = omega arith
-codes_most code (p ∷ ps) f h = omega (arith, length-append (joined (map (λ p. code p.kind) ps)) (code p.kind), codes_most code ps f.1 h.1, f.0, most p.kind h.0)
+codes_most code (p ∷ ps) f h =
+    omega (
+      arith,
+      length-append (joined (map (λ p. code p.kind) ps)) (code p.kind),
+      codes_most code ps f.1 h.1,
+      f.0,
+      most p.kind h.0,
+    )
   where
     most : (kind : PartKind) → IsPart kind → (test_logic kind).ir_length ≤ 255
     most (Described device) r = r.ir_most
@@ -39,10 +46,26 @@ codes_most code (p ∷ ps) f h = omega (arith, length-append (joined (map (λ p.
 row_scan_most : (board : RawBoard) (t : RowScan) (k : ℕ) (ps : List Part) → Parts ps →
     length (joined (bits_by_part board t k ps)) ≤ 65535 * length ps
 row_scan_most board t k [] h = omega arith
-row_scan_most board t k (p ∷ ps) h = omega (arith, length-append (joined (bits_by_part board t (suc k) ps)) (part_bits board t k p.kind), row_scan_most board t (suc k) ps h.1, most p.kind h.0)
+row_scan_most board t k (p ∷ ps) h =
+    omega (
+      arith,
+      length-append (joined (bits_by_part board t (suc k) ps)) (part_bits board t k p.kind),
+      row_scan_most board t (suc k) ps h.1,
+      most p.kind h.0,
+    )
   where
     most : (kind : PartKind) → IsPart kind → length (part_bits board t k kind) ≤ 65535
-    most (Described device) r = omega (arith, length-filled {A = ScanBit} device.boundary (λ cell. record { tdi = row_bit board t.now k device cell; expect = expect_bit board t.before k device cell }), r.boundary_most)
+    most (Described device) r =
+        omega (
+          arith,
+          length-filled {A = ScanBit} device.boundary
+              (λ cell. record {
+                tdi = row_bit board t.now k device cell;
+                expect = expect_bit board t.before k
+                    device cell;
+              }),
+          r.boundary_most,
+        )
     most (Bypass n) r = omega arith
 
 module _ (board : RawBoard) (rules : IsBoard board) where
@@ -56,7 +79,10 @@ module _ (board : RawBoard) (rules : IsBoard board) where
       )
 
   row_scan_sized : (t : RowScan) → (0 < length (joined (row_bits board t))) × (length (joined (row_bits board t)) < 2 ^ 64)
-  row_scan_sized t = (row_scan_some board rules t, omega (arith, row_scan_most board t 0 board.chain (parts_of board rules), rules.chain_most))
+  row_scan_sized t = (
+    row_scan_some board rules t,
+    omega (arith, row_scan_most board t 0 board.chain (parts_of board rules), rules.chain_most),
+  )
 
   row_scans_sized : (ts : List RowScan) → AllSized (map (scan_of_row board) ts)
   row_scans_sized [] = tt
@@ -76,8 +102,12 @@ is_test board passes width rules are enough =
       clocks = test_clocks (board_scans board ts);
       means = text_means (board_scans board ts) (scans_sized board rules ts);
       passes = whole_passes board rules (code_row board passes) width passes (λ x p e j. are.safe x p e);
-      quiet = λ faults states free set start. whole_quiet board rules faults holds (code_row board passes) width passes are.safe (λ p j c e. e) states free start;
-      fails = λ faults observable nonempty. whole_fails board rules passes width (planned board rules passes are width enough) faults observable nonempty;
+      quiet =
+          λ faults states free set start. whole_quiet board rules faults holds
+          (code_row board passes) width passes are.safe (λ p j c e. e) states free start;
+      fails =
+          λ faults observable nonempty. whole_fails board rules passes width
+          (planned board rules passes are width enough) faults observable nonempty;
     }
 
 pub is_harmless : (board : RawBoard) (rows : List Ctl → ℕ → TestRow) (width : ℕ) (passes : List (List Ctl)) → IsBoard board →
@@ -91,7 +121,9 @@ is_harmless board rows width passes rules safe same safe_rows =
       clocks = test_clocks (board_scans board ts);
       means = text_means (board_scans board ts) (scans_sized board rules ts);
       passes = whole_passes board rules rows width passes safe_rows;
-      quiet = λ faults states free set start. whole_quiet board rules faults holds rows width passes safe (λ p j c e. sym (same p j c) ∙ e) states free start;
+      quiet =
+          λ faults states free set start. whole_quiet board rules faults holds rows width passes
+          safe (λ p j c e. sym (same p j c) ∙ e) states free start;
     }
 
 pub walk_harmless : (board : RawBoard) (walk : List Ctl) → IsBoard board → IsSafe board (holds walk) →
@@ -108,9 +140,12 @@ walk_harmless board walk rules safe =
 pub passes_harmless : (board : RawBoard) (passes : List (List Ctl)) (width : ℕ) → IsBoard board →
     ((x : ℕ) (pass : List Ctl) → slice_get passes x ≡ Some pass → IsSafe board (holds pass)) →
     IsHarmless board (pass_text board passes width)
-passes_harmless board passes width rules safe = is_harmless board (code_row board passes) width passes rules safe (λ p j c. refl) (λ x p e j. safe x p e)
+passes_harmless board passes width rules safe =
+    is_harmless board (code_row board passes) width passes rules safe (λ p j c. refl)
+    (λ x p e j. safe x p e)
 
 -- the text of the board's own passes is a test of the board
 pub board_tested : (board : RawBoard) → IsBoard board → IsBoardTest board (board_text board)
 board_tested board rules =
-    is_test board (passes_of board) (code_width (observed_count board (passes_of board))) rules (passes_kept board rules) (width_is (observed_count board (passes_of board))).enough
+    is_test board (passes_of board) (code_width (observed_count board (passes_of board))) rules
+    (passes_kept board rules) (width_is (observed_count board (passes_of board))).enough

@@ -35,20 +35,29 @@ use Rattle.tap_defs.proofs.chain.HeadLemmas.{scans_decide}
 -- if a part is under test and its latches hold its bits of the row, its visible state is the one that the row gives
 part_shows : (board : RawBoard) (t : RowScan) (k : ℕ) (kind : PartKind) (logic : TestLogic) (s : PartState) → logic ≡ test_logic kind →
     IsStateOf logic s →
-    s.current ≡ in_test kind → held_bits s ≡ tdi_bits (part_bits board t k kind) → record { current = s.current; latches = s.latches } ≡ shown_by_part board t.now k kind
+    s.current ≡ in_test kind → held_bits s ≡ tdi_bits (part_bits board t k kind)
+    → record { current = s.current; latches = s.latches } ≡ shown_by_part board t.now k kind
 part_shows board t k (Described device) logic s l h c e =
     let latches : s.latches ≡ filled device.boundary (λ cell. row_bit board t.now k device cell) =
     sym (ap (λ (i : Instruction). selected_by i s.latches s.bypass s.identification) c) ∙ e
-    ∙ map-filled (λ (b : ScanBit). b.tdi) device.boundary (λ cell. record { tdi = row_bit board t.now k device cell; expect = expect_bit board t.before k device cell }) in
+    ∙ map-filled (λ (b : ScanBit). b.tdi) device.boundary
+    (λ cell. record {
+      tdi = row_bit board t.now k device cell;
+      expect = expect_bit board t.before k device
+          cell;
+    }) in
     ap (λ (i : Instruction). record { current = i; latches = s.latches }) c
     ∙ ap (λ (r : List Bool). record { current = Extest; latches = r }) latches
 part_shows board t k (WithoutDescription n) logic s l h c e =
     ap (λ (i : Instruction). record { current = i; latches = s.latches }) c
-    ∙ ap (λ (r : List Bool). record { current = Bypass; latches = r }) (nil_from_length s.latches (h.latches ∙ ap (λ (x : TestLogic). x.boundary_length) l))
+    ∙ ap (λ (r : List Bool). record { current = Bypass; latches = r })
+    (nil_from_length s.latches (h.latches ∙ ap (λ (x : TestLogic). x.boundary_length) l))
 
 parts_show : (board : RawBoard) (t : RowScan) (k : ℕ) (ps : List Part) (chain : List ChainPart) →
     logics chain ≡ map (λ p. test_logic p.kind) ps → AllAreStates chain →
-    map (λ p. p.state.current) chain ≡ map (λ p. in_test p.kind) ps → all_held chain ≡ map tdi_bits (bits_by_part board t k ps) → pin_states chain ≡ shown_by_parts board t.now k ps
+    map (λ p. p.state.current) chain ≡ map (λ p. in_test p.kind) ps
+    → all_held chain ≡ map tdi_bits (bits_by_part board t k ps)
+    → pin_states chain ≡ shown_by_parts board t.now k ps
 parts_show board t k [] [] l h c e = refl
 parts_show board t k [] (n ∷ chain) l h c e = cc l
 parts_show board t k (p ∷ ps) [] l h c e = cc l
@@ -79,14 +88,21 @@ module _ (board : RawBoard) (rules : IsBoard board) (faults : FaultSet) where
 
   bits_some : (t : RowScan) (bits : List ScanBit) → tdi_bits bits ≡ tdi_bits (joined (row_bits board t)) → 0 < length bits
   bits_some t bits e =
-      omega (arith, length-map bits (λ (b : ScanBit). b.tdi), ap (λ (r : List Bool). length r) e, length-map (joined (row_bits board t)) (λ (b : ScanBit). b.tdi), row_scan_some board rules t)
+      omega (
+        arith,
+        length-map bits (λ (b : ScanBit). b.tdi),
+        ap (λ (r : List Bool). length r) e,
+        length-map (joined (row_bits board t)) (λ (b : ScanBit). b.tdi),
+        row_scan_some board rules t,
+      )
 
   abbrev Held : TestRow → TestRow → List ChainPart → Type 0
   Held row before chain = IsBoardChain board chain × InTest board (shifted_row board (record { now = row; before = before })) chain
 
   -- the result of one scan: it compares its bits with those that the board captures for the row, and then its own row is in the latches
   record Scanned (t : RowScan) (row : TestRow) (scan : Scan) (free : Choices) (chain : List ChainPart) : Type 0 where
-    compares : run_passes (scan_clocks scan) (tdos around (scan_clocks scan) free chain) ≡ scan_passes scan.bits (row_captured board faults row (free 2))
+    compares : run_passes (scan_clocks scan) (tdos around (scan_clocks scan) free chain)
+        ≡ scan_passes scan.bits (row_captured board faults row (free 2))
     held : Held t.now t.before (run around (scan_clocks scan) free chain)
 
   scanned : (t : RowScan) (row before : TestRow) (scan : Scan) (free : Choices) (chain : List ChainPart) → Held row before chain →
@@ -99,9 +115,16 @@ module _ (board : RawBoard) (rules : IsBoard board) (faults : FaultSet) where
 
       here : Scanned t row (record { ir = false; bits = scan.bits }) free chain
       here =
-          let d = row_scan_by board faults t scan.bits shifts free (shifted_row board (record { now = row; before = before })) chain h.1 (bits_some t scan.bits shifts) in
+          let d = row_scan_by board faults t scan.bits shifts free
+          (shifted_row board (record { now = row; before = before })) chain h.1
+          (bits_some t scan.bits shifts) in
           record {
-            compares = d.compares ∙ ap (λ (s : List PinState). scan_passes scan.bits (joined (registers (around s (free 2)) board.chain))) (row_shown board (record { now = row; before = before }) chain h.0 h.1);
+            compares =
+                d.compares
+                ∙ ap
+                (λ (s : List PinState). scan_passes scan.bits
+                (joined (registers (around s (free 2)) board.chain)))
+                (row_shown board (record { now = row; before = before }) chain h.0 h.1);
             held = (stays_of board rules faults (sdr_clocks scan.bits) free chain h.0, d.in_test);
           }
 
@@ -117,7 +140,9 @@ module _ (board : RawBoard) (rules : IsBoard board) (faults : FaultSet) where
       let next : List ChainPart = run around first free chain in
       let e : Scanned t row s free chain = scanned t row before s free chain h shifts.0 shifts.1 in
       two_pass around first (all_clocks scans) free chain
-      ∙ and_from (run_passes first (tdos around first free chain)) (run_passes (all_clocks scans) (tdos around (all_clocks scans) (choices_after first free) next))
+      ∙ and_from (run_passes first (tdos around first free chain))
+      (run_passes (all_clocks scans)
+      (tdos around (all_clocks scans) (choices_after first free) next))
       (e.compares ∙ ok.0 (free 2))
       (run_follows ts scans t.now t.before (choices_after first free) next e.held shifts.2 ok.1)
 
@@ -133,7 +158,9 @@ module _ (board : RawBoard) (rules : IsBoard board) (faults : FaultSet) where
   abbrev pub CapturesPassBy : Choice → TestRow → List RowScan → List Scan → Type 0
   CapturesPassBy choice row [] scans = Unit {0}
   CapturesPassBy choice row (t ∷ ts) [] = Unit {0}
-  CapturesPassBy choice row (t ∷ ts) (s ∷ scans) = (scan_passes s.bits (row_captured board faults row choice) ≡ true) × CapturesPassBy choice t.now ts scans
+  CapturesPassBy choice row (t ∷ ts) (s ∷ scans) =
+      (scan_passes s.bits (row_captured board faults row choice) ≡ true)
+      × CapturesPassBy choice t.now ts scans
 
   pub captures_follow : (choice : Choice) (ts : List RowScan) (scans : List Scan) (row before : TestRow) (chain : List ChainPart) →
       Held row before chain → ShiftRows board ts scans →
@@ -145,10 +172,15 @@ module _ (board : RawBoard) (rules : IsBoard board) (faults : FaultSet) where
       let next : List ChainPart = run around first (always choice) chain in
       let e : Scanned t row s (always choice) chain = scanned t row before s (always choice) chain h shifts.0 shifts.1 in
       let both =
-      and_parts (run_passes first (tdos around first (always choice) chain)) (run_passes (all_clocks scans) (tdos around (all_clocks scans) (choices_after first (always choice)) next))
+      and_parts (run_passes first (tdos around first (always choice) chain))
+      (run_passes (all_clocks scans)
+      (tdos around (all_clocks scans) (choices_after first (always choice)) next))
       (sym (two_pass around first (all_clocks scans) (always choice) chain) ∙ ok) in
       let rest : run_passes (all_clocks scans) (tdos around (all_clocks scans) (always choice) next) ≡ true =
-      sym (ap (λ (f : Choices). run_passes (all_clocks scans) (tdos around (all_clocks scans) f next)) (always_after choice first)) ∙ both.1 in
+      sym
+      (ap
+      (λ (f : Choices). run_passes (all_clocks scans)
+      (tdos around (all_clocks scans) f next)) (always_after choice first)) ∙ both.1 in
       (sym e.compares ∙ both.0, captures_follow choice ts scans t.now t.before next e.held shifts.2 rest)
 
   pub with_any : (ts : List RowScan) (scans : List Scan) (row : TestRow) → ((choice : Choice) → CapturesPassBy choice row ts scans) →
@@ -208,12 +240,42 @@ shifts_alike (x ∷ v ∷ xs) (y ∷ w ∷ ys) e =
     (refl, ap (λ (b : Bool). Some b) z, shifts_alike (v ∷ xs) (w ∷ ys) rest)
 
 sdr_alike : (xs ys : List ScanBit) → tdi_bits xs ≡ tdi_bits ys → Alike (sdr_clocks xs) (sdr_clocks ys)
-sdr_alike xs ys e =
-    (refl, refl, (refl, refl, (refl, refl, alike_append (shift_clocks xs) (shift_clocks ys) (plain true ∷ plain false ∷ []) (plain true ∷ plain false ∷ []) (shifts_alike xs ys e) (alike_self (plain true ∷ plain false ∷ [])))))
+sdr_alike xs ys e = (
+  refl,
+  refl,
+  (
+    refl,
+    refl,
+    (
+      refl,
+      refl,
+      alike_append (shift_clocks xs) (shift_clocks ys) (plain true ∷ plain false ∷ [])
+          (plain true ∷ plain false ∷ []) (shifts_alike xs ys e)
+          (alike_self (plain true ∷ plain false ∷ [])),
+    ),
+  ),
+)
 
 sir_alike : (xs ys : List ScanBit) → tdi_bits xs ≡ tdi_bits ys → Alike (sir_clocks xs) (sir_clocks ys)
-sir_alike xs ys e =
-    (refl, refl, (refl, refl, (refl, refl, (refl, refl, alike_append (shift_clocks xs) (shift_clocks ys) (plain true ∷ plain false ∷ []) (plain true ∷ plain false ∷ []) (shifts_alike xs ys e) (alike_self (plain true ∷ plain false ∷ []))))))
+sir_alike xs ys e = (
+  refl,
+  refl,
+  (
+    refl,
+    refl,
+    (
+      refl,
+      refl,
+      (
+        refl,
+        refl,
+        alike_append (shift_clocks xs) (shift_clocks ys)
+            (plain true ∷ plain false ∷ []) (plain true ∷ plain false ∷ [])
+            (shifts_alike xs ys e) (alike_self (plain true ∷ plain false ∷ [])),
+      ),
+    ),
+  ),
+)
 
 after-append : (xs ys : List Clock) (free : Choices) → choices_after (xs ++ ys) free ≡ choices_after ys (choices_after xs free)
 after-append [] ys free = refl
@@ -239,10 +301,33 @@ silent_shifts (b ∷ []) = (refl, tt)
 silent_shifts (b ∷ c ∷ bits) = (refl, silent_shifts (c ∷ bits))
 
 silent_sdr : (bits : List ScanBit) → Silent (sdr_clocks (uncompared bits))
-silent_sdr bits = (refl, (refl, (refl, silent_append (shift_clocks (uncompared bits)) (plain true ∷ plain false ∷ []) (silent_shifts bits) (refl, (refl, tt)))))
+silent_sdr bits = (
+  refl,
+  (
+    refl,
+    (
+      refl,
+      silent_append (shift_clocks (uncompared bits)) (plain true ∷ plain false ∷ [])
+          (silent_shifts bits) (refl, (refl, tt)),
+    ),
+  ),
+)
 
 silent_sir : (bits : List ScanBit) → Silent (sir_clocks (uncompared bits))
-silent_sir bits = (refl, (refl, (refl, (refl, silent_append (shift_clocks (uncompared bits)) (plain true ∷ plain false ∷ []) (silent_shifts bits) (refl, (refl, tt))))))
+silent_sir bits = (
+  refl,
+  (
+    refl,
+    (
+      refl,
+      (
+        refl,
+        silent_append (shift_clocks (uncompared bits)) (plain true ∷ plain false ∷ [])
+            (silent_shifts bits) (refl, (refl, tt)),
+      ),
+    ),
+  ),
+)
 
 tdi_bits-uncompared : (bits : List ScanBit) → tdi_bits (uncompared bits) ≡ tdi_bits bits
 tdi_bits-uncompared [] = refl
@@ -258,7 +343,10 @@ skipped : (s : Scan) (scans : List Scan) (log : List (List Bool)) → is_compare
     scans_by_log (s ∷ scans) log ≡ record { ir = s.ir; bits = uncompared s.bits } ∷ scans_by_log scans log
 skipped s scans [] e = refl
 skipped s scans (row ∷ log) e =
-    ap (λ (b : Bool). cond b (record { ir = s.ir; bits = bits_by_log s.bits row } ∷ scans_by_log scans log) (record { ir = s.ir; bits = uncompared s.bits } ∷ scans_by_log scans (row ∷ log))) e
+    ap
+    (λ (b : Bool). cond b
+    (record { ir = s.ir; bits = bits_by_log s.bits row } ∷ scans_by_log scans log)
+    (record { ir = s.ir; bits = uncompared s.bits } ∷ scans_by_log scans (row ∷ log))) e
 
 -- with a log in place of the expected bits, the scans shift in the same rows
 log_shifts : (board : RawBoard) (ts : List RowScan) (log : List (List Bool)) →
@@ -268,7 +356,10 @@ log_shifts board (t ∷ ts) [] = (refl, tdi_bits-uncompared (joined (row_bits bo
 log_shifts board (t ∷ ts) (row ∷ log) = by_test (log_shifts board ts) (compares (joined (row_bits board t)))
   where
     by_test : ((more : List (List Bool)) → ShiftRows board ts (scans_by_log (map (scan_of_row board) ts) more)) → (b : Bool) →
-        ShiftRows board (t ∷ ts) (cond b (record { ir = false; bits = bits_by_log (joined (row_bits board t)) row } ∷ scans_by_log (map (scan_of_row board) ts) log)
+        ShiftRows board (t ∷ ts)
+        (cond b
+        (record { ir = false; bits = bits_by_log (joined (row_bits board t)) row } ∷
+        scans_by_log (map (scan_of_row board) ts) log)
         (record { ir = false; bits = uncompared (joined (row_bits board t)) } ∷ scans_by_log (map (scan_of_row board) ts) (row ∷ log)))
     by_test rest true = (refl, tdi_bits-bits_by_log (joined (row_bits board t)) row, rest log)
     by_test rest false = (refl, tdi_bits-uncompared (joined (row_bits board t)), rest (row ∷ log))
@@ -342,15 +433,22 @@ module _ (board : RawBoard) (rules : IsBoard board) (faults : FaultSet) (ts : Li
 
   is_alike : Alike silent_head head
   is_alike =
-      alike_append (sir_clocks (uncompared preload)) (sir_clocks preload) (sdr_clocks (uncompared quiet) ++ sir_clocks (uncompared extest)) (sdr_clocks quiet ++ sir_clocks extest)
+      alike_append (sir_clocks (uncompared preload)) (sir_clocks preload)
+      (sdr_clocks (uncompared quiet) ++ sir_clocks (uncompared extest))
+      (sdr_clocks quiet ++ sir_clocks extest)
       (sir_alike (uncompared preload) preload (tdi_bits-uncompared preload))
       (alike_append (sdr_clocks (uncompared quiet)) (sdr_clocks quiet) (sir_clocks (uncompared extest)) (sir_clocks extest)
       (sdr_alike (uncompared quiet) quiet (tdi_bits-uncompared quiet))
       (sir_alike (uncompared extest) extest (tdi_bits-uncompared extest)))
 
-  scans_are : scans_by_log (board_scans board ts) log ≡ record { ir = true; bits = uncompared preload } ∷ record { ir = false; bits = uncompared quiet } ∷ record { ir = true; bits = uncompared extest } ∷ compared
+  scans_are : scans_by_log (board_scans board ts) log
+      ≡ record { ir = true; bits = uncompared preload }
+      ∷ record { ir = false; bits = uncompared quiet }
+      ∷ record { ir = true; bits = uncompared extest } ∷ compared
   scans_are =
-      skipped (instructs (map (λ p. preload_code p.kind) board.chain)) (scan_of_row board first_row_scan ∷ instructs (map (λ p. extest_code p.kind) board.chain) ∷ map (scan_of_row board) ts) log refl
+      skipped (instructs (map (λ p. preload_code p.kind) board.chain))
+      (scan_of_row board first_row_scan ∷ instructs (map (λ p. extest_code p.kind) board.chain)
+      ∷ map (scan_of_row board) ts) log refl
       ∙ cons_path refl
       (skipped (scan_of_row board first_row_scan) (instructs (map (λ p. extest_code p.kind) board.chain) ∷ map (scan_of_row board) ts) log
       (silent_compares quiet (quiet_silent board quiet_row 0 board.chain))
@@ -388,7 +486,8 @@ module _ (board : RawBoard) (rules : IsBoard board) (faults : FaultSet) (ts : Li
         ∙ after-append (sdr_clocks quiet) (sir_clocks extest) (choices_after (sir_clocks preload) f)
 
     -- whether a run agrees with the log depends only on the scans of the rows
-    pub log_decides : run_passes (test_clocks (scans_by_log (board_scans board ts) log)) (tdos env (test_clocks (scans_by_log (board_scans board ts) log)) free chain)
+    pub log_decides : run_passes (test_clocks (scans_by_log (board_scans board ts) log))
+        (tdos env (test_clocks (scans_by_log (board_scans board ts) log)) free chain)
         ≡ run_passes (all_clocks compared) (tdos env (all_clocks compared) left under_extest)
     log_decides =
         let f : Choices = choices_after head_clocks free in
@@ -397,25 +496,37 @@ module _ (board : RawBoard) (rules : IsBoard board) (faults : FaultSet) (ts : Li
         scans_decide env (scans_by_log (board_scans board ts) log) free chain
         ∙ ap (λ (c : List Clock). run_passes c (tdos env c f m)) clocks_are
         ∙ two_pass env silent_head rest f m
-        ∙ ap (λ (b : Bool). b && run_passes rest (tdos env rest (choices_after silent_head f) (run env silent_head f m))) (silent_run silent_head (tdos env silent_head f m) is_silent)
+        ∙ ap
+        (λ (b : Bool). b
+        && run_passes rest
+        (tdos env rest (choices_after silent_head f) (run env silent_head f m)))
+        (silent_run silent_head (tdos env silent_head f m) is_silent)
         ∙ ap (λ (g : Choices). run_passes rest (tdos env rest g (run env silent_head f m))) head_left
         ∙ ap (λ (n : List ChainPart). run_passes rest (tdos env rest left n)) head_run
 
-    pub in_extest_held : IsBoardChain board under_extest × InTest board (shifted_row board (record { now = quiet_row; before = quiet_row })) under_extest
+    pub in_extest_held : IsBoardChain board under_extest
+        × InTest board (shifted_row board (record { now = quiet_row; before = quiet_row }))
+        under_extest
     in_extest_held = ((scan2 board rules faults chain free start).is_start, in_test_after board rules faults chain free start)
 
   log_by_captures : CapturesPass board faults quiet_row ts compared →
       PassOnBoard board faults (test_clocks (scans_by_log (board_scans board ts) log))
   log_by_captures ok chain free start =
       log_decides chain free start
-      ∙ run_follows board rules faults ts compared quiet_row quiet_row (left chain free start) (under_extest chain free start) (in_extest_held chain free start) (log_shifts board ts log) ok
+      ∙ run_follows board rules faults ts compared quiet_row quiet_row (left chain free start)
+      (under_extest chain free start) (in_extest_held chain free start)
+      (log_shifts board ts log) ok
 
   pub left_always : (choice : Choice) (chain : List ChainPart) (start : IsBoardChain board chain) →
       left chain (λ k. choice) start ≡ (λ k. choice)
   left_always choice chain start =
       let free : Choices = λ k. choice in
-      ap (λ (f : Choices). choices_after (sir_clocks extest) (choices_after (sdr_clocks quiet) (choices_after (sir_clocks preload) f))) (always_after board rules faults choice head_clocks)
-      ∙ ap (λ (f : Choices). choices_after (sir_clocks extest) (choices_after (sdr_clocks quiet) f)) (always_after board rules faults choice (sir_clocks preload))
+      ap
+      (λ (f : Choices). choices_after (sir_clocks extest)
+      (choices_after (sdr_clocks quiet) (choices_after (sir_clocks preload) f)))
+      (always_after board rules faults choice head_clocks)
+      ∙ ap (λ (f : Choices). choices_after (sir_clocks extest) (choices_after (sdr_clocks quiet) f))
+      (always_after board rules faults choice (sir_clocks preload))
       ∙ ap (λ (f : Choices). choices_after (sir_clocks extest) f) (always_after board rules faults choice (sdr_clocks quiet))
       ∙ always_after board rules faults choice (sir_clocks extest)
 
@@ -430,9 +541,16 @@ module _ (board : RawBoard) (rules : IsBoard board) (faults : FaultSet) (ts : Li
           let start = some_start board in
           let run_ok = sym (log_decides chain free start) ∙ passes chain free start in
           let ends : left chain free start ≡ free = left_always choice chain start in
-          captures_follow board rules faults choice ts compared quiet_row quiet_row (under_extest chain free start) (in_extest_held chain free start) (log_shifts board ts log)
-          (sym (ap (λ (g : Choices). run_passes (all_clocks compared) (tdos env (all_clocks compared) g (under_extest chain free start))) ends) ∙ run_ok)
+          captures_follow board rules faults choice ts compared quiet_row quiet_row
+          (under_extest chain free start) (in_extest_held chain free start)
+          (log_shifts board ts log)
+          (sym
+          (ap
+          (λ (g : Choices). run_passes (all_clocks compared)
+          (tdos env (all_clocks compared) g (under_extest chain free start))) ends) ∙ run_ok)
 
   -- the scans of a log pass in every run if and only if they pass with the bits that the board captures for the rows
-  pub log_captured : PassOnBoard board faults (test_clocks (scans_by_log (board_scans board ts) log)) ↔ CapturesPass board faults quiet_row ts compared
+  pub log_captured : PassOnBoard board faults
+      (test_clocks (scans_by_log (board_scans board ts) log))
+      ↔ CapturesPass board faults quiet_row ts compared
   log_captured = (captures_by_log, log_by_captures)

@@ -31,7 +31,9 @@ half_below c w h = omega (arith, pow-suc 2 w, h)
 
 pub has_one : (w c : ℕ) → 1 ≤ c → c < 2 ^ w → HasBit c w true
 has_one zero c some fits = absurd (omega (arith, some, fits))
-has_one (suc w) c some fits = by_parity (c % 2) refl (λ even. shifted c w true (has_one w (c / 2) (omega (arith, some, even)) (half_below c w fits)))
+has_one (suc w) c some fits =
+    by_parity (c % 2) refl
+    (λ even. shifted c w true (has_one w (c / 2) (omega (arith, some, even)) (half_below c w fits)))
   where
     by_parity : (r : ℕ) → c % 2 ≡ r → (c % 2 ≡ 0 → HasBit c (suc w) true) → HasBit c (suc w) true
     by_parity zero e ih = ih e
@@ -78,7 +80,12 @@ count_up p (y ∷ xs) zero (suc b) x e h lt =
     let one : ◌≡◌ {A = ℕ} (cond (p y) 1 0) 1 = ap (λ (t : Bool). cond t 1 0) (ap p z ∙ h) in
     omega (arith, sum_by-cons (λ v. cond (p v) 1 0) y (take b xs), one)
 count_up p (y ∷ xs) (suc a) (suc b) x e h lt =
-    omega (arith, sum_by-cons (λ v. cond (p v) 1 0) y (take a xs), sum_by-cons (λ v. cond (p v) 1 0) y (take b xs), count_up p xs a b x e h (omega (arith, lt)))
+    omega (
+      arith,
+      sum_by-cons (λ v. cond (p v) 1 0) y (take a xs),
+      sum_by-cons (λ v. cond (p v) 1 0) y (take b xs),
+      count_up p xs a b x e h (omega (arith, lt)),
+    )
 
 pub count_whole : {A : Type 0} (p : A → Bool) (xs : List A) (a : ℕ) (x : A) → slice_get xs a ≡ Some x → p x ≡ true →
     count_by p (take a xs) < count_by p xs

@@ -40,7 +40,8 @@ use Rattle.tap_defs.proofs.board.CaptureLemmas.{silent_compares}
 use Rattle.tap_defs.proofs.board.ScanPlaceLemmas.{length-pass_scans, front_at, rest_at, pass_scan_at}
 
 -- a scan compares something if one part has a compared bit
-any_joined : (bs : List (List ScanBit)) (k : ℕ) (b : List ScanBit) → slice_get bs k ≡ Some b → compares b ≡ true → compares (joined bs) ≡ true
+any_joined : (bs : List (List ScanBit)) (k : ℕ) (b : List ScanBit) → slice_get bs k ≡ Some b
+    → compares b ≡ true → compares (joined bs) ≡ true
 any_joined [] k b e h = cc e
 any_joined (a ∷ bs) zero b e h =
     let same : a ≡ b = cc e in
@@ -53,10 +54,12 @@ any_joined (a ∷ bs) (suc k) b e h =
 module _ (board : RawBoard) (rules : IsBoard board) where
   -- a row is compared if it observes a net and carries a bit on it
   pub row_compares : (now row : TestRow) (n : ℕ) (net : Net) (d : ℕ) (v : Bool) → slice_get board.nets n ≡ Some net →
-      observing_driver board row.setting net ≡ Some d → row.carried n ≡ Some v → compares (joined (row_bits board (record { now = now; before = row }))) ≡ true
+      observing_driver board row.setting net ≡ Some d → row.carried n ≡ Some v
+      → compares (joined (row_bits board (record { now = now; before = row }))) ≡ true
   row_compares now row n net d v en observing carried =
       let t : RowScan = record { now = now; before = row } in
-      let c : Compared board row.setting n net = compared board row.setting n net d (all_read board rules) (net_rules board rules n net en) observing in
+      let c : Compared board row.setting n net = compared board row.setting n net d
+      (all_read board rules) (net_rules board rules n net en) observing in
       let cells : ℕ → ScanBit = λ x. record { tdi = row_bit board now c.k c.device x; expect = expect_bit board row c.k c.device x } in
       let zero_more : 0 + c.k ≡ c.k = omega arith in
       let stands : slice_get (row_bits board t) c.k ≡ Some (filled c.device.boundary cells) =
@@ -64,11 +67,14 @@ module _ (board : RawBoard) (rules : IsBoard board) where
       ∙ ap (λ (i : ℕ). Some (part_bits board t i c.part.kind)) zero_more
       ∙ ap (λ (kind : PartKind). Some (part_bits board t c.k kind)) c.device_is in
       any_joined (row_bits board t) c.k (filled c.device.boundary cells) stands
-      (any_at (λ x. is_some x.expect) (filled c.device.boundary cells) c.cell (cells c.cell) (filled_at c.device.boundary cells c.cell c.below)
+      (any_at (λ x. is_some x.expect) (filled c.device.boundary cells) c.cell (cells c.cell)
+      (filled_at c.device.boundary cells c.cell c.below)
       (ap (λ (o : Option Bool). is_some o) (expects board row n net c ∙ carried)))
 
 -- if a row observes no net, no cell is compared in it
-module _ (board : RawBoard) (now row : TestRow) (none : (n : ℕ) (net : Net) → slice_get board.nets n ≡ Some net → observing_driver board row.setting net ≡ None) where
+module _ (board : RawBoard) (now row : TestRow)
+    (none : (n : ℕ) (net : Net) → slice_get board.nets n ≡ Some net
+    → observing_driver board row.setting net ≡ None) where
   expects_nothing : (k : ℕ) (device : RawDevice) (cell : ℕ) → expect_bit board row k device cell ≡ None
   expects_nothing k device cell = by_entry (reading_entry device cell)
     where
@@ -86,7 +92,9 @@ module _ (board : RawBoard) (now row : TestRow) (none : (n : ℕ) (net : Net) �
       by_pin None = refl
       by_pin (Some b) =
           let at : PinAt = record { part = k; bit = b } in
-          cond_none (receives_where board (Some at)) (expect_place board row (place_of at 0 board.nets)) (by_place at (place_of at 0 board.nets) refl)
+          cond_none (receives_where board (Some at))
+          (expect_place board row (place_of at 0 board.nets))
+          (by_place at (place_of at 0 board.nets) refl)
 
       by_entry : (o : Option Cell) → expect_entry board row k o ≡ None
       by_entry None = refl
@@ -95,10 +103,16 @@ module _ (board : RawBoard) (now row : TestRow) (none : (n : ℕ) (net : Net) �
   silent_parts : (k : ℕ) (ps : List Part) → AllSilent (joined (bits_by_part board (record { now = now; before = row }) k ps))
   silent_parts k [] = tt
   silent_parts k (p ∷ ps) =
-      silent_append (joined (bits_by_part board (record { now = now; before = row }) (suc k) ps)) (part_bits board (record { now = now; before = row }) k p.kind) (silent_parts (suc k) ps) (one p.kind)
+      silent_append (joined (bits_by_part board (record { now = now; before = row }) (suc k) ps))
+      (part_bits board (record { now = now; before = row }) k p.kind) (silent_parts (suc k) ps)
+      (one p.kind)
     where
       one : (kind : PartKind) → AllSilent (part_bits board (record { now = now; before = row }) k kind)
-      one (Described device) = silent_made device.boundary (λ cell. record { tdi = row_bit board now k device cell; expect = expect_bit board row k device cell }) (expects_nothing k device)
+      one (Described device) =
+          silent_made device.boundary
+          (λ cell. record
+          { tdi = row_bit board now k device cell; expect = expect_bit board row k device cell })
+          (expects_nothing k device)
       one (WithoutDescription n) = (refl, tt)
 
   pub row_silent : compares (joined (row_bits board (record { now = now; before = row }))) ≡ false
@@ -140,20 +154,29 @@ gathered rows width passes = record { count = count passes; each = λ x pass j e
     count : (ps : List (List Ctl)) → length (flat_map (λ pass. compared_in (rows pass) width) ps) ≡ length ps * width
     count [] = omega arith
     count (p ∷ ps) =
-        omega (arith, length-append (compared_in (rows p) width) (flat_map (λ pass. compared_in (rows pass) width) ps), length-compared_in (rows p) width, count ps)
+        omega (
+          arith,
+          length-append (compared_in (rows p) width)
+              (flat_map (λ pass. compared_in (rows pass) width) ps),
+          length-compared_in (rows p) width,
+          count ps,
+        )
 
     each : (ps : List (List Ctl)) (x : ℕ) (pass : List Ctl) (j k : ℕ) → slice_get ps x ≡ Some pass → j < width → k ≡ x * width + j →
-        slice_get (flat_map (λ pass. compared_in (rows pass) width) ps) k ≡ Some (record { now = row_now (rows pass) width (suc j); before = rows pass j })
+        slice_get (flat_map (λ pass. compared_in (rows pass) width) ps) k
+        ≡ Some (record { now = row_now (rows pass) width (suc j); before = rows pass j })
     each [] x pass j k e h z = cc e
     each (p ∷ ps) zero pass j k e h z =
         let same : p ≡ pass = cc e in
         let index : k ≡ j = omega (arith, z) in
         ap (λ (i : ℕ). slice_get (compared_in (rows p) width ++ flat_map (λ q. compared_in (rows q) width) ps) i) index
-        ∙ front_at (compared_in (rows p) width) (flat_map (λ q. compared_in (rows q) width) ps) j (omega (arith, length-compared_in (rows p) width, h))
+        ∙ front_at (compared_in (rows p) width) (flat_map (λ q. compared_in (rows q) width) ps) j
+        (omega (arith, length-compared_in (rows p) width, h))
         ∙ ap (λ (q : List Ctl). slice_get (compared_in (rows q) width) j) same
         ∙ compared_in_at (rows pass) width j h
     each (p ∷ ps) (suc x) pass j k e h z =
-        rest_at (compared_in (rows p) width) (flat_map (λ q. compared_in (rows q) width) ps) (x * width + j) k (omega (arith, length-compared_in (rows p) width, z))
+        rest_at (compared_in (rows p) width) (flat_map (λ q. compared_in (rows q) width) ps)
+        (x * width + j) k (omega (arith, length-compared_in (rows p) width, z))
         ∙ each ps x pass j (x * width + j) e h refl
 
 -- rows that have the setting of their pass and carry a bit on every net
@@ -193,10 +216,15 @@ module _ (board : RawBoard) (rules : IsBoard board) (rows : List Ctl → ℕ →
           by_option : (o : Option ℕ) → observing_driver board (holds pass) net ≡ o → o ≡ None
           by_option None e = refl
           by_option (Some d) e =
-              absurd (both_ways (observes_some board pass) none (any_at (is_walked board pass) board.nets n net en (ap (λ (x : Option ℕ). is_some x) e)))
+              absurd
+              (both_ways (observes_some board pass) none
+              (any_at (is_walked board pass) board.nets n net en
+              (ap (λ (x : Option ℕ). is_some x) e)))
 
   first_silent : (now : TestRow) → test (record { now = now; before = quiet_row }) ≡ false
-  first_silent now = silent_compares (joined (row_bits board (record { now = now; before = quiet_row }))) (quiet_silent board now 0 board.chain)
+  first_silent now =
+      silent_compares (joined (row_bits board (record { now = now; before = quiet_row })))
+      (quiet_silent board now 0 board.chain)
 
   -- of the scans of a pass after the one that shifts in row `i`, all compare some bit if `b` is true, and none does if `b` is false
   kept : (pass : List Ctl) (b : Bool) → ((j : ℕ) (now : TestRow) → Row pass j now b) → (more j i : ℕ) →
@@ -204,51 +232,84 @@ module _ (board : RawBoard) (rules : IsBoard board) (rows : List Ctl → ℕ →
   kept pass true h zero j i =
       ap (λ (x : Bool). cond x (record { now = quiet_row; before = rows pass i } ∷ []) []) (h i quiet_row)
   kept pass true h (suc more) j i =
-      ap (λ (x : Bool). cond x (record { now = rows pass j; before = rows pass i } ∷ filter test (pass_scans (rows pass) more (suc j) (rows pass j))) (filter test (pass_scans (rows pass) more (suc j) (rows pass j)))) (h i (rows pass j))
+      ap
+      (λ (x : Bool). cond x
+      (record { now = rows pass j; before = rows pass i }
+      ∷ filter test (pass_scans (rows pass) more (suc j) (rows pass j)))
+      (filter test (pass_scans (rows pass) more (suc j) (rows pass j)))) (h i (rows pass j))
       ∙ cons_path refl (kept pass true h more (suc j) j)
   kept pass false h zero j i =
       ap (λ (x : Bool). cond x (record { now = quiet_row; before = rows pass i } ∷ []) []) (h i quiet_row)
   kept pass false h (suc more) j i =
-      ap (λ (x : Bool). cond x (record { now = rows pass j; before = rows pass i } ∷ filter test (pass_scans (rows pass) more (suc j) (rows pass j))) (filter test (pass_scans (rows pass) more (suc j) (rows pass j)))) (h i (rows pass j))
+      ap
+      (λ (x : Bool). cond x
+      (record { now = rows pass j; before = rows pass i }
+      ∷ filter test (pass_scans (rows pass) more (suc j) (rows pass j)))
+      (filter test (pass_scans (rows pass) more (suc j) (rows pass j)))) (h i (rows pass j))
       ∙ kept pass false h more (suc j) j
 
   in_pass : (pass : List Ctl) (b : Bool) → observes_some board pass ≡ b → (w : ℕ) →
       filter test (pass_scans (rows pass) w 0 quiet_row) ≡ cond b (compared_in (rows pass) w) []
-  in_pass pass b e zero = ap (λ (x : Bool). cond x (record { now = quiet_row; before = quiet_row } ∷ []) []) (first_silent quiet_row) ∙ by_cases b
+  in_pass pass b e zero =
+      ap (λ (x : Bool). cond x (record { now = quiet_row; before = quiet_row } ∷ []) [])
+      (first_silent quiet_row) ∙ by_cases b
     where
       by_cases : (c : Bool) → [] ≡ cond c (compared_in (rows pass) zero) []
       by_cases true = refl
       by_cases false = refl
   in_pass pass true e (suc w) =
-      ap (λ (x : Bool). cond x (record { now = rows pass 0; before = quiet_row } ∷ filter test (pass_scans (rows pass) w 1 (rows pass 0))) (filter test (pass_scans (rows pass) w 1 (rows pass 0)))) (first_silent (rows pass 0))
+      ap
+      (λ (x : Bool). cond x
+      (record { now = rows pass 0; before = quiet_row }
+      ∷ filter test (pass_scans (rows pass) w 1 (rows pass 0)))
+      (filter test (pass_scans (rows pass) w 1 (rows pass 0)))) (first_silent (rows pass 0))
       ∙ kept pass true (observed_row pass e) w 1 0
   in_pass pass false e (suc w) =
-      ap (λ (x : Bool). cond x (record { now = rows pass 0; before = quiet_row } ∷ filter test (pass_scans (rows pass) w 1 (rows pass 0))) (filter test (pass_scans (rows pass) w 1 (rows pass 0)))) (first_silent (rows pass 0))
+      ap
+      (λ (x : Bool). cond x
+      (record { now = rows pass 0; before = quiet_row }
+      ∷ filter test (pass_scans (rows pass) w 1 (rows pass 0)))
+      (filter test (pass_scans (rows pass) w 1 (rows pass 0)))) (first_silent (rows pass 0))
       ∙ kept pass false (unobserved_row pass e) w 1 0
 
   compared_are : (passes : List (List Ctl)) →
-      compared_scans board (row_scans rows width passes) ≡ flat_map (λ pass. compared_in (rows pass) width) (filter (observes_some board) passes)
+      compared_scans board (row_scans rows width passes)
+      ≡ flat_map (λ pass. compared_in (rows pass) width) (filter (observes_some board) passes)
   compared_are [] = refl
   compared_are (p ∷ ps) =
       filter-append test (pass_scans (rows p) width 0 quiet_row) (row_scans rows width ps)
       ∙ by_test (compared_are ps) (observes_some board p) refl
     where
-      by_test : compared_scans board (row_scans rows width ps) ≡ flat_map (λ pass. compared_in (rows pass) width) (filter (observes_some board) ps) →
+      by_test : compared_scans board (row_scans rows width ps)
+          ≡ flat_map (λ pass. compared_in (rows pass) width) (filter (observes_some board) ps) →
           (b : Bool) → observes_some board p ≡ b →
-          filter test (pass_scans (rows p) width 0 quiet_row) ++ filter test (row_scans rows width ps) ≡ flat_map (λ pass. compared_in (rows pass) width) (cond b (p ∷ filter (observes_some board) ps) (filter (observes_some board) ps))
-      by_test ih true e = ap (λ (l : List RowScan). l ++ filter test (row_scans rows width ps)) (in_pass p true e width) ∙ ap (λ (l : List RowScan). compared_in (rows p) width ++ l) ih
+          filter test (pass_scans (rows p) width 0 quiet_row)
+          ++ filter test (row_scans rows width ps)
+          ≡ flat_map (λ pass. compared_in (rows pass) width)
+          (cond b (p ∷ filter (observes_some board) ps) (filter (observes_some board) ps))
+      by_test ih true e =
+          ap (λ (l : List RowScan). l ++ filter test (row_scans rows width ps))
+          (in_pass p true e width) ∙ ap (λ (l : List RowScan). compared_in (rows p) width ++ l) ih
       by_test ih false e = ap (λ (l : List RowScan). l ++ filter test (row_scans rows width ps)) (in_pass p false e width) ∙ ih
 
   -- the scans that compare some bit are those of the rows of the passes that observe some net
-  pub compare_rows : (passes : List (List Ctl)) → CompareRows rows width (filter (observes_some board) passes) (compared_scans board (row_scans rows width passes))
+  pub compare_rows : (passes : List (List Ctl))
+      → CompareRows rows width (filter (observes_some board) passes)
+      (compared_scans board (row_scans rows width passes))
   compare_rows passes =
-      subst (λ (l : List RowScan). CompareRows rows width (filter (observes_some board) passes) l) (sym (compared_are passes)) (gathered rows width (filter (observes_some board) passes))
+      subst (λ (l : List RowScan). CompareRows rows width (filter (observes_some board) passes) l)
+      (sym (compared_are passes)) (gathered rows width (filter (observes_some board) passes))
 
 pub code_rows_are : (board : RawBoard) (passes : List (List Ctl)) → AreRowsOf (code_row board passes)
 code_rows_are board passes = record { setting = λ pass j. refl; carried = λ pass j n. (net_code_bit board passes j n, refl) }
 
 walk_rows_are : (board : RawBoard) → AreRowsOf (walk_row board)
-walk_rows_are board = record { setting = λ pass j. refl; carried = λ pass j n. (count_by (is_walked board pass) (take n board.nets) == j, refl) }
+walk_rows_are board =
+    record {
+      setting = λ pass j. refl;
+      carried = λ pass j n.
+          (count_by (is_walked board pass) (take n board.nets) == j, refl);
+    }
 
 -- each pass of a board observes some net
 module _ (board : RawBoard) (passes : List (List Ctl)) (are : ArePasses board passes) where
@@ -258,12 +319,16 @@ module _ (board : RawBoard) (passes : List (List Ctl)) (are : ArePasses board pa
       by_enabled : EnablesNew board (take x passes) pass → observes_some board pass ≡ true
       by_enabled new =
           let o = new.enables in
-          any_at (is_walked board pass) board.nets new.net o.0 o.1 (ap (λ (d : Option ℕ). is_some d) (observing_is board (holds pass) (are.safe x pass e) new.net o.0 new.place o.1 o.2))
+          any_at (is_walked board pass) board.nets new.net o.0 o.1
+          (ap (λ (d : Option ℕ). is_some d)
+          (observing_is board (holds pass) (are.safe x pass e) new.net o.0 new.place o.1 o.2))
 
       by_observed : ObservesNew board (take x passes) pass → observes_some board pass ≡ true
       by_observed new =
           let o = new.observes.0 in
-          any_at (is_walked board pass) board.nets new.low o.0 o.1 (ap (λ (d : Option ℕ). is_some d) (observing_is board (holds pass) (are.safe x pass e) new.low o.0 o.2.0 o.1 o.2.1))
+          any_at (is_walked board pass) board.nets new.low o.0 o.1
+          (ap (λ (d : Option ℕ). is_some d)
+          (observing_is board (holds pass) (are.safe x pass e) new.low o.0 o.2.0 o.1 o.2.1))
 
   pub all_observe : filter (observes_some board) passes ≡ passes
   all_observe = filter_all (observes_some board) passes pass_observes
@@ -271,24 +336,34 @@ module _ (board : RawBoard) (passes : List (List Ctl)) (are : ArePasses board pa
 pub passes_compare : (board : RawBoard) (passes : List (List Ctl)) (width : ℕ) → IsBoard board → ArePasses board passes →
     CompareRows (code_row board passes) width passes (compared_scans board (row_scans (code_row board passes) width passes))
 passes_compare board passes width rules are =
-    subst (λ (ps : List (List Ctl)). CompareRows (code_row board passes) width ps (compared_scans board (row_scans (code_row board passes) width passes)))
+    subst
+    (λ (ps : List (List Ctl)). CompareRows (code_row board passes) width ps
+    (compared_scans board (row_scans (code_row board passes) width passes)))
     (all_observe board passes are) (compare_rows board rules (code_row board passes) (code_rows_are board passes) width passes)
 
 -- if no net is a walk net, the number of walk nets is 0
 none_counted : (p : Net → Bool) (nets : List Net) → list_any p nets ≡ false → count_by p nets ≡ 0
 none_counted p nets h =
     sym (length-filter p nets)
-    ∙ ap (λ (l : List Net). length l) (filter_none p nets (λ i x e. false_from_ne_true (p x) (λ on. both_ways (list_any p nets) h (any_at p nets i x e on))))
+    ∙ ap (λ (l : List Net). length l)
+    (filter_none p nets
+    (λ i x e. false_from_ne_true (p x)
+    (λ on. both_ways (list_any p nets) h (any_at p nets i x e on))))
 
 pub walk_compares : (board : RawBoard) (walk : List Ctl) → IsBoard board →
     CompareRows (walk_row board) (count_by (is_walked board walk) board.nets) (walk ∷ []) (compared_scans board (walk_row_scans board walk))
-walk_compares board walk rules = by_test (observes_some board walk) refl (compare_rows board rules (walk_row board) (walk_rows_are board) m (walk ∷ []))
+walk_compares board walk rules =
+    by_test (observes_some board walk) refl
+    (compare_rows board rules (walk_row board) (walk_rows_are board) m (walk ∷ []))
   where
     m : ℕ
     m = count_by (is_walked board walk) board.nets
 
-    by_test : (b : Bool) → observes_some board walk ≡ b → CompareRows (walk_row board) (count_by (is_walked board walk) board.nets) (cond b (walk ∷ []) []) (compared_scans board (walk_row_scans board walk)) →
-        CompareRows (walk_row board) (count_by (is_walked board walk) board.nets) (walk ∷ []) (compared_scans board (walk_row_scans board walk))
+    by_test : (b : Bool) → observes_some board walk ≡ b
+        → CompareRows (walk_row board) (count_by (is_walked board walk) board.nets)
+        (cond b (walk ∷ []) []) (compared_scans board (walk_row_scans board walk)) →
+        CompareRows (walk_row board) (count_by (is_walked board walk) board.nets) (walk ∷ [])
+        (compared_scans board (walk_row_scans board walk))
     by_test true e h = h
     by_test false e h =
         let none : count_by (is_walked board walk) board.nets ≡ 0 = none_counted (is_walked board walk) board.nets e in

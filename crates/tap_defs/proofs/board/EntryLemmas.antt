@@ -24,7 +24,7 @@ use Rattle.tap_defs.specs.chain.Chain.{ChainPart, pin_states, AllAreStates, logi
 use Rattle.tap_defs.specs.chain.Run.{choices_after, bit_passes, Wiring, Clock, Choice, Choices, run, tdos, clock_tdi, run_passes}
 use Rattle.tap_defs.specs.chain.Scan.{ScanBit, joined, tdi_bits}
 use Rattle.tap_defs.specs.chain.Clocks.{sir_clocks, sdr_clocks, test_clocks, head_clocks}
-use Rattle.tap_defs.specs.chain.ChainRegisters.{AllIn, ir_registers, ir_captures, pins_at, AllSelectingIn, dr_captures, all_held, dr_capture, selected_by}
+use Rattle.tap_defs.specs.chain.ChainRegisters.{AllIn, ir_registers, ir_captures, bits_at_pins, AllSelectingIn, dr_captures, all_held, dr_capture, selected_by}
 use Rattle.tap_defs.specs.chain.Transport.{code_frame, CodeFrame, scan_passes}
 use Rattle.tap_defs.specs.chain.Codes.{code_bits}
 use Rattle.tap_defs.specs.chain.ChainTest.{ir_lengths}
@@ -56,9 +56,14 @@ parts_of board rules = recursion_from_All (λ (p : Part). IsPart p.kind) board.c
 
 -- the board gives each part as many bits as the part has boundary cells
 captured_size : (board : RawBoard) (faults : FaultSet) (free : Choice) (chain : List ChainPart) (k : ℕ) (p : Part) →
-    slice_get board.chain k ≡ Some p → length (pins_at (board_wiring board faults) free chain k) ≡ (test_logic p.kind).boundary_length
+    slice_get board.chain k ≡ Some p → length (bits_at_pins (board_wiring board faults) free chain k) ≡ (test_logic p.kind).boundary_length
 captured_size board faults free chain k p e =
-    ap (λ (o : Option Part). length (unwrap_or (option_map (λ q. captured_by board faults (pin_states chain) free.shorts (free.parts k).cells k q.kind) o) [])) e
+    ap
+    (λ (o : Option Part). length
+    (unwrap_or
+    (option_map
+    (λ q. captured_by board faults (pin_states chain) free.shorts
+    (free.parts k).cells k q.kind) o) [])) e
     ∙ by_kind p.kind
   where
     by_kind : (kind : PartKind) →
@@ -82,8 +87,9 @@ pub stays_of : (board : RawBoard) → IsBoard board → (faults : FaultSet) (cs 
 stays_of board rules faults cs free chain h =
     run_keeps (IsBoardChain board) (board_wiring board faults)
     (λ c f m k.
-    let pins : ℕ → List Bool = pins_at (board_wiring board faults) f m in
-    let fits : FitsLogics pins (logics m) = subst (λ (l : List TestLogic). FitsLogics pins l) (sym k.logics_are) (fits_logics board.chain pins (captured_size board faults f m)) in
+    let pins : ℕ → List Bool = bits_at_pins (board_wiring board faults) f m in
+    let fits : FitsLogics pins (logics m) = subst (λ (l : List TestLogic). FitsLogics pins l)
+    (sym k.logics_are) (fits_logics board.chain pins (captured_size board faults f m)) in
     record {
       logics_are = chain_logics m pins f.parts c.tms (clock_tdi c f) ∙ k.logics_are;
       states_are = chain_keeps m pins f.parts c.tms (clock_tdi c f) fits k.states_are;
@@ -95,7 +101,9 @@ room_by [] h = tt
 room_by (p ∷ ps) h = (wide_part p.kind h.0, room_by ps h.1)
 
 room_of : (board : RawBoard) → IsBoard board → (chain : List ChainPart) → IsBoardChain board chain → AllRoom (ir_sizes chain)
-room_of board rules chain h = subst (λ (l : List ℕ). AllRoom l) (sym (chain_lengths (board_logics board) chain h)) (room_by board.chain (parts_of board rules))
+room_of board rules chain h =
+    subst (λ (l : List ℕ). AllRoom l) (sym (chain_lengths (board_logics board) chain h))
+    (room_by board.chain (parts_of board rules))
 
 -- each code is as long as the part's instruction register
 abbrev pub CodesFit : (PartKind → List Bool) → List Part → Type 0
@@ -110,7 +118,9 @@ code_lengths code (p ∷ ps) h = cons_path h.0 (code_lengths code ps h.1)
 -- in each part, its code means its instruction
 abbrev pub CodesMean : (PartKind → List Bool) → (PartKind → Instruction) → List Part → Type 0
 CodesMean code instruction [] = Unit {0}
-CodesMean code instruction (p ∷ ps) = (instruction_of (test_logic p.kind) (code p.kind) ≡ instruction p.kind) × CodesMean code instruction ps
+CodesMean code instruction (p ∷ ps) =
+    (instruction_of (test_logic p.kind) (code p.kind) ≡ instruction p.kind)
+    × CodesMean code instruction ps
 
 meanings : (code : PartKind → List Bool) (instruction : PartKind → Instruction) (ps : List Part) (chain : List ChainPart) →
     CodesMean code instruction ps → logics chain ≡ map (λ p. test_logic p.kind) ps → ir_registers chain ≡ map (λ p. code p.kind) ps →
@@ -123,10 +133,14 @@ meanings code instruction (p ∷ ps) (n ∷ chain) h f c =
     let f1 : logics chain ≡ map (λ p. test_logic p.kind) ps = cc f in
     let c0 : n.state.ir ≡ code p.kind = cc c in
     let c1 : ir_registers chain ≡ map (λ p. code p.kind) ps = cc c in
-    cons_path (ap (λ (x : TestLogic). instruction_of x n.state.ir) f0 ∙ ap (λ (x : List Bool). instruction_of (test_logic p.kind) x) c0 ∙ h.0) (meanings code instruction ps chain h.1 f1 c1)
+    cons_path
+    (ap (λ (x : TestLogic). instruction_of x n.state.ir) f0
+    ∙ ap (λ (x : List Bool). instruction_of (test_logic p.kind) x) c0 ∙ h.0)
+    (meanings code instruction ps chain h.1 f1 c1)
 
 -- the effect of an instruction scan on the board: the scan passes, and each part then has its instruction
-pub record Instructed (board : RawBoard) (instruction : PartKind → Instruction) (clocks : List Clock) (out : List Bool) (chain next : List ChainPart) : Type 0 where
+pub record Instructed (board : RawBoard) (instruction : PartKind → Instruction)
+    (clocks : List Clock) (out : List Bool) (chain next : List ChainPart) : Type 0 where
   pub passes : run_passes clocks out ≡ true
   pub is_start : IsBoardChain board next
   pub idle : AllIn RunTestIdle next
@@ -136,30 +150,49 @@ pub record Instructed (board : RawBoard) (instruction : PartKind → Instruction
 pub codes_total : (code : PartKind → List Bool) (ps : List Part) → CodesFit code ps → Parts ps →
     length ps ≤ length (joined (map (λ p. code p.kind) ps))
 codes_total code [] f h = omega arith
-codes_total code (p ∷ ps) f h = omega (arith, length-append (joined (map (λ p. code p.kind) ps)) (code p.kind), codes_total code ps f.1 h.1, f.0, wide_part p.kind h.0)
+codes_total code (p ∷ ps) f h =
+    omega (
+      arith,
+      length-append (joined (map (λ p. code p.kind) ps)) (code p.kind),
+      codes_total code ps f.1 h.1,
+      f.0,
+      wide_part p.kind h.0,
+    )
 
-pub instructed : (board : RawBoard) (rules : IsBoard board) (faults : FaultSet) (code : PartKind → List Bool) (instruction : PartKind → Instruction) →
+pub instructed : (board : RawBoard) (rules : IsBoard board) (faults : FaultSet)
+    (code : PartKind → List Bool) (instruction : PartKind → Instruction) →
     CodesFit code board.chain → CodesMean code instruction board.chain → (free : Choices) (chain : List ChainPart) →
     IsBoardChain board chain → AllIn RunTestIdle chain →
     let bits : List ScanBit = joined (map code_bits (map (λ p. code p.kind) board.chain)) in
-    Instructed board instruction (sir_clocks bits) (tdos (board_wiring board faults) (sir_clocks bits) free chain) chain (run (board_wiring board faults) (sir_clocks bits) free chain)
+    Instructed board instruction (sir_clocks bits)
+    (tdos (board_wiring board faults) (sir_clocks bits) free chain) chain
+    (run (board_wiring board faults) (sir_clocks bits) free chain)
 instructed board rules faults code instruction fit mean free chain h tap =
     let codes : List (List Bool) = map (λ p. code p.kind) board.chain in
     let bits : List ScanBit = joined (map code_bits codes) in
     let wiring : Wiring = board_wiring board faults in
     let next : List ChainPart = run wiring (sir_clocks bits) free chain in
     let room : AllRoom (ir_sizes chain) = room_of board rules chain h in
-    let lengths : map length codes ≡ ir_sizes chain = code_lengths code board.chain fit ∙ sym (chain_lengths (board_logics board) chain h) in
+    let lengths : map length codes
+    ≡ ir_sizes chain = code_lengths code board.chain fit
+    ∙ sym (chain_lengths (board_logics board) chain h) in
     let size : length bits ≡ length (joined codes) = length-instructs codes in
     let some : 0 < length bits = omega (arith, size, codes_total code board.chain fit (parts_of board rules), rules.chain_some) in
     let s = long_code_transport wiring bits free chain tap some in
     let registers : List (List Bool) = ir_captures (free 3).parts chain in
-    let fits : length (joined registers) ≡ length bits = length-joined registers codes (lengths-ir_captures chain (free 3).parts ∙ sym lengths) ∙ sym size in
+    let fits : length (joined registers)
+    ≡ length bits = length-joined registers codes
+    (lengths-ir_captures chain (free 3).parts ∙ sym lengths) ∙ sym size in
     let is_start : IsBoardChain board next = stays_of board rules faults (sir_clocks bits) free chain h in
     let stays : ir_registers next ≡ codes =
-    joined_same (ir_registers next) codes (s.lengths ∙ sym lengths) (s.stays ∙ drop_front (length bits) (joined registers) (tdi_bits bits) fits ∙ tdi_bits-instructs codes) in
+    joined_same (ir_registers next) codes (s.lengths ∙ sym lengths)
+    (s.stays ∙ drop_front (length bits) (joined registers) (tdi_bits bits) fits
+    ∙ tdi_bits-instructs codes) in
     record {
-      passes = s.compares ∙ scan_passes_take bits (joined registers ++ tdi_bits bits) ∙ scan_passes_front bits (joined registers) (tdi_bits bits) fits ∙ instructs_pass codes chain (free 3).parts lengths room;
+      passes =
+          s.compares ∙ scan_passes_take bits (joined registers ++ tdi_bits bits)
+          ∙ scan_passes_front bits (joined registers) (tdi_bits bits) fits
+          ∙ instructs_pass codes chain (free 3).parts lengths room;
       is_start = is_start;
       idle = s.idle;
       currents = s.currents ∙ meanings code instruction board.chain next mean is_start.logics_are stays;
@@ -223,8 +256,14 @@ preload_means_one : (kind : PartKind) → IsPart kind → instruction_of (test_l
 preload_means_one (Described device) h =
     let preload : List Bool = map bit_of device.sample in
     let extest : List Bool = map bit_of device.extest in
-    ap (λ (b : Bool). by_tests b (pointwise beq extest preload) (pointwise beq preload preload)) (ones_of device.sample ∙ h.codes.sample_not_ones)
-    ∙ ap (λ (b : Bool). by_tests false b (pointwise beq preload preload)) (not_same extest preload (λ e. h.codes.codes_differ (sym (same_code device.extest device.sample h.codes.extest_given h.codes.sample_given e))))
+    ap (λ (b : Bool). by_tests b (pointwise beq extest preload) (pointwise beq preload preload))
+    (ones_of device.sample ∙ h.codes.sample_not_ones)
+    ∙ ap (λ (b : Bool). by_tests false b (pointwise beq preload preload))
+    (not_same extest preload
+    (λ e. h.codes.codes_differ
+    (sym
+    (same_code device.extest device.sample h.codes.extest_given h.codes.sample_given
+    e))))
     ∙ ap (λ (b : Bool). by_tests false false b) (same_self preload)
 preload_means_one (WithoutDescription n) h = ap (λ (b : Bool). by_tests b false false) (all_ones-replicate n)
 
@@ -236,7 +275,8 @@ extest_means_one : (kind : PartKind) → IsPart kind → instruction_of (test_lo
 extest_means_one (Described device) h =
     let preload : List Bool = map bit_of device.sample in
     let extest : List Bool = map bit_of device.extest in
-    ap (λ (b : Bool). by_tests b (pointwise beq extest extest) (pointwise beq preload extest)) (ones_of device.extest ∙ h.codes.extest_not_ones)
+    ap (λ (b : Bool). by_tests b (pointwise beq extest extest) (pointwise beq preload extest))
+    (ones_of device.extest ∙ h.codes.extest_not_ones)
     ∙ ap (λ (b : Bool). by_tests false b (pointwise beq preload extest)) (same_self extest)
 extest_means_one (WithoutDescription n) h = ap (λ (b : Bool). by_tests b false false) (all_ones-replicate n)
 
@@ -285,7 +325,9 @@ quiet_expects board k device cell = by_entry (reading_entry device cell)
     by_pin : (o : Option ℕ) → expect_pin board quiet_row k o ≡ None
     by_pin None = refl
     by_pin (Some b) =
-        cond_none (receives_where board (Some (record { part = k; bit = b }))) (expect_place board quiet_row (place_of (record { part = k; bit = b }) 0 board.nets)) (by_place (place_of (record { part = k; bit = b }) 0 board.nets))
+        cond_none (receives_where board (Some (record { part = k; bit = b })))
+        (expect_place board quiet_row (place_of (record { part = k; bit = b }) 0 board.nets))
+        (by_place (place_of (record { part = k; bit = b }) 0 board.nets))
 
     by_entry : (o : Option Cell) → expect_entry board quiet_row k o ≡ None
     by_entry None = refl
@@ -295,23 +337,51 @@ pub quiet_silent : (board : RawBoard) (now : TestRow) (k : ℕ) (ps : List Part)
     AllSilent (joined (bits_by_part board (record { now = now; before = quiet_row }) k ps))
 quiet_silent board now k [] = tt
 quiet_silent board now k (p ∷ ps) =
-    silent_append (joined (bits_by_part board (record { now = now; before = quiet_row }) (suc k) ps)) (part_bits board (record { now = now; before = quiet_row }) k p.kind) (quiet_silent board now (suc k) ps) (one p.kind)
+    silent_append
+    (joined (bits_by_part board (record { now = now; before = quiet_row }) (suc k) ps))
+    (part_bits board (record { now = now; before = quiet_row }) k p.kind)
+    (quiet_silent board now (suc k) ps) (one p.kind)
   where
     one : (kind : PartKind) → AllSilent (part_bits board (record { now = now; before = quiet_row }) k kind)
-    one (Described device) = silent_made device.boundary (λ cell. record { tdi = row_bit board now k device cell; expect = expect_bit board quiet_row k device cell }) (quiet_expects board k device)
+    one (Described device) =
+        silent_made device.boundary
+        (λ cell. record {
+          tdi = row_bit board now k device cell;
+          expect = expect_bit board quiet_row k device
+              cell;
+        }) (quiet_expects board k device)
     one (WithoutDescription n) = (refl, tt)
 
 pub quiet_compares : (board : RawBoard) (now : TestRow) (os : List Bool) →
     scan_passes (joined (row_bits board (record { now = now; before = quiet_row }))) os ≡ true
-quiet_compares board now os = silent_passes (joined (row_bits board (record { now = now; before = quiet_row }))) os (quiet_silent board now 0 board.chain)
+quiet_compares board now os =
+    silent_passes (joined (row_bits board (record { now = now; before = quiet_row }))) os
+    (quiet_silent board now 0 board.chain)
 
 -- a data scan has at least one bit for each part
-row_scan_total : (board : RawBoard) (t : RowScan) (k : ℕ) (ps : List Part) → Parts ps → length ps ≤ length (joined (bits_by_part board t k ps))
+row_scan_total : (board : RawBoard) (t : RowScan) (k : ℕ) (ps : List Part) → Parts ps
+    → length ps ≤ length (joined (bits_by_part board t k ps))
 row_scan_total board t k [] h = omega arith
-row_scan_total board t k (p ∷ ps) h = omega (arith, length-append (joined (bits_by_part board t (suc k) ps)) (part_bits board t k p.kind), row_scan_total board t (suc k) ps h.1, one p.kind h.0)
+row_scan_total board t k (p ∷ ps) h =
+    omega (
+      arith,
+      length-append (joined (bits_by_part board t (suc k) ps)) (part_bits board t k p.kind),
+      row_scan_total board t (suc k) ps h.1,
+      one p.kind h.0,
+    )
   where
     one : (kind : PartKind) → IsPart kind → 1 ≤ length (part_bits board t k kind)
-    one (Described device) r = omega (arith, length-filled {A = ScanBit} device.boundary (λ cell. record { tdi = row_bit board t.now k device cell; expect = expect_bit board t.before k device cell }), r.boundary_least)
+    one (Described device) r =
+        omega (
+          arith,
+          length-filled {A = ScanBit} device.boundary
+              (λ cell. record {
+                tdi = row_bit board t.now k device cell;
+                expect = expect_bit board t.before k
+                    device cell;
+              }),
+          r.boundary_least,
+        )
     one (WithoutDescription n) r = omega arith
 
 pub row_scan_some : (board : RawBoard) → IsBoard board → (t : RowScan) → 0 < length (joined (row_bits board t))
@@ -331,7 +401,8 @@ preload_in (p ∷ ps) (n ∷ chain) e h =
     selects (Described device) i q z = let w : Sample ≡ Other = sym q ∙ z in cc w
     selects (WithoutDescription m) i q z = let w : Bypass ≡ Other = sym q ∙ z in cc w
 
-preload_sizes : (board : RawBoard) (t : RowScan) (k : ℕ) (ps : List Part) (chain : List ChainPart) (pins : ℕ → List Bool) (free : ℕ → FreeBits) →
+preload_sizes : (board : RawBoard) (t : RowScan) (k : ℕ) (ps : List Part) (chain : List ChainPart)
+    (pins : ℕ → List Bool) (free : ℕ → FreeBits) →
     map (λ n. n.state.current) chain ≡ map (λ p. preloading p.kind) ps → logics chain ≡ map (λ p. test_logic p.kind) ps →
     AllAreStates chain →
     map length (dr_captures pins free chain) ≡ map length (bits_by_part board t k ps)
@@ -344,12 +415,23 @@ preload_sizes board t k (p ∷ ps) (n ∷ chain) pins free e f h =
     let f0 : n.logic ≡ test_logic p.kind = cc f in
     let f1 : logics chain ≡ map (λ p. test_logic p.kind) ps = cc f in
     cons_path
-    (ap (λ (i : Instruction). length (dr_capture n.logic (pins 0) (free 0) i (length n.state.boundary))) e0 ∙ one p.kind (h.0.boundary ∙ ap (λ (x : TestLogic). x.boundary_length) f0))
+    (ap
+    (λ (i : Instruction). length
+    (dr_capture n.logic (pins 0) (free 0) i (length n.state.boundary))) e0
+    ∙ one p.kind (h.0.boundary ∙ ap (λ (x : TestLogic). x.boundary_length) f0))
     (preload_sizes board t (suc k) ps chain (λ j. pins (suc j)) (λ j. free (suc j)) e1 f1 h.1)
   where
     one : (kind : PartKind) → length n.state.boundary ≡ (test_logic kind).boundary_length →
         length (dr_capture n.logic (pins 0) (free 0) (preloading kind) (length n.state.boundary)) ≡ length (part_bits board t k kind)
-    one (Described device) q = length-filled (length n.state.boundary) (free 0).cells ∙ q ∙ sym (length-filled {A = ScanBit} device.boundary (λ cell. record { tdi = row_bit board t.now k device cell; expect = expect_bit board t.before k device cell }))
+    one (Described device) q =
+        length-filled (length n.state.boundary) (free 0).cells ∙ q
+        ∙ sym
+        (length-filled {A = ScanBit} device.boundary
+        (λ cell. record {
+          tdi = row_bit board t.now k device cell;
+          expect = expect_bit board t.before k
+              device cell;
+        }))
     one (WithoutDescription m) q = refl
 
 -- the effect of the scan that shifts the quiet row in: it passes, and the quiet row is then in the latches
@@ -364,14 +446,18 @@ pub preloads : (board : RawBoard) (rules : IsBoard board) (faults : FaultSet) (n
     IsBoardChain board chain → AllIn RunTestIdle chain → map (λ n. n.state.current) chain ≡ map (λ p. preloading p.kind) board.chain →
     let t : RowScan = record { now = now; before = quiet_row } in
     let bits : List ScanBit = joined (row_bits board t) in
-    Preloaded board t (sdr_clocks bits) (tdos (board_wiring board faults) (sdr_clocks bits) free chain) (run (board_wiring board faults) (sdr_clocks bits) free chain)
+    Preloaded board t (sdr_clocks bits)
+    (tdos (board_wiring board faults) (sdr_clocks bits) free chain)
+    (run (board_wiring board faults) (sdr_clocks bits) free chain)
 preloads board rules faults now free chain h tap e =
     let t : RowScan = record { now = now; before = quiet_row } in
     let bits : List ScanBit = joined (row_bits board t) in
     let wiring : Wiring = board_wiring board faults in
     let next : List ChainPart = run wiring (sdr_clocks bits) free chain in
-    let registers : List (List Bool) = dr_captures (pins_at wiring (free 2) chain) (free 2).parts chain in
-    let lengths : map length registers ≡ map length (row_bits board t) = preload_sizes board t 0 board.chain chain (pins_at wiring (free 2) chain) (free 2).parts e h.logics_are h.states_are in
+    let registers : List (List Bool) = dr_captures (bits_at_pins wiring (free 2) chain) (free 2).parts chain in
+    let lengths : map length registers
+    ≡ map length (row_bits board t) = preload_sizes board t 0 board.chain chain
+    (bits_at_pins wiring (free 2) chain) (free 2).parts e h.logics_are h.states_are in
     let s = long_data_transport wiring bits free chain (preload_in board.chain chain e tap) (row_scan_some board rules t) in
     let fits : length (joined registers) ≡ length bits = length-joined registers (row_bits board t) lengths in
     record {
@@ -436,7 +522,8 @@ enters board t chain ms e s g h tap f = record {
 }
 
 -- the registers, choices and states of the chain during the first three scans of a board's test
-module _ (board : RawBoard) (rules : IsBoard board) (faults : FaultSet) (states : List ChainPart) (free : Choices) (start : IsBoardChain board states) where
+module _ (board : RawBoard) (rules : IsBoard board) (faults : FaultSet) (states : List ChainPart)
+    (free : Choices) (start : IsBoardChain board states) where
   abbrev pub wiring : Wiring
   wiring = board_wiring board faults
 
@@ -477,20 +564,31 @@ module _ (board : RawBoard) (rules : IsBoard board) (faults : FaultSet) (states 
   head_start = stays_of board rules faults head_clocks free states start
 
   pub scan0 : Instructed board preloading (sir_clocks preload_bits) (tdos wiring (sir_clocks preload_bits) f0 headed) headed sampling
-  scan0 = instructed board rules faults preload_code preloading (preload_fits board.chain (parts_of board rules)) (preload_means board.chain (parts_of board rules)) f0 headed head_start (head_idles wiring free states)
+  scan0 =
+      instructed board rules faults preload_code preloading
+      (preload_fits board.chain (parts_of board rules))
+      (preload_means board.chain (parts_of board rules)) f0 headed head_start
+      (head_idles wiring free states)
 
   pub scan1 : Preloaded board first_row_scan (sdr_clocks quiet_bits) (tdos wiring (sdr_clocks quiet_bits) f1 sampling) preloaded
   scan1 = preloads board rules faults quiet_row f1 sampling scan0.is_start scan0.idle scan0.currents
 
   pub scan2 : Instructed board in_test (sir_clocks extest_bits) (tdos wiring (sir_clocks extest_bits) f2 preloaded) preloaded entered
-  scan2 = instructed board rules faults extest_code in_test (extest_fits board.chain (parts_of board rules)) (extest_means board.chain (parts_of board rules)) f2 preloaded scan1.is_start scan1.idle
+  scan2 =
+      instructed board rules faults extest_code in_test
+      (extest_fits board.chain (parts_of board rules))
+      (extest_means board.chain (parts_of board rules)) f2 preloaded scan1.is_start scan1.idle
 
   pub in_test_after : InTest board (shifted_row board first_row_scan) entered
-  in_test_after = enters board first_row_scan preloaded entered scan1.currents scan1.stays scan2.frames scan2.is_start scan2.idle scan2.currents
+  in_test_after =
+      enters board first_row_scan preloaded entered scan1.currents scan1.stays scan2.frames
+      scan2.is_start scan2.idle scan2.currents
 
   -- a whole text passes if and only if its scans of rows pass
   pub whole_passes_as : (ts : List RowScan) →
-      run_passes (test_clocks (board_scans board ts)) (tdos wiring (test_clocks (board_scans board ts)) free states) ≡ run_passes (row_clocks board ts) (tdos wiring (row_clocks board ts) f3 entered)
+      run_passes (test_clocks (board_scans board ts))
+      (tdos wiring (test_clocks (board_scans board ts)) free states)
+      ≡ run_passes (row_clocks board ts) (tdos wiring (row_clocks board ts) f3 entered)
   whole_passes_as ts =
       let rest2 : List Clock = sir_clocks extest_bits ++ row_clocks board ts in
       let rest1 : List Clock = sdr_clocks quiet_bits ++ rest2 in

@@ -19,7 +19,7 @@ use Rattle.board_defs.proofs.CellLemmas.{on_is}
 use Rattle.tap_defs.specs.chain.Part.{PinState}
 use Rattle.tap_defs.specs.chain.Chain.{ChainPart, pin_states}
 use Rattle.tap_defs.specs.board.FaultSet.{FaultSet, no_faults}
-use Rattle.tap_defs.specs.board.NetBits.{Place, place_of, in_extest, latch, live, live_where, live_entry, is_on_by, driver_bit, extest_where, ruled, Feeding, Unruled, Undriven, Driven, Contended, counted, feeding_from, feeding, unshorted_bit, or_else}
+use Rattle.tap_defs.specs.board.NetBits.{Place, place_of, in_extest, latch, live, live_where, live_entry, is_on_by, driver_bit, extest_where, ruled, Feeding, Unruled, Undriven, Driven, Contended, with_pin, feeding_from, feeding, unshorted_bit, bit_or_else}
 use Rattle.tap_defs.specs.board.TestRows.{TestRow, steady_bit, data_bit, data_pin, data_place, data_observed, only_if, observing_driver, observing_driver_by, first_enabled, reads_beside}
 use Rattle.std.proofs.lemmas.Bool.{and_parts, both_ways, eq-eqb, false_from_ne_true, eqb-true}
 use Rattle.tap_defs.proofs.board.InTestLemmas.{InTest, shifted_row}
@@ -49,15 +49,22 @@ pub record Observing (board : RawBoard) (setting : Enabling) (net : Net) (d : �
   pub unguarded : guarded board net ≡ false
 
 first_by : (board : RawBoard) (setting : Enabling) (m d : ℕ) (p : NetPin) (ps : List NetPin) →
-    (first_enabled board setting (suc m) ps ≡ Some d → (i : ℕ) × (q : NetPin) × (d ≡ suc m + i) × (slice_get ps i ≡ Some q) × (enables board setting q ≡ true)) →
-    (b : Bool) → enables board setting p ≡ b → cond b (Some m) (first_enabled board setting (suc m) ps) ≡ Some d → (i : ℕ) × (q : NetPin) × (d ≡ m + i) × (slice_get (p ∷ ps) i ≡ Some q) × (enables board setting q ≡ true)
+    (first_enabled board setting (suc m) ps ≡ Some d
+    → (i : ℕ) × (q : NetPin) × (d ≡ suc m + i) × (slice_get ps i ≡ Some q)
+    × (enables board setting q ≡ true)) →
+    (b : Bool) → enables board setting p ≡ b
+    → cond b (Some m) (first_enabled board setting (suc m) ps) ≡ Some d
+    → (i : ℕ) × (q : NetPin) × (d ≡ m + i) × (slice_get (p ∷ ps) i ≡ Some q)
+    × (enables board setting q ≡ true)
 first_by board setting m d p ps ih true q e = let z : m ≡ d = cc e in (0, p, omega (arith, z), refl, q)
 first_by board setting m d p ps ih false q e = let r = ih e in (suc r.0, r.1, omega (arith, r.2), r.3, r.4)
 
 pub first_at : (board : RawBoard) (setting : Enabling) (m d : ℕ) (ps : List NetPin) → first_enabled board setting m ps ≡ Some d →
     (i : ℕ) × (q : NetPin) × (d ≡ m + i) × (slice_get ps i ≡ Some q) × (enables board setting q ≡ true)
 first_at board setting m d [] e = cc e
-first_at board setting m d (p ∷ ps) e = first_by board setting m d p ps (first_at board setting (suc m) d ps) (enables board setting p) refl e
+first_at board setting m d (p ∷ ps) e =
+    first_by board setting m d p ps (first_at board setting (suc m) d ps) (enables board setting p)
+    refl e
 
 pub observing_at : (board : RawBoard) (setting : Enabling) (net : Net) (d : ℕ) → observing_driver board setting net ≡ Some d →
     Observing board setting net d
@@ -85,24 +92,28 @@ pub all_dead : (board : RawBoard) (pin_state : List PinState) (m : ℕ) (ps : Li
     ((i : ℕ) (p : NetPin) → slice_get ps i ≡ Some p → live board pin_state p ≡ false) → feeding_from board pin_state m ps ≡ Undriven
 all_dead board pin_state m [] q = refl
 all_dead board pin_state m (p ∷ ps) q =
-    ap (λ (b : Bool). counted b m (driver_bit board pin_state p.at) (feeding_from board pin_state (suc m) ps)) (q 0 p refl)
+    ap (λ (b : Bool). with_pin b m (driver_bit board pin_state p.at) (feeding_from board pin_state (suc m) ps)) (q 0 p refl)
     ∙ all_dead board pin_state (suc m) ps (λ i. q (suc i))
 
 pub feeding_one : (board : RawBoard) (pin_state : List PinState) (m i : ℕ) (ps : List NetPin) (d : NetPin) → slice_get ps i ≡ Some d →
     ((x : ℕ) (p : NetPin) → slice_get ps x ≡ Some p → x ≢ i → live board pin_state p ≡ false) →
-    feeding_from board pin_state m ps ≡ counted (live board pin_state d) (m + i) (driver_bit board pin_state d.at) Undriven
+    feeding_from board pin_state m ps ≡ with_pin (live board pin_state d) (m + i) (driver_bit board pin_state d.at) Undriven
 feeding_one board pin_state m i [] d e q = cc e
 feeding_one board pin_state m zero (p ∷ ps) d e q =
     let z : p ≡ d = cc e in
     let w : m ≡ m + 0 = omega arith in
-    ap (λ (f : Feeding). counted (live board pin_state p) m (driver_bit board pin_state p.at) f) (all_dead board pin_state (suc m) ps (λ x r h. q (suc x) r h (λ k. absurd (omega (arith, k)))))
-    ∙ ap (λ (r : NetPin). counted (live board pin_state r) m (driver_bit board pin_state r.at) Undriven) z
-    ∙ ap (λ (x : ℕ). counted (live board pin_state d) x (driver_bit board pin_state d.at) Undriven) w
+    ap (λ (f : Feeding). with_pin (live board pin_state p) m (driver_bit board pin_state p.at) f)
+    (all_dead board pin_state (suc m) ps
+    (λ x r h. q (suc x) r h (λ k. absurd (omega (arith, k)))))
+    ∙ ap (λ (r : NetPin). with_pin (live board pin_state r) m (driver_bit board pin_state r.at) Undriven) z
+    ∙ ap (λ (x : ℕ). with_pin (live board pin_state d) x (driver_bit board pin_state d.at) Undriven) w
 feeding_one board pin_state m (suc i) (p ∷ ps) d e q =
     let w : suc m + i ≡ m + suc i = omega arith in
-    ap (λ (b : Bool). counted b m (driver_bit board pin_state p.at) (feeding_from board pin_state (suc m) ps)) (q 0 p refl (λ k. absurd (omega (arith, k))))
+    ap
+    (λ (b : Bool). with_pin b m (driver_bit board pin_state p.at)
+    (feeding_from board pin_state (suc m) ps)) (q 0 p refl (λ k. absurd (omega (arith, k))))
     ∙ feeding_one board pin_state (suc m) i ps d e (λ x r h k. q (suc x) r h (λ z. k (omega (arith, z))))
-    ∙ ap (λ (x : ℕ). counted (live board pin_state d) x (driver_bit board pin_state d.at) Undriven) w
+    ∙ ap (λ (x : ℕ). with_pin (live board pin_state d) x (driver_bit board pin_state d.at) Undriven) w
 
 pub all_pass : (f : NetPin → Bool) (ps : List NetPin) → ((i : ℕ) (p : NetPin) → slice_get ps i ≡ Some p → f p ≡ true) → list_all f ps ≡ true
 all_pass f [] q = refl
@@ -116,13 +127,18 @@ pub data Carries (d : ℕ) (pull : Option Bool) (v : Bool) (f : Feeding) : Type 
   driven : f ≡ Driven d v → Carries d pull v f
   pulled : f ≡ Undriven → pull ≡ Some v → Carries d pull v f
 
-module _ (board : RawBoard) (row : TestRow) (safe : IsSafe board row.setting) (n : ℕ) (net : Net) (rules : NetRules board n net) (d : ℕ) (observing : observing_driver board row.setting net ≡ Some d) (before : TestRow) (chain : List ChainPart)
+module _ (board : RawBoard) (row : TestRow) (safe : IsSafe board row.setting) (n : ℕ) (net : Net)
+    (rules : NetRules board n net) (d : ℕ)
+    (observing : observing_driver board row.setting net ≡ Some d) (before : TestRow)
+    (chain : List ChainPart)
     (h : InTest board (shifted_row board (record { now = row; before = before })) chain) where
   pub w : Observing board row.setting net d
   w = observing_at board row.setting net d observing
 
   off_at : (i : ℕ) (p : NetPin) → slice_get net.pins i ≡ Some p → i ≢ d → enables board row.setting p ≡ false
-  off_at i p e ne = false_from_ne_true (enables board row.setting p) (λ on. safe.one n net i d p w.pin rules.stands e w.stands ne on w.enabled)
+  off_at i p e ne =
+      false_from_ne_true (enables board row.setting p)
+      (λ on. safe.one n net i d p w.pin rules.stands e w.stands ne on w.enabled)
 
   dead_by : (i : ℕ) (p : NetPin) → slice_get net.pins i ≡ Some p → i ≢ d → PinRules board n net i p →
       live board (pin_states chain) p ≡ false
@@ -150,15 +166,17 @@ module _ (board : RawBoard) (row : TestRow) (safe : IsSafe board row.setting) (n
       ap (λ (b : Bool). not b && list_all (λ p. extest_where (pin_states chain) p.at) net.pins) w.unguarded
       ∙ all_pass (λ p. extest_where (pin_states chain) p.at) net.pins (λ i p e. extest_by i p (rules.pins i p e))
 
-  feeding_is : feeding board (pin_states chain) net ≡ counted (live board (pin_states chain) w.pin) d (driver_bit board (pin_states chain) w.pin.at) Undriven
+  feeding_is : feeding board (pin_states chain) net
+      ≡ with_pin (live board (pin_states chain) w.pin) d
+      (driver_bit board (pin_states chain) w.pin.at) Undriven
   feeding_is =
       let z : 0 + d ≡ d = omega arith in
       ap (λ (b : Bool). cond b (feeding_from board (pin_states chain) 0 net.pins) Unruled) ruled_is
       ∙ feeding_one board (pin_states chain) 0 d net.pins w.pin w.stands (λ i p e ne. dead_at i p e ne)
-      ∙ ap (λ (x : ℕ). counted (live board (pin_states chain) w.pin) x (driver_bit board (pin_states chain) w.pin.at) Undriven) z
+      ∙ ap (λ (x : ℕ). with_pin (live board (pin_states chain) w.pin) x (driver_bit board (pin_states chain) w.pin.at) Undriven) z
 
   module _ (v : Bool) (carried_is : row.carried n ≡ Some v) where
-    if_live : (on bit : Bool) → (on ≡ true → bit ≡ v) → (on ≡ false → net.pull ≡ Some v) → Carries d net.pull v (counted on d bit Undriven)
+    if_live : (on bit : Bool) → (on ≡ true → bit ≡ v) → (on ≡ false → net.pull ≡ Some v) → Carries d net.pull v (with_pin on d bit Undriven)
     if_live true bit a b = driven (ap (λ (x : Bool). Driven d x) (a refl))
     if_live false bit a b = pulled refl (b refl)
 
@@ -168,8 +186,12 @@ module _ (board : RawBoard) (row : TestRow) (safe : IsSafe board row.setting) (n
     on_off false true e = cc e
     on_off false false e = refl
 
-    module _ (at : PinAt) (part : Part) (device : RawDevice) (at_is : w.pin.at ≡ Some at) (ek : slice_get board.chain at.part ≡ Some part) (ed : part.kind ≡ Described device) (wired : IsWired device) (pinned : is_pinned board at ≡ true)
-        (place : place_of at 0 board.nets ≡ Some (record { number = n; net = net; place = d })) (e : Cell) (i : ℕ) (entry : driving_entry device at.bit ≡ Some e) (de : drives_bit at.bit e ≡ true) (ei : slice_get device.cells i ≡ Some e) where
+    module _ (at : PinAt) (part : Part) (device : RawDevice) (at_is : w.pin.at ≡ Some at)
+        (ek : slice_get board.chain at.part ≡ Some part) (ed : part.kind ≡ Described device)
+        (wired : IsWired device) (pinned : is_pinned board at ≡ true)
+        (place : place_of at 0 board.nets ≡ Some (record { number = n; net = net; place = d }))
+        (e : Cell) (i : ℕ) (entry : driving_entry device at.bit ≡ Some e)
+        (de : drives_bit at.bit e ≡ true) (ei : slice_get device.cells i ≡ Some e) where
       k : ℕ
       k = at.part
 
@@ -223,17 +245,23 @@ module _ (board : RawBoard) (row : TestRow) (safe : IsSafe board row.setting) (n
       live_is =
           ap (λ (o : Option PinAt). live_where board (pin_states chain) o) at_is
           ∙ ap (λ (o : Option Cell). live_entry (pin_states chain) at.part o) entry_is
-          ∙ ap (λ (b : Bool). b && is_on_by (pin_states chain) at.part e.ctl) (extest_is board (record { now = row; before = before }) chain at.part part device h ek ed)
+          ∙ ap (λ (b : Bool). b && is_on_by (pin_states chain) at.part e.ctl)
+          (extest_is board (record { now = row; before = before }) chain at.part part device h
+          ek ed)
 
       other_cell : (control : Control) → e.ctl ≡ Some control → row.setting (record { part = at.part; cell = control.cell }) ≡ true →
           (control.cell == e.num) ≡ false → latch (pin_states chain) at.part control.cell ≡ not control.disable
-      other_cell control q on apart_is = control_on board row before chain at part device h ek ed wired pinned e i de ei control q on apart_is
+      other_cell control q on apart_is =
+          control_on board row before chain at part device h ek ed wired pinned e i de ei control q
+          on apart_is
 
       off_means : (o : Option Control) → e.ctl ≡ o → enables_by row.setting at.part o ≡ true →
           is_on_by (pin_states chain) at.part o ≡ false → net.pull ≡ Some v
       off_means None q on off = cc off
       off_means (Some control) q on off =
-          let l : latch (pin_states chain) at.part control.cell ≡ control.disable = on_off (latch (pin_states chain) at.part control.cell) control.disable off in
+          let l : latch (pin_states chain) at.part control.cell
+          ≡ control.disable = on_off (latch (pin_states chain) at.part control.cell)
+          control.disable off in
           by_own l (control.cell == e.num) refl
         where
           by_own : latch (pin_states chain) at.part control.cell ≡ control.disable → (b : Bool) → (control.cell == e.num) ≡ b →
@@ -242,24 +270,38 @@ module _ (board : RawBoard) (row : TestRow) (safe : IsSafe board row.setting) (n
           by_own l true x =
               let num : control.cell ≡ e.num = eqb-true control.cell e.num x in
               let same : v ≡ control.disable = sym latch_num ∙ ap (λ (c : ℕ). latch (pin_states chain) at.part c) (sym num) ∙ l in
-              rules.alone d w.pin at control.disable w.stands at_is (safe.own at e control pinned entry_is q num on) ∙ ap (λ (b : Bool). Some b) (sym same)
+              rules.alone d w.pin at control.disable w.stands at_is
+              (safe.own at e control pinned entry_is q num on)
+              ∙ ap (λ (b : Bool). Some b) (sym same)
 
       carries_here : Carries d net.pull v (feeding board (pin_states chain) net)
       carries_here = subst (λ (f : Feeding). Carries d net.pull v f) (sym feeding_is)
-          (if_live (live board (pin_states chain) w.pin) (driver_bit board (pin_states chain) w.pin.at) (λ x. bit_is) (λ x. off_means e.ctl refl on_entry (sym live_is ∙ x)))
+          (if_live (live board (pin_states chain) w.pin)
+          (driver_bit board (pin_states chain) w.pin.at) (λ x. bit_is)
+          (λ x. off_means e.ctl refl on_entry (sym live_is ∙ x)))
 
     enters : (o : Option Cell) (at : PinAt) → w.pin.at ≡ Some at → entry_at board at ≡ o → (e : Cell) × (o ≡ Some e)
     enters (Some e) at a q = (e, refl)
     enters None at a q =
-        let off : enables board row.setting w.pin ≡ false = ap (λ (x : Option PinAt). enables_where board row.setting x) a ∙ ap (λ (x : Option Cell). enables_entry row.setting at.part x) q in
+        let off : enables board row.setting w.pin
+        ≡ false = ap (λ (x : Option PinAt). enables_where board row.setting x) a
+        ∙ ap (λ (x : Option Cell). enables_entry row.setting at.part x) q in
         absurd (both_ways (enables board row.setting w.pin) off w.enabled)
 
     by_rules : PinRules board n net d w.pin → Carries d net.pull v (feeding board (pin_states chain) net)
-    by_rules (apart a) = absurd (both_ways (enables board row.setting w.pin) (ap (λ (x : Option PinAt). enables_where board row.setting x) a) w.enabled)
+    by_rules (apart a) =
+        absurd
+        (both_ways (enables board row.setting w.pin)
+        (ap (λ (x : Option PinAt). enables_where board row.setting x) a) w.enabled)
     by_rules (placed at part device a ek ed wired pinned place) =
         let x = enters (entry_at board at) at a refl in
-        let dev : device_at board at.part ≡ Some device = ap (λ (o : Option Part). option_and_then (λ p. described p.kind) o) ek ∙ ap described ed in
-        let entry : driving_entry device at.bit ≡ Some x.0 = sym (ap (λ (o : Option RawDevice). option_and_then (λ y. driving_entry y at.bit) o) dev) ∙ x.1 in
+        let dev : device_at board at.part
+        ≡ Some device = ap (λ (o : Option Part). option_and_then (λ p. described p.kind) o) ek
+        ∙ ap described ed in
+        let entry : driving_entry device at.bit
+        ≡ Some x.0 = sym
+        (ap (λ (o : Option RawDevice). option_and_then (λ y. driving_entry y at.bit) o) dev)
+        ∙ x.1 in
         let f = found (drives_bit at.bit) device.cells x.0 entry in
         carries_here at part device a ek ed wired pinned place x.0 f.1.0 entry f.0 f.1.1
 
@@ -267,19 +309,23 @@ module _ (board : RawBoard) (row : TestRow) (safe : IsSafe board row.setting) (n
     pub carries : Carries d net.pull v (feeding board (pin_states chain) net)
     carries = by_rules (rules.pins d w.pin w.stands)
 
-or_twice : (pull : Option Bool) (u v : Bool) → pull ≡ Some v → or_else None (or_else pull None) ≡ or_else pull (Some u)
+or_twice : (pull : Option Bool) (u v : Bool) → pull ≡ Some v → bit_or_else None (bit_or_else pull None) ≡ bit_or_else pull (Some u)
 or_twice (Some p) u v e = refl
 or_twice None u v e = cc e
 
 -- without faults, the net has the bit that it carries
 pub good_bit : (d n : ℕ) (pull : Option Bool) (v : Bool) (f : Feeding) → Carries d pull v f → unshorted_bit no_faults n pull f ≡ Some v
 good_bit d n pull v f (driven e) = ap (λ (x : Feeding). unshorted_bit no_faults n pull x) e
-good_bit d n pull v f (pulled e p) = ap (λ (x : Feeding). unshorted_bit no_faults n pull x) e ∙ ap (λ (o : Option Bool). or_else None (or_else o None)) p
+good_bit d n pull v f (pulled e p) =
+    ap (λ (x : Feeding). unshorted_bit no_faults n pull x) e
+    ∙ ap (λ (o : Option Bool). bit_or_else None (bit_or_else o None)) p
 
 -- if the driver is open, the net has a constant: its pull, or the constant of the driver if the net has no pull
 pub cut_bit : (faults : FaultSet) (d n : ℕ) (pull : Option Bool) (u v : Bool) (f : Feeding) → faults.opened n d ≡ Some u →
-    Carries d pull v f → unshorted_bit faults n pull f ≡ or_else pull (Some u)
+    Carries d pull v f → unshorted_bit faults n pull f ≡ bit_or_else pull (Some u)
 cut_bit faults d n pull u v f o (driven e) =
     ap (λ (x : Feeding). unshorted_bit faults n pull x) e
-    ∙ ap (λ (x : Option Bool). or_else (Rattle.tap_defs.specs.board.NetBits.fed_unless x v) (or_else (Rattle.tap_defs.specs.board.NetBits.held_if x pull) x)) o
+    ∙ ap
+    (λ (x : Option Bool). bit_or_else (Rattle.tap_defs.specs.board.NetBits.fed_unless x v)
+    (bit_or_else (Rattle.tap_defs.specs.board.NetBits.held_if x pull) x)) o
 cut_bit faults d n pull u v f o (pulled e p) = ap (λ (x : Feeding). unshorted_bit faults n pull x) e ∙ or_twice pull u v p

@@ -14,7 +14,7 @@ use Rattle.board_defs.proofs.Members.{Has, has_filter_map}
 use Rattle.tap_defs.specs.chain.Part.{PinState}
 use Rattle.tap_defs.specs.chain.Chain.{ChainPart, pin_states}
 use Rattle.tap_defs.specs.board.FaultSet.{ShortKind, FaultSet, IsFaultSet}
-use Rattle.tap_defs.specs.board.NetBits.{extest_where, live, driver_bit, ruled, Feeding, Unruled, counted, feeding_from, feeding, fed, fed_unless, held, OfNet, is_in_short, shorted_nets, is_decided, numbered, bits_fed, bits_held, first_combined, short_bit, net_bit, net_bit_by}
+use Rattle.tap_defs.specs.board.NetBits.{extest_where, live, driver_bit, ruled, Feeding, Unruled, with_pin, feeding_from, feeding, fed, fed_unless, held, OfNet, is_in_short, shorted_nets, is_decided, numbered_value, bits_fed, bits_held, first_combined, short_bit, net_bit, net_bit_by}
 use Rattle.tap_defs.specs.board.TestRows.{TestRow, observing_driver}
 use Rattle.tap_defs.specs.board.RowCaptures.{NoOpenShorted}
 use Rattle.tap_defs.proofs.board.InTestLemmas.{InTest, shifted_row}
@@ -25,21 +25,29 @@ use Rattle.tap_defs.proofs.board.ResponseLemmas.{driven_bit, plain_is}
 
 -- if at most one of the pins is live, their net has at most one live driver
 one_feeds : (board : RawBoard) (states : List PinState) (m : ℕ) (ps : List NetPin) →
-    ((i j : ℕ) (p q : NetPin) → slice_get ps i ≡ Some p → slice_get ps j ≡ Some q → i ≢ j → live board states p ≡ true → live board states q ≡ true → ⊥) →
+    ((i j : ℕ) (p q : NetPin) → slice_get ps i ≡ Some p → slice_get ps j ≡ Some q → i ≢ j
+    → live board states p ≡ true → live board states q ≡ true → ⊥) →
     is_decided (feeding_from board states m ps) ≡ true
 one_feeds board states m [] one = refl
-one_feeds board states m (p ∷ ps) one = by_head (one_feeds board states (suc m) ps (λ i j x y ex ey ne. one (suc i) (suc j) x y ex ey (λ e. ne (omega (arith, e))))) (live board states p) refl
+one_feeds board states m (p ∷ ps) one =
+    by_head
+    (one_feeds board states (suc m) ps
+    (λ i j x y ex ey ne. one (suc i) (suc j) x y ex ey (λ e. ne (omega (arith, e)))))
+    (live board states p) refl
   where
     by_head : is_decided (feeding_from board states (suc m) ps) ≡ true → (b : Bool) → live board states p ≡ b →
-        is_decided (counted b m (driver_bit board states p.at) (feeding_from board states (suc m) ps)) ≡ true
+        is_decided (with_pin b m (driver_bit board states p.at) (feeding_from board states (suc m) ps)) ≡ true
     by_head rest false e = rest
     by_head rest true e =
-        ap (λ (f : Feeding). is_decided (counted true m (driver_bit board states p.at) f))
-        (all_dead board states (suc m) ps (λ i q eq. false_from_ne_true (live board states q) (λ on. one 0 (suc i) p q refl eq (λ z. absurd (omega (arith, z))) e on)))
+        ap (λ (f : Feeding). is_decided (with_pin true m (driver_bit board states p.at) f))
+        (all_dead board states (suc m) ps
+        (λ i q eq. false_from_ne_true (live board states q)
+        (λ on. one 0 (suc i) p q refl eq (λ z. absurd (omega (arith, z))) e on)))
 
 -- if each net of short `k` passes a test, all items of the list of these nets pass it
 shorted_pass : (faults : FaultSet) (k n : ℕ) (nets : List Net) (test : OfNet Net → Bool) →
-    ((i : ℕ) (net : Net) → slice_get nets i ≡ Some net → faults.short (n + i) ≡ Some k → test (n + i, net) ≡ true) → list_all test (shorted_nets faults k n nets) ≡ true
+    ((i : ℕ) (net : Net) → slice_get nets i ≡ Some net → faults.short (n + i) ≡ Some k
+    → test (n + i, net) ≡ true) → list_all test (shorted_nets faults k n nets) ≡ true
 shorted_pass faults k n [] test h = refl
 shorted_pass faults k n (net ∷ nets) test h =
     by_short
@@ -70,12 +78,16 @@ shorted_has faults k n (x ∷ nets) zero net e s =
     let same : x ≡ net = cc e in
     let here : faults.short n ≡ Some k = ap faults.short (sym z) ∙ s in
     subst (λ (l : List (OfNet Net)). Has l (n + 0, net))
-    (sym (ap (λ (o : Option ℕ). cond (is_in_short o k) ((n, x) ∷ shorted_nets faults k (suc n) nets) (shorted_nets faults k (suc n) nets)) here
+    (sym
+    (ap
+    (λ (o : Option ℕ). cond (is_in_short o k) ((n, x) ∷ shorted_nets faults k (suc n) nets)
+    (shorted_nets faults k (suc n) nets)) here
     ∙ ap (λ (b : Bool). cond b ((n, x) ∷ shorted_nets faults k (suc n) nets) (shorted_nets faults k (suc n) nets)) (eq-eqb k k refl)))
     (inl (ap (λ (y : Net). (n, y)) same ∙ ap (λ (m : ℕ). (m, net)) (sym z)))
 shorted_has faults k n (x ∷ nets) (suc i) net e s =
     let z : suc n + i ≡ n + suc i = omega arith in
-    let rest : Has (shorted_nets faults k (suc n) nets) (suc n + i, net) = shorted_has faults k (suc n) nets i net e (ap faults.short z ∙ s) in
+    let rest : Has (shorted_nets faults k (suc n) nets) (suc n + i, net) = shorted_has faults k
+    (suc n) nets i net e (ap faults.short z ∙ s) in
     by_test (subst (λ (m : ℕ). Has (shorted_nets faults k (suc n) nets) (m, net)) z rest) (is_in_short (faults.short n) k)
   where
     by_test : Has (shorted_nets faults k (suc n) nets) (n + suc i, net) → (b : Bool) →
@@ -91,7 +103,9 @@ combined_fixed kind [] (g ∷ hs) x h free other = refl
 combined_fixed kind [] [] x (inl h) free other = absurd h
 combined_fixed kind [] [] x (inr h) free other = absurd h
 
-module _ (board : RawBoard) (row : TestRow) (safe : IsSafe board row.setting) (rules : BoardRules board) (before : TestRow) (chain : List ChainPart) (h : InTest board (shifted_row board (record { now = row; before = before })) chain) where
+module _ (board : RawBoard) (row : TestRow) (safe : IsSafe board row.setting)
+    (rules : BoardRules board) (before : TestRow) (chain : List ChainPart)
+    (h : InTest board (shifted_row board (record { now = row; before = before })) chain) where
   pub under_extest : (n : ℕ) (net : Net) (i : ℕ) (p : NetPin) → PinRules board n net i p → extest_where (pin_states chain) p.at ≡ true
   under_extest n net i p (apart a) = ap (λ (o : Option PinAt). extest_where (pin_states chain) o) a
   under_extest n net i p (placed at part device a ek ed wired pinned place) =
@@ -109,7 +123,9 @@ module _ (board : RawBoard) (row : TestRow) (safe : IsSafe board row.setting) (r
       ap (λ (b : Bool). not b && list_all (λ p. extest_where (pin_states chain) p.at) net.pins) unguarded ∙ all in
       ap (λ (b : Bool). is_decided (cond b (feeding_from board (pin_states chain) 0 net.pins) Unruled)) ruled_is
       ∙ one_feeds board (pin_states chain) 0 net.pins
-      (λ i j p q ep eq ne on also. safe.one n net i j p q en ep eq ne (live_on board row safe rules before chain h n net i p en ep on) (live_on board row safe rules before chain h n net j q en eq also))
+      (λ i j p q ep eq ne on also. safe.one n net i j p q en ep eq ne
+      (live_on board row safe rules before chain h n net i p en ep on)
+      (live_on board row safe rules before chain h n net j q en eq also))
 
   module _ (faults : FaultSet) (is_set : IsFaultSet board faults) (no_open : NoOpenShorted faults) where
     covered_open : (i : ℕ) (net : Net) → slice_get board.nets i ≡ Some net → IsCovered board i → guarded board net ≡ false
@@ -127,7 +143,9 @@ module _ (board : RawBoard) (row : TestRow) (safe : IsSafe board row.setting) (r
         decided i x e (covered_open i x e (subst (λ (m : ℕ). IsCovered board m) z (is_set.covered (0 + i) k s))))
 
     -- a net that the row observes carries the bit that the row gives it
-    module _ (n : ℕ) (net : Net) (en : slice_get board.nets n ≡ Some net) (d : ℕ) (observing : observing_driver board row.setting net ≡ Some d) (v : Bool) (carried_is : row.carried n ≡ Some v) where
+    module _ (n : ℕ) (net : Net) (en : slice_get board.nets n ≡ Some net) (d : ℕ)
+        (observing : observing_driver board row.setting net ≡ Some d) (v : Bool)
+        (carried_is : row.carried n ≡ Some v) where
       carries_v : Carries d net.pull v (feeding board (pin_states chain) net)
       carries_v = carries board row safe n net (rules.nets n net en) d observing before chain h v carried_is
 
@@ -143,11 +161,20 @@ module _ (board : RawBoard) (row : TestRow) (safe : IsSafe board row.setting) (r
         is_given : Carries d net.pull v (feeding board (pin_states chain) net) →
             Has (bits_fed board faults (pin_states chain) nets) (n, v) ⊎ Has (bits_held board faults (pin_states chain) nets) (n, v)
         is_given (driven e) =
-            inl (has_filter_map (λ (x : OfNet Net). numbered x.0 (fed faults x.0 (feeding board (pin_states chain) x.1))) nets (n, net) (n, v) in_short
-            (ap (λ (f : Feeding). numbered n (fed faults n f)) e ∙ ap (λ (o : Option Bool). numbered n (fed_unless o v)) (no_open n k d s)))
+            inl
+            (has_filter_map
+            (λ (x : OfNet Net). numbered_value x.0
+            (fed faults x.0 (feeding board (pin_states chain) x.1))) nets (n, net) (n, v)
+            in_short
+            (ap (λ (f : Feeding). numbered_value n (fed faults n f)) e ∙ ap
+            (λ (o : Option Bool). numbered_value n (fed_unless o v)) (no_open n k d s)))
         is_given (pulled e p) =
-            inr (has_filter_map (λ (x : OfNet Net). numbered x.0 (held faults x.0 x.1.pull (feeding board (pin_states chain) x.1))) nets (n, net) (n, v) in_short
-            (ap (λ (f : Feeding). numbered n (held faults n net.pull f)) e ∙ ap (λ (o : Option Bool). numbered n o) p))
+            inr
+            (has_filter_map
+            (λ (x : OfNet Net). numbered_value x.0
+            (held faults x.0 x.1.pull (feeding board (pin_states chain) x.1))) nets (n, net)
+            (n, v) in_short
+            (ap (λ (f : Feeding). numbered_value n (held faults n net.pull f)) e ∙ ap (λ (o : Option Bool). numbered_value n o) p))
 
         short_fixed : (free other : Bool) →
             short_bit board faults (pin_states chain) free k ≡ short_bit board faults (pin_states chain) other k
@@ -180,7 +207,12 @@ module _ (board : RawBoard) (row : TestRow) (safe : IsSafe board row.setting) (r
 
       by_stuck : (o : Option Bool) → faults.stuck n ≡ o → Fixed
       by_stuck None st = by_short st (faults.short n) refl
-      by_stuck (Some u) st = (u, λ shorts. ap (λ (o : Option Bool). net_bit_by board faults (pin_states chain) shorts n net o (faults.short n)) st)
+      by_stuck (Some u) st = (
+        u,
+        λ shorts. ap
+            (λ (o : Option Bool). net_bit_by board faults (pin_states chain) shorts n net o
+            (faults.short n)) st,
+      )
 
       pub fixed : Fixed
       fixed = by_stuck (faults.stuck n) refl

@@ -10,7 +10,7 @@ use Rattle.tap_defs.specs.board.OnBoard.{test_logic, board_wiring}
 use Rattle.tap_defs.specs.chain.Run.{Choice}
 use Rattle.tap_defs.specs.board.FaultSet.{FaultSet}
 use Rattle.tap_defs.specs.chain.Chain.{ChainPart}
-use Rattle.tap_defs.specs.chain.ChainRegisters.{AllSelectingIn, all_held, pins_at}
+use Rattle.tap_defs.specs.chain.ChainRegisters.{AllSelectingIn, all_held, bits_at_pins}
 use Rattle.tap_defs.specs.chain.Transport.{scan_passes}
 use Rattle.tap_defs.specs.chain.Scan.{tdi_bits, joined}
 use Rattle.tap_defs.specs.chain.TestLogic.{Bypass, Instruction, Extest}
@@ -32,7 +32,10 @@ shifted_row board t = map tdi_bits (row_bits board t)
 -- the scan is wrong: in every run in which `row` is in the latches before the scan, it finds a wrong bit
 abbrev pub IsWrong : RawBoard → FaultSet → List (List Bool) → RowScan → Type 0
 IsWrong board faults row t =
-    (chain : List ChainPart) (free : Choice) → InTest board row chain → scan_passes (joined (row_bits board t)) (joined (registers (pins_at (board_wiring board faults) free chain) board.chain)) ≡ false
+    (chain : List ChainPart) (free : Choice) → InTest board row chain
+    → scan_passes (joined (row_bits board t))
+    (joined (registers (bits_at_pins (board_wiring board faults) free chain) board.chain))
+    ≡ false
 
 -- at least one of these scans is wrong
 abbrev pub SomeWrong : RawBoard → FaultSet → List (List Bool) → List RowScan → Type 0

@@ -74,7 +74,8 @@ pub record UnderTest (row : List Bool) (chain : List ChainPart) (k : ℕ) : Type
   pub current : node.state.current ≡ Extest
   pub latches : node.state.latches ≡ row
 
-pub under_test : (board : RawBoard) (row : List (List Bool)) (chain : List ChainPart) (k : ℕ) (part : Part) (device : RawDevice) (r : List Bool) →
+pub under_test : (board : RawBoard) (row : List (List Bool)) (chain : List ChainPart) (k : ℕ)
+    (part : Part) (device : RawDevice) (r : List Bool) →
     InTest board row chain → slice_get board.chain k ≡ Some part → part.kind ≡ Described device → slice_get row k ≡ Some r →
     UnderTest r chain k
 under_test board row chain k part device r h ek ed er = go (slice_get chain k) refl
@@ -93,16 +94,30 @@ under_test board row chain k part device r h ek ed er = go (slice_get chain k) r
     go : (o : Option ChainPart) → slice_get chain k ≡ o → UnderTest r chain k
     go None e = let z : None ≡ Some r = sym (ap (λ (o : Option ChainPart). option_map (λ n. held_bits n.state) o) e) ∙ stays in cc z
     go (Some node) e =
-        let c : Some node.state.current ≡ Some Extest = sym (ap (λ (o : Option ChainPart). option_map (λ n. n.state.current) o) e) ∙ currents in
+        let c : Some node.state.current
+        ≡ Some Extest = sym
+        (ap (λ (o : Option ChainPart). option_map (λ n. n.state.current) o) e) ∙ currents in
         let c1 : node.state.current ≡ Extest = cc c in
-        let s : Some (held_bits node.state) ≡ Some r = sym (ap (λ (o : Option ChainPart). option_map (λ n. held_bits n.state) o) e) ∙ stays in
+        let s : Some (held_bits node.state)
+        ≡ Some r = sym (ap (λ (o : Option ChainPart). option_map (λ n. held_bits n.state) o) e)
+        ∙ stays in
         let s1 : held_bits node.state ≡ r = cc s in
-        record { node = node; at_k = e; current = c1; latches = sym (ap (λ (i : Instruction). selected_by i node.state.latches node.state.bypass node.state.identification) c1) ∙ s1 }
+        record {
+          node = node;
+          at_k = e;
+          current = c1;
+          latches = sym
+              (ap
+              (λ (i : Instruction). selected_by i node.state.latches node.state.bypass
+              node.state.identification) c1) ∙ s1;
+        }
 
 tdis_at : (bs : List ScanBit) (c : ℕ) (b : ScanBit) → slice_get bs c ≡ Some b → slice_get (tdi_bits bs) c ≡ Some b.tdi
 tdis_at bs c b e = slice_get-map (λ (x : ScanBit). x.tdi) bs c ∙ ap (λ (o : Option ScanBit). option_map (λ x. x.tdi) o) e
 
-module _ (board : RawBoard) (t : RowScan) (chain : List ChainPart) (k : ℕ) (part : Part) (device : RawDevice) (h : InTest board (shifted_row board t) chain) (ek : slice_get board.chain k ≡ Some part) (ed : part.kind ≡ Described device) where
+module _ (board : RawBoard) (t : RowScan) (chain : List ChainPart) (k : ℕ) (part : Part)
+    (device : RawDevice) (h : InTest board (shifted_row board t) chain)
+    (ek : slice_get board.chain k ≡ Some part) (ed : part.kind ≡ Described device) where
   row_at : slice_get (shifted_row board t) k ≡ Some (tdi_bits (part_bits board t k (Described device)))
   row_at =
       slice_get-map tdi_bits (row_bits board t) k
@@ -114,7 +129,9 @@ module _ (board : RawBoard) (t : RowScan) (chain : List ChainPart) (k : ℕ) (pa
   state = under_test board (shifted_row board t) chain k part device (tdi_bits (part_bits board t k (Described device))) h ek ed row_at
 
   shown_at : slice_get (pin_states chain) k ≡ Some (pin_state state.node.state)
-  shown_at = slice_get-map (λ (n : ChainPart). pin_state n.state) chain k ∙ ap (λ (o : Option ChainPart). option_map (λ n. pin_state n.state) o) state.at_k
+  shown_at =
+      slice_get-map (λ (n : ChainPart). pin_state n.state) chain k
+      ∙ ap (λ (o : Option ChainPart). option_map (λ n. pin_state n.state) o) state.at_k
 
   pub extest_is : in_extest (pin_states chain) k ≡ true
   extest_is =
@@ -126,7 +143,9 @@ module _ (board : RawBoard) (t : RowScan) (chain : List ChainPart) (k : ℕ) (pa
       let cells : ℕ → ScanBit = λ x. record { tdi = row_bit board t.now k device x; expect = expect_bit board t.before k device x } in
       ap (λ (o : Option PinState). unwrap_or (option_and_then (λ n. slice_get n.latches c) o) false) shown_at
       ∙ ap (λ (l : List Bool). unwrap_or (slice_get l c) false) state.latches
-      ∙ ap (λ (o : Option Bool). unwrap_or o false) (tdis_at (filled device.boundary cells) c (cells c) (filled_at device.boundary cells c below))
+      ∙ ap (λ (o : Option Bool). unwrap_or o false)
+      (tdis_at (filled device.boundary cells) c (cells c)
+      (filled_at device.boundary cells c below))
 
 pub same_self : (b : Bool) → not (is_same b b) ≡ false
 same_self true = refl
@@ -164,16 +183,33 @@ dead_if_off board row before chain k b part device h ek ed wired pinned off idle
         let parts = and_parts (is_on b e.bit) (is_driving e.role) de in
         let controls : list_any (controls_driver board k control.cell) device.cells ≡ true =
         any_at (controls_driver board k control.cell) device.cells i e ei
-        (ap (λ (o : Option Control). is_control_of control.cell o && is_driving e.role && unwrap_or (option_map (λ bit. is_pinned board (record { part = k; bit = bit })) e.bit) false) q
-        ∙ ap (λ (y : Bool). y && is_driving e.role && unwrap_or (option_map (λ bit. is_pinned board (record { part = k; bit = bit })) e.bit) false) (eq-eqb control.cell control.cell refl)
+        (ap
+        (λ (o : Option Control). is_control_of control.cell o && is_driving e.role && unwrap_or
+        (option_map (λ bit. is_pinned board (record { part = k; bit = bit })) e.bit) false) q
+        ∙ ap
+        (λ (y : Bool). y && is_driving e.role
+        && unwrap_or
+        (option_map (λ bit. is_pinned board (record { part = k; bit = bit })) e.bit) false)
+        (eq-eqb control.cell control.cell refl)
         ∙ ap (λ (y : Bool). y && unwrap_or (option_map (λ bit. is_pinned board (record { part = k; bit = bit })) e.bit) false) parts.1
-        ∙ ap (λ (o : Option ℕ). unwrap_or (option_map (λ bit. is_pinned board (record { part = k; bit = bit })) o) false) (on_is b e.bit parts.0)
+        ∙ ap
+        (λ (o : Option ℕ). unwrap_or
+        (option_map (λ bit. is_pinned board (record { part = k; bit = bit })) o) false)
+        (on_is b e.bit parts.0)
         ∙ pinned) in
         let steady_is : steady_bit board row.setting k device control.cell ≡ control.disable =
-        ap (λ (y : Bool). cond y (cond (row.setting (record { part = k; cell = control.cell })) (not (unwrap_or (disable_of device control.cell) false)) (unwrap_or (disable_of device control.cell) false)) (unwrap_or (safe_bit device control.cell) false)) controls
-        ∙ ap (λ (y : Bool). cond y (not (unwrap_or (disable_of device control.cell) false)) (unwrap_or (disable_of device control.cell) false)) x
+        ap
+        (λ (y : Bool). cond y
+        (cond (row.setting (record { part = k; cell = control.cell }))
+        (not (unwrap_or (disable_of device control.cell) false))
+        (unwrap_or (disable_of device control.cell) false))
+        (unwrap_or (safe_bit device control.cell) false)) controls
+        ∙ ap
+        (λ (y : Bool). cond y (not (unwrap_or (disable_of device control.cell) false))
+        (unwrap_or (disable_of device control.cell) false)) x
         ∙ ap (λ (o : Option Bool). unwrap_or o false) (wired.one_disable i e control ei q) in
-        let no_data : data_bit board row k device control.cell ≡ None = no_code e i de ei control q (driving_cell device control.cell) refl in
+        let no_data : data_bit board row k device control.cell
+        ≡ None = no_code e i de ei control q (driving_cell device control.cell) refl in
         let bit : latch (pin_states chain) k control.cell ≡ control.disable =
         latch_is board t chain k part device h ek ed control.cell (wired.below i e control ei q)
         ∙ ap (λ (o : Option Bool). unwrap_or o (steady_bit board row.setting k device control.cell)) no_data
@@ -212,15 +248,33 @@ control_on board row before chain at part device h ek ed wired pinned e i de ei 
     let parts = and_parts (is_on at.bit e.bit) (is_driving e.role) de in
     let controls : list_any (controls_driver board at.part control.cell) device.cells ≡ true =
     any_at (controls_driver board at.part control.cell) device.cells i e ei
-    (ap (λ (o : Option Control). is_control_of control.cell o && is_driving e.role && unwrap_or (option_map (λ bit. is_pinned board (record { part = at.part; bit = bit })) e.bit) false) q
-    ∙ ap (λ (y : Bool). y && is_driving e.role && unwrap_or (option_map (λ bit. is_pinned board (record { part = at.part; bit = bit })) e.bit) false) (eq-eqb control.cell control.cell refl)
+    (ap
+    (λ (o : Option Control). is_control_of control.cell o && is_driving e.role && unwrap_or
+    (option_map (λ bit. is_pinned board (record { part = at.part; bit = bit })) e.bit) false) q
+    ∙ ap
+    (λ (y : Bool). y && is_driving e.role
+    && unwrap_or
+    (option_map (λ bit. is_pinned board (record { part = at.part; bit = bit })) e.bit)
+    false) (eq-eqb control.cell control.cell refl)
     ∙ ap (λ (y : Bool). y && unwrap_or (option_map (λ bit. is_pinned board (record { part = at.part; bit = bit })) e.bit) false) parts.1
-    ∙ ap (λ (o : Option ℕ). unwrap_or (option_map (λ bit. is_pinned board (record { part = at.part; bit = bit })) o) false) (on_is at.bit e.bit parts.0)
+    ∙ ap
+    (λ (o : Option ℕ). unwrap_or
+    (option_map (λ bit. is_pinned board (record { part = at.part; bit = bit })) o) false)
+    (on_is at.bit e.bit parts.0)
     ∙ pinned) in
     latch_is board (record { now = row; before = before }) chain at.part part device h ek ed control.cell (wired.below i e control ei q)
-    ∙ ap (λ (o : Option Bool). unwrap_or o (steady_bit board row.setting at.part device control.cell)) (no_data (driving_cell device control.cell) refl)
-    ∙ ap (λ (y : Bool). cond y (cond (row.setting (record { part = at.part; cell = control.cell })) (not (unwrap_or (disable_of device control.cell) false)) (unwrap_or (disable_of device control.cell) false)) (unwrap_or (safe_bit device control.cell) false)) controls
-    ∙ ap (λ (y : Bool). cond y (not (unwrap_or (disable_of device control.cell) false)) (unwrap_or (disable_of device control.cell) false)) on
+    ∙ ap
+    (λ (o : Option Bool). unwrap_or o (steady_bit board row.setting at.part device control.cell))
+    (no_data (driving_cell device control.cell) refl)
+    ∙ ap
+    (λ (y : Bool). cond y
+    (cond (row.setting (record { part = at.part; cell = control.cell }))
+    (not (unwrap_or (disable_of device control.cell) false))
+    (unwrap_or (disable_of device control.cell) false))
+    (unwrap_or (safe_bit device control.cell) false)) controls
+    ∙ ap
+    (λ (y : Bool). cond y (not (unwrap_or (disable_of device control.cell) false))
+    (unwrap_or (disable_of device control.cell) false)) on
     ∙ ap (λ (o : Option Bool). not (unwrap_or o false)) (wired.one_disable i e control ei q)
   where
     no_data : (o : Option Cell) → driving_cell device control.cell ≡ o → option_and_then (λ c. data_pin board row at.part c.bit) o ≡ None
@@ -232,4 +286,7 @@ control_on board row before chain at part device h ek ed wired pinned e i de ei 
         let num : c.num ≡ control.cell = eqb-true c.num control.cell fc.0 in
         let same : c ≡ e = wired.own i f.1.0 e c control ei q parts.1 f.1.1 fc.1 num in
         let back : control.cell ≡ e.num = sym num ∙ ap (λ (x : Cell). x.num) same in
-        absurd (both_ways (control.cell == e.num) apart_is (ap (λ (x : ℕ). control.cell == x) (sym back) ∙ eq-eqb control.cell control.cell refl))
+        absurd
+        (both_ways (control.cell == e.num) apart_is
+        (ap (λ (x : ℕ). control.cell == x) (sym back)
+        ∙ eq-eqb control.cell control.cell refl))

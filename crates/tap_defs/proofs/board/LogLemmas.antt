@@ -51,7 +51,8 @@ statements_compared board scans =
     (silent_compares (joined (row_bits board first_row_scan)) (quiet_silent board quiet_row 0 board.chain))
     ∙ filter-map is_compared (scan_of_row board) scans
 
-pub rows_counted : (board : RawBoard) (scans : List RowScan) → count_by is_compared (board_scans board scans) ≡ length (compared_scans board scans)
+pub rows_counted : (board : RawBoard) (scans : List RowScan)
+    → count_by is_compared (board_scans board scans) ≡ length (compared_scans board scans)
 rows_counted board scans =
     sym (length-filter is_compared (board_scans board scans))
     ∙ ap (λ (l : List Scan). length l) (statements_compared board scans)
@@ -91,7 +92,8 @@ silent_same : (bits : List ScanBit) → compares bits ≡ false → uncompared b
 silent_same [] e = refl
 silent_same (b ∷ bits) e = by_expect (silent_same bits) b.expect refl e
   where
-    by_expect : (compares bits ≡ false → uncompared bits ≡ bits) → (o : Option Bool) → b.expect ≡ o → (is_some o || compares bits) ≡ false → uncompared (b ∷ bits) ≡ b ∷ bits
+    by_expect : (compares bits ≡ false → uncompared bits ≡ bits) → (o : Option Bool) → b.expect ≡ o
+        → (is_some o || compares bits) ≡ false → uncompared (b ∷ bits) ≡ b ∷ bits
     by_expect ih None q h = cons_path (ap (λ (o : Option Bool). record b { expect = o }) (sym q)) (ih h)
     by_expect ih (Some v) q h = cc h
 
@@ -107,10 +109,19 @@ module _ (board : RawBoard) where
       are_expected (filter is_compared (map statement ts)) log ≡ true →
       scans_by_log (map statement ts) log ≡ map statement ts
   expected_same [] log l long e = refl
-  expected_same (t ∷ ts) [] l long e = by_test (λ h. expected_same ts [] h tt (none_expected (filter is_compared (map statement ts)))) (compares (joined (row_bits board t))) refl l
+  expected_same (t ∷ ts) [] l long e =
+      by_test
+      (λ h. expected_same ts [] h tt (none_expected (filter is_compared (map statement ts))))
+      (compares (joined (row_bits board t))) refl l
     where
-      by_test : (◌≡◌ {A = ℕ} 0 (length (compared_scans board ts)) → scans_by_log (map statement ts) [] ≡ map statement ts) → (b : Bool) → compares (joined (row_bits board t)) ≡ b → ◌≡◌ {A = ℕ} 0 (length (cond b (t ∷ compared_scans board ts) (compared_scans board ts))) →
-          record (statement t) { bits = uncompared (joined (row_bits board t)) } ∷ scans_by_log (map statement ts) [] ≡ statement t ∷ map statement ts
+      by_test :
+          (◌≡◌ {A = ℕ} 0 (length (compared_scans board ts))
+          → scans_by_log (map statement ts) [] ≡ map statement ts) → (b : Bool)
+          → compares (joined (row_bits board t)) ≡ b
+          → ◌≡◌ {A = ℕ} 0 (length (cond b (t ∷ compared_scans board ts) (compared_scans board ts)))
+          →
+          record (statement t) { bits = uncompared (joined (row_bits board t)) }
+          ∷ scans_by_log (map statement ts) [] ≡ statement t ∷ map statement ts
       by_test ih true q h = absurd (omega (arith, h))
       by_test ih false q h =
           cons_path (ap (λ (bits : List ScanBit). record (statement t) { bits = bits }) (silent_same (joined (row_bits board t)) q)) (ih h)
@@ -120,23 +131,37 @@ module _ (board : RawBoard) where
       none_expected (s ∷ scans) = refl
   expected_same (t ∷ ts) (row ∷ log) l long e = by_test (λ more. expected_same ts more) (compares (joined (row_bits board t))) refl l e
     where
-      by_test : ((more : List (List Bool)) → length more ≡ length (compared_scans board ts) → AllLong more → are_expected (filter is_compared (map statement ts)) more ≡ true → scans_by_log (map statement ts) more ≡ map statement ts) → (b : Bool) → compares (joined (row_bits board t)) ≡ b → suc (length log) ≡ length (cond b (t ∷ compared_scans board ts) (compared_scans board ts)) →
-          are_expected (cond b (statement t ∷ filter is_compared (map statement ts)) (filter is_compared (map statement ts))) (row ∷ log) ≡ true →
+      by_test :
+          ((more : List (List Bool)) → length more ≡ length (compared_scans board ts)
+          → AllLong more → are_expected (filter is_compared (map statement ts)) more ≡ true
+          → scans_by_log (map statement ts) more ≡ map statement ts) → (b : Bool)
+          → compares (joined (row_bits board t)) ≡ b
+          → suc (length log)
+          ≡ length (cond b (t ∷ compared_scans board ts) (compared_scans board ts)) →
+          are_expected
+          (cond b (statement t ∷ filter is_compared (map statement ts))
+          (filter is_compared (map statement ts))) (row ∷ log) ≡ true →
           cond b (record (statement t) { bits = bits_by_log (joined (row_bits board t)) row } ∷ scans_by_log (map statement ts) log)
-          (record (statement t) { bits = uncompared (joined (row_bits board t)) } ∷ scans_by_log (map statement ts) (row ∷ log)) ≡ statement t ∷ map statement ts
+          (record (statement t) { bits = uncompared (joined (row_bits board t)) }
+          ∷ scans_by_log (map statement ts) (row ∷ log)) ≡ statement t ∷ map statement ts
       by_test ih true q h x =
           let both = and_parts (scan_passes (joined (row_bits board t)) row) (are_expected (filter is_compared (map statement ts)) log) x in
-          cons_path (ap (λ (bits : List ScanBit). record (statement t) { bits = bits }) (same_by_log (joined (row_bits board t)) row (long.0 ∙ sym (length-row_bits board t)) both.0))
+          cons_path
+          (ap (λ (bits : List ScanBit). record (statement t) { bits = bits })
+          (same_by_log (joined (row_bits board t)) row
+          (long.0 ∙ sym (length-row_bits board t)) both.0))
           (ih log (omega (arith, h)) long.1 both.1)
       by_test ih false q h x =
           cons_path (ap (λ (bits : List ScanBit). record (statement t) { bits = bits }) (silent_same (joined (row_bits board t)) q))
           (ih (row ∷ log) h long x)
 
-  pub log_same : (ts : List RowScan) (log : List (List Bool)) → IsExpected board ts log → scans_by_log (map statement ts) log ≡ map statement ts
+  pub log_same : (ts : List RowScan) (log : List (List Bool)) → IsExpected board ts log
+      → scans_by_log (map statement ts) log ≡ map statement ts
   log_same ts log e =
       expected_same ts log (e.shape.rows ∙ rows_counted board ts)
       (recursion_from_All (λ (row : List Bool). length row ≡ data_bits board) log e.shape.bits)
-      (ap (λ (scans : List Scan). are_expected scans log) (filter-map is_compared statement ts ∙ sym (statements_compared board ts)) ∙ e.bits)
+      (ap (λ (scans : List Scan). are_expected scans log)
+      (filter-map is_compared statement ts ∙ sym (statements_compared board ts)) ∙ e.bits)
 
   -- the statements of a test shift its rows in; so the text passes if and only if its scans pass with the bits that the
   -- board captures for the rows
@@ -148,7 +173,8 @@ module _ (board : RawBoard) where
     by_captures : CapturesPass board faults quiet_row ts (map statement ts) → PassOnBoard board faults (test_clocks (board_scans board ts))
     by_captures ok chain free start =
         whole_passes_as board rules faults chain free start ts
-        ∙ run_follows board rules faults ts (map statement ts) quiet_row quiet_row (f3 board rules faults chain free start) (entered board rules faults chain free start)
+        ∙ run_follows board rules faults ts (map statement ts) quiet_row quiet_row
+        (f3 board rules faults chain free start) (entered board rules faults chain free start)
         (in_extest_held board rules faults ts [] chain free start) (plain_shifts ts) ok
 
     captures_by : PassOnBoard board faults (test_clocks (board_scans board ts)) → CapturesPass board faults quiet_row ts (map statement ts)
@@ -162,8 +188,14 @@ module _ (board : RawBoard) where
             let clocks : List Clock = all_clocks (map statement ts) in
             let under_extest : List ChainPart = entered board rules faults chain free start in
             let run_ok = sym (whole_passes_as board rules faults chain free start ts) ∙ passes chain free start in
-            captures_follow board rules faults choice ts (map statement ts) quiet_row quiet_row under_extest (in_extest_held board rules faults ts [] chain free start) (plain_shifts ts)
-            (sym (ap (λ (g : Choices). run_passes clocks (tdos (board_wiring board faults) clocks g under_extest)) (left_always board rules faults ts [] choice chain start)) ∙ run_ok)
+            captures_follow board rules faults choice ts (map statement ts) quiet_row quiet_row
+            under_extest (in_extest_held board rules faults ts [] chain free start)
+            (plain_shifts ts)
+            (sym
+            (ap
+            (λ (g : Choices). run_passes clocks
+            (tdos (board_wiring board faults) clocks g under_extest))
+            (left_always board rules faults ts [] choice chain start)) ∙ run_ok)
 
     -- the faults that explain a log of the expected bits are those under which the text passes
     pub expected_explained : (log : List (List Bool)) → IsExpected board ts log →
@@ -183,14 +215,29 @@ module _ (board : RawBoard) where
   not_both faults clocks fails passes =
       let free : Choices = λ k. some_choice in
       let chain : List ChainPart = some_chain (board_logics board) in
-      both_ways (run_passes clocks (tdos (board_wiring board faults) clocks free chain)) (fails chain free (some_start board)) (passes chain free (some_start board))
+      both_ways (run_passes clocks (tdos (board_wiring board faults) clocks free chain))
+      (fails chain free (some_start board)) (passes chain free (some_start board))
     where
       some_choice : Choice
-      some_choice = record { parts = λ k. record { ir = λ i. false; cells = λ i. false; latches = λ i. false; tdo = false; other = false }; shorts = λ k. false; tdi = false }
+      some_choice =
+          record {
+            parts = λ k. record {
+              ir = λ i. false;
+              cells = λ i. false;
+              latches = λ i. false;
+              tdo = false;
+              other =
+                  false;
+            };
+            shorts = λ k. false;
+            tdi = false;
+          }
 
-  pub expected_unexplained : (passes : List (List Ctl)) (width : ℕ) → IsBoard board → ArePasses board passes → observed_count board passes + 2 ≤ 2 ^ width →
+  pub expected_unexplained : (passes : List (List Ctl)) (width : ℕ) → IsBoard board
+      → ArePasses board passes → observed_count board passes + 2 ≤ 2 ^ width →
       (log : List (List Bool)) → IsExpected board (row_scans (code_row board passes) width passes) log →
-      (faults : FaultSet) → IsObservable board faults → IsNonempty faults → ExplainedBy board faults (row_scans (code_row board passes) width passes) log → ⊥
+      (faults : FaultSet) → IsObservable board faults → IsNonempty faults
+      → ExplainedBy board faults (row_scans (code_row board passes) width passes) log → ⊥
   expected_unexplained passes width rules are enough log e faults observable nonempty h =
       let ts : List RowScan = row_scans (code_row board passes) width passes in
       not_both faults (test_clocks (board_scans board ts))
@@ -200,4 +247,5 @@ module _ (board : RawBoard) where
   pub own_unexplained : IsBoard board → (log : List (List Bool)) → IsExpected board (svf_row_scans board) log →
       (faults : FaultSet) → IsObservable board faults → IsNonempty faults → ExplainedBy board faults (svf_row_scans board) log → ⊥
   own_unexplained rules =
-      expected_unexplained (passes_of board) (code_width (observed_count board (passes_of board))) rules (passes_kept board rules) (width_is (observed_count board (passes_of board))).enough
+      expected_unexplained (passes_of board) (code_width (observed_count board (passes_of board)))
+      rules (passes_kept board rules) (width_is (observed_count board (passes_of board))).enough

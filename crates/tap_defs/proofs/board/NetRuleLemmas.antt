@@ -107,9 +107,14 @@ module _ (device : RawDevice) (rules : IsDevice device) where
   own_by : (i j : ℕ) (e d : Cell) (control : Control) → slice_get device.cells i ≡ Some e → is_driving e.role ≡ true →
       slice_get device.cells j ≡ Some d → is_driving d.role ≡ true → d.num ≡ control.cell → Owner e control → d ≡ e
   own_by i j e d control ei driving dj drives num (own_cell same) =
-      same_item device.cells i j e d ei dj (rules.one_writing i j e d ei dj (driving_writes e.role driving) (driving_writes d.role drives) (sym (num ∙ same)))
+      same_item device.cells i j e d ei dj
+      (rules.one_writing i j e d ei dj (driving_writes e.role driving)
+      (driving_writes d.role drives) (sym (num ∙ same)))
   own_by i j e d control ei driving dj drives num (control_cell k x xk same role) =
-      let z : d ≡ x = same_item device.cells k j x d xk dj (rules.one_writing k j x d xk dj (controlling_writes x.role role) (driving_writes d.role drives) (same ∙ sym num)) in
+      let z : d
+      ≡ x = same_item device.cells k j x d xk dj
+      (rules.one_writing k j x d xk dj (controlling_writes x.role role)
+      (driving_writes d.role drives) (same ∙ sym num)) in
       absurd (not_both d.role (subst (λ (c : Cell). is_controlling c.role ≡ true) (sym z) role) drives)
 
   disable_is : (i : ℕ) (e : Cell) (control : Control) → slice_get device.cells i ≡ Some e → e.ctl ≡ Some control →
@@ -130,14 +135,20 @@ module _ (device : RawDevice) (rules : IsDevice device) where
     below = λ i e control ei ec. below_by i e control ei (owner i e control ei ec);
     one_disable = disable_is;
     num_below = num_below;
-    one_cell = λ i j e d ei driving dj drives num. same_item device.cells i j e d ei dj (rules.one_writing i j e d ei dj (driving_writes e.role driving) (driving_writes d.role drives) (sym num));
+    one_cell =
+        λ i j e d ei driving dj drives num. same_item device.cells i j e d ei dj
+        (rules.one_writing i j e d ei dj (driving_writes e.role driving)
+        (driving_writes d.role drives) (sym num));
     one_driver = λ i j e d b ei de dj dd. same_item device.cells i j e d ei dj (rules.one_driver i j b e d ei dj de dd);
     own = λ i j e d control ei ec driving dj drives num. own_by i j e d control ei driving dj drives num (owner i e control ei ec);
   }
 
   pub read : IsRead device
   read = record {
-    one_reader = λ i j e d ei reading dj reads num. same_item device.cells i j e d ei dj (rules.one_loading i j e d ei dj (reading_loads e.role reading) (reading_loads d.role reads) (sym num));
+    one_reader =
+        λ i j e d ei reading dj reads num. same_item device.cells i j e d ei dj
+        (rules.one_loading i j e d ei dj (reading_loads e.role reading) (reading_loads d.role reads)
+        (sym num));
     num_below = num_below;
   }
 
@@ -151,12 +162,15 @@ place_in_at at m i [] p e a once = cc e
 place_in_at at m zero (q ∷ ps) p e a once =
     let z : q ≡ p = cc e in
     let w : m ≡ m + 0 = omega arith in
-    ap (λ (b : Bool). cond b (Some m) (place_in at (suc m) ps)) (ap (λ (x : NetPin). is_at at x.at) z ∙ ap (λ (o : Option PinAt). is_at at o) a ∙ self_at at)
+    ap (λ (b : Bool). cond b (Some m) (place_in at (suc m) ps))
+    (ap (λ (x : NetPin). is_at at x.at) z ∙ ap (λ (o : Option PinAt). is_at at o) a ∙ self_at at)
     ∙ ap (λ (x : ℕ). Some x) w
 place_in_at at m (suc i) (q ∷ ps) p e a once =
     let w : suc m + i ≡ m + suc i = omega arith in
     by_test
-    (place_in_at at (suc m) i ps p e a (λ j x ej xa. let z : suc j ≡ suc i = once (suc j) x ej xa in omega (arith, z)) ∙ ap (λ (x : ℕ). Some x) w)
+    (place_in_at at (suc m) i ps p e a
+    (λ j x ej xa. let z : suc j ≡ suc i = once (suc j) x ej xa in omega (arith, z))
+    ∙ ap (λ (x : ℕ). Some x) w)
     (is_at at q.at) refl
   where
     by_test : place_in at (suc m) ps ≡ Some (m + suc i) → (b : Bool) → is_at at q.at ≡ b →
@@ -175,7 +189,8 @@ place_in_none at m (q ∷ ps) none = by_test (place_in_none at (suc m) ps (λ j 
 
 place_of_at : (at : PinAt) (m n i : ℕ) (nets : List Net) (net : Net) (p : NetPin) → slice_get nets n ≡ Some net →
     slice_get net.pins i ≡ Some p → p.at ≡ Some at →
-    ((l j : ℕ) (other : Net) (q : NetPin) → slice_get nets l ≡ Some other → slice_get other.pins j ≡ Some q → q.at ≡ Some at → (l ≡ n) × (j ≡ i)) →
+    ((l j : ℕ) (other : Net) (q : NetPin) → slice_get nets l ≡ Some other
+    → slice_get other.pins j ≡ Some q → q.at ≡ Some at → (l ≡ n) × (j ≡ i)) →
     place_of at m nets ≡ Some (record { number = m + n; net = net; place = i })
 place_of_at at m n i [] net p en ei a once = cc en
 place_of_at at m zero i (other ∷ nets) net p en ei a once =
@@ -183,7 +198,9 @@ place_of_at at m zero i (other ∷ nets) net p en ei a once =
     let w : m ≡ m + 0 = omega arith in
     let v : 0 + i ≡ i = omega arith in
     ap (λ (x : Net). or_next m x (place_in at 0 x.pins) (place_of at (suc m) nets)) z
-    ∙ ap (λ (o : Option ℕ). or_next m net o (place_of at (suc m) nets)) (place_in_at at 0 i net.pins p ei a (λ j q ej qa. (once 0 j net q (ap (λ (x : Net). Some x) z) ej qa).1))
+    ∙ ap (λ (o : Option ℕ). or_next m net o (place_of at (suc m) nets))
+    (place_in_at at 0 i net.pins p ei a
+    (λ j q ej qa. (once 0 j net q (ap (λ (x : Net). Some x) z) ej qa).1))
     ∙ ap (λ (x : ℕ). Some (record { number = m; net = net; place = x })) v
     ∙ ap (λ (x : ℕ). Some (record { number = x; net = net; place = i })) w
 place_of_at at m (suc n) i (other ∷ nets) net p en ei a once =
@@ -226,7 +243,9 @@ module _ (board : RawBoard) (rules : IsBoard board) where
           let part = device_of board at.part d.0 d.1 in
           let w : 0 + n ≡ n = omega arith in
           placed at part.part d.0 a part.at_k part.kind_is (wired d.0 (is_device at.part part.part d.0 part.at_k part.kind_is)) pinned
-          (place_of_at at 0 n i board.nets net p en ei a (λ l j other q el ej qa. pins_once board rules l n other net j i q p at el en ej ei qa a)
+          (place_of_at at 0 n i board.nets net p en ei a
+          (λ l j other q el ej qa. pins_once board rules l n other net j i q p at el en ej ei qa
+          a)
           ∙ ap (λ (x : ℕ). Some (record { number = x; net = net; place = i })) w)
 
   alone : (n : ℕ) (net : Net) → slice_get board.nets n ≡ Some net → (i : ℕ) (p : NetPin) (at : PinAt) (value : Bool) →

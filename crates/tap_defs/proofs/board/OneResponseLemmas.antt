@@ -17,7 +17,7 @@ use Rattle.tap_defs.specs.declared.tap.TapState.TheVariants.{RunTestIdle}
 use Rattle.tap_defs.specs.chain.TestLogic.{Extest, Bypass, Other}
 use Rattle.tap_defs.specs.chain.Part.{PartState, PinState}
 use Rattle.tap_defs.specs.chain.Chain.{ChainPart, pin_states, logics}
-use Rattle.tap_defs.specs.chain.ChainRegisters.{pins_at, held_bits, all_held, AllSelectingIn}
+use Rattle.tap_defs.specs.chain.ChainRegisters.{bits_at_pins, held_bits, all_held, AllSelectingIn}
 use Rattle.tap_defs.specs.chain.Run.{Choice}
 use Rattle.tap_defs.specs.chain.Scan.{ScanBit, joined, tdi_bits}
 use Rattle.tap_defs.specs.board.FaultSet.{FaultSet, IsFaultSet}
@@ -40,31 +40,43 @@ agree_self None x y e = tt
 agree_self (Some v) x y e = e
 
 -- a compared cell captures the same bit with two choices of the free bits
-module _ (board : RawBoard) (row : TestRow) (safe : IsSafe board row.setting) (rules : BoardRules board) (before : TestRow) (chain : List ChainPart) (h : InTest board (shifted_row board (record { now = row; before = before })) chain) (faults : FaultSet) (is_set : IsFaultSet board faults) (no_open : NoOpenShorted faults) where
+module _ (board : RawBoard) (row : TestRow) (safe : IsSafe board row.setting)
+    (rules : BoardRules board) (before : TestRow) (chain : List ChainPart)
+    (h : InTest board (shifted_row board (record { now = row; before = before })) chain)
+    (faults : FaultSet) (is_set : IsFaultSet board faults) (no_open : NoOpenShorted faults) where
   module _ (k : ℕ) (free other : Bool) (shorts others : ℕ → Bool) where
     reads : (at : PinAt) (p : Place) (v : Bool) → row.carried p.number ≡ Some v → place_of at 0 board.nets ≡ Some p → (d : ℕ) →
         observing_driver board row.setting p.net ≡ Some d → (d == p.place) ≡ false →
-        (live_where board (pin_states chain) (Some at) ≡ false) × (read_at board faults (pin_states chain) shorts free (Some p) ≡ read_at board faults (pin_states chain) others other (Some p))
+        (live_where board (pin_states chain) (Some at) ≡ false)
+        × (read_at board faults (pin_states chain) shorts free (Some p)
+        ≡ read_at board faults (pin_states chain) others other (Some p))
     reads at p v carried e d observing apart =
         let s = stands_at board at p 0 board.nets e in
         let z : s.index ≡ p.number = omega (arith, s.number_is) in
         let net_at : slice_get board.nets p.number ≡ Some p.net = subst (λ (x : ℕ). slice_get board.nets x ≡ Some p.net) z s.net_is in
         let ne : p.place ≢ d = λ q. both_ways (d == p.place) apart (ap (λ (x : ℕ). d == x) q ∙ eq-eqb d d refl) in
         let f = fixed board row safe rules before chain h faults is_set no_open p.number p.net net_at d observing v carried in (
-          sym (ap (λ (o : Option PinAt). live_where board (pin_states chain) o) s.at_is) ∙ dead_at board row safe p.number p.net (rules.nets p.number p.net net_at) d observing before chain h p.place s.pin s.pin_is ne,
+          sym (ap (λ (o : Option PinAt). live_where board (pin_states chain) o) s.at_is)
+              ∙ dead_at board row safe p.number p.net (rules.nets p.number p.net net_at) d observing
+              before chain h p.place s.pin s.pin_is ne,
           ap (λ (o : Option Bool). unwrap_or (faults.opened p.number p.place) (unwrap_or o free)) (f.1 shorts)
               ∙ sym (ap (λ (o : Option Bool). unwrap_or (faults.opened p.number p.place) (unwrap_or o other)) (f.1 others)),
         )
 
     abbrev read_of : PinAt → Option Place → Bool → Bool
-    read_of at o receives = cond (receives && not (live_where board (pin_states chain) (Some at))) (read_at board faults (pin_states chain) shorts free o) free
+    read_of at o receives =
+        cond (receives && not (live_where board (pin_states chain) (Some at)))
+        (read_at board faults (pin_states chain) shorts free o) free
 
     abbrev other_read : PinAt → Option Place → Bool → Bool
-    other_read at o receives = cond (receives && not (live_where board (pin_states chain) (Some at))) (read_at board faults (pin_states chain) others other o) other
+    other_read at o receives =
+        cond (receives && not (live_where board (pin_states chain) (Some at)))
+        (read_at board faults (pin_states chain) others other o) other
 
     by_carried : (at : PinAt) (p : Place) → place_of at 0 board.nets ≡ Some p → (d : ℕ) →
         observing_driver board row.setting p.net ≡ Some d →
-        (d == p.place) ≡ false → (o : Option Bool) → row.carried p.number ≡ o → AgreeAt o (read_of at (Some p) true) (other_read at (Some p) true)
+        (d == p.place) ≡ false → (o : Option Bool) → row.carried p.number ≡ o
+        → AgreeAt o (read_of at (Some p) true) (other_read at (Some p) true)
     by_carried at p e d observing q None c = tt
     by_carried at p e d observing q (Some v) c =
         let r = reads at p v c e d observing q in
@@ -73,7 +85,9 @@ module _ (board : RawBoard) (row : TestRow) (safe : IsSafe board row.setting) (r
         ∙ sym (ap (λ (b : Bool). cond (not b) (read_at board faults (pin_states chain) others other (Some p)) other) r.0)
 
     by_same : (at : PinAt) (p : Place) → place_of at 0 board.nets ≡ Some p → (d : ℕ) → observing_driver board row.setting p.net ≡ Some d →
-        (b : Bool) → (d == p.place) ≡ b → AgreeAt (only_if (not b) (row.carried p.number)) (read_of at (Some p) true) (other_read at (Some p) true)
+        (b : Bool) → (d == p.place) ≡ b
+        → AgreeAt (only_if (not b) (row.carried p.number)) (read_of at (Some p) true)
+        (other_read at (Some p) true)
     by_same at p e d observing true q = tt
     by_same at p e d observing false q = by_carried at p e d observing q (row.carried p.number) refl
 
@@ -89,22 +103,29 @@ module _ (board : RawBoard) (row : TestRow) (safe : IsSafe board row.setting) (r
     by_place at (Some p) e = by_driver at p e (observing_driver board row.setting p.net) refl
 
     by_receives : (at : PinAt) (b : Bool) →
-        AgreeAt (cond b (expect_place board row (place_of at 0 board.nets)) None) (read_of at (place_of at 0 board.nets) b) (other_read at (place_of at 0 board.nets) b)
+        AgreeAt (cond b (expect_place board row (place_of at 0 board.nets)) None)
+        (read_of at (place_of at 0 board.nets) b) (other_read at (place_of at 0 board.nets) b)
     by_receives at true = by_place at (place_of at 0 board.nets) refl
     by_receives at false = tt
 
     by_pin : (o : Option ℕ) →
-        AgreeAt (expect_pin board row k o) (read_bit board faults (pin_states chain) shorts free k o) (read_bit board faults (pin_states chain) others other k o)
+        AgreeAt (expect_pin board row k o)
+        (read_bit board faults (pin_states chain) shorts free k o)
+        (read_bit board faults (pin_states chain) others other k o)
     by_pin None = tt
     by_pin (Some b) = by_receives (record { part = k; bit = b }) (receives_where board (Some (record { part = k; bit = b })))
 
     by_role : (e : Cell) (b : Bool) →
-        AgreeAt (cond b (expect_pin board row k e.bit) None) (cond b (read_bit board faults (pin_states chain) shorts free k e.bit) free) (cond b (read_bit board faults (pin_states chain) others other k e.bit) other)
+        AgreeAt (cond b (expect_pin board row k e.bit) None)
+        (cond b (read_bit board faults (pin_states chain) shorts free k e.bit) free)
+        (cond b (read_bit board faults (pin_states chain) others other k e.bit) other)
     by_role e true = by_pin e.bit
     by_role e false = tt
 
     pub cell_agrees : (o : Option Cell) →
-        AgreeAt (expect_entry board row k o) (read_entry board faults (pin_states chain) shorts free k o) (read_entry board faults (pin_states chain) others other k o)
+        AgreeAt (expect_entry board row k o)
+        (read_entry board faults (pin_states chain) shorts free k o)
+        (read_entry board faults (pin_states chain) others other k o)
     cell_agrees None = tt
     cell_agrees (Some e) = by_role e (is_receiving e.role)
 
@@ -126,50 +147,93 @@ agree_append (b ∷ bs) cs (x ∷ xs) (y ∷ ys) us vs p q h k = (h.0, agree_app
 -- if the captures of each part agree wherever the scan compares, so do the joined captures
 parts_agree : (board : RawBoard) (t : RowScan) (k : ℕ) (ps : List Part) (pins others : ℕ → List Bool) → FitsPins pins ps →
     FitsPins others ps →
-    ((i : ℕ) (p : Part) → slice_get ps i ≡ Some p → AgreeWhereCompared (part_bits board t (k + i) p.kind) (register_of p.kind (pins i)) (register_of p.kind (others i))) →
+    ((i : ℕ) (p : Part) → slice_get ps i ≡ Some p
+    → AgreeWhereCompared (part_bits board t (k + i) p.kind) (register_of p.kind (pins i))
+    (register_of p.kind (others i))) →
     AgreeWhereCompared (joined (bits_by_part board t k ps)) (joined (registers pins ps)) (joined (registers others ps))
 parts_agree board t k [] pins others f g q = tt
 parts_agree board t k (p ∷ ps) pins others f g q =
     let z : k + 0 ≡ k = omega arith in
     let here : AgreeWhereCompared (part_bits board t k p.kind) (register_of p.kind (pins 0)) (register_of p.kind (others 0)) =
-    subst (λ (i : ℕ). AgreeWhereCompared (part_bits board t i p.kind) (register_of p.kind (pins 0)) (register_of p.kind (others 0))) z (q 0 p refl) in
+    subst
+    (λ (i : ℕ). AgreeWhereCompared (part_bits board t i p.kind) (register_of p.kind (pins 0))
+    (register_of p.kind (others 0))) z (q 0 p refl) in
     let rest = parts_agree board t (suc k) ps (λ j. pins (suc j)) (λ j. others (suc j)) (λ j. f (suc j)) (λ j. g (suc j))
     (λ i x e. let w : k + suc i ≡ suc k + i = omega arith in
-    subst (λ (j : ℕ). AgreeWhereCompared (part_bits board t j x.kind) (register_of x.kind (pins (suc i))) (register_of x.kind (others (suc i)))) w (q (suc i) x e)) in
-    agree_append (joined (bits_by_part board t (suc k) ps)) (part_bits board t k p.kind) (joined (registers (λ j. pins (suc j)) ps)) (joined (registers (λ j. others (suc j)) ps)) (register_of p.kind (pins 0)) (register_of p.kind (others 0))
-    (length-joined (bits_by_part board t (suc k) ps) (registers (λ j. pins (suc j)) ps) (bits_fit board t (suc k) ps (λ j. pins (suc j)) (λ j. f (suc j))))
-    (length-joined (bits_by_part board t (suc k) ps) (registers (λ j. others (suc j)) ps) (bits_fit board t (suc k) ps (λ j. others (suc j)) (λ j. g (suc j))))
+    subst
+    (λ (j : ℕ). AgreeWhereCompared (part_bits board t j x.kind)
+    (register_of x.kind (pins (suc i))) (register_of x.kind (others (suc i)))) w
+    (q (suc i) x e)) in
+    agree_append (joined (bits_by_part board t (suc k) ps)) (part_bits board t k p.kind)
+    (joined (registers (λ j. pins (suc j)) ps)) (joined (registers (λ j. others (suc j)) ps))
+    (register_of p.kind (pins 0)) (register_of p.kind (others 0))
+    (length-joined (bits_by_part board t (suc k) ps) (registers (λ j. pins (suc j)) ps)
+    (bits_fit board t (suc k) ps (λ j. pins (suc j)) (λ j. f (suc j))))
+    (length-joined (bits_by_part board t (suc k) ps) (registers (λ j. others (suc j)) ps)
+    (bits_fit board t (suc k) ps (λ j. others (suc j)) (λ j. g (suc j))))
     rest here
 
 -- while the row is in the latches, any two captures of the scan agree wherever it compares
 pub row_agrees : (board : RawBoard) (t : RowScan) → IsSafe board t.before.setting → BoardRules board →
     (earlier : TestRow) (chain : List ChainPart) → InTest board (shifted_row board (record { now = t.before; before = earlier })) chain →
     (faults : FaultSet) → IsFaultSet board faults → NoOpenShorted faults → (choice other : Choice) →
-    AgreeWhereCompared (joined (row_bits board t)) (joined (registers (pins_at (board_wiring board faults) choice chain) board.chain)) (joined (registers (pins_at (board_wiring board faults) other chain) board.chain))
+    AgreeWhereCompared (joined (row_bits board t))
+    (joined (registers (bits_at_pins (board_wiring board faults) choice chain) board.chain))
+    (joined (registers (bits_at_pins (board_wiring board faults) other chain) board.chain))
 row_agrees board t safe rules earlier chain h faults is_set no_open choice other =
-    parts_agree board t 0 board.chain (pins_at (board_wiring board faults) choice chain) (pins_at (board_wiring board faults) other chain)
+    parts_agree board t 0 board.chain (bits_at_pins (board_wiring board faults) choice chain)
+    (bits_at_pins (board_wiring board faults) other chain)
     (captured_fits board faults choice chain) (captured_fits board faults other chain)
     (λ k p e. let z : 0 + k ≡ k = omega arith in
-    subst (λ (i : ℕ). AgreeWhereCompared (part_bits board t i p.kind) (register_of p.kind (pins_at (board_wiring board faults) choice chain k)) (register_of p.kind (pins_at (board_wiring board faults) other chain k))) (sym z) (by_kind k p e p.kind refl))
+    subst
+    (λ (i : ℕ). AgreeWhereCompared (part_bits board t i p.kind)
+    (register_of p.kind (bits_at_pins (board_wiring board faults) choice chain k))
+    (register_of p.kind (bits_at_pins (board_wiring board faults) other chain k))) (sym z)
+    (by_kind k p e p.kind refl))
   where
     pins_are : (free : Choice) (k : ℕ) (p : Part) → slice_get board.chain k ≡ Some p →
-        pins_at (board_wiring board faults) free chain k ≡ captured_by board faults (pin_states chain) free.shorts (free.parts k).cells k p.kind
-    pins_are free k p e = ap (λ (o : Option Part). unwrap_or (option_map (λ q. captured_by board faults (pin_states chain) free.shorts (free.parts k).cells k q.kind) o) []) e
+        bits_at_pins (board_wiring board faults) free chain k
+        ≡ captured_by board faults (pin_states chain) free.shorts (free.parts k).cells k p.kind
+    pins_are free k p e =
+        ap
+        (λ (o : Option Part). unwrap_or
+        (option_map
+        (λ q. captured_by board faults (pin_states chain) free.shorts (free.parts k).cells k
+        q.kind) o) []) e
 
     by_kind : (k : ℕ) (p : Part) → slice_get board.chain k ≡ Some p → (kind : PartKind) → p.kind ≡ kind →
-        AgreeWhereCompared (part_bits board t k kind) (register_of kind (pins_at (board_wiring board faults) choice chain k)) (register_of kind (pins_at (board_wiring board faults) other chain k))
+        AgreeWhereCompared (part_bits board t k kind)
+        (register_of kind (bits_at_pins (board_wiring board faults) choice chain k))
+        (register_of kind (bits_at_pins (board_wiring board faults) other chain k))
     by_kind k p e (WithoutDescription n) q = (tt, tt)
     by_kind k p e (Described device) q =
-        let mine : pins_at (board_wiring board faults) choice chain k ≡ captured_by board faults (pin_states chain) choice.shorts (choice.parts k).cells k (Described device) =
-        pins_are choice k p e ∙ ap (λ (kind : PartKind). captured_by board faults (pin_states chain) choice.shorts (choice.parts k).cells k kind) q in
-        let others : pins_at (board_wiring board faults) other chain k ≡ captured_by board faults (pin_states chain) other.shorts (other.parts k).cells k (Described device) =
-        pins_are other k p e ∙ ap (λ (kind : PartKind). captured_by board faults (pin_states chain) other.shorts (other.parts k).cells k kind) q in
-        subst (λ (xs : List Bool). AgreeWhereCompared (part_bits board t k (Described device)) xs (pins_at (board_wiring board faults) other chain k)) (sym mine)
-        (subst (λ (ys : List Bool). AgreeWhereCompared (part_bits board t k (Described device)) (captured_by board faults (pin_states chain) choice.shorts (choice.parts k).cells k (Described device)) ys) (sym others)
+        let mine : bits_at_pins (board_wiring board faults) choice chain k
+        ≡ captured_by board faults (pin_states chain) choice.shorts (choice.parts k).cells k
+        (Described device) =
+        pins_are choice k p e
+        ∙ ap
+        (λ (kind : PartKind). captured_by board faults (pin_states chain) choice.shorts
+        (choice.parts k).cells k kind) q in
+        let others : bits_at_pins (board_wiring board faults) other chain k
+        ≡ captured_by board faults (pin_states chain) other.shorts (other.parts k).cells k
+        (Described device) =
+        pins_are other k p e
+        ∙ ap
+        (λ (kind : PartKind). captured_by board faults (pin_states chain) other.shorts
+        (other.parts k).cells k kind) q in
+        subst
+        (λ (xs : List Bool). AgreeWhereCompared (part_bits board t k (Described device)) xs
+        (bits_at_pins (board_wiring board faults) other chain k)) (sym mine)
+        (subst
+        (λ (ys : List Bool). AgreeWhereCompared (part_bits board t k (Described device))
+        (captured_by board faults (pin_states chain) choice.shorts (choice.parts k).cells k
+        (Described device)) ys) (sym others)
         (cells_agree device.boundary (λ c. record { tdi = row_bit board t.now k device c; expect = expect_bit board t.before k device c })
         (λ c. read_entry board faults (pin_states chain) choice.shorts ((choice.parts k).cells c) k (reading_entry device c))
         (λ c. read_entry board faults (pin_states chain) other.shorts ((other.parts k).cells c) k (reading_entry device c))
-        (λ c. cell_agrees board t.before safe rules earlier chain h faults is_set no_open k ((choice.parts k).cells c) ((other.parts k).cells c) choice.shorts other.shorts (reading_entry device c))))
+        (λ c. cell_agrees board t.before safe rules earlier chain h faults is_set no_open k
+        ((choice.parts k).cells c) ((other.parts k).cells c) choice.shorts other.shorts
+        (reading_entry device c))))
 
 -- the state of a part that holds its bits of the row in its latches
 abbrev pub holding : RawBoard → TestRow → ℕ → PartKind → PartState
@@ -182,11 +246,23 @@ holding board row k (Described device) = record {
   identification = [];
   latches = filled device.boundary (λ cell. row_bit board row k device cell);
 }
-holding board row k (WithoutDescription n) = record { tap = RunTestIdle; ir = []; current = Bypass; boundary = []; bypass = false; identification = []; latches = [] }
+holding board row k (WithoutDescription n) =
+    record {
+      tap = RunTestIdle;
+      ir = [];
+      current = Bypass;
+      boundary = [];
+      bypass = false;
+      identification =
+          [];
+      latches = [];
+    }
 
 abbrev pub holding_chain : RawBoard → TestRow → ℕ → List Part → List ChainPart
 holding_chain board row k [] = []
-holding_chain board row k (p ∷ ps) = record { logic = test_logic p.kind; state = holding board row k p.kind } ∷ holding_chain board row (suc k) ps
+holding_chain board row k (p ∷ ps) =
+    record { logic = test_logic p.kind; state = holding board row k p.kind }
+    ∷ holding_chain board row (suc k) ps
 
 module _ (board : RawBoard) (row : TestRow) where
   abbrev quiet_before : RowScan
@@ -218,7 +294,13 @@ module _ (board : RawBoard) (row : TestRow) where
     where
       one : (kind : PartKind) → held_bits (holding board row k kind) ≡ tdi_bits (part_bits board quiet_before k kind)
       one (Described device) =
-          sym (map-filled (λ (b : ScanBit). b.tdi) device.boundary (λ cell. record { tdi = row_bit board row k device cell; expect = expect_bit board quiet_row k device cell }))
+          sym
+          (map-filled (λ (b : ScanBit). b.tdi) device.boundary
+          (λ cell. record {
+            tdi = row_bit board row k device cell;
+            expect = expect_bit board quiet_row k
+                device cell;
+          }))
       one (WithoutDescription n) = refl
 
   pub all_show : (k : ℕ) (ps : List Part) → pin_states (holding_chain board row k ps) ≡ shown_by_parts board row k ps
@@ -226,7 +308,11 @@ module _ (board : RawBoard) (row : TestRow) where
   all_show k (p ∷ ps) = cons_path (one p.kind) (all_show (suc k) ps)
     where
       one : (kind : PartKind) →
-          record { current = (holding board row k kind).current; latches = (holding board row k kind).latches } ≡ shown_by_part board row k kind
+          record {
+            current = (holding board row k kind).current;
+            latches =
+                (holding board row k kind).latches;
+          } ≡ shown_by_part board row k kind
       one (Described device) = refl
       one (WithoutDescription n) = refl
 
@@ -243,6 +329,9 @@ pub one_response : (board : RawBoard) (faults : FaultSet) (t : RowScan) → IsBo
     AgreeWhereCompared (joined (row_bits board t)) (row_captured board faults t.before choice) (row_captured board faults t.before other)
 one_response board faults t rules is_set no_open safe choice other =
     let chain : List ChainPart = holding_chain board t.before 0 board.chain in
-    subst (λ (s : List PinState). AgreeWhereCompared (joined (row_bits board t)) (joined (registers (board_wiring board faults s choice) board.chain)) (joined (registers (board_wiring board faults s other) board.chain)))
+    subst
+    (λ (s : List PinState). AgreeWhereCompared (joined (row_bits board t))
+    (joined (registers (board_wiring board faults s choice) board.chain))
+    (joined (registers (board_wiring board faults s other) board.chain)))
     (all_show board t.before 0 board.chain)
     (row_agrees board t safe (board_rules board rules) quiet_row chain (held_in_test board t.before) faults is_set no_open choice other)

@@ -25,7 +25,8 @@ use Rattle.tap_defs.proofs.board.DetectionLemmas.{IsPlan, Sees}
 -- if a setting enables only one of some pins, that pin is the first enabled pin
 first_is : (board : RawBoard) (setting : Enabling) (m d : ℕ) (ps : List NetPin) (p : NetPin) → slice_get ps d ≡ Some p →
     enables board setting p ≡ true →
-    ((i : ℕ) (q : NetPin) → slice_get ps i ≡ Some q → enables board setting q ≡ true → i ≡ d) → first_enabled board setting m ps ≡ Some (m + d)
+    ((i : ℕ) (q : NetPin) → slice_get ps i ≡ Some q → enables board setting q ≡ true → i ≡ d)
+    → first_enabled board setting m ps ≡ Some (m + d)
 first_is board setting m d [] p e on once = cc e
 first_is board setting m zero (q ∷ ps) p e on once =
     let z : q ≡ p = cc e in
@@ -35,7 +36,9 @@ first_is board setting m zero (q ∷ ps) p e on once =
 first_is board setting m (suc d) (q ∷ ps) p e on once =
     let w : suc m + d ≡ m + suc d = omega arith in
     by_test
-    (first_is board setting (suc m) d ps p e on (λ i x ei ex. let z : suc i ≡ suc d = once (suc i) x ei ex in omega (arith, z)) ∙ ap (λ (x : ℕ). Some x) w)
+    (first_is board setting (suc m) d ps p e on
+    (λ i x ei ex. let z : suc i ≡ suc d = once (suc i) x ei ex in omega (arith, z))
+    ∙ ap (λ (x : ℕ). Some x) w)
     (enables board setting q) refl
   where
     by_test : first_enabled board setting (suc m) ps ≡ Some (m + suc d) → (b : Bool) → enables board setting q ≡ b →
@@ -52,7 +55,8 @@ reads_is board driver m zero (q ∷ ps) p e r other =
     ap (λ (b : Bool). (not b && receives board q) || reads_beside board driver (suc m) ps) (ne_eqb m driver ne)
     ∙ ap (λ (b : Bool). b || reads_beside board driver (suc m) ps) (ap (λ (x : NetPin). receives board x) z ∙ r)
 reads_is board driver m (suc i) (q ∷ ps) p e r other =
-    ap (λ (b : Bool). (not (m == driver) && receives board q) || b) (reads_is board driver (suc m) i ps p e r (λ h. other (omega (arith, h))))
+    ap (λ (b : Bool). (not (m == driver) && receives board q) || b)
+    (reads_is board driver (suc m) i ps p e r (λ h. other (omega (arith, h))))
     ∙ or-true (not (m == driver) && receives board q)
 
 pub observing_is : (board : RawBoard) (setting : Enabling) → IsSafe board setting → (n : ℕ) (net : Net) (d : ℕ) →
@@ -63,7 +67,9 @@ observing_is board setting safe n net d en o =
     ∙ ap (λ (x : Option ℕ). observing_driver_by board net x)
     (first_is board setting 0 d net.pins o.pin o.stands o.enabled (λ i q ei on. by_decision i q ei on (i == d) refl)
     ∙ ap (λ (x : ℕ). Some x) z)
-    ∙ ap (λ (b : Bool). cond b (Some d) None) (reads_is board d 0 o.other net.pins o.reader o.reader_stands o.reads (λ h. o.another (omega (arith, h))))
+    ∙ ap (λ (b : Bool). cond b (Some d) None)
+    (reads_is board d 0 o.other net.pins o.reader o.reader_stands o.reads
+    (λ h. o.another (omega (arith, h))))
   where
     by_decision : (i : ℕ) (q : NetPin) → slice_get net.pins i ≡ Some q → enables board setting q ≡ true → (b : Bool) → (i == d) ≡ b → i ≡ d
     by_decision i q ei on true h = eqb-true i d h
@@ -93,10 +99,18 @@ any_pass : (board : RawBoard) (passes : List (List Ctl)) (net : Net) (x : ℕ) (
 any_pass board passes net x pass d e w =
     any_at (λ (q : List Ctl). is_some (observing_driver board (holds q) net)) passes x pass e (ap (λ (o : Option ℕ). is_some o) w)
 
-module _ (board : RawBoard) (rules : IsBoard board) (passes : List (List Ctl)) (are : ArePasses board passes) (width : ℕ) (enough : observed_count board passes + 2 ≤ 2 ^ width) where
+module _ (board : RawBoard) (rules : IsBoard board) (passes : List (List Ctl))
+    (are : ArePasses board passes) (width : ℕ)
+    (enough : observed_count board passes + 2 ≤ 2 ^ width) where
   abbrev sees : (x : ℕ) (pass : List Ctl) → slice_get passes x ≡ Some pass → (n : ℕ) (net : Net) (d : ℕ) →
       slice_get board.nets n ≡ Some net → ObservesBy board (holds pass) net d → Sees board pass n d
-  sees x pass e n net d en o = record { net = net; rules = net_rules board rules n net en; observing = observing_is board (holds pass) (are.safe x pass e) n net d en o }
+  sees x pass e n net d en o =
+      record {
+        net = net;
+        rules = net_rules board rules n net en;
+        observing = observing_is board
+            (holds pass) (are.safe x pass e) n net d en o;
+      }
 
   -- a covered net, which some pass observes, so that the net has a code
   record Coded (n : ℕ) : Type 0 where
@@ -111,7 +125,9 @@ module _ (board : RawBoard) (rules : IsBoard board) (passes : List (List Ctl)) (
       record {
         net = o.0;
         stands = o.1;
-        is_observed_net = any_pass board passes o.0 s.0 s.1 o.2.0 s.2 (observing_is board (holds s.1) (are.safe s.0 s.1 s.2) n o.0 o.2.0 o.1 o.2.1);
+        is_observed_net =
+            any_pass board passes o.0 s.0 s.1 o.2.0 s.2
+            (observing_is board (holds s.1) (are.safe s.0 s.1 s.2) n o.0 o.2.0 o.1 o.2.1);
       }
 
   code_fits : (n : ℕ) → Coded n → code_of_net board passes n + 2 ≤ 2 ^ width
@@ -125,7 +141,13 @@ module _ (board : RawBoard) (rules : IsBoard board) (passes : List (List Ctl)) (
   apart a b ne ca cb e = by_order (nat_lt a b) refl
     where
       by_order : (t : Bool) → nat_lt a b ≡ t → ⊥
-      by_order true h = omega (arith, count_up (is_observed board passes) board.nets a b ca.net ca.stands ca.is_observed_net (ltb-true a b h), e)
+      by_order true h =
+          omega (
+            arith,
+            count_up (is_observed board passes) board.nets a b ca.net ca.stands ca.is_observed_net
+                (ltb-true a b h),
+            e,
+          )
       by_order false h =
           let le : b ≤ a = ltb-false a b h in
           let lt : b < a = omega (arith, le, ne) in
@@ -141,10 +163,13 @@ module _ (board : RawBoard) (rules : IsBoard board) (passes : List (List Ctl)) (
   differ a b p =
       let ca = coded a (covered_a a b p) in
       let cb = coded b (covered_b a b p) in
-      codes_differ width (code_of_net board passes a) (code_of_net board passes b) (omega (arith, code_fits a ca)) (omega (arith, code_fits b cb)) (apart a b p.0 ca cb)
+      codes_differ width (code_of_net board passes a) (code_of_net board passes b)
+      (omega (arith, code_fits a ca)) (omega (arith, code_fits b cb)) (apart a b p.0 ca cb)
 
   receiver : (n i : ℕ) → IsTestedReceiver board n i →
-      (x : ℕ) × (pass : List Ctl) × (slice_get passes x ≡ Some pass) × (d : ℕ) × (s : Sees board pass n d) × (p : NetPin) × (slice_get s.net.pins i ≡ Some p) × (receives board p ≡ true) × ((d == i) ≡ false)
+      (x : ℕ) × (pass : List Ctl) × (slice_get passes x ≡ Some pass) × (d : ℕ)
+      × (s : Sees board pass n d) × (p : NetPin) × (slice_get s.net.pins i ≡ Some p)
+      × (receives board p ≡ true) × ((d == i) ≡ false)
   receiver n i t =
       let s = are.receivers n i t in
       let r = s.3 in
@@ -179,13 +204,19 @@ observed_covered board rules passes are n net en = by_cases (is_observed board p
         by_driver : (f : Found (λ pass. is_some (observing_driver board (holds pass) net)) passes) (o : Option ℕ) →
             observing_driver board (holds f.item) net ≡ o → is_some o ≡ true → is_covered board net ≡ true
         by_driver f None e s = cc s
-        by_driver f (Some d) e s = covered_true board n net rules en (holds f.item, are.safe f.place f.item f.stands, (net, en, (d, observed_by board (holds f.item) net d e)))
+        by_driver f (Some d) e s =
+            covered_true board n net rules en (
+              holds f.item,
+              are.safe f.place f.item f.stands,
+              (net, en, (d, observed_by board (holds f.item) net d e)),
+            )
 
     covered_observed : is_covered board net ≡ true → is_observed board passes net ≡ true
     covered_observed h =
         let s = are.nets n (covered_is board n net rules en h) in
         let o = s.3 in
-        let seen = any_pass board passes o.0 s.0 s.1 o.2.0 s.2 (observing_is board (holds s.1) (are.safe s.0 s.1 s.2) n o.0 o.2.0 o.1 o.2.1) in
+        let seen = any_pass board passes o.0 s.0 s.1 o.2.0 s.2
+        (observing_is board (holds s.1) (are.safe s.0 s.1 s.2) n o.0 o.2.0 o.1 o.2.1) in
         subst (λ (x : Net). is_observed board passes x ≡ true) (net_same board n net o.0 en o.1) seen
 
     by_cases : (a b : Bool) → is_observed board passes net ≡ a → is_covered board net ≡ b → a ≡ b

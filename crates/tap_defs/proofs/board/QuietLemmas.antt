@@ -75,7 +75,8 @@ not_differs : (d : Bool) → differs d (Some d) ≡ false
 not_differs true = refl
 not_differs false = refl
 
-module _ (board : RawBoard) (row : TestRow) (safe : IsSafe board row.setting) (rules : BoardRules board) (before : TestRow) (chain : List ChainPart)
+module _ (board : RawBoard) (row : TestRow) (safe : IsSafe board row.setting)
+    (rules : BoardRules board) (before : TestRow) (chain : List ChainPart)
     (h : InTest board (shifted_row board (record { now = row; before = before })) chain) where
   abbrev t : RowScan
   t = record { now = row; before = before }
@@ -83,7 +84,10 @@ module _ (board : RawBoard) (row : TestRow) (safe : IsSafe board row.setting) (r
   -- if a cell carries a net's bit, the pin of the cell is an enabled driver of the net
   carries_code : (at : PinAt) (p : Place) (i : ℕ) → place_of at 0 board.nets ≡ Some p → observing_driver board row.setting p.net ≡ Some i →
       (i == p.place) ≡ true →
-      (enables_at board row.setting at ≡ true) × ((guarded board p.net ≡ false) × ((pin : NetPin) × (slice_get p.net.pins p.place ≡ Some pin) × (pin.at ≡ Some at)) × (slice_get board.nets p.number ≡ Some p.net))
+      (enables_at board row.setting at ≡ true)
+      × ((guarded board p.net ≡ false)
+      × ((pin : NetPin) × (slice_get p.net.pins p.place ≡ Some pin) × (pin.at ≡ Some at))
+      × (slice_get board.nets p.number ≡ Some p.net))
   carries_code at p i e observing same =
       let s = stands_at board at p 0 board.nets e in
       let w = observing_at board row.setting p.net i observing in
@@ -91,7 +95,9 @@ module _ (board : RawBoard) (row : TestRow) (safe : IsSafe board row.setting) (r
       let two : Some w.pin ≡ Some s.pin = sym w.stands ∙ ap (λ (x : ℕ). slice_get p.net.pins x) z ∙ s.pin_is in
       let pin : w.pin ≡ s.pin = cc two in
       let n : s.index ≡ p.number = omega (arith, s.number_is) in (
-        sym (ap (λ (x : NetPin). enables_where board row.setting x.at) pin ∙ ap (λ (o : Option PinAt). enables_where board row.setting o) s.at_is) ∙ w.enabled,
+        sym
+            (ap (λ (x : NetPin). enables_where board row.setting x.at) pin
+            ∙ ap (λ (o : Option PinAt). enables_where board row.setting o) s.at_is) ∙ w.enabled,
         (w.unguarded, (s.pin, s.pin_is, s.at_is), subst (λ (x : ℕ). slice_get board.nets x ≡ Some p.net) n s.net_is),
       )
 
@@ -128,8 +134,12 @@ module _ (board : RawBoard) (row : TestRow) (safe : IsSafe board row.setting) (r
           ∙ dead_if_off board row before chain at.part at.bit part device h ek ed wired pinned q (off_idle at q)) on)
 
       by_rules : PinRules board n net i p → enables board row.setting p ≡ true
-      by_rules (apart a) = absurd (both_ways (live board (pin_states chain) p) (ap (λ (o : Option PinAt). live_where board (pin_states chain) o) a) on)
-      by_rules (placed at part device a ek ed wired pinned place) = by_test at part device a ek ed wired pinned (enables_at board row.setting at) refl
+      by_rules (apart a) =
+          absurd
+          (both_ways (live board (pin_states chain) p)
+          (ap (λ (o : Option PinAt). live_where board (pin_states chain) o) a) on)
+      by_rules (placed at part device a ek ed wired pinned place) =
+          by_test at part device a ek ed wired pinned (enables_at board row.setting at) refl
 
   -- every control that is on belongs to the setting of the row
   set_within : (c : Ctl) → latched_setting board (pin_states chain) c ≡ true → row.setting c ≡ true
@@ -138,27 +148,41 @@ module _ (board : RawBoard) (row : TestRow) (safe : IsSafe board row.setting) (r
       by_entry : (device : RawDevice) (d : DeviceOf board c.part device) (e : Cell) (i : ℕ) (control : Control) (b : ℕ) →
           slice_get device.cells i ≡ Some e → e.ctl ≡ Some control → control.cell ≡ c.cell → is_driving e.role ≡ true → e.bit ≡ Some b →
           is_pinned board (record { part = c.part; bit = b }) ≡ true →
-          list_any (controls_driver board c.part c.cell) device.cells ≡ true → differs (latch (pin_states chain) c.part c.cell) (disable_of device c.cell) ≡ true → (x : Bool) → row.setting c ≡ x → row.setting c ≡ true
+          list_any (controls_driver board c.part c.cell) device.cells ≡ true
+          → differs (latch (pin_states chain) c.part c.cell) (disable_of device c.cell) ≡ true
+          → (x : Bool) → row.setting c ≡ x → row.setting c ≡ true
       by_entry device d e i control b ei ec same driving eb pinned controls on true q = q
       by_entry device d e i control b ei ec same driving eb pinned controls on false q =
           let wired = rules.devices c.part d.part device d.at_k d.kind_is in
           let at : PinAt = record { part = c.part; bit = b } in
-          let dev : device_at board c.part ≡ Some device = ap (λ (o : Option Part). option_and_then (λ p. described p.kind) o) d.at_k ∙ ap described d.kind_is in
-          let drives : drives_bit b e ≡ true = ap (λ (o : Option ℕ). is_on b o && is_driving e.role) eb ∙ ap (λ (y : Bool). y && is_driving e.role) (eq-eqb b b refl) ∙ driving in
+          let dev : device_at board c.part
+          ≡ Some device = ap (λ (o : Option Part). option_and_then (λ p. described p.kind) o)
+          d.at_k ∙ ap described d.kind_is in
+          let drives : drives_bit b e
+          ≡ true = ap (λ (o : Option ℕ). is_on b o && is_driving e.role) eb
+          ∙ ap (λ (y : Bool). y && is_driving e.role) (eq-eqb b b refl) ∙ driving in
           let off : enables_at board row.setting at ≡ false =
           ap (λ (o : Option RawDevice). enables_entry row.setting c.part (option_and_then (λ x. driving_entry x b) o)) dev
           ∙ is_off (driving_entry device b) refl drives in
           let no_data : data_bit board row c.part device c.cell ≡ None = no_code drives off (driving_cell device c.cell) refl in
-          let disable : disable_of device c.cell ≡ Some control.disable = ap (λ (x : ℕ). disable_of device x) (sym same) ∙ wired.one_disable i e control ei ec in
+          let disable : disable_of device c.cell
+          ≡ Some control.disable = ap (λ (x : ℕ). disable_of device x) (sym same)
+          ∙ wired.one_disable i e control ei ec in
           let below : c.cell < device.boundary = subst (λ (x : ℕ). x < device.boundary) same (wired.below i e control ei ec) in
           let bit : latch (pin_states chain) c.part c.cell ≡ control.disable =
           latch_is board t chain c.part d.part device h d.at_k d.kind_is c.cell below
           ∙ ap (λ (o : Option Bool). unwrap_or o (steady_bit board row.setting c.part device c.cell)) no_data
-          ∙ ap (λ (y : Bool). cond y (cond (row.setting c) (not (unwrap_or (disable_of device c.cell) false)) (unwrap_or (disable_of device c.cell) false)) (unwrap_or (safe_bit device c.cell) false)) controls
+          ∙ ap
+          (λ (y : Bool). cond y
+          (cond (row.setting c) (not (unwrap_or (disable_of device c.cell) false))
+          (unwrap_or (disable_of device c.cell) false))
+          (unwrap_or (safe_bit device c.cell) false)) controls
           ∙ ap (λ (y : Bool). cond y (not (unwrap_or (disable_of device c.cell) false)) (unwrap_or (disable_of device c.cell) false)) q
           ∙ ap (λ (o : Option Bool). unwrap_or o false) disable in
           absurd (both_ways (differs (latch (pin_states chain) c.part c.cell) (disable_of device c.cell))
-          (ap (λ (x : Bool). differs x (disable_of device c.cell)) bit ∙ ap (λ (o : Option Bool). differs control.disable o) disable ∙ not_differs control.disable) on)
+          (ap (λ (x : Bool). differs x (disable_of device c.cell)) bit ∙ ap
+          (λ (o : Option Bool). differs control.disable o) disable ∙ not_differs
+          control.disable) on)
         where
           is_off : (o : Option Cell) → driving_entry device b ≡ o → drives_bit b e ≡ true → enables_entry row.setting c.part o ≡ false
           is_off None z drives = refl
@@ -176,7 +200,9 @@ module _ (board : RawBoard) (row : TestRow) (safe : IsSafe board row.setting) (r
           no_code drives off (Some x) z =
               let f = found (λ y. (y.num == c.cell) && is_driving y.role) device.cells x z in
               let fx = and_parts (x.num == c.cell) (is_driving x.role) f.0 in
-              let y : x ≡ e = (rules.devices c.part d.part device d.at_k d.kind_is).own i f.1.0 e x control ei ec driving f.1.1 fx.1 (eqb-true x.num c.cell fx.0 ∙ sym same) in
+              let y : x
+              ≡ e = (rules.devices c.part d.part device d.at_k d.kind_is).own i f.1.0 e x
+              control ei ec driving f.1.1 fx.1 (eqb-true x.num c.cell fx.0 ∙ sym same) in
               ap (λ (v : Cell). data_pin board row c.part v.bit) y
               ∙ ap (λ (o : Option ℕ). data_pin board row c.part o) eb
               ∙ off_idle (record { part = c.part; bit = b }) off
@@ -185,9 +211,13 @@ module _ (board : RawBoard) (row : TestRow) (safe : IsSafe board row.setting) (r
           set_in board c.part c.cell (latch (pin_states chain) c.part c.cell) o ≡ true → row.setting c ≡ true
       by_device None e q = cc q
       by_device (Some device) e q =
-          let x = and_parts (list_any (controls_driver board c.part c.cell) device.cells) (differs (latch (pin_states chain) c.part c.cell) (disable_of device c.cell)) q in
+          let x = and_parts (list_any (controls_driver board c.part c.cell) device.cells)
+          (differs (latch (pin_states chain) c.part c.cell) (disable_of device c.cell)) q in
           let y = any_is (controls_driver board c.part c.cell) device.cells x.0 in
-          let parts = and_three (is_control_of c.cell y.1.ctl) (is_driving y.1.role) (unwrap_or (option_map (λ bit. is_pinned board (record { part = c.part; bit = bit })) y.1.bit) false) y.3 in
+          let parts = and_three (is_control_of c.cell y.1.ctl) (is_driving y.1.role)
+          (unwrap_or
+          (option_map (λ bit. is_pinned board (record { part = c.part; bit = bit })) y.1.bit)
+          false) y.3 in
           let k = control_is c.cell y.1.ctl parts.0 in
           let b = pinned_is board c.part y.1.bit parts.2 in
           by_entry device (device_of board c.part device e) y.1 y.0 k.0 b.0 y.2 k.1 k.2 parts.1 b.1 b.2 x.0 x.1 (row.setting c) refl
@@ -206,7 +236,12 @@ module _ (board : RawBoard) (row : TestRow) (safe : IsSafe board row.setting) (r
       let d = device_of board k device e in
       latch_is board t chain k d.part device h d.at_k d.kind_is cell below
       ∙ ap (λ (o : Option Bool). unwrap_or o (steady_bit board row.setting k device cell)) (no_code (driving_cell device cell) refl)
-      ∙ ap (λ (y : Bool). cond y (cond (row.setting (record { part = k; cell = cell })) (not (unwrap_or (disable_of device cell) false)) (unwrap_or (disable_of device cell) false)) (unwrap_or (safe_bit device cell) false)) controls
+      ∙ ap
+      (λ (y : Bool). cond y
+      (cond (row.setting (record { part = k; cell = cell }))
+      (not (unwrap_or (disable_of device cell) false))
+      (unwrap_or (disable_of device cell) false)) (unwrap_or (safe_bit device cell) false))
+      controls
       ∙ ap (λ (o : Option Bool). unwrap_or o false) value
     where
       at : ℕ → PinAt
@@ -223,19 +258,51 @@ module _ (board : RawBoard) (row : TestRow) (safe : IsSafe board row.setting) (r
               let r = carries_code (record { part = k; bit = b }) p i e observing q in
               let f = found (λ y. (y.num == cell) && is_driving y.role) device.cells x z in
               let fx = and_parts (x.num == cell) (is_driving x.role) f.0 in
-              let one : is_at (record { part = k; bit = b }) (Some (record { part = k; bit = b })) ≡ true = ap (λ (y : Bool). y && (b == b)) (eq-eqb k k refl) ∙ eq-eqb b b refl in
+              let one : is_at (record { part = k; bit = b }) (Some (record { part = k; bit = b }))
+              ≡ true = ap (λ (y : Bool). y && (b == b)) (eq-eqb k k refl) ∙ eq-eqb b b refl in
               let pins : list_any (λ y. is_at (record { part = k; bit = b }) y.at) p.net.pins ≡ true =
-              any_at {X = NetPin} (λ y. is_at (record { part = k; bit = b }) y.at) p.net.pins p.place r.1.1.0 r.1.1.1 (ap (λ (o : Option PinAt). is_at (record { part = k; bit = b }) o) r.1.1.2 ∙ one) in
+              any_at {X = NetPin} (λ y. is_at (record { part = k; bit = b }) y.at) p.net.pins
+              p.place r.1.1.0 r.1.1.1
+              (ap (λ (o : Option PinAt). is_at (record { part = k; bit = b }) o) r.1.1.2 ∙ one)
+              in
               let test : (not (guarded board p.net) && list_any (λ y. is_at (record { part = k; bit = b }) y.at) p.net.pins) ≡ true =
               ap (λ (y : Bool). not y && list_any (λ y. is_at (record { part = k; bit = b }) y.at) p.net.pins) r.1.0 ∙ pins in
-              let nets : list_any (λ net. not (guarded board net) && list_any (λ y. is_at (record { part = k; bit = b }) y.at) net.pins) board.nets ≡ true =
-              any_at {X = Net} (λ net. not (guarded board net) && list_any (λ y. is_at (record { part = k; bit = b }) y.at) net.pins) board.nets p.number p.net r.1.2 test in
+              let nets : list_any
+              (λ net. not (guarded board net)
+              && list_any (λ y. is_at (record { part = k; bit = b }) y.at) net.pins)
+              board.nets ≡ true =
+              any_at {X = Net}
+              (λ net. not (guarded board net)
+              && list_any (λ y. is_at (record { part = k; bit = b }) y.at) net.pins) board.nets
+              p.number p.net r.1.2 test in
               let here : drives_unguarded board k cell x ≡ true =
-              ap (λ (y : Bool). y && is_driving x.role && unwrap_or (option_map (λ bit. list_any (λ net. not (guarded board net) && list_any (λ y. is_at (record { part = k; bit = bit }) y.at) net.pins) board.nets) x.bit) false) fx.0
-              ∙ ap (λ (y : Bool). y && unwrap_or (option_map (λ bit. list_any (λ net. not (guarded board net) && list_any (λ y. is_at (record { part = k; bit = bit }) y.at) net.pins) board.nets) x.bit) false) fx.1
-              ∙ ap (λ (o : Option ℕ). unwrap_or (option_map (λ bit. list_any (λ net. not (guarded board net) && list_any (λ y. is_at (record { part = k; bit = bit }) y.at) net.pins) board.nets) o) false) xb
+              ap
+              (λ (y : Bool). y && is_driving x.role
+              && unwrap_or
+              (option_map
+              (λ bit. list_any
+              (λ net. not (guarded board net)
+              && list_any (λ y. is_at (record { part = k; bit = bit }) y.at)
+              net.pins) board.nets) x.bit) false) fx.0
+              ∙ ap
+              (λ (y : Bool). y
+              && unwrap_or
+              (option_map
+              (λ bit. list_any
+              (λ net. not (guarded board net)
+              && list_any (λ y. is_at (record { part = k; bit = bit }) y.at)
+              net.pins) board.nets) x.bit) false) fx.1
+              ∙ ap
+              (λ (o : Option ℕ). unwrap_or
+              (option_map
+              (λ bit. list_any
+              (λ net. not (guarded board net)
+              && list_any (λ y. is_at (record { part = k; bit = bit }) y.at)
+              net.pins) board.nets) o) false) xb
               ∙ nets in
-              absurd (both_ways (list_any (drives_unguarded board k cell) device.cells) drives (any_at (drives_unguarded board k cell) device.cells f.1.0 x f.1.1 here))
+              absurd
+              (both_ways (list_any (drives_unguarded board k cell) device.cells) drives
+              (any_at (drives_unguarded board k cell) device.cells f.1.0 x f.1.1 here))
 
           by_driver : (b : ℕ) (p : Place) → x.bit ≡ Some b → place_of (record { part = k; bit = b }) 0 board.nets ≡ Some p →
               (o : Option ℕ) → observing_driver board row.setting p.net ≡ o → data_observed (row.carried p.number) p.place o ≡ None
@@ -253,9 +320,16 @@ module _ (board : RawBoard) (row : TestRow) (safe : IsSafe board row.setting) (r
 
 -- no net is contested between two moments that show rows of one pass
 pub uncontested : (board : RawBoard) (setting : Enabling) → IsSafe board setting → (now next : List PinState) →
-    ((n : ℕ) (net : Net) (i : ℕ) (p : NetPin) → slice_get board.nets n ≡ Some net → slice_get net.pins i ≡ Some p → live board now p ≡ true → enables board setting p ≡ true) →
-    ((n : ℕ) (net : Net) (i : ℕ) (p : NetPin) → slice_get board.nets n ≡ Some net → slice_get net.pins i ≡ Some p → live board next p ≡ true → enables board setting p ≡ true) → IsUncontested board now next
-uncontested board setting safe now next f g n net i j p q en ep eq ne lp lq = safe.one n net i j p q en ep eq ne (on i p ep (live board now p) (live board next p) refl refl lp) (on j q eq (live board now q) (live board next q) refl refl lq)
+    ((n : ℕ) (net : Net) (i : ℕ) (p : NetPin) → slice_get board.nets n ≡ Some net
+    → slice_get net.pins i ≡ Some p → live board now p ≡ true
+    → enables board setting p ≡ true) →
+    ((n : ℕ) (net : Net) (i : ℕ) (p : NetPin) → slice_get board.nets n ≡ Some net
+    → slice_get net.pins i ≡ Some p → live board next p ≡ true
+    → enables board setting p ≡ true) → IsUncontested board now next
+uncontested board setting safe now next f g n net i j p q en ep eq ne lp lq =
+    safe.one n net i j p q en ep eq ne
+    (on i p ep (live board now p) (live board next p) refl refl lp)
+    (on j q eq (live board now q) (live board next q) refl refl lq)
   where
     on : (i : ℕ) (p : NetPin) → slice_get net.pins i ≡ Some p → (x y : Bool) → live board now p ≡ x → live board next p ≡ y →
         (x || y) ≡ true → enables board setting p ≡ true

@@ -45,7 +45,10 @@ beside board driver m (p ∷ ps) e = go (beside board driver (suc m) ps) (not (m
     flip : (m == driver) ≡ false → (driver == (m + 0)) ≡ false
     flip q = grind arith
 
-    go : (reads_beside board driver (suc m) ps ≡ true → (i : ℕ) × (p : NetPin) × (slice_get ps i ≡ Some p) × (receives board p ≡ true) × ((driver == (suc m + i)) ≡ false)) →
+    go :
+        (reads_beside board driver (suc m) ps ≡ true
+        → (i : ℕ) × (p : NetPin) × (slice_get ps i ≡ Some p) × (receives board p ≡ true)
+        × ((driver == (suc m + i)) ≡ false)) →
         (b : Bool) → (not (m == driver) && receives board p) ≡ b → (b || reads_beside board driver (suc m) ps) ≡ true →
         (i : ℕ) × (q : NetPin) × (slice_get (p ∷ ps) i ≡ Some q) × (receives board q ≡ true) × ((driver == (m + i)) ≡ false)
     go ih true q h = let r = and_parts (not (m == driver)) (receives board p) q in (0, p, refl, r.1, flip (not-true (m == driver) r.0))
@@ -66,18 +69,24 @@ compared_by board setting n net d i p pi observing r other read (apart a) =
     let z : receives_where board None ≡ true = sym (ap (λ (o : Option PinAt). receives_where board o) a) ∙ r in cc z
 compared_by board setting n net d i p pi observing r other read (placed at part device a ek ed wired pinned place) =
     let here : receives_where board (Some at) ≡ true = sym (ap (λ (o : Option PinAt). receives_where board o) a) ∙ r in
-    let dev : device_at board at.part ≡ Some device = ap (λ (o : Option Part). option_and_then (λ q. described q.kind) o) ek ∙ ap described ed in
-    let z : receives_bit device at.bit (slice_get device.bits at.bit) ≡ true = sym (ap (λ (o : Option RawDevice). receives_in o at.bit) dev) ∙ here in
+    let dev : device_at board at.part
+    ≡ Some device = ap (λ (o : Option Part). option_and_then (λ q. described q.kind) o) ek
+    ∙ ap described ed in
+    let z : receives_bit device at.bit (slice_get device.bits at.bit)
+    ≡ true = sym (ap (λ (o : Option RawDevice). receives_in o at.bit) dev) ∙ here in
     let any : list_any (reads_bit at.bit) device.cells ≡ true = entry_of device at.bit (slice_get device.bits at.bit) z in
     let e = any_is (reads_bit at.bit) device.cells any in
     let parts = and_parts (is_on at.bit e.1.bit) (is_receiving e.1.role) e.3 in
     let rules : IsRead device = read part device at.part ek ed in
     let test : Cell → Bool = λ c. (c.num == e.1.num) && is_reading c.role in
-    let passes : test e.1 ≡ true = ap (λ (b : Bool). b && is_reading e.1.role) (eq-eqb e.1.num e.1.num refl) ∙ receiving_reads e.1.role parts.1 in
+    let passes : test e.1
+    ≡ true = ap (λ (b : Bool). b && is_reading e.1.role) (eq-eqb e.1.num e.1.num refl)
+    ∙ receiving_reads e.1.role parts.1 in
     let y = find_some test device.cells e.0 e.1 e.2 passes in
     let f = found test device.cells y.0 y.1 in
     let fy = and_parts (y.0.num == e.1.num) (is_reading y.0.role) f.0 in
-    let same : y.0 ≡ e.1 = rules.one_reader e.0 f.1.0 e.1 y.0 e.2 (receiving_reads e.1.role parts.1) f.1.1 fy.1 (eqb-true y.0.num e.1.num fy.0) in (
+    let same : y.0 ≡ e.1 = rules.one_reader e.0 f.1.0 e.1 y.0 e.2 (receiving_reads e.1.role parts.1)
+    f.1.1 fy.1 (eqb-true y.0.num e.1.num fy.0) in (
       record {
         k = at.part;
         part = part;
@@ -114,7 +123,9 @@ beside_observing board setting net d e = go (guarded board net) e
   where
     inner : (o : Option ℕ) → observing_driver_by board net o ≡ Some d → reads_beside board d 0 net.pins ≡ true
     inner None q = cc q
-    inner (Some i) q = let r = none_if (reads_beside board i 0 net.pins) i d q in subst (λ (x : ℕ). reads_beside board x 0 net.pins ≡ true) r.1 r.0
+    inner (Some i) q =
+        let r = none_if (reads_beside board i 0 net.pins) i d q in
+        subst (λ (x : ℕ). reads_beside board x 0 net.pins ≡ true) r.1 r.0
 
     go : (b : Bool) → cond b None (observing_driver_by board net (first_enabled board setting 0 net.pins)) ≡ Some d →
         reads_beside board d 0 net.pins ≡ true
@@ -122,7 +133,9 @@ beside_observing board setting net d e = go (guarded board net) e
     go false q = inner (first_enabled board setting 0 net.pins) q
 
 abbrev pub AllRead : RawBoard → Type 0
-AllRead board = (part : Part) (device : RawDevice) (k : ℕ) → slice_get board.chain k ≡ Some part → part.kind ≡ Described device → IsRead device
+AllRead board =
+    (part : Part) (device : RawDevice) (k : ℕ) → slice_get board.chain k ≡ Some part
+    → part.kind ≡ Described device → IsRead device
 
 -- an observed net has a compared cell
 pub compared : (board : RawBoard) (setting : Enabling) (n : ℕ) (net : Net) (d : ℕ) → AllRead board → NetRules board n net →
@@ -130,10 +143,12 @@ pub compared : (board : RawBoard) (setting : Enabling) (n : ℕ) (net : Net) (d 
 compared board setting n net d read rules observing =
     let b = beside board d 0 net.pins (beside_observing board setting net d observing) in
     let z : 0 + b.0 ≡ b.0 = omega arith in
-    (compared_by board setting n net d b.0 b.1 b.2 observing b.3 (subst (λ (x : ℕ). (d == x) ≡ false) z b.4) read (rules.pins b.0 b.1 b.2)).0
+    (compared_by board setting n net d b.0 b.1 b.2 observing b.3
+    (subst (λ (x : ℕ). (d == x) ≡ false) z b.4) read (rules.pins b.0 b.1 b.2)).0
 
 -- each receiver of an observed net has a compared cell, except at the pin of the enabled driver
 pub compared_at : (board : RawBoard) (setting : Enabling) (n : ℕ) (net : Net) (d i : ℕ) (p : NetPin) → AllRead board →
     NetRules board n net → observing_driver board setting net ≡ Some d → slice_get net.pins i ≡ Some p → receives board p ≡ true →
     (d == i) ≡ false → (c : Compared board setting n net) × (c.place ≡ i)
-compared_at board setting n net d i p read rules observing e r other = compared_by board setting n net d i p e observing r other read (rules.pins i p e)
+compared_at board setting n net d i p read rules observing e r other =
+    compared_by board setting n net d i p e observing r other read (rules.pins i p e)

@@ -67,19 +67,23 @@ passes_by [] row cap h = refl
 passes_by (b ∷ bits) [] cap h = uncompared_passes (b ∷ bits) cap
 passes_by (b ∷ bits) (r ∷ row) [] h = refl
 passes_by (b ∷ bits) (r ∷ row) (c ∷ cap) h =
-    and_from (bit_passes (cond (is_some b.expect) (Some r) None) c) (scan_passes (bits_by_log bits row) cap) (from_bit b.expect r c h.0) (passes_by bits row cap h.1)
+    and_from (bit_passes (cond (is_some b.expect) (Some r) None) c)
+    (scan_passes (bits_by_log bits row) cap) (from_bit b.expect r c h.0)
+    (passes_by bits row cap h.1)
 
 agree_at_same : (o : Option Bool) (x y z : Bool) → AgreeAt o x z → AgreeAt o y z → AgreeAt o x y
 agree_at_same None x y z h k = tt
 agree_at_same (Some v) x y z h k = h ∙ sym k
 
 -- two rows that agree with the same capture agree with each other, if the capture is as long as the scan
-agree_same : (bits : List ScanBit) (xs ys zs : List Bool) → length bits ≡ length zs → AgreeWhereCompared bits xs zs → AgreeWhereCompared bits ys zs → AgreeWhereCompared bits xs ys
+agree_same : (bits : List ScanBit) (xs ys zs : List Bool) → length bits ≡ length zs
+    → AgreeWhereCompared bits xs zs → AgreeWhereCompared bits ys zs → AgreeWhereCompared bits xs ys
 agree_same [] xs ys zs l h k = tt
 agree_same (b ∷ bits) [] ys zs l h k = tt
 agree_same (b ∷ bits) (x ∷ xs) [] zs l h k = tt
 agree_same (b ∷ bits) (x ∷ xs) (y ∷ ys) [] l h k = absurd (omega (arith, l))
-agree_same (b ∷ bits) (x ∷ xs) (y ∷ ys) (z ∷ zs) l h k = (agree_at_same b.expect x y z h.0 k.0, agree_same bits xs ys zs (omega (arith, l)) h.1 k.1)
+agree_same (b ∷ bits) (x ∷ xs) (y ∷ ys) (z ∷ zs) l h k =
+    (agree_at_same b.expect x y z h.0 k.0, agree_same bits xs ys zs (omega (arith, l)) h.1 k.1)
 
 module _ (board : RawBoard) (faults : FaultSet) where
   abbrev Captures : RowScan → List Bool → Type 0
@@ -104,13 +108,21 @@ module _ (board : RawBoard) (faults : FaultSet) where
   split (t ∷ ts) row [] follow h = no_rows (compared_scans board (t ∷ ts))
   split (t ∷ ts) row (r ∷ log) follow h = by_test (λ more. split ts t.now more follow.1) (compares (joined (row_bits board t))) h
     where
-      by_test : ((more : List (List Bool)) → CapturesPass board faults t.now ts (scans_by_log (map statement ts) more) → Captured (compared_scans board ts) more) → (b : Bool) →
-          CapturesPass board faults row (t ∷ ts) (cond b (record { ir = false; bits = bits_by_log (joined (row_bits board t)) r } ∷ scans_by_log (map statement ts) log)
+      by_test :
+          ((more : List (List Bool))
+          → CapturesPass board faults t.now ts (scans_by_log (map statement ts) more)
+          → Captured (compared_scans board ts) more) → (b : Bool) →
+          CapturesPass board faults row (t ∷ ts)
+          (cond b
+          (record { ir = false; bits = bits_by_log (joined (row_bits board t)) r } ∷
+          scans_by_log (map statement ts) log)
           (record { ir = false; bits = uncompared (joined (row_bits board t)) } ∷ scans_by_log (map statement ts) (r ∷ log))) →
           Captured (cond b (t ∷ compared_scans board ts) (compared_scans board ts)) (r ∷ log)
       by_test ih true k = (
         λ choice. agrees (joined (row_bits board t)) r (row_captured board faults t.before choice)
-            (subst (λ (before : TestRow). scan_passes (bits_by_log (joined (row_bits board t)) r) (row_captured board faults before choice) ≡ true) (sym follow.0) (k.0 choice)),
+            (subst
+            (λ (before : TestRow). scan_passes (bits_by_log (joined (row_bits board t)) r)
+            (row_captured board faults before choice) ≡ true) (sym follow.0) (k.0 choice)),
         ih log k.1,
       )
       by_test ih false k = ih (r ∷ log) k.1
@@ -118,22 +130,36 @@ module _ (board : RawBoard) (faults : FaultSet) where
   merge : (ts : List RowScan) (row : TestRow) (log : List (List Bool)) → Follow row ts → Captured (compared_scans board ts) log →
       CapturesPass board faults row ts (scans_by_log (map statement ts) log)
   merge [] row log follow h = tt
-  merge (t ∷ ts) row [] follow h = (λ choice. uncompared_passes (joined (row_bits board t)) (row_captured board faults row choice), merge ts t.now [] follow.1 (no_rows (compared_scans board ts)))
+  merge (t ∷ ts) row [] follow h = (
+    λ choice. uncompared_passes (joined (row_bits board t))
+        (row_captured board faults row choice),
+    merge ts t.now [] follow.1 (no_rows (compared_scans board ts)),
+  )
   merge (t ∷ ts) row (r ∷ log) follow h = by_test (λ more. merge ts t.now more follow.1) (compares (joined (row_bits board t))) h
     where
-      by_test : ((more : List (List Bool)) → Captured (compared_scans board ts) more → CapturesPass board faults t.now ts (scans_by_log (map statement ts) more)) → (b : Bool) →
+      by_test :
+          ((more : List (List Bool)) → Captured (compared_scans board ts) more
+          → CapturesPass board faults t.now ts (scans_by_log (map statement ts) more)) → (b : Bool)
+          →
           Captured (cond b (t ∷ compared_scans board ts) (compared_scans board ts)) (r ∷ log) →
-          CapturesPass board faults row (t ∷ ts) (cond b (record { ir = false; bits = bits_by_log (joined (row_bits board t)) r } ∷ scans_by_log (map statement ts) log)
+          CapturesPass board faults row (t ∷ ts)
+          (cond b
+          (record { ir = false; bits = bits_by_log (joined (row_bits board t)) r } ∷
+          scans_by_log (map statement ts) log)
           (record { ir = false; bits = uncompared (joined (row_bits board t)) } ∷ scans_by_log (map statement ts) (r ∷ log)))
       by_test ih true k = (
-        λ choice. subst (λ (before : TestRow). scan_passes (bits_by_log (joined (row_bits board t)) r) (row_captured board faults before choice) ≡ true) follow.0
+        λ choice. subst
+            (λ (before : TestRow). scan_passes (bits_by_log (joined (row_bits board t)) r)
+            (row_captured board faults before choice) ≡ true) follow.0
             (passes_by (joined (row_bits board t)) r (row_captured board faults t.before choice) (k.0 choice)),
         ih log k.1,
       )
       by_test ih false k = (λ choice. uncompared_passes (joined (row_bits board t)) (row_captured board faults row choice), ih (r ∷ log) k)
 
   abbrev Each : List RowScan → List (List Bool) → Type 0
-  Each cs log = (x : ℕ) (scan : RowScan) (logged : List Bool) → slice_get cs x ≡ Some scan → slice_get log x ≡ Some logged → Captures scan logged
+  Each cs log =
+      (x : ℕ) (scan : RowScan) (logged : List Bool) → slice_get cs x ≡ Some scan
+      → slice_get log x ≡ Some logged → Captures scan logged
 
   each_of : (cs : List RowScan) (log : List (List Bool)) → Captured cs log → Each cs log
   each_of [] log h x scan logged e f = cc e
@@ -150,9 +176,15 @@ module _ (board : RawBoard) (faults : FaultSet) where
   of_each (t ∷ cs) (r ∷ log) h = (h 0 t r refl refl, of_each cs log (λ x. h (suc x)))
 
 -- whatever the visible states are, the board gives each part as many bits as it has boundary cells
-wiring_fits : (board : RawBoard) (faults : FaultSet) (states : List PinState) (choice : Choice) → FitsPins (board_wiring board faults states choice) board.chain
+wiring_fits : (board : RawBoard) (faults : FaultSet) (states : List PinState) (choice : Choice)
+    → FitsPins (board_wiring board faults states choice) board.chain
 wiring_fits board faults states choice k p device e d =
-    ap (λ (o : Option Part). length (unwrap_or (option_map (λ q. captured_by board faults states choice.shorts (choice.parts k).cells k q.kind) o) [])) e
+    ap
+    (λ (o : Option Part). length
+    (unwrap_or
+    (option_map
+    (λ q. captured_by board faults states choice.shorts (choice.parts k).cells k
+    q.kind) o) [])) e
     ∙ ap (λ (kind : PartKind). length (captured_by board faults states choice.shorts (choice.parts k).cells k kind)) d
     ∙ length-filled device.boundary _
 
@@ -162,35 +194,51 @@ module _ (board : RawBoard) (rules : IsBoard board) (faults : FaultSet) (scans :
       each_of board faults (compared_scans board scans) log
       (split board faults scans quiet_row log follow ((log_captured board rules faults scans log).0 h.passes)) x scan logged e f choice
 
-  explained_rows : (log : List (List Bool)) → HasShape board scans log → IsCapturedBy board faults scans log → ExplainedBy board faults scans log
+  explained_rows : (log : List (List Bool)) → HasShape board scans log
+      → IsCapturedBy board faults scans log → ExplainedBy board faults scans log
   explained_rows log shape h = record {
     shape = shape;
     passes = (log_captured board rules faults scans log).1
-        (merge board faults scans quiet_row log follow (of_each board faults (compared_scans board scans) log (λ x scan logged e f choice. h x scan logged choice e f)));
+        (merge board faults scans quiet_row log follow
+        (of_each board faults (compared_scans board scans) log
+        (λ x scan logged e f choice. h x scan logged choice e f)));
   }
 
   -- faults explain a log if and only if the log has the shape for the scans and its rows have the bits that are captured
   -- under the faults
-  pub explained_by_rows : (log : List (List Bool)) → ExplainedBy board faults scans log ↔ (HasShape board scans log × IsCapturedBy board faults scans log)
+  pub explained_by_rows : (log : List (List Bool))
+      → ExplainedBy board faults scans log
+      ↔ (HasShape board scans log × IsCapturedBy board faults scans log)
   explained_by_rows log = (λ h. (h.shape, captured_rows log h), λ h. explained_rows log h.0 h.1)
 
   -- a scan captures as many bits as it has
   captures_all : (t : RowScan) (choice : Choice) → length (joined (row_bits board t)) ≡ length (row_captured board faults t.before choice)
   captures_all t choice =
       length-joined (row_bits board t) (registers (board_wiring board faults (row_states board t.before) choice) board.chain)
-      (bits_fit board t 0 board.chain (board_wiring board faults (row_states board t.before) choice) (wiring_fits board faults (row_states board t.before) choice))
+      (bits_fit board t 0 board.chain (board_wiring board faults (row_states board t.before) choice)
+      (wiring_fits board faults (row_states board t.before) choice))
 
   abbrev some_choice : Choice
-  some_choice = record { parts = λ k. record { ir = λ i. false; cells = λ i. false; latches = λ i. false; tdo = false; other = false }; shorts = λ k. false; tdi = false }
+  some_choice =
+      record {
+        parts = λ k. record
+            { ir = λ i. false; cells = λ i. false; latches = λ i. false; tdo = false; other = false };
+        shorts = λ k. false;
+        tdi = false;
+      }
 
   -- two logs that the faults explain agree wherever bits are compared
-  pub logs_agree : (log other : List (List Bool)) → ExplainedBy board faults scans log → ExplainedBy board faults scans other → AgreeOn board scans log other
+  pub logs_agree : (log other : List (List Bool)) → ExplainedBy board faults scans log
+      → ExplainedBy board faults scans other → AgreeOn board scans log other
   logs_agree log other h k x scan logged second e f g =
-      agree_same (joined (row_bits board scan)) logged second (row_captured board faults scan.before some_choice) (captures_all scan some_choice)
+      agree_same (joined (row_bits board scan)) logged second
+      (row_captured board faults scan.before some_choice) (captures_all scan some_choice)
       (captured_rows log h x scan logged some_choice e f) (captured_rows other k x scan second some_choice e g)
 
   -- if no open pin is on a shorted net, the faults explain some log
-  module _ (is_set : IsFaultSet board faults) (no_open : NoOpenShorted faults) (safe : (x : ℕ) (scan : RowScan) → slice_get (compared_scans board scans) x ≡ Some scan → IsSafe board scan.before.setting) where
+  module _ (is_set : IsFaultSet board faults) (no_open : NoOpenShorted faults)
+      (safe : (x : ℕ) (scan : RowScan) → slice_get (compared_scans board scans) x ≡ Some scan
+      → IsSafe board scan.before.setting) where
     abbrev captured_log : List (List Bool)
     captured_log = map (λ t. row_captured board faults t.before some_choice) (compared_scans board scans)
 
@@ -200,7 +248,9 @@ module _ (board : RawBoard) (rules : IsBoard board) (faults : FaultSet) (scans :
       bits = All-from_recursion (λ (row : List Bool). length row ≡ data_bits board) captured_log (all_long (compared_scans board scans));
     }
       where
-        all_long : (cs : List RowScan) → AllByRecursion (λ (row : List Bool). length row ≡ data_bits board) (map (λ t. row_captured board faults t.before some_choice) cs)
+        all_long : (cs : List RowScan)
+            → AllByRecursion (λ (row : List Bool). length row ≡ data_bits board)
+            (map (λ t. row_captured board faults t.before some_choice) cs)
         all_long [] = tt
         all_long (t ∷ cs) = (sym (captures_all t some_choice) ∙ length-row_bits board t, all_long cs)
 
@@ -213,7 +263,9 @@ module _ (board : RawBoard) (rules : IsBoard board) (faults : FaultSet) (scans :
             sym (ap (λ (o : Option RowScan). option_map (λ t. row_captured board faults t.before some_choice) o) e)
             ∙ sym (slice_get-map (λ t. row_captured board faults t.before some_choice) (compared_scans board scans) x) ∙ f in
             let same : row_captured board faults scan.before some_choice ≡ logged = cc row in
-            subst (λ (l : List Bool). AgreeWhereCompared (joined (row_bits board scan)) l (row_captured board faults scan.before choice)) same
+            subst
+            (λ (l : List Bool). AgreeWhereCompared (joined (row_bits board scan)) l
+            (row_captured board faults scan.before choice)) same
             (one_response board faults scan rules is_set no_open (safe x scan e) some_choice choice)
 
 -- the row that the last of these scans shifted in, or the given row if there are no scans
@@ -225,7 +277,9 @@ follow_append : (ts us : List RowScan) (row : TestRow) → Follow row ts → Fol
 follow_append [] us row h k = k
 follow_append (t ∷ ts) us row h k = (h.0, follow_append ts us t.now h.1 k)
 
-pass_follows : (rows : ℕ → TestRow) (more j : ℕ) (before : TestRow) → Follow before (pass_scans rows more j before) × (last_row (pass_scans rows more j before) before ≡ quiet_row)
+pass_follows : (rows : ℕ → TestRow) (more j : ℕ) (before : TestRow)
+    → Follow before (pass_scans rows more j before)
+    × (last_row (pass_scans rows more j before) before ≡ quiet_row)
 pass_follows rows zero j before = ((refl, tt), refl)
 pass_follows rows (suc more) j before = let r = pass_follows rows more (suc j) (rows j) in ((refl, r.0), r.1)
 
@@ -236,7 +290,8 @@ rows_follow rows width (p ∷ ps) =
     follow_append (pass_scans (rows p) width 0 quiet_row) (row_scans rows width ps) quiet_row r.0
     (subst (λ (row : TestRow). Follow row (row_scans rows width ps)) (sym r.1) (rows_follow rows width ps))
 
-kept_each : {A : Type 0} (test : A → Bool) (P : A → Type 0) (xs : List A) → ((i : ℕ) (x : A) → slice_get xs i ≡ Some x → test x ≡ true → P x) →
+kept_each : {A : Type 0} (test : A → Bool) (P : A → Type 0) (xs : List A)
+    → ((i : ℕ) (x : A) → slice_get xs i ≡ Some x → test x ≡ true → P x) →
     (j : ℕ) (x : A) → slice_get (filter test xs) j ≡ Some x → P x
 kept_each test P [] h j x e = cc e
 kept_each {A} test P (y ∷ xs) h j x e = by_test (kept_each test P xs (λ i. h (suc i))) (test y) refl j e
@@ -264,23 +319,34 @@ module _ (board : RawBoard) (rows : List Ctl → ℕ → TestRow) (width : ℕ) 
   each_at (u ∷ ts) h zero t e = let same : u ≡ t = cc e in subst Before same h.0
   each_at (u ∷ ts) h (suc i) t e = each_at ts h.1 i t e
 
-  in_pass : (pass : List Ctl) → ((j : ℕ) → IsSafe board (rows pass j).setting) → (more j : ℕ) (before : TestRow) → (before ≡ quiet_row) ⊎ IsSafe board before.setting →
+  in_pass : (pass : List Ctl) → ((j : ℕ) → IsSafe board (rows pass j).setting)
+      → (more j : ℕ) (before : TestRow) → (before ≡ quiet_row) ⊎ IsSafe board before.setting →
       AllBefore (pass_scans (rows pass) more j before)
   in_pass pass safe zero j before h = (h, tt)
   in_pass pass safe (suc more) j before h = (h, in_pass pass safe more (suc j) (rows pass j) (inr (safe j)))
 
-  in_passes : (passes : List (List Ctl)) → ((x : ℕ) (pass : List Ctl) → slice_get passes x ≡ Some pass → (j : ℕ) → IsSafe board (rows pass j).setting) →
+  in_passes : (passes : List (List Ctl))
+      → ((x : ℕ) (pass : List Ctl) → slice_get passes x ≡ Some pass → (j : ℕ)
+      → IsSafe board (rows pass j).setting) →
       AllBefore (row_scans rows width passes)
   in_passes [] safe = tt
   in_passes (p ∷ ps) safe =
-      each_append (pass_scans (rows p) width 0 quiet_row) (row_scans rows width ps) (in_pass p (safe 0 p refl) width 0 quiet_row (inl refl)) (in_passes ps (λ x. safe (suc x)))
+      each_append (pass_scans (rows p) width 0 quiet_row) (row_scans rows width ps)
+      (in_pass p (safe 0 p refl) width 0 quiet_row (inl refl))
+      (in_passes ps (λ x. safe (suc x)))
 
-  pub in_turn : (passes : List (List Ctl)) → ((x : ℕ) (pass : List Ctl) → slice_get passes x ≡ Some pass → (j : ℕ) → IsSafe board (rows pass j).setting) →
+  pub in_turn : (passes : List (List Ctl))
+      → ((x : ℕ) (pass : List Ctl) → slice_get passes x ≡ Some pass → (j : ℕ)
+      → IsSafe board (rows pass j).setting) →
       AreInTurn board (row_scans rows width passes)
   in_turn passes safe = record {
     follow = rows_follow rows width passes;
     safe = kept_each (λ t. compares (joined (row_bits board t))) (λ t. IsSafe board t.before.setting) (row_scans rows width passes)
-        (λ i t e on. elim (each_at (row_scans rows width passes) (in_passes passes safe) i t e) [ inl quiet ↦ absurd (both_ways (compares (joined (row_bits board t))) (silent t quiet) on) | inr s ↦ s ]);
+        (λ i t e on. elim (each_at (row_scans rows width passes) (in_passes passes safe) i t e) [
+          | inl quiet ↦ absurd
+              (both_ways (compares (joined (row_bits board t))) (silent t quiet) on)
+          | inr s ↦ s
+        ]);
   }
     where
       silent : (t : RowScan) → t.before ≡ quiet_row → compares (joined (row_bits board t)) ≡ false
@@ -289,15 +355,20 @@ module _ (board : RawBoard) (rows : List Ctl → ℕ → TestRow) (width : ℕ) 
           ∙ silent_compares (joined (row_bits board (record { now = t.now; before = quiet_row }))) (quiet_silent board t.now 0 board.chain)
 
 pub passes_in_turn : (board : RawBoard) (passes : List (List Ctl)) (width : ℕ) →
-    ((x : ℕ) (pass : List Ctl) → slice_get passes x ≡ Some pass → IsSafe board (holds pass)) → AreInTurn board (row_scans (code_row board passes) width passes)
+    ((x : ℕ) (pass : List Ctl) → slice_get passes x ≡ Some pass → IsSafe board (holds pass))
+    → AreInTurn board (row_scans (code_row board passes) width passes)
 passes_in_turn board passes width safe = in_turn board (code_row board passes) width passes (λ x pass e j. safe x pass e)
 
 pub walk_in_turn : (board : RawBoard) (walk : List Ctl) → IsSafe board (holds walk) → AreInTurn board (walk_row_scans board walk)
-walk_in_turn board walk safe = in_turn board (walk_row board) (count_by (is_walked board walk) board.nets) (walk ∷ []) (λ x pass e j. only x pass e)
+walk_in_turn board walk safe =
+    in_turn board (walk_row board) (count_by (is_walked board walk) board.nets) (walk ∷ [])
+    (λ x pass e j. only x pass e)
   where
     only : (x : ℕ) (pass : List Ctl) → slice_get (walk ∷ []) x ≡ Some pass → IsSafe board (holds pass)
     only zero pass e = let same : walk ≡ pass = cc e in subst (λ (q : List Ctl). IsSafe board (holds q)) same safe
     only (suc x) pass e = cc e
 
 pub own_in_turn : (board : RawBoard) → IsBoard board → AreInTurn board (svf_row_scans board)
-own_in_turn board rules = passes_in_turn board (passes_of board) (code_width (observed_count board (passes_of board))) (passes_kept board rules).safe
+own_in_turn board rules =
+    passes_in_turn board (passes_of board) (code_width (observed_count board (passes_of board)))
+    (passes_kept board rules).safe

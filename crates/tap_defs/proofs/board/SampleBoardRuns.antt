@@ -23,13 +23,35 @@ use Rattle.tap_defs.proofs.board.SampleBoards.{drv, rcv, pin, net, board, wires}
 
 -- a state of the board's chain in which the two parts are in different TAP states
 abbrev driving : PartState
-driving = record { tap = PauseDR; ir = on ∷ off ∷ []; current = Extest; boundary = on ∷ off ∷ []; bypass = on; identification = []; latches = off ∷ off ∷ [] }
+driving =
+    record {
+      tap = PauseDR;
+      ir = on ∷ off ∷ [];
+      current = Extest;
+      boundary = on ∷ off
+          ∷ [];
+      bypass = on;
+      identification = [];
+      latches = off ∷ off ∷ [];
+    }
 
 abbrev receiving : PartState
-receiving = record { tap = ShiftIR; ir = off ∷ on ∷ []; current = Other; boundary = on ∷ on ∷ []; bypass = off; identification = []; latches = on ∷ off ∷ [] }
+receiving =
+    record {
+      tap = ShiftIR;
+      ir = off ∷ on ∷ [];
+      current = Other;
+      boundary = on ∷ on
+          ∷ [];
+      bypass = off;
+      identification = [];
+      latches = on ∷ off ∷ [];
+    }
 
 abbrev chain : List ChainPart
-chain = record { logic = test_logic (Described drv); state = driving } ∷ record { logic = test_logic (Described rcv); state = receiving } ∷ []
+chain =
+    record { logic = test_logic (Described drv); state = driving }
+    ∷ record { logic = test_logic (Described rcv); state = receiving } ∷ []
 
 start : IsBoardChain wires chain
 start = record {
@@ -92,7 +114,8 @@ unfolding tdos
 short_other = refl
 
 -- without its masks, the test does not find a stuck net
-masks_are_needed : FailOnBoard wires (set_of (StuckNet 0 off)) (test_clocks (map (λ (s : Scan). record s { bits = uncompared s.bits }) two_nets_scans)) → ⊥
+masks_are_needed : FailOnBoard wires (set_of (StuckNet 0 off))
+    (test_clocks (map (λ (s : Scan). record s { bits = uncompared s.bits }) two_nets_scans)) → ⊥
 unfolding tdos
 masks_are_needed fails = both_ways _ (fails chain choices start) refl
 
@@ -105,7 +128,11 @@ codes_from_one fails = both_ways _ (fails chain choices start) refl
 
 -- a test with the parts in the wrong order does not pass, and neither does a test that also compares the cell of an
 -- output
-parts_in_order : PassOnBoard wires no_faults (test_clocks (svf_scans (board (Described rcv ∷ Described drv ∷ []) (net (pin 1 0 ∷ pin 0 0 ∷ []) ∷ net (pin 1 1 ∷ pin 0 1 ∷ []) ∷ [])))) → ⊥
+parts_in_order : PassOnBoard wires no_faults
+    (test_clocks
+    (svf_scans
+    (board (Described rcv ∷ Described drv ∷ [])
+    (net (pin 1 0 ∷ pin 0 0 ∷ []) ∷ net (pin 1 1 ∷ pin 0 1 ∷ []) ∷ [])))) → ⊥
 unfolding tdos
 parts_in_order passes = both_ways _ refl (passes chain choices start)
 

@@ -85,7 +85,8 @@ buf2 = device
     (port_bit 4 None Inward (codes "1") false ∷ port_bit 5 (Some 1) Inward (codes "2") false ∷ port_bit 5 (Some 0) Inward (codes "3") false
     ∷ port_bit 6 (Some 1) Outward (codes "4") false ∷ port_bit 6 (Some 0) Outward (codes "5") false
     ∷ port_bit 7 None Linkage (codes "6") false ∷ port_bit 8 None Linkage (codes "7") false ∷ [])
-    (entry 4 Input 4 None ∷ control 4 ∷ entry 3 Input 5 None ∷ entry 2 Input 6 None ∷ entry 1 Output3 7 (by 4) ∷ entry 0 Output3 8 (by 4) ∷ []) 5
+    (entry 4 Input 4 None ∷ control 4 ∷ entry 3 Input 5 None ∷ entry 2 Input 6 None
+    ∷ entry 1 Output3 7 (by 4) ∷ entry 0 Output3 8 (by 4) ∷ []) 5
 
 -- the pin of part `k` at port bit `b`, and a pin of a part outside the chain
 abbrev pub pin_at_bit : ℕ → ℕ → NetPin

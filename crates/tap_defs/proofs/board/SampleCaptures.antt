@@ -34,7 +34,9 @@ drivers = board (Described ts ∷ Described drv ∷ Described od ∷ Described t
 -- for each of the four parts, whether its driver is live if cell 0 has the first of these latches and cell 1 the second
 abbrev live_of : Instruction → Bool → Bool → List Bool
 live_of instruction first second =
-    let states : List PinState = map (λ latches. shows instruction latches) ((first ∷ second ∷ []) ∷ (first ∷ second ∷ []) ∷ (first ∷ []) ∷ (first ∷ second ∷ []) ∷ []) in
+    let states : List PinState = map (λ latches. shows instruction latches)
+    ((first ∷ second ∷ []) ∷ (first ∷ second ∷ []) ∷ (first ∷ []) ∷ (first ∷ second ∷ []) ∷ [])
+    in
     map (λ k. live drivers states (pin k 0)) (0 ∷ 1 ∷ 2 ∷ 3 ∷ [])
 
 -- a driver is live if its control differs from the disable value, whatever the driver's bit is
@@ -48,7 +50,9 @@ live_own : live_of Extest on off ≡ true ∷ true ∷ false ∷ false ∷ []
 live_own = refl
 
 -- no driver is live under another instruction
-live_under_other : map (λ i. live_of i off off) (Sample ∷ Bypass ∷ Idcode ∷ Other ∷ []) ≡ map (λ (i : Instruction). false ∷ false ∷ false ∷ false ∷ []) (Sample ∷ Bypass ∷ Idcode ∷ Other ∷ [])
+live_under_other : map (λ i. live_of i off off) (Sample ∷ Bypass ∷ Idcode ∷ Other ∷ [])
+    ≡ map (λ (i : Instruction). false ∷ false ∷ false ∷ false ∷ [])
+    (Sample ∷ Bypass ∷ Idcode ∷ Other ∷ [])
 live_under_other = refl
 
 -- the visible states of two three-state drivers and a receiver on one net, with these latches of the drivers' controls, and
@@ -113,13 +117,16 @@ abbrev bus_bit : Option Bool → FaultSet → Bool → Bool → List (Option Boo
 bus_bit pull faults first second = net_bits on (pulled_bus pull []) faults (states_of first second Extest)
 
 -- if the live driver is open, the net has its pull, else the constant of the driver
-open_to_pull : map (λ constant. bus_bit (Some off) (opened 0 0 constant no_faults) off on) (off ∷ on ∷ []) ≡ (Some off ∷ []) ∷ (Some off ∷ []) ∷ []
+open_to_pull : map (λ constant. bus_bit (Some off) (opened 0 0 constant no_faults) off on)
+    (off ∷ on ∷ []) ≡ (Some off ∷ []) ∷ (Some off ∷ []) ∷ []
 open_to_pull = refl
 
-open_to_high_pull : map (λ constant. bus_bit (Some on) (opened 0 0 constant no_faults) off on) (off ∷ on ∷ []) ≡ (Some on ∷ []) ∷ (Some on ∷ []) ∷ []
+open_to_high_pull : map (λ constant. bus_bit (Some on) (opened 0 0 constant no_faults) off on)
+    (off ∷ on ∷ []) ≡ (Some on ∷ []) ∷ (Some on ∷ []) ∷ []
 open_to_high_pull = refl
 
-open_to_constant : map (λ constant. bus_bit None (opened 0 0 constant no_faults) off on) (off ∷ on ∷ []) ≡ (Some off ∷ []) ∷ (Some on ∷ []) ∷ []
+open_to_constant : map (λ constant. bus_bit None (opened 0 0 constant no_faults) off on)
+    (off ∷ on ∷ []) ≡ (Some off ∷ []) ∷ (Some on ∷ []) ∷ []
 open_to_constant = refl
 
 -- An open driver that is off changes nothing while the other driver is on. If two drivers are live and one of them is open, the net stays
@@ -228,17 +235,22 @@ three_and : all_three And (three None None None) (Some on) (Some off) (Some on) 
 three_and = refl
 
 -- a net that is not in the short keeps its bit
-third_apart : net_bits on (three None None None) (shorted 2 And) (three_give (Some on) (Some off) (Some on)) ≡ Some off ∷ Some off ∷ Some on ∷ []
+third_apart : net_bits on (three None None None) (shorted 2 And)
+    (three_give (Some on) (Some off) (Some on)) ≡ Some off ∷ Some off ∷ Some on ∷ []
 third_apart = refl
 
 -- if the driver of a shorted net is open, the net is not driven, and the constant of the driver does not count
-open_in_short : net_bits on (three None None None) (opened 0 0 off (shorted 2 And)) (three_give (Some off) (Some on) None) ≡ Some on ∷ Some on ∷ None ∷ []
+open_in_short : net_bits on (three None None None) (opened 0 0 off (shorted 2 And))
+    (three_give (Some off) (Some on) None) ≡ Some on ∷ Some on ∷ None ∷ []
 open_in_short = refl
 
-open_short_pulled : net_bits on (three (Some off) None None) (opened 0 0 on (shorted 2 Or)) (three_give (Some on) None None) ≡ Some off ∷ Some off ∷ None ∷ []
+open_short_pulled : net_bits on (three (Some off) None None) (opened 0 0 on (shorted 2 Or))
+    (three_give (Some on) None None) ≡ Some off ∷ Some off ∷ None ∷ []
 open_short_pulled = refl
 
-open_short_free : map (λ bit. net_bits bit (three None None None) (opened 0 0 on (shorted 2 Or)) (three_give (Some on) None None)) (off ∷ on ∷ []) ≡
+open_short_free : map
+    (λ bit. net_bits bit (three None None None) (opened 0 0 on (shorted 2 Or))
+    (three_give (Some on) None None)) (off ∷ on ∷ []) ≡
     (Some off ∷ Some off ∷ None ∷ []) ∷ (Some on ∷ Some on ∷ None ∷ []) ∷ []
 open_short_free = refl
 
@@ -254,7 +266,9 @@ short_not_ruled = refl
 abbrev crowded : RawBoard
 crowded = record (three None None None) { nets = net (pin 0 0 ∷ pin 1 0 ∷ pin 3 0 ∷ []) ∷ net (pin 2 0 ∷ pin 3 1 ∷ []) ∷ [] }
 
-short_contended : map (λ bit. net_bits bit crowded (shorted 2 And) (three_give (Some on) (Some on) (Some on))) (off ∷ on ∷ []) ≡ (Some off ∷ Some off ∷ []) ∷ (Some on ∷ Some on ∷ []) ∷ []
+short_contended : map
+    (λ bit. net_bits bit crowded (shorted 2 And) (three_give (Some on) (Some on) (Some on)))
+    (off ∷ on ∷ []) ≡ (Some off ∷ Some off ∷ []) ∷ (Some on ∷ Some on ∷ []) ∷ []
 short_contended = refl
 
 -- the bits that the boundary cells of a part capture if every free bit is `free`
@@ -295,10 +309,12 @@ bidir_reads : captures_by meeting no_faults second_on 0 ≡ (on ∷ off ∷ []) 
 bidir_reads = refl
 
 -- an open pin reads its constant while it does not drive, and a free bit while it drives
-open_reads : map (λ constant. captures meeting (opened 0 0 constant no_faults) second_on 0 on) (off ∷ on ∷ []) ≡ (off ∷ on ∷ []) ∷ (on ∷ on ∷ []) ∷ []
+open_reads : map (λ constant. captures meeting (opened 0 0 constant no_faults) second_on 0 on)
+    (off ∷ on ∷ []) ≡ (off ∷ on ∷ []) ∷ (on ∷ on ∷ []) ∷ []
 open_reads = refl
 
-open_drives : map (λ free. captures meeting (opened 0 0 off no_faults) first_on 0 free) (off ∷ on ∷ []) ≡ (off ∷ off ∷ []) ∷ (on ∷ on ∷ []) ∷ []
+open_drives : map (λ free. captures meeting (opened 0 0 off no_faults) first_on 0 free)
+    (off ∷ on ∷ []) ≡ (off ∷ off ∷ []) ∷ (on ∷ on ∷ []) ∷ []
 open_drives = refl
 
 -- A receiver reads the constant of an open driver, and the bit of a stuck net. If the receiver is open, it reads its own constant, even
@@ -316,8 +332,11 @@ reads_stuck = refl
 -- capture free bits. The nets carry 1.
 abbrev readers : RawDevice
 readers = device
-    (port_bit 4 None Inward (codes "1") false ∷ port_bit 5 None Inward (codes "2") false ∷ port_bit 6 None Outward (codes "3") false ∷ port_bit 7 None Inward (codes "4") false ∷ [])
-    (entry 0 Clock 4 None ∷ entry 1 ObserveOnly 5 None ∷ entry 2 Input 6 None ∷ entry 3 Output3 6 (by 4) ∷ control 4 ∷ entry 5 Input 7 None ∷ []) 6
+    (port_bit 4 None Inward (codes "1") false ∷ port_bit 5 None Inward (codes "2") false
+    ∷ port_bit 6 None Outward (codes "3") false ∷ port_bit 7 None Inward (codes "4") false
+    ∷ [])
+    (entry 0 Clock 4 None ∷ entry 1 ObserveOnly 5 None ∷ entry 2 Input 6 None
+    ∷ entry 3 Output3 6 (by 4) ∷ control 4 ∷ entry 5 Input 7 None ∷ []) 6
 
 abbrev reading : RawBoard
 reading = board (Described drv ∷ Described readers ∷ []) (net (pin 0 0 ∷ pin 1 0 ∷ pin 1 1 ∷ []) ∷ net (pin 0 1 ∷ pin 1 2 ∷ []) ∷ [])

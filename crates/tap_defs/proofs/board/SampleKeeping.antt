@@ -37,9 +37,11 @@ kept num role bit safe ctl = record { num = num; role = role; bit = bit; safe = 
 abbrev pub keeper : RawDevice
 keeper = device
     (port_bit 4 None Outward (codes "1") false ∷ port_bit 5 None Outward (codes "2") false ∷ port_bit 6 None Inward (codes "3") false
-    ∷ record (port_bit 7 None Outward [] false) { pin = None } ∷ port_bit 8 None Outward (codes "4") false ∷ port_bit 9 None Outward (codes "5") false ∷ [])
+    ∷ record (port_bit 7 None Outward [] false) { pin = None } ∷ port_bit 8 None Outward (codes "4")
+    false ∷ port_bit 9 None Outward (codes "5") false ∷ [])
     (kept 0 Output2 (Some 4) One None ∷ kept 1 Internal None One None ∷ kept 2 Internal None Zero None ∷ kept 3 ControlRole None One None
-    ∷ kept 4 Output3 (Some 5) One (by 5) ∷ kept 5 ControlRole None One None ∷ kept 6 Input (Some 6) One None ∷ kept 7 Output3 (Some 7) Any (by 8)
+    ∷ kept 4 Output3 (Some 5) One (by 5) ∷ kept 5 ControlRole None One None
+    ∷ kept 6 Input (Some 6) One None ∷ kept 7 Output3 (Some 7) Any (by 8)
     ∷ kept 8 ControlRole None One None ∷ kept 9 Output2 (Some 8) One None ∷ kept 10 Output2 (Some 9) One None ∷ []) 11
 
 -- Pins 1 and 2 are on unguarded nets, pin 4 is on a dark net, and pin 5 is on no net.
@@ -52,7 +54,8 @@ cells = 0 ∷ 1 ∷ 2 ∷ 3 ∷ 4 ∷ 5 ∷ 6 ∷ 7 ∷ 8 ∷ 9 ∷ 10 ∷ []
 controlling : map (λ cell. list_any (controls_driver keeping 0 cell) keeper.cells) cells ≡ map (λ cell. cell == 5) cells
 controlling = refl
 
-driving_unguarded : map (λ cell. list_any (drives_unguarded keeping 0 cell) keeper.cells) cells ≡ true ∷ false ∷ false ∷ false ∷ true ∷ false ∷ false ∷ false ∷ false ∷ false ∷ false ∷ []
+driving_unguarded : map (λ cell. list_any (drives_unguarded keeping 0 cell) keeper.cells) cells
+    ≡ true ∷ false ∷ false ∷ false ∷ true ∷ false ∷ false ∷ false ∷ false ∷ false ∷ false ∷ []
 driving_unguarded = refl
 
 safe_bits : map (safe_bit keeper) cells ≡
@@ -90,7 +93,11 @@ driver_of_no_net keeps = let low : false ≡ true = keeps 0 10 keeper true refl 
 -- for each cell, whether it is a control that is on, with this bit in each latch: cell 5 if the bit is 0, and never cell 8,
 -- whose driver has no pin
 abbrev latched : Bool → List Bool
-latched bit = map (λ cell. latched_setting keeping (record { current = Extest; latches = map (λ k. bit) cells } ∷ []) (record { part = 0; cell = cell })) cells
+latched bit =
+    map
+    (λ cell. latched_setting keeping
+    (record { current = Extest; latches = map (λ k. bit) cells } ∷ [])
+    (record { part = 0; cell = cell })) cells
 
 latched_low : latched off ≡ map (λ cell. cell == 5) cells
 latched_low = refl
@@ -143,7 +150,9 @@ one_sided_unsafe (inr all) = no_switch (all.1.own (record { part = 0; bit = 4 })
 
 -- chains of two parts in Run-Test/Idle, in which all latches are 0
 abbrev two_parts : RawDevice → List ChainPart
-two_parts first = record { logic = test_logic (Described first); state = resting (off ∷ off ∷ []) } ∷ record { logic = test_logic (Described rcv1); state = resting (off ∷ []) } ∷ []
+two_parts first =
+    record { logic = test_logic (Described first); state = resting (off ∷ off ∷ []) }
+    ∷ record { logic = test_logic (Described rcv1); state = resting (off ∷ []) } ∷ []
 
 wire_start : IsBoardChain wire (two_parts inner)
 wire_start = record {
@@ -168,7 +177,8 @@ after_reset b first clocks = pin_states (run (board_wiring b no_faults) (take 5 
 
 abbrev later_moments : RawBoard → RawDevice → List Clock → List (List PinState)
 later_moments b first clocks =
-    shown (board_wiring b no_faults) (drop 5 clocks) (choices_after (take 5 clocks) choices) (run (board_wiring b no_faults) (take 5 clocks) choices (two_parts first))
+    shown (board_wiring b no_faults) (drop 5 clocks) (choices_after (take 5 clocks) choices)
+    (run (board_wiring b no_faults) (take 5 clocks) choices (two_parts first))
 
 -- a test that breaks (a) in the update of its third scan, since one part then still has SAMPLE
 abbrev one_left : List Clock
@@ -204,4 +214,6 @@ safe_values_are_preloaded : IsQuiet wire zeros_preloaded → ⊥
 unfolding run shown
 safe_values_are_preloaded quiet =
     let moments = (quiet no_faults (two_parts inner) choices (no_set wire) wire_start).1 in
-    zeros_unsafe (moment_at wire (after_reset wire inner zeros_preloaded) (later_moments wire inner zeros_preloaded) moments 27 zeros refl).1
+    zeros_unsafe
+    (moment_at wire (after_reset wire inner zeros_preloaded)
+    (later_moments wire inner zeros_preloaded) moments 27 zeros refl).1

@@ -40,13 +40,22 @@ use Rattle.tap_defs.proofs.board.SampleBoards.{drv, rcv, rcv1, od, pin, pulled}
 
 -- the choice in which all free bits are `bit`
 abbrev free : Bool → Choice
-free bit = record { parts = λ k. record { ir = λ i. bit; cells = λ i. bit; latches = λ i. bit; tdo = bit; other = bit }; shorts = λ k. bit; tdi = bit }
+free bit =
+    record {
+      parts = λ k. record
+          { ir = λ i. bit; cells = λ i. bit; latches = λ i. bit; tdo = bit; other = bit };
+      shorts = λ
+          k. bit;
+      tdi = bit;
+    }
 
 -- with these free bits, each scan passes if it captures while the row of the scan before it is in the latches
 abbrev captures_pass : RawBoard → FaultSet → Choice → TestRow → List RowScan → List Scan → Bool
 captures_pass board faults choice row [] scans = true
 captures_pass board faults choice row (t ∷ more) [] = true
-captures_pass board faults choice row (t ∷ more) (scan ∷ scans) = scan_passes scan.bits (row_captured board faults row choice) && captures_pass board faults choice t.now more scans
+captures_pass board faults choice row (t ∷ more) (scan ∷ scans) =
+    scan_passes scan.bits (row_captured board faults row choice)
+    && captures_pass board faults choice t.now more scans
 
 abbrev captures : RawBoard → List (List Bool) → Single → Bool → Bool
 captures board log single bit =
@@ -65,7 +74,9 @@ agrees board single row logged (Some place) (Some expected) = beq logged (single
 
 abbrev cells_agree : RawBoard → Single → TestRow → List Bool → ℕ → PartKind → Bool
 cells_agree board single row logged part (Described device) =
-    list_all (λ cell. agrees board single row (slice_index_or logged (cell_position board part cell) off) (read_place board part device cell) (expect_bit board row part device cell))
+    list_all
+    (λ cell. agrees board single row (slice_index_or logged (cell_position board part cell) off)
+    (read_place board part device cell) (expect_bit board row part device cell))
     (range_with_len 0 device.boundary)
 cells_agree board single row logged part (Bypass n) = true
 
@@ -73,7 +84,8 @@ abbrev rows_agree : RawBoard → Single → List RowScan → List (List Bool) �
 rows_agree board single [] log = true
 rows_agree board single (t ∷ more) [] = true
 rows_agree board single (t ∷ more) (logged ∷ log) =
-    list_all (λ part. cells_agree board single t.before logged part.0 part.1.kind) (enumerate_from 0 board.chain) && rows_agree board single more log
+    list_all (λ part. cells_agree board single t.before logged part.0 part.1.kind)
+    (enumerate_from 0 board.chain) && rows_agree board single more log
 
 abbrev predicted : RawBoard → List (List Bool) → List Single
 predicted board log = filter (λ single. rows_agree board single (compared_scans board (svf_row_scans board)) log) (singles board)
@@ -97,7 +109,9 @@ open_pin net place value = OpenPin (record { net = net; place = place }) value
 abbrev two_nets : RawBoard
 two_nets = record {
   chain = named_part (codes "U1") drv ∷ named_part (codes "U2") rcv ∷ [];
-  nets = named (codes "N1") (pulled None (pin_of 0 0 ∷ pin_of 1 0 ∷ [])) ∷ named (codes "N2") (pulled None (pin_of 0 1 ∷ pin_of 1 1 ∷ [])) ∷ [];
+  nets =
+      named (codes "N1") (pulled None (pin_of 0 0 ∷ pin_of 1 0 ∷ []))
+      ∷ named (codes "N2") (pulled None (pin_of 0 1 ∷ pin_of 1 1 ∷ [])) ∷ [];
 }
 
 two_nets_rules : IsBoard two_nets
@@ -124,7 +138,8 @@ constant_cells : predicted two_nets (row off off ∷ row off on ∷ []) ≡ Stuc
 constant_cells = refl
 
 -- bits that are not compared are ignored
-ignored_is : explaining two_nets ((off ∷ off ∷ on ∷ on ∷ []) ∷ (off ∷ on ∷ on ∷ off ∷ []) ∷ []) ≡ StuckNet 0 off ∷ open_pin 0 0 off ∷ open_pin 0 1 off ∷ []
+ignored_is : explaining two_nets ((off ∷ off ∷ on ∷ on ∷ []) ∷ (off ∷ on ∷ on ∷ off ∷ []) ∷ [])
+    ≡ StuckNet 0 off ∷ open_pin 0 0 off ∷ open_pin 0 1 off ∷ []
 ignored_is = refl
 
 -- the shorts that explain a log in which both nets have the same bit in each row: their And, their Or, the first's bit or the
@@ -156,7 +171,12 @@ no_single_cells = refl
 -- by the definition, the first net stuck at 0 explains a log in which it has 0 in both rows
 explained : Explains two_nets (StuckNet 0 off) (row off off ∷ row off on ∷ [])
 explained = record {
-  shape = record { rows = refl; bits = All-from_recursion (λ (r : List Bool). length r ≡ data_bits two_nets) (row off off ∷ row off on ∷ []) (refl, (refl, tt)) };
+  shape =
+      record {
+        rows = refl;
+        bits = All-from_recursion (λ (r : List Bool). length r ≡ data_bits two_nets)
+            (row off off ∷ row off on ∷ []) (refl, (refl, tt));
+      };
   passes = (log_captured two_nets two_nets_rules (set_of (StuckNet 0 off)) (svf_row_scans two_nets) (row off off ∷ row off on ∷ [])).1
       (λ choice. refl, (λ choice. refl, (λ choice. refl, tt)));
 }
@@ -164,7 +184,12 @@ explained = record {
 -- the expected log, and a log that differs from it in a bit that is not compared
 is_expected : IsExpected two_nets (svf_row_scans two_nets) ((on ∷ off ∷ on ∷ off ∷ []) ∷ (off ∷ on ∷ off ∷ on ∷ []) ∷ [])
 is_expected = record {
-  shape = record { rows = refl; bits = All-from_recursion (λ (r : List Bool). length r ≡ data_bits two_nets) ((on ∷ off ∷ on ∷ off ∷ []) ∷ (off ∷ on ∷ off ∷ on ∷ []) ∷ []) (refl, (refl, tt)) };
+  shape =
+      record {
+        rows = refl;
+        bits = All-from_recursion (λ (r : List Bool). length r ≡ data_bits two_nets)
+            ((on ∷ off ∷ on ∷ off ∷ []) ∷ (off ∷ on ∷ off ∷ on ∷ []) ∷ []) (refl, (refl, tt));
+      };
   bits = refl;
 }
 
@@ -208,7 +233,15 @@ pulled_cells = refl
 
 -- four three-state outputs; cell 4 controls the first two, and cell 5 controls the others
 abbrev output : ℕ → ℕ → Cell
-output num control = record { num = num; role = Output3; bit = Some (4 + num); safe = Any; ctl = Some (record { cell = control; disable = true }) }
+output num control =
+    record {
+      num = num;
+      role = Output3;
+      bit = Some (4 + num);
+      safe = Any;
+      ctl = Some
+          (record { cell = control; disable = true });
+    }
 
 abbrev control : ℕ → Cell
 control num = record { num = num; role = ControlRole; bit = None; safe = One; ctl = None }
@@ -252,8 +285,10 @@ x_dominates = with_a off off ∷ with_a on on ∷ with_a off off ∷ with_b off 
 abbrev b_dominates : List (List Bool)
 b_dominates = with_a on off ∷ with_a off on ∷ with_a off off ∷ with_b on on ∷ with_b on on ∷ with_b off off ∷ []
 
-bus_is : map (explaining bus) (a_dominates ∷ x_dominates ∷ b_dominates ∷ []) ≡ (Short 0 1 First ∷ []) ∷ (Short 0 1 Second ∷ []) ∷ (Short 1 2 Or ∷ Short 1 2 Second ∷ []) ∷ []
+bus_is : map (explaining bus) (a_dominates ∷ x_dominates ∷ b_dominates ∷ [])
+    ≡ (Short 0 1 First ∷ []) ∷ (Short 0 1 Second ∷ []) ∷ (Short 1 2 Or ∷ Short 1 2 Second ∷ []) ∷ []
 bus_is = refl
 
-bus_cells : map (predicted bus) (a_dominates ∷ x_dominates ∷ b_dominates ∷ []) ≡ (Short 0 1 First ∷ []) ∷ (Short 0 1 Second ∷ []) ∷ (Short 1 2 Or ∷ Short 1 2 Second ∷ []) ∷ []
+bus_cells : map (predicted bus) (a_dominates ∷ x_dominates ∷ b_dominates ∷ [])
+    ≡ (Short 0 1 First ∷ []) ∷ (Short 0 1 Second ∷ []) ∷ (Short 1 2 Or ∷ Short 1 2 Second ∷ []) ∷ []
 bus_cells = refl

@@ -70,7 +70,8 @@ guarded = refl
 open_driver : net_bits plain (set_of (OpenPin (record { net = 0; place = 0 }) off)) (states (drives on) silent) ≡ Some off ∷ None ∷ []
 open_driver = refl
 
-open_pulled : net_bits (apart (Some on) None) (set_of (OpenPin (record { net = 0; place = 0 }) off)) (states (drives off) silent) ≡ Some on ∷ None ∷ []
+open_pulled : net_bits (apart (Some on) None) (set_of (OpenPin (record { net = 0; place = 0 }) off))
+    (states (drives off) silent) ≡ Some on ∷ None ∷ []
 open_pulled = refl
 
 open_shared : net_bits shared (set_of (OpenPin (record { net = 0; place = 0 }) off)) (states silent (drives off)) ≡ Some off ∷ []

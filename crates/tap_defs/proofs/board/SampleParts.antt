@@ -76,14 +76,16 @@ unknown_codes : map (instruction_of unknown) codes ≡ Bypass ∷ Other ∷ Othe
 unknown_codes = refl
 
 -- Update-IR makes the instruction of the code current, and does not change the latches
-update_ir : after plain on true off (record (part Exit1IR Sample) { ir = off ∷ off ∷ [] }) ≡ record (part UpdateIR Extest) { ir = off ∷ off ∷ [] }
+update_ir : after plain on true off (record (part Exit1IR Sample) { ir = off ∷ off ∷ [] })
+    ≡ record (part UpdateIR Extest) { ir = off ∷ off ∷ [] }
 update_ir = refl
 
 -- Capture-IR loads 1 nearest TDO, 0 next to it, and free bits above. Shift-IR shifts, and TDO is the bit nearest TDO.
 abbrev four_bits : TapState → PartState
 four_bits tap = record (part tap Sample) { ir = off ∷ on ∷ off ∷ on ∷ [] }
 
-capture_ir : map (λ bit. (after plain bit false off (four_bits CaptureIR)).ir) (off ∷ on ∷ []) ≡ (on ∷ off ∷ off ∷ off ∷ []) ∷ (on ∷ off ∷ on ∷ on ∷ []) ∷ []
+capture_ir : map (λ bit. (after plain bit false off (four_bits CaptureIR)).ir) (off ∷ on ∷ [])
+    ≡ (on ∷ off ∷ off ∷ off ∷ []) ∷ (on ∷ off ∷ on ∷ on ∷ []) ∷ []
 capture_ir = refl
 
 shift_ir : (after plain on false on (four_bits ShiftIR)).ir ≡ on ∷ off ∷ on ∷ on ∷ []
@@ -156,7 +158,8 @@ update_other = refl
 abbrev calm : List TapState
 calm = RunTestIdle ∷ SelectDR ∷ Exit1DR ∷ PauseDR ∷ Exit2DR ∷ UpdateDR ∷ SelectIR ∷ Exit1IR ∷ PauseIR ∷ Exit2IR ∷ UpdateIR ∷ []
 
-calm_stays : map (λ tap. record (after plain on false off (part tap Extest)) { tap = RunTestIdle }) calm ≡ map (λ tap. part RunTestIdle Extest) calm
+calm_stays : map (λ tap. record (after plain on false off (part tap Extest)) { tap = RunTestIdle })
+    calm ≡ map (λ tap. part RunTestIdle Extest) calm
 calm_stays = refl
 
 abbrev silent : List TapState
@@ -170,7 +173,15 @@ silent_tdo_low = refl
 
 -- The lengths and codes of a described part come from its description. Of any other part only the instruction length is known.
 described_logic : identified ≡
-    record { ir_length = 2; boundary_length = 2; extest = Some (off ∷ off ∷ []); preload = Some (off ∷ on ∷ []); at_reset = Some Other; idcode = [] }
+    record {
+      ir_length = 2;
+      boundary_length = 2;
+      extest = Some (off ∷ off ∷ []);
+      preload = Some
+          (off ∷ on ∷ []);
+      at_reset = Some Other;
+      idcode = [];
+    }
 described_logic = refl
 
 unknown_logic : unknown ≡ record { ir_length = 2; boundary_length = 0; extest = None; preload = None; at_reset = None; idcode = [] }

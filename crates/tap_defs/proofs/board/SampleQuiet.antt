@@ -19,19 +19,23 @@ use Rattle.tap_defs.proofs.chain.SampleRun.{free_bits}
 use Rattle.tap_defs.proofs.board.SampleBoards.{ts, rcv1, bus}
 
 -- if a list of moments stays quiet, no net is contested between a moment and the next
-pub uncontested_at : (board : RawBoard) (before : List PinState) (moments : List (List PinState)) → StaysQuiet board before moments → (k : ℕ) (now next : List PinState) →
+pub uncontested_at : (board : RawBoard) (before : List PinState) (moments : List (List PinState))
+    → StaysQuiet board before moments → (k : ℕ) (now next : List PinState) →
     slice_get (before ∷ moments) k ≡ Some now → slice_get moments k ≡ Some next → IsUncontested board now next
 uncontested_at board before [] h k now next e f = cc f
 uncontested_at board before (m ∷ moments) h zero now next e f =
     let now_is : before ≡ now = cc e in
     let next_is : m ≡ next = cc f in
-    subst (λ (x : List PinState). IsUncontested board x next) now_is (subst (λ (x : List PinState). IsUncontested board before x) next_is h.1)
+    subst (λ (x : List PinState). IsUncontested board x next) now_is
+    (subst (λ (x : List PinState). IsUncontested board before x) next_is h.1)
 uncontested_at board before (m ∷ moments) h (suc k) now next e f = uncontested_at board m moments h.2 k now next e f
 
-pub moment_at : (board : RawBoard) (before : List PinState) (moments : List (List PinState)) → StaysQuiet board before moments → (k : ℕ) (now : List PinState) →
+pub moment_at : (board : RawBoard) (before : List PinState) (moments : List (List PinState))
+    → StaysQuiet board before moments → (k : ℕ) (now : List PinState) →
     slice_get moments k ≡ Some now → IsQuietMoment board now
 moment_at board before [] h k now e = cc e
-moment_at board before (m ∷ moments) h zero now e = let now_is : m ≡ now = cc e in subst (λ (x : List PinState). IsQuietMoment board x) now_is h.0
+moment_at board before (m ∷ moments) h zero now e =
+    let now_is : m ≡ now = cc e in subst (λ (x : List PinState). IsQuietMoment board x) now_is h.0
 moment_at board before (m ∷ moments) h (suc k) now e = moment_at board m moments h.2 k now e
 
 pub no_set : (board : RawBoard) → IsFaultSet board no_faults
@@ -44,7 +48,17 @@ no_set board = record {
 
 -- the state of a part in Run-Test/Idle, with these bits in its boundary register and its latches
 abbrev pub resting : List Bool → PartState
-resting cells = record { tap = RunTestIdle; ir = off ∷ off ∷ []; current = Bypass; boundary = cells; bypass = off; identification = []; latches = cells }
+resting cells =
+    record {
+      tap = RunTestIdle;
+      ir = off ∷ off
+          ∷ [];
+      current = Bypass;
+      boundary = cells;
+      bypass = off;
+      identification = [];
+      latches = cells;
+    }
 
 abbrev chain : List ChainPart
 chain =
@@ -95,7 +109,9 @@ quiet_row_between : IsQuiet bus without_quiet_row → ⊥
 unfolding run shown
 quiet_row_between quiet =
     let moments = (quiet no_faults chain choices (no_set bus) start).1 in
-    uncontested_at bus (after_reset without_quiet_row choices) (later_moments without_quiet_row choices) moments 53 first_on second_on refl refl 0 _ 0 1 _ _ refl refl refl (λ e. omega (arith, e)) refl refl
+    uncontested_at bus (after_reset without_quiet_row choices)
+    (later_moments without_quiet_row choices) moments 53 first_on second_on refl refl 0 _ 0 1 _
+    _ refl refl refl (λ e. omega (arith, e)) refl refl
 
 -- a test that selects EXTEST immediately after the reset, at a time when both control cells may have 0
 abbrev without_preload : List Clock
@@ -115,4 +131,6 @@ preload_before_extest : IsQuiet bus without_preload → ⊥
 unfolding run shown
 preload_before_extest quiet =
     let moments = (quiet no_faults chain any_latches (no_set bus) start).1 in
-    both_unsafe (moment_at bus (after_reset without_preload any_latches) (later_moments without_preload any_latches) moments 11 both_on refl).0
+    both_unsafe
+    (moment_at bus (after_reset without_preload any_latches)
+    (later_moments without_preload any_latches) moments 11 both_on refl).0

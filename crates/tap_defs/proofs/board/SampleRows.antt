@@ -47,8 +47,11 @@ clocked = device (one_bit Inward) (entry 0 Clock 4 None ∷ []) 1
 
 -- A board. Net 0 is dark, nets 1 and 2 are observed, and net 3 has no receiver except its driver.
 abbrev mixed : RawBoard
-mixed = board (Described bi ∷ Described ts ∷ Described ts0 ∷ Described rcv ∷ Described observer ∷ Described clocked ∷ Described drv ∷ Described bi ∷ []) (
-    net (pin 6 0 ∷ foreign ∷ []) ∷ net (pin 1 0 ∷ pin 0 0 ∷ pin 3 0 ∷ pin 4 0 ∷ pin 5 0 ∷ []) ∷ net (pin 2 0 ∷ pin 3 1 ∷ []) ∷ net (pin 7 0 ∷ []) ∷ [])
+mixed = board
+    (Described bi ∷ Described ts ∷ Described ts0 ∷ Described rcv ∷ Described observer ∷ Described
+    clocked ∷ Described drv ∷ Described bi ∷ []) (
+    net (pin 6 0 ∷ foreign ∷ []) ∷ net (pin 1 0 ∷ pin 0 0 ∷ pin 3 0 ∷ pin 4 0 ∷ pin 5 0 ∷ []) ∷ net
+    (pin 2 0 ∷ pin 3 1 ∷ []) ∷ net (pin 7 0 ∷ []) ∷ [])
 
 abbrev observing : List Ctl → List (Option ℕ)
 observing controls = map (observing_driver mixed (set controls)) mixed.nets
@@ -118,7 +121,8 @@ dark_driver = refl
 abbrev expected : TestRow → ℕ → RawDevice → List (Option Bool)
 expected r part d = map (expect_bit mixed r part d) (range_with_len 0 d.boundary)
 
-inputs_compared : map (λ j. expected (row (c 1 1 ∷ c 2 1 ∷ []) j) 3 rcv) (0 ∷ 1 ∷ []) ≡ (Some on ∷ Some off ∷ []) ∷ (Some off ∷ Some on ∷ []) ∷ []
+inputs_compared : map (λ j. expected (row (c 1 1 ∷ c 2 1 ∷ []) j) 3 rcv) (0 ∷ 1 ∷ [])
+    ≡ (Some on ∷ Some off ∷ []) ∷ (Some off ∷ Some on ∷ []) ∷ []
 inputs_compared = refl
 
 one_net_compared : expected (row (c 1 1 ∷ []) 0) 3 rcv ≡ Some on ∷ None ∷ []

@@ -17,7 +17,12 @@ length-row_scans : (rows : List Ctl → ℕ → TestRow) (width : ℕ) (passes :
     length (row_scans rows width passes) ≡ length passes * suc width
 length-row_scans rows width [] = omega arith
 length-row_scans rows width (pass ∷ passes) =
-    omega (arith, length-append (pass_scans (rows pass) width 0 quiet_row) (row_scans rows width passes), length-pass_scans (rows pass) width 0 quiet_row, length-row_scans rows width passes)
+    omega (
+      arith,
+      length-append (pass_scans (rows pass) width 0 quiet_row) (row_scans rows width passes),
+      length-pass_scans (rows pass) width 0 quiet_row,
+      length-row_scans rows width passes,
+    )
 
 pub front_at : {A : Type 0} (xs ys : List A) (i : ℕ) → i < length xs → slice_get (xs ++ ys) i ≡ slice_get xs i
 front_at [] ys i h = absurd (omega (arith, h))
@@ -33,7 +38,8 @@ abbrev placed : (ℕ → TestRow) → ℕ → ℕ → RowScan
 placed rows width k = record { now = row_now rows width k; before = row_before rows k }
 
 -- of the scans from row `j` on, scan `i` is scan `j + i` of the pass
-pub pass_scan_at : (rows : ℕ → TestRow) (width more j i k : ℕ) (before : TestRow) → before ≡ row_before rows j → width ≡ j + more → k ≡ j + i →
+pub pass_scan_at : (rows : ℕ → TestRow) (width more j i k : ℕ) (before : TestRow)
+    → before ≡ row_before rows j → width ≡ j + more → k ≡ j + i →
     i ≤ more →
     slice_get (pass_scans rows more j before) i ≡ Some (placed rows width k)
 pass_scan_at rows width zero j zero k before e w z h =
@@ -58,7 +64,8 @@ row_scan_at rows width [] x pass j k e h z = cc e
 row_scan_at rows width (p ∷ passes) zero pass j k e h z =
     let same : p ≡ pass = cc e in
     let index : k ≡ j = omega (arith, z) in
-    front_at (pass_scans (rows p) width 0 quiet_row) (row_scans rows width passes) k (omega (arith, length-pass_scans (rows p) width 0 quiet_row, index, h))
+    front_at (pass_scans (rows p) width 0 quiet_row) (row_scans rows width passes) k
+    (omega (arith, length-pass_scans (rows p) width 0 quiet_row, index, h))
     ∙ ap (λ (q : List Ctl). slice_get (pass_scans (rows q) width 0 quiet_row) k) same
     ∙ pass_scan_at (rows pass) width width 0 k j quiet_row refl (omega arith) (omega (arith, index)) (omega (arith, index, h))
 row_scan_at rows width (p ∷ passes) (suc x) pass j k e h z =
@@ -80,5 +87,6 @@ scans_placed board passes width =
           let three : 3 + k ≡ suc (suc (suc k)) = omega arith in
           ap (λ (n : ℕ). slice_get (test_scans board passes width) n) three
           ∙ slice_get-map (scan_of_row board) scans k
-          ∙ ap (λ (o : Option RowScan). option_map (scan_of_row board) o) (row_scan_at (code_row board passes) width passes x pass j k e h refl);
+          ∙ ap (λ (o : Option RowScan). option_map (scan_of_row board) o)
+          (row_scan_at (code_row board passes) width passes x pass j k e h refl);
     }

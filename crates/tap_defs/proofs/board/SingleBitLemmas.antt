@@ -23,7 +23,7 @@ use Rattle.tap_defs.specs.chain.Part.{PinState}
 use Rattle.tap_defs.specs.chain.Chain.{ChainPart, pin_states}
 use Rattle.tap_defs.specs.chain.Run.{Choice}
 use Rattle.tap_defs.specs.board.FaultSet.{FaultSet}
-use Rattle.tap_defs.specs.board.NetBits.{Feeding, Unruled, Undriven, Driven, Contended, live_where, feeding, fed, held, OfNet, all_bits, bit_at_net, combined, is_in_short, shorted_nets, is_decided, numbered, bits_fed, bits_held, first_combined, short_bit, unshorted_bit, net_bit, net_bit_by, or_else, Place, place_of}
+use Rattle.tap_defs.specs.board.NetBits.{Feeding, Unruled, Undriven, Driven, Contended, live_where, feeding, fed, held, OfNet, all_bits, bit_at_net, combined, is_in_short, shorted_nets, is_decided, numbered_value, bits_fed, bits_held, first_combined, short_bit, unshorted_bit, net_bit, net_bit_by, bit_or_else, Place, place_of}
 use Rattle.tap_defs.specs.board.TestRows.{TestRow, quiet_row, first_enabled, reads_beside, observing_driver_by, observing_driver, only_if, expect_observed, expect_place, expect_pin, expect_entry}
 use Rattle.tap_defs.specs.board.RowCaptures.{row_states}
 use Rattle.tap_defs.specs.board.RowDriving.{row_feeding}
@@ -43,7 +43,8 @@ use Rattle.tap_defs.proofs.board.SingleLemmas.{single_observable, single_no_open
 use Rattle.tap_defs.proofs.board.CellPlaceLemmas.{captured_cell}
 
 -- the entry by which a compared cell reads the pin at a place
-pub record ReadsPlace (board : RawBoard) (row : TestRow) (part : ℕ) (device : RawDevice) (cell : ℕ) (place : Place) (v : Bool) : Type 0 where
+pub record ReadsPlace (board : RawBoard) (row : TestRow) (part : ℕ) (device : RawDevice) (cell : ℕ)
+    (place : Place) (v : Bool) : Type 0 where
   pub entry : Cell
   pub reads : reading_entry device cell ≡ Some entry
   pub receiving : is_receiving entry.role ≡ true
@@ -57,7 +58,9 @@ pub record ReadsPlace (board : RawBoard) (row : TestRow) (part : ℕ) (device : 
   pub carried : row.carried place.number ≡ Some v
 
 module _ (board : RawBoard) (row : TestRow) (part : ℕ) (device : RawDevice) (cell : ℕ) (place : Place) (v : Bool) where
-  module _ (entry : Cell) (reads : reading_entry device cell ≡ Some entry) (receiving : is_receiving entry.role ≡ true) (bit : ℕ) (bit_is : entry.bit ≡ Some bit) (receives_is : receives_where board (Some (record { part = part; bit = bit })) ≡ true)
+  module _ (entry : Cell) (reads : reading_entry device cell ≡ Some entry)
+      (receiving : is_receiving entry.role ≡ true) (bit : ℕ) (bit_is : entry.bit ≡ Some bit)
+      (receives_is : receives_where board (Some (record { part = part; bit = bit })) ≡ true)
       (stands : place_of (record { part = part; bit = bit }) 0 board.nets ≡ Some place) where
     by_other : (d : ℕ) → observing_driver board row.setting place.net ≡ Some d → (b : Bool) → (d == place.place) ≡ b →
         only_if (not b) (row.carried place.number) ≡ Some v → ReadsPlace board row part device cell place v
@@ -81,8 +84,11 @@ module _ (board : RawBoard) (row : TestRow) (part : ℕ) (device : RawDevice) (c
     by_driver None o e = cc e
     by_driver (Some d) o e = by_other d o (d == place.place) refl e
 
-    by_stand : expect_place board row (place_of (record { part = part; bit = bit }) 0 board.nets) ≡ Some v → ReadsPlace board row part device cell place v
-    by_stand e = by_driver (observing_driver board row.setting place.net) refl (sym (ap (λ (o : Option Place). expect_place board row o) stands) ∙ e)
+    by_stand : expect_place board row (place_of (record { part = part; bit = bit }) 0 board.nets)
+        ≡ Some v → ReadsPlace board row part device cell place v
+    by_stand e =
+        by_driver (observing_driver board row.setting place.net) refl
+        (sym (ap (λ (o : Option Place). expect_place board row o) stands) ∙ e)
 
   abbrev placed : Option ℕ → Option Place
   placed o = option_and_then (λ b. place_of (record { part = part; bit = b }) 0 board.nets) o
@@ -93,7 +99,8 @@ module _ (board : RawBoard) (row : TestRow) (part : ℕ) (device : RawDevice) (c
   by_bit entry reads receiving (Some b) q e at = by_receives (receives_where board (Some (record { part = part; bit = b }))) refl e
     where
       by_receives : (r : Bool) → receives_where board (Some (record { part = part; bit = b })) ≡ r →
-          cond r (expect_place board row (place_of (record { part = part; bit = b }) 0 board.nets)) None ≡ Some v → ReadsPlace board row part device cell place v
+          cond r (expect_place board row (place_of (record { part = part; bit = b }) 0 board.nets))
+          None ≡ Some v → ReadsPlace board row part device cell place v
       by_receives true r h = by_stand entry reads receiving b q r at h
       by_receives false r h = cc h
 
@@ -102,7 +109,9 @@ module _ (board : RawBoard) (row : TestRow) (part : ℕ) (device : RawDevice) (c
   by_entry None q e at = cc e
   by_entry (Some entry) q e at = by_role (is_receiving entry.role) refl e
     where
-      by_role : (r : Bool) → is_receiving entry.role ≡ r → cond r (expect_pin board row part entry.bit) None ≡ Some v → ReadsPlace board row part device cell place v
+      by_role : (r : Bool) → is_receiving entry.role ≡ r
+          → cond r (expect_pin board row part entry.bit) None ≡ Some v
+          → ReadsPlace board row part device cell place v
       by_role true r h = by_bit entry q r entry.bit refl h at
       by_role false r h = cc h
 
@@ -122,7 +131,9 @@ module _ (a b : ℕ) (less : a < b) (kind : Kind) (one two : Net) where
       by_test false = refl
 
   step : (n : ℕ) (net : Net) (nets : List Net) (t : Bool) → ((n == a) || (n == b)) ≡ t →
-      shorted_nets faults_of 0 n (net ∷ nets) ≡ cond t ((n, net) ∷ shorted_nets faults_of 0 (suc n) nets) (shorted_nets faults_of 0 (suc n) nets)
+      shorted_nets faults_of 0 n (net ∷ nets)
+      ≡ cond t ((n, net) ∷ shorted_nets faults_of 0 (suc n) nets)
+      (shorted_nets faults_of 0 (suc n) nets)
   step n net nets t e =
       ap (λ (x : Bool). cond x ((n, net) ∷ shorted_nets faults_of 0 (suc n) nets) (shorted_nets faults_of 0 (suc n) nets)) (in_short n ∙ e)
 
@@ -144,7 +155,8 @@ module _ (a b : ℕ) (less : a < b) (kind : Kind) (one two : Net) where
   pair_is : (n m : ℕ) (x y : Net) → n ≡ m → x ≡ y → ◌≡◌ {A = OfNet Net} (n, x) (m, y)
   pair_is n m x y e f = ap (λ (k : ℕ). (k, x)) e ∙ ap (λ (z : Net). (m, z)) f
 
-  one_after : (n j : ℕ) (nets : List Net) → a < n → slice_get nets j ≡ Some two → n + j ≡ b → shorted_nets faults_of 0 n nets ≡ (b, two) ∷ []
+  one_after : (n j : ℕ) (nets : List Net) → a < n → slice_get nets j ≡ Some two → n + j ≡ b
+      → shorted_nets faults_of 0 n nets ≡ (b, two) ∷ []
   one_after n j [] h e z = cc e
   one_after n zero (net ∷ nets) h e z =
       let same : net ≡ two = cc e in
@@ -189,16 +201,24 @@ module _ (a b : ℕ) (less : a < b) (kind : Kind) (one two : Net) where
   both : (k : Kind) (u w v : Bool) → combined (short_kind a b k) ((a, u) ∷ (b, w) ∷ []) ≡ unwrap_or (shorted k (Some u) (Some w)) v
   both And u w v = ap (λ (x : Bool). u && x) (and-true w)
   both Or u w v = ap (λ (x : Bool). u || x) (or-false w)
-  both First u w v = ap (λ (t : Bool). unwrap_or (cond t (Some u) (bit_at_net a ((b, w) ∷ []))) (all_bits ((a, u) ∷ (b, w) ∷ []))) (eq-eqb a a refl)
+  both First u w v =
+      ap
+      (λ (t : Bool). unwrap_or (cond t (Some u) (bit_at_net a ((b, w) ∷ [])))
+      (all_bits ((a, u) ∷ (b, w) ∷ []))) (eq-eqb a a refl)
   both Second u w v =
-      ap (λ (t : Bool). unwrap_or (cond t (Some u) (bit_at_net b ((b, w) ∷ []))) (all_bits ((a, u) ∷ (b, w) ∷ []))) (ne_eqb a b (λ e. omega (arith, e, less)))
+      ap
+      (λ (t : Bool). unwrap_or (cond t (Some u) (bit_at_net b ((b, w) ∷ [])))
+      (all_bits ((a, u) ∷ (b, w) ∷ []))) (ne_eqb a b (λ e. omega (arith, e, less)))
       ∙ ap (λ (t : Bool). unwrap_or (cond t (Some w) None) (all_bits ((a, u) ∷ (b, w) ∷ []))) (eq-eqb b b refl)
 
   -- the bit of a short of two nets, at least one of which is driven or pulled
-  short_is : (k : Kind) (x y : Feeding) (p q : Option Bool) (v free : Bool) (d : ℕ) → is_decided x ≡ true → is_decided y ≡ true → Carries d p v x ⊎ Carries d q v y →
-      first_combined (short_kind a b k) (cons_option (numbered a (fed faults_of a x)) (cons_option (numbered b (fed faults_of b y)) []))
-      (cons_option (numbered a (held faults_of a p x)) (cons_option (numbered b (held faults_of b q y)) [])) free
-      ≡ unwrap_or (or_else (shorted k (bit_of_feeding x) (bit_of_feeding y)) (shorted k p q)) v
+  short_is : (k : Kind) (x y : Feeding) (p q : Option Bool) (v free : Bool) (d : ℕ)
+      → is_decided x ≡ true → is_decided y ≡ true → Carries d p v x ⊎ Carries d q v y →
+      first_combined (short_kind a b k)
+      (cons_option (numbered_value a (fed faults_of a x))
+      (cons_option (numbered_value b (fed faults_of b y)) []))
+      (cons_option (numbered_value a (held faults_of a p x)) (cons_option (numbered_value b (held faults_of b q y)) [])) free
+      ≡ unwrap_or (bit_or_else (shorted k (bit_of_feeding x) (bit_of_feeding y)) (shorted k p q)) v
   short_is k Unruled y p q v free d hx hy c = cc hx
   short_is k Contended y p q v free d hx hy c = cc hx
   short_is k Undriven Unruled p q v free d hx hy c = cc hy
@@ -209,7 +229,9 @@ module _ (a b : ℕ) (less : a < b) (kind : Kind) (one two : Net) where
   short_is k Undriven (Driven j w) p q v free d hx hy c = alone k b w
   short_is k (Driven i u) (Driven j w) p q v free d hx hy c = both k u w v ∙ by_kind k
     where
-      by_kind : (l : Kind) → unwrap_or (shorted l (Some u) (Some w)) v ≡ unwrap_or (or_else (shorted l (Some u) (Some w)) (shorted l p q)) v
+      by_kind : (l : Kind)
+          → unwrap_or (shorted l (Some u) (Some w)) v
+          ≡ unwrap_or (bit_or_else (shorted l (Some u) (Some w)) (shorted l p q)) v
       by_kind And = refl
       by_kind Or = refl
       by_kind First = refl
@@ -224,7 +246,9 @@ module _ (a b : ℕ) (less : a < b) (kind : Kind) (one two : Net) where
       none_carries (pulled e f) = cc f
 
 -- if a setting observes a net by driver `d`, `d` is the net's first enabled driver
-first_driver : (board : RawBoard) (row : TestRow) (net : Net) (d : ℕ) → observing_driver board row.setting net ≡ Some d → first_enabled board row.setting 0 net.pins ≡ Some d
+first_driver : (board : RawBoard) (row : TestRow) (net : Net) (d : ℕ)
+    → observing_driver board row.setting net ≡ Some d
+    → first_enabled board row.setting 0 net.pins ≡ Some d
 first_driver board row net d e = go (guarded board net) e
   where
     same : (t : Bool) (x : ℕ) → cond t (Some x) None ≡ Some d → Some x ≡ Some d
@@ -235,7 +259,9 @@ first_driver board row net d e = go (guarded board net) e
     inner None h = cc h
     inner (Some i) h = same (reads_beside board i 0 net.pins) i h
 
-    go : (g : Bool) → cond g None (observing_driver_by board net (first_enabled board row.setting 0 net.pins)) ≡ Some d → first_enabled board row.setting 0 net.pins ≡ Some d
+    go : (g : Bool)
+        → cond g None (observing_driver_by board net (first_enabled board row.setting 0 net.pins))
+        ≡ Some d → first_enabled board row.setting 0 net.pins ≡ Some d
     go true h = cc h
     go false h = inner (first_enabled board row.setting 0 net.pins) h
 
@@ -253,24 +279,33 @@ module _ (board : RawBoard) (rules : IsBoard board) (row : TestRow) (safe : IsSa
   abbrev places : BoardRules board
   places = board_rules board rules
 
-  module _ (n : ℕ) (net : Net) (place : ℕ) (en : slice_get board.nets n ≡ Some net) (d : ℕ) (observing : observing_driver board row.setting net ≡ Some d) (v : Bool) (carried : row.carried n ≡ Some v) where
+  module _ (n : ℕ) (net : Net) (place : ℕ) (en : slice_get board.nets n ≡ Some net) (d : ℕ)
+      (observing : observing_driver board row.setting net ≡ Some d) (v : Bool)
+      (carried : row.carried n ≡ Some v) where
     abbrev at : Place
     at = record { number = n; net = net; place = place }
 
     abbrev Value : Single → Type 0
     Value single = (shorts : ℕ → Bool) (w : Bool) →
-        unwrap_or ((set_of single).opened n place) (unwrap_or (net_bit board (set_of single) states shorts n net) w) ≡ single_bit board single row at v
+        unwrap_or ((set_of single).opened n place)
+        (unwrap_or (net_bit board (set_of single) states shorts n net) w)
+        ≡ single_bit board single row at v
 
     carried_is : Carries d net.pull v (feeding board states net)
     carried_is = carries board row safe n net (places.nets n net en) d observing quiet_row chain held_row v carried
 
-    plain : (faults : FaultSet) → unshorted_bit faults n net.pull (feeding board states net) ≡ Some (driven_bit (faults.opened n d) net.pull v)
+    plain : (faults : FaultSet)
+        → unshorted_bit faults n net.pull (feeding board states net)
+        ≡ Some (driven_bit (faults.opened n d) net.pull v)
     plain faults = plain_is faults d n net.pull v (feeding board states net) carried_is
 
     stuck_value : (m : ℕ) (u : Bool) → Value (StuckNet m u)
     stuck_value m u shorts w = by_test (n == m)
       where
-        by_test : (t : Bool) → unwrap_or (net_bit_by board (set_of (StuckNet m u)) states shorts n net (cond t (Some u) None) None) w ≡ cond t u v
+        by_test : (t : Bool)
+            → unwrap_or
+            (net_bit_by board (set_of (StuckNet m u)) states shorts n net (cond t (Some u) None)
+            None) w ≡ cond t u v
         by_test true = refl
         by_test false = ap (λ (o : Option Bool). unwrap_or o w) (plain (set_of (StuckNet m u)))
 
@@ -278,10 +313,17 @@ module _ (board : RawBoard) (rules : IsBoard board) (row : TestRow) (safe : IsSa
     open_value pin u shorts w =
         ap (λ (o : Option Bool). unwrap_or ((set_of (OpenPin pin u)).opened n place) (unwrap_or o w)) (plain (set_of (OpenPin pin u)))
         ∙ by_tests (n == pin.net) (place == pin.place) (d == pin.place)
-        ∙ sym (ap (λ (o : Option ℕ). cond (n == pin.net) (cond (place == pin.place) u (cond (is_place o pin.place) (unwrap_or net.pull u) v)) v) (first_driver board row net d observing))
+        ∙ sym
+        (ap
+        (λ (o : Option ℕ). cond (n == pin.net)
+        (cond (place == pin.place) u
+        (cond (is_place o pin.place) (unwrap_or net.pull u) v)) v)
+        (first_driver board row net d observing))
       where
         by_tests : (x y z : Bool) →
-            unwrap_or (cond (x && y) (Some u) None) (unwrap_or (Some (driven_bit (cond (x && z) (Some u) None) net.pull v)) w) ≡ cond x (cond y u (cond z (unwrap_or net.pull u) v)) v
+            unwrap_or (cond (x && y) (Some u) None)
+            (unwrap_or (Some (driven_bit (cond (x && z) (Some u) None) net.pull v)) w)
+            ≡ cond x (cond y u (cond z (unwrap_or net.pull u) v)) v
         by_tests false y z = refl
         by_tests true true z = refl
         by_tests true false true = refl
@@ -311,7 +353,9 @@ module _ (board : RawBoard) (rules : IsBoard board) (row : TestRow) (safe : IsSa
       two_open = is_single.1.1.2.1.2.1.open_net
 
       abbrev bits_are : List (OfNet Net) → Bool → Bool
-      bits_are nets free = first_combined (short_kind a b kind) (bits_fed board faults states nets) (bits_held board faults states nets) free
+      bits_are nets free =
+          first_combined (short_kind a b kind) (bits_fed board faults states nets)
+          (bits_held board faults states nets) free
 
       nets_are : shorted_nets faults 0 0 board.nets ≡ (a, one) ∷ (b, two) ∷ []
       nets_are =
@@ -325,23 +369,43 @@ module _ (board : RawBoard) (rules : IsBoard board) (row : TestRow) (safe : IsSa
           let same : net ≡ x = cc both_at in
           subst (λ (y : Net). Carries d y.pull v (feeding board states y)) same carried_is
 
-      some_carries : ((n == a) || (n == b)) ≡ true → Carries d one.pull v (feeding board states one) ⊎ Carries d two.pull v (feeding board states two)
-      some_carries e = elim (or_cases (n == a) (n == b) e) [ inl h ↦ inl (here_is a one (eqb-true n a h) one_at) | inr h ↦ inr (here_is b two (eqb-true n b h) two_at) ]
+      some_carries : ((n == a) || (n == b)) ≡ true
+          → Carries d one.pull v (feeding board states one)
+          ⊎ Carries d two.pull v (feeding board states two)
+      some_carries e =
+          elim (or_cases (n == a) (n == b) e) [
+            | inl h ↦ inl (here_is a one (eqb-true n a h) one_at)
+            | inr h ↦ inr
+                (here_is b two (eqb-true n b h) two_at)
+          ]
 
       short_bit_is : ((n == a) || (n == b)) ≡ true → (free : Bool) →
-          short_bit board faults states free 0 ≡ unwrap_or (shorted_nets_bit board row kind (slice_get board.nets a) (slice_get board.nets b)) v
+          short_bit board faults states free 0
+          ≡ unwrap_or
+          (shorted_nets_bit board row kind (slice_get board.nets a) (slice_get board.nets b))
+          v
       short_bit_is e free =
           let x : Feeding = feeding board states one in
           let y : Feeding = feeding board states two in
           let pulls : Option Bool = shorted kind one.pull two.pull in
           ap (λ (t : Bool). cond t (bits_are (shorted_nets faults 0 0 board.nets) free) free)
-          (all_decided board row safe places quiet_row chain held_row faults (single_observable board (Short a b kind) is_single).is_set (single_no_open_shorted (Short a b kind)) 0)
+          (all_decided board row safe places quiet_row chain held_row faults
+          (single_observable board (Short a b kind) is_single).is_set
+          (single_no_open_shorted (Short a b kind)) 0)
           ∙ ap (λ (nets : List (OfNet Net)). bits_are nets free) nets_are
           ∙ short_is a b is_single.0 kind one two kind x y one.pull two.pull v free d
           (decided board row safe places quiet_row chain held_row a one one_at one_open)
           (decided board row safe places quiet_row chain held_row b two two_at two_open) (some_carries e)
-          ∙ ap (λ (f : Feeding). unwrap_or (or_else (shorted kind (bit_of_feeding f) (bit_of_feeding y)) pulls) v) (feeding_is board row safe places quiet_row chain held_row a one one_at one_open)
-          ∙ ap (λ (f : Feeding). unwrap_or (or_else (shorted kind (bit_of_feeding (row_feeding board row one)) (bit_of_feeding f)) pulls) v) (feeding_is board row safe places quiet_row chain held_row b two two_at two_open)
+          ∙ ap
+          (λ (f : Feeding). unwrap_or
+          (bit_or_else (shorted kind (bit_of_feeding f) (bit_of_feeding y)) pulls) v)
+          (feeding_is board row safe places quiet_row chain held_row a one one_at one_open)
+          ∙ ap
+          (λ (f : Feeding). unwrap_or
+          (bit_or_else
+          (shorted kind (bit_of_feeding (row_feeding board row one)) (bit_of_feeding f))
+          pulls) v)
+          (feeding_is board row safe places quiet_row chain held_row b two two_at two_open)
           ∙ sym (ap (λ (o : Option Net). unwrap_or (shorted_nets_bit board row kind o (Some two)) v) one_at)
           ∙ sym (ap (λ (o : Option Net). unwrap_or (shorted_nets_bit board row kind (slice_get board.nets a) o) v) two_at)
 
@@ -368,8 +432,12 @@ module _ (board : RawBoard) (rules : IsBoard board) (row : TestRow) (safe : IsSa
       let pin_at : PinAt = record { part = part; bit = r.bit } in
       let s = stands_at board pin_at place 0 board.nets r.stands in
       let z : s.index ≡ place.number = omega (arith, s.number_is) in
-      let net_at : slice_get board.nets place.number ≡ Some place.net = subst (λ (x : ℕ). slice_get board.nets x ≡ Some place.net) z s.net_is in
-      let ne : place.place ≢ r.driver = λ q. both_ways (r.driver == place.place) r.other (ap (λ (x : ℕ). r.driver == x) q ∙ eq-eqb r.driver r.driver refl) in
+      let net_at : slice_get board.nets place.number
+      ≡ Some place.net = subst (λ (x : ℕ). slice_get board.nets x ≡ Some place.net) z s.net_is
+      in
+      let ne : place.place
+      ≢ r.driver = λ q. both_ways (r.driver == place.place) r.other
+      (ap (λ (x : ℕ). r.driver == x) q ∙ eq-eqb r.driver r.driver refl) in
       let d = device_of board part device c.is_device in
       let compared : Compared board row.setting place.number place.net = record {
         k = part;
@@ -396,7 +464,11 @@ module _ (board : RawBoard) (rules : IsBoard board) (row : TestRow) (safe : IsSa
       } in
       let dead : live_where board states (Some pin_at) ≡ false =
       sym (ap (λ (o : Option PinAt). live_where board states o) s.at_is)
-      ∙ dead_at board row safe place.number place.net (places.nets place.number place.net net_at) r.driver r.observing quiet_row chain held_row place.place s.pin s.pin_is ne in
-      subst (λ (all : List PinState). captured_cell board (set_of single) all choice part device cell ≡ single_bit board single row place v) (all_show board row 0 board.chain)
+      ∙ dead_at board row safe place.number place.net (places.nets place.number place.net net_at)
+      r.driver r.observing quiet_row chain held_row place.place s.pin s.pin_is ne in
+      subst
+      (λ (all : List PinState). captured_cell board (set_of single) all choice part device cell
+      ≡ single_bit board single row place v) (all_show board row 0 board.chain)
       (captures board (set_of single) row.setting place.number place.net states choice.shorts ((choice.parts part).cells cell) compared dead
-      ∙ value place.number place.net place.place net_at r.driver r.observing v r.carried single is_single choice.shorts ((choice.parts part).cells cell))
+      ∙ value place.number place.net place.place net_at r.driver r.observing v r.carried single
+      is_single choice.shorts ((choice.parts part).cells cell))

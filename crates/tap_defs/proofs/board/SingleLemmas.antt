@@ -93,7 +93,8 @@ module _ (board : RawBoard) (a b : ℕ) (kind : Kind) (less : a < b) (paired : A
     is_set = record {
       disjoint = λ n v e. nothing v e;
       several = λ n k e.
-          let other : Other n = by_member Other (b, (λ h. omega (arith, less, h)), second_in) (a, (λ h. omega (arith, less, h)), first_in) n k e in
+          let other : Other n = by_member Other (b, (λ h. omega (arith, less, h)), second_in)
+          (a, (λ h. omega (arith, less, h)), first_in) n k e in
           (other.0, other.1, at_number n other.0 k e other.2);
       covered = λ n k e.
           by_member (λ m. IsCovered board m) (paired.1.0, paired.1.1, paired.1.2.0) (paired.1.0, paired.1.1, paired.1.2.1) n k e;

@@ -34,7 +34,9 @@ width_is n = go (find (enough n) (range_with_len 0 (n + 2))) refl
   where
     go : (o : Option ℕ) → find (enough n) (range_with_len 0 (n + 2)) ≡ o → IsCodeWidth n (unwrap_or o 0)
     go None e =
-        let none : enough n (suc n) ≡ false = find_none (enough n) (range_with_len 0 (n + 2)) (suc n) e (has_range 0 (n + 2) (suc n) (omega arith) (omega arith)) in
+        let none : enough n (suc n)
+        ≡ false = find_none (enough n) (range_with_len 0 (n + 2)) (suc n) e
+        (has_range 0 (n + 2) (suc n) (omega arith) (omega arith)) in
         absurd (omega (arith, leb-false (n + 2) (2 ^ suc n) none, grows n))
     go (Some w) e = record {
       enough = leb-true (n + 2) (2 ^ w) (find_has (enough n) (range_with_len 0 (n + 2)) w e).1;

@@ -8,16 +8,16 @@ use Rattle.std.proofs.lemmas.List.Folds.{list_all-append}
 use Rattle.std.proofs.lemmas.List.Sums.{sum_by-cons}
 use Rattle.std.specs.Prelude.{sum, All}
 use Rattle.tap_defs.specs.declared.tap.TapState.TheVariants.{RunTestIdle}
-use Rattle.tap_defs.specs.chain.TestLogic.{TestLogic, Instruction, Extest, Sample, Bypass, Other, all_ones, is_code, instruction_of}
+use Rattle.tap_defs.specs.chain.TestLogic.{TestLogic, Instruction, Extest, Sample, Bypass, Other, all_ones, has_these_bits, instruction_of}
 use Rattle.tap_defs.specs.chain.Part.{FreeBits}
 use Rattle.tap_defs.specs.chain.Chain.{ChainPart, logics, IsChainOf}
 use Rattle.tap_defs.specs.chain.Run.{Wiring, Choices, choices_after, run, tdos, run_passes, PassesOn, FailsOn}
 use Rattle.tap_defs.specs.chain.Scan.{ScanBit, tdi_bits, joined}
 use Rattle.tap_defs.specs.chain.Codes.{code_bits}
 use Rattle.tap_defs.specs.chain.Text.{AllSized}
-use Rattle.tap_defs.specs.chain.ChainScans.{marks, compared, chain_scans, chain_text}
+use Rattle.tap_defs.specs.chain.ChainScans.{marks, compared_with, chain_scans, chain_text}
 use Rattle.tap_defs.specs.chain.Clocks.{sdr_clocks, sir_clocks, head_clocks, test_clocks}
-use Rattle.tap_defs.specs.chain.ChainRegisters.{ir_registers, dr_capture, dr_captures, data_captured, codes_captured, pins_at, AllIn, AllSelectingIn}
+use Rattle.tap_defs.specs.chain.ChainRegisters.{ir_registers, dr_capture, dr_captures, data_captured, codes_captured, bits_at_pins, AllIn, AllSelectingIn}
 use Rattle.tap_defs.specs.chain.Transport.{ScansCodes, scan_passes}
 use Rattle.tap_defs.specs.chain.ChainTest.{ir_lengths, AreIrLengths, IsChainTest}
 use Rattle.tap_defs.proofs.chain.ListLemmas.{cons_path, take_front}
@@ -39,7 +39,13 @@ lengths-ones (n ∷ lengths) = cons_path (length-replicate n true) (lengths-ones
 
 length-joined-sum : (rs : List (List Bool)) → length (joined rs) ≡ sum (map length rs)
 length-joined-sum [] = refl
-length-joined-sum (r ∷ rs) = omega (arith, length-append (joined rs) r, length-joined-sum rs, sum_by-cons (λ (x : ℕ). x) (length r) (map length rs))
+length-joined-sum (r ∷ rs) =
+    omega (
+      arith,
+      length-append (joined rs) r,
+      length-joined-sum rs,
+      sum_by-cons (λ (x : ℕ). x) (length r) (map length rs),
+    )
 
 ones_are : (lengths : List ℕ) → all_ones (joined (ones lengths)) ≡ true
 ones_are [] = refl
@@ -60,7 +66,11 @@ ones_left (b ∷ front) ones (suc n) fits h = ones_left front ones n (omega (ari
 
 -- a code of ones means BYPASS in a part of any kind
 ones_bypass : (logic : TestLogic) (code : List Bool) → all_ones code ≡ true → instruction_of logic code ≡ Bypass
-ones_bypass logic code h = ap (λ (b : Bool). cond b Bypass (cond (is_code logic.extest code) Extest (cond (is_code logic.preload code) Sample Other))) h
+ones_bypass logic code h =
+    ap
+    (λ (b : Bool). cond b Bypass
+    (cond (has_these_bits logic.extest code) Extest
+    (cond (has_these_bits logic.preload code) Sample Other))) h
 
 abbrev AllBypass : List ChainPart → Type 0
 AllBypass [] = Unit {0}
@@ -99,7 +109,7 @@ loads_zeros (p ∷ ps) pins free h =
     ∙ zero_behind (length ps)
 
 -- a scan that expects the bits `out` passes if `out` comes out first
-compared_passes : (ins out rest : List Bool) → length out ≤ length ins → scan_passes (compared ins out) (out ++ rest) ≡ true
+compared_passes : (ins out rest : List Bool) → length out ≤ length ins → scan_passes (compared_with ins out) (out ++ rest) ≡ true
 compared_passes [] [] rest h = refl
 compared_passes (i ∷ ins) [] rest h = refl
 compared_passes [] (o ∷ out) rest h = absurd (omega (arith, h))
@@ -108,14 +118,14 @@ compared_passes (i ∷ ins) (false ∷ out) rest h = compared_passes ins out res
 
 -- if the number of zeros that come out before the marks is not the expected one, the scan fails
 count_fails : (ins : List Bool) (k j : ℕ) (rest : List Bool) → k ≢ j → length (replicate k false ++ marks) ≤ length ins →
-    scan_passes (compared ins (replicate k false ++ marks)) (replicate j false ++ (marks ++ rest)) ≡ false
+    scan_passes (compared_with ins (replicate k false ++ marks)) (replicate j false ++ (marks ++ rest)) ≡ false
 count_fails [] k j rest ne h = absurd (omega (arith, h, length-append (replicate k false) marks))
 count_fails (i ∷ ins) zero zero rest ne h = absurd (ne refl)
 count_fails (i ∷ ins) zero (suc j) rest ne h = refl
 count_fails (i ∷ ins) (suc k) zero rest ne h = refl
 count_fails (i ∷ ins) (suc k) (suc j) rest ne h = count_fails ins k j rest (λ e. ne (ap suc e)) (omega (arith, h))
 
-length-compared : (ins out : List Bool) → length ins ≡ length out → length (compared ins out) ≡ length ins
+length-compared : (ins out : List Bool) → length ins ≡ length out → length (compared_with ins out) ≡ length ins
 length-compared [] out h = refl
 length-compared (i ∷ ins) [] h = absurd (omega (arith, h))
 length-compared (i ∷ ins) (o ∷ out) h = ap suc (length-compared ins out (omega (arith, h)))
@@ -141,7 +151,7 @@ module _ (lengths : List ℕ) (are : AreIrLengths lengths) (most : sum lengths �
   code_part = joined (map code_bits (ones lengths))
 
   abbrev count_part : List ScanBit
-  count_part = compared (marks ++ zeros) (zeros ++ marks)
+  count_part = compared_with (marks ++ zeros) (zeros ++ marks)
 
   same_size : length (marks ++ zeros) ≡ length (zeros ++ marks)
   same_size = omega (arith, length-append marks zeros, length-append zeros marks)
@@ -191,7 +201,9 @@ module _ (lengths : List ℕ) (are : AreIrLengths lengths) (most : sum lengths �
     counts_pass = run_passes (sdr_clocks count_part) (tdos wiring (sdr_clocks count_part) f7 coded)
 
     -- the two scans of the test decide whether its text passes
-    both_decide : run_passes (test_clocks (chain_scans lengths)) (tdos wiring (test_clocks (chain_scans lengths)) choices chain) ≡ (codes_pass && counts_pass)
+    both_decide : run_passes (test_clocks (chain_scans lengths))
+        (tdos wiring (test_clocks (chain_scans lengths)) choices chain)
+        ≡ (codes_pass && counts_pass)
     unfolding tdos
     both_decide =
         scans_decide wiring (chain_scans lengths) choices chain
@@ -225,7 +237,8 @@ module _ (lengths : List ℕ) (are : AreIrLengths lengths) (most : sum lengths �
         bypass_by coded code_scan.currents
         (ap (λ (r : List Bool). all_ones r)
         (code_scan.stays ∙ ap (λ (r : List Bool). drop (length code_part) (joined captured ++ r)) (tdi_bits-instructs (ones lengths)))
-        ∙ ones_left (joined captured) (joined (ones lengths)) (length code_part) (omega (arith, captured_size, code_size, few)) (ones_are lengths))
+        ∙ ones_left (joined captured) (joined (ones lengths)) (length code_part)
+        (omega (arith, captured_size, code_size, few)) (ones_are lengths))
 
     -- the second scan then reads one zero for each part, followed by the marks
     counts_read : sum (ir_lengths parts) ≤ sum lengths →
@@ -236,9 +249,10 @@ module _ (lengths : List ℕ) (are : AreIrLengths lengths) (most : sum lengths �
         let scan = long_data_transport wiring count_part f7 coded (selecting_by coded code_scan.idle bypass) some_counts in
         scan.compares
         ∙ scan_passes_take count_part (joined loaded ++ tdi_bits count_part)
-        ∙ ap (λ (r : List Bool). scan_passes count_part (joined loaded ++ r)) (tdi_bits-compared (marks ++ zeros) (zeros ++ marks) same_size)
+        ∙ ap (λ (r : List Bool). scan_passes count_part (joined loaded ++ r))
+        (tdi_bits-compared (marks ++ zeros) (zeros ++ marks) same_size)
         ∙ ap (λ (r : List Bool). scan_passes count_part (r ++ (marks ++ zeros)))
-        (loads_zeros coded (pins_at wiring (f7 2) coded) (f7 2).parts bypass ∙ ap (λ (n : ℕ). replicate n false) coded_count)
+        (loads_zeros coded (bits_at_pins wiring (f7 2) coded) (f7 2).parts bypass ∙ ap (λ (n : ℕ). replicate n false) coded_count)
 
     -- on a chain with these lengths the first scan passes
     codes_read : ir_lengths parts ≡ lengths → codes_pass ≡ true

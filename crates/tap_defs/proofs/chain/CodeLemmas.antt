@@ -11,7 +11,7 @@ use Rattle.tap_defs.specs.chain.Chain.{ChainPart, chain_after, chain_tdo}
 use Rattle.tap_defs.specs.chain.Run.{Wiring, Clock, Choices, clock_after, clock_tdo, later, choices_after, run, tdos, run_passes}
 use Rattle.tap_defs.specs.chain.Scan.{ScanBit, tdi_bits, joined}
 use Rattle.tap_defs.specs.chain.Clocks.{plain, shift_clock, shift_clocks, sir_clocks}
-use Rattle.tap_defs.specs.chain.ChainRegisters.{ir_registers, ir_captures, codes_captured, pins_at, AllIn}
+use Rattle.tap_defs.specs.chain.ChainRegisters.{ir_registers, ir_captures, codes_captured, bits_at_pins, AllIn}
 use Rattle.tap_defs.specs.chain.Transport.{CodeFrame, code_frame, scan_passes, CodeTransport, LongCodeTransport}
 use Rattle.tap_defs.proofs.chain.ListLemmas.{cons_path, take_front, drop_front, length-joined, shift_is, length-shifted, length-captured_ir}
 use Rattle.tap_defs.proofs.chain.MoveLemmas.{with_tap, at_tap, moved_to, chain_moves, map-moved_to, ir_captures-moved_to, moved_in, run_moves}
@@ -19,7 +19,9 @@ use Rattle.tap_defs.proofs.chain.RunLemmas.{run-append, tdos-append, shifts_pass
 
 -- the part still has the properties that an instruction scan does not change
 abbrev SameFrame : TestLogic → PartState → PartState → Type 0
-SameFrame logic s after = ◌≡◌ {A = CodeFrame} (code_frame (record { logic = logic; state = after })) (code_frame (record { logic = logic; state = s }))
+SameFrame logic s after =
+    ◌≡◌ {A = CodeFrame} (code_frame (record { logic = logic; state = after }))
+    (code_frame (record { logic = logic; state = s }))
 
 -- one part after a clock in Capture-IR
 record Captures (logic : TestLogic) (free : FreeBits) (s after : PartState) : Type 0 where
@@ -30,7 +32,8 @@ record Captures (logic : TestLogic) (free : FreeBits) (s after : PartState) : Ty
 part_captures : (logic : TestLogic) (pins : List Bool) (free : FreeBits) (tdi : Bool) (s : PartState) → s.tap ≡ CaptureIR →
     Captures logic free s (part_after logic pins free false tdi s)
 part_captures logic pins free tdi s e =
-    at_tap (λ w. Captures logic free w (part_after logic pins free false tdi w)) CaptureIR s e (record { code = refl; frame = refl; tap = refl })
+    at_tap (λ w. Captures logic free w (part_after logic pins free false tdi w)) CaptureIR s e
+    (record { code = refl; frame = refl; tap = refl })
 
 record ChainCaptures (codes : List (List Bool)) (ps after : List ChainPart) : Type 0 where
   codes_are : ir_registers after ≡ codes
@@ -102,10 +105,10 @@ all_shifts : (wiring : Wiring) (b : ScanBit) (bits : List ScanBit) (choices : Ch
     AllShifts (tdi_bits (b ∷ bits)) (tdos wiring (shift_clocks (b ∷ bits)) choices ps) ps (run wiring (shift_clocks (b ∷ bits)) choices ps)
 unfolding run tdos
 all_shifts wiring b [] choices ps h =
-    let e = chain_shifts ps (pins_at wiring (choices 0) ps) (choices 0).parts true b.tdi h in
+    let e = chain_shifts ps (bits_at_pins wiring (choices 0) ps) (choices 0).parts true b.tdi h in
     record { register = e.register; sizes = e.sizes; frames = e.frames; taps = e.taps; count = refl }
 all_shifts wiring b (c ∷ bits) choices ps h =
-    let e = chain_shifts ps (pins_at wiring (choices 0) ps) (choices 0).parts false b.tdi h in
+    let e = chain_shifts ps (bits_at_pins wiring (choices 0) ps) (choices 0).parts false b.tdi h in
     let next : List ChainPart = clock_after wiring (shift_clock false b) (choices 0) ps in
     let ih = all_shifts wiring c bits (later choices) next e.taps in
     let out : Bool = clock_tdo (shift_clock false b) (choices 0) ps in
@@ -130,7 +133,8 @@ record Updates (logic : TestLogic) (s after : PartState) : Type 0 where
 part_updates : (logic : TestLogic) (pins : List Bool) (free : FreeBits) (tdi : Bool) (s : PartState) → s.tap ≡ Exit1IR →
     Updates logic s (part_after logic pins free true tdi s)
 part_updates logic pins free tdi s e =
-    at_tap (λ w. Updates logic w (part_after logic pins free true tdi w)) Exit1IR s e (record { code = refl; current = refl; frame = refl; tap = refl })
+    at_tap (λ w. Updates logic w (part_after logic pins free true tdi w)) Exit1IR s e
+    (record { code = refl; current = refl; frame = refl; tap = refl })
 
 record ChainUpdates (ps after : List ChainPart) : Type 0 where
   codes_are : ir_registers after ≡ ir_registers ps
@@ -161,7 +165,7 @@ captures_moved : (wiring : Wiring) (choices : Choices) (ps : List ChainPart) →
 captures_moved wiring choices ps =
     let moved : List ChainPart = map (moved_to CaptureIR) ps in
     let free : ℕ → FreeBits = (choices 3).parts in
-    let e = chain_captures moved (pins_at wiring (choices 3) moved) free (choices 3).tdi (moved_in CaptureIR ps) in
+    let e = chain_captures moved (bits_at_pins wiring (choices 3) moved) free (choices 3).tdi (moved_in CaptureIR ps) in
     record {
       codes_are = e.codes_are ∙ ir_captures-moved_to CaptureIR ps free;
       frames = e.frames ∙ map-moved_to code_frame CaptureIR (λ p. refl) ps;
@@ -195,9 +199,11 @@ long_code_transport wiring (b ∷ bits) choices ps h some =
     -- the clocks of the update and back to Run-Test/Idle
     let f5 : Choices = choices_after shifts f4 in
     let n6 : List ChainPart = clock_after wiring (plain true) (f5 0) n5 in
-    let update = chain_updates n5 (pins_at wiring (f5 0) n5) (f5 0).parts (f5 0).tdi shift.taps in
+    let update = chain_updates n5 (bits_at_pins wiring (f5 0) n5) (f5 0).parts (f5 0).tdi shift.taps in
     let n7 : List ChainPart = clock_after wiring (plain false) (f5 1) n6 in
-    let n7_is : n7 ≡ map (moved_to RunTestIdle) n6 = chain_moves UpdateIR n6 (pins_at wiring (f5 1) n6) (f5 1).parts false (f5 1).tdi update.taps refl refl in
+    let n7_is : n7
+    ≡ map (moved_to RunTestIdle) n6 = chain_moves UpdateIR n6 (bits_at_pins wiring (f5 1) n6)
+    (f5 1).parts false (f5 1).tdi update.taps refl refl in
     let after_is : run wiring clocks choices ps ≡ map (moved_to RunTestIdle) n6 = run-append wiring shifts tail f4 n4 ∙ n7_is in
     -- the bits that come out at TDO, and the bits that the instruction registers hold afterwards
     let early : List Bool = tdos wiring (front ++ plain false ∷ []) choices ps in
@@ -208,7 +214,8 @@ long_code_transport wiring (b ∷ bits) choices ps h some =
     let stream_is : out ++ joined (ir_registers n5) ≡ stream =
     sym shift.register ∙ ap (λ (r : List (List Bool)). joined r ++ tdi_bits (b ∷ bits)) capture.codes_are in
     let leaving_is : out ≡ take (length (b ∷ bits)) stream =
-    sym (take_front (length (b ∷ bits)) out (joined (ir_registers n5)) count) ∙ ap (λ (r : List Bool). take (length (b ∷ bits)) r) stream_is in
+    sym (take_front (length (b ∷ bits)) out (joined (ir_registers n5)) count)
+    ∙ ap (λ (r : List Bool). take (length (b ∷ bits)) r) stream_is in
     let codes_are : ir_registers (run wiring clocks choices ps) ≡ ir_registers n5 =
     ap (λ (r : List ChainPart). ir_registers r) after_is ∙ map-moved_to (λ p. p.state.ir) RunTestIdle (λ p. refl) n6 ∙ update.codes_are in
     record {
@@ -247,9 +254,13 @@ pub code_transport : CodeTransport
 code_transport wiring bits choices ps h some size =
     let captured : List (List Bool) = codes_captured choices ps in
     let s = long_code_transport wiring bits choices ps h some in
-    let fits : length (joined captured) ≡ length bits = length-joined captured (ir_registers ps) (lengths-ir_captures ps (choices 3).parts) ∙ sym size in
-    let leaving : take (length bits) (joined captured ++ tdi_bits bits) ≡ joined captured = take_front (length bits) (joined captured) (tdi_bits bits) fits in
-    let staying : drop (length bits) (joined captured ++ tdi_bits bits) ≡ tdi_bits bits = drop_front (length bits) (joined captured) (tdi_bits bits) fits in
+    let fits : length (joined captured)
+    ≡ length bits = length-joined captured (ir_registers ps)
+    (lengths-ir_captures ps (choices 3).parts) ∙ sym size in
+    let leaving : take (length bits) (joined captured ++ tdi_bits bits)
+    ≡ joined captured = take_front (length bits) (joined captured) (tdi_bits bits) fits in
+    let staying : drop (length bits) (joined captured ++ tdi_bits bits)
+    ≡ tdi_bits bits = drop_front (length bits) (joined captured) (tdi_bits bits) fits in
     record {
       leaves = s.leaves ∙ leaving;
       compares = s.compares ∙ ap (λ (r : List Bool). scan_passes bits r) leaving;

@@ -10,7 +10,7 @@ use Rattle.tap_defs.specs.chain.Chain.{ChainPart, pin_states, chain_after, chain
 use Rattle.tap_defs.specs.chain.Run.{Wiring, Clock, Choices, clock_after, clock_tdo, later, choices_after, run, tdos, run_passes}
 use Rattle.tap_defs.specs.chain.Scan.{ScanBit, tdi_bits, joined}
 use Rattle.tap_defs.specs.chain.Clocks.{plain, shift_clock, shift_clocks, sdr_clocks}
-use Rattle.tap_defs.specs.chain.ChainRegisters.{data_register, data_registers, held_bits, all_held, dr_capture, dr_captures, pins_at, data_captured, AllSelectingIn}
+use Rattle.tap_defs.specs.chain.ChainRegisters.{data_register, data_registers, held_bits, all_held, dr_capture, dr_captures, bits_at_pins, data_captured, AllSelectingIn}
 use Rattle.tap_defs.specs.chain.Transport.{DataFrame, data_frame, scan_passes, DataTransport, LongDataTransport}
 use Rattle.tap_defs.proofs.chain.ListLemmas.{cons_path, take_front, drop_front, shift_is, length-shifted}
 use Rattle.tap_defs.proofs.chain.MoveLemmas.{at_tap, moved_to, chain_moves, map-moved_to, dr_captures-moved_to, moved_selecting, all_in, run_moves}
@@ -22,9 +22,18 @@ record Captures (register : List Bool) (logic : TestLogic) (s after : PartState)
   frame : (◌≡◌ {A = DataFrame} (data_frame (record { logic = logic; state = after })) (data_frame (record { logic = logic; state = s })))
   selecting : (after.tap ≡ ShiftDR) × (after.current ≢ Other)
 
-captures_by : (logic : TestLogic) (pins : List Bool) (free : FreeBits) (tdi : Bool) (ir : List Bool) (i : Instruction) (boundary : List Bool)
+captures_by : (logic : TestLogic) (pins : List Bool) (free : FreeBits) (tdi : Bool) (ir : List Bool)
+    (i : Instruction) (boundary : List Bool)
     (bypass : Bool) (code latches : List Bool) → i ≢ Other →
-    let s : PartState = record { tap = CaptureDR; ir = ir; current = i; boundary = boundary; bypass = bypass; identification = code; latches = latches } in
+    let s : PartState = record {
+      tap = CaptureDR;
+      ir = ir;
+      current = i;
+      boundary = boundary;
+      bypass = bypass;
+      identification = code;
+      latches = latches;
+    } in
     Captures (dr_capture logic pins free i (length boundary)) logic s (part_after logic pins free false tdi s)
 captures_by logic pins free tdi ir Extest b y c l h = record { register_is = refl; frame = refl; selecting = (refl, h) }
 captures_by logic pins free tdi ir Sample b y c l h = record { register_is = refl; frame = refl; selecting = (refl, h) }
@@ -36,7 +45,9 @@ part_captures : (logic : TestLogic) (pins : List Bool) (free : FreeBits) (tdi : 
     s.current ≢ Other →
     Captures (dr_capture logic pins free s.current (length s.boundary)) logic s (part_after logic pins free false tdi s)
 part_captures logic pins free tdi s e h =
-    at_tap (λ w. Captures (dr_capture logic pins free w.current (length w.boundary)) logic w (part_after logic pins free false tdi w)) CaptureDR s e
+    at_tap
+    (λ w. Captures (dr_capture logic pins free w.current (length w.boundary)) logic w
+    (part_after logic pins free false tdi w)) CaptureDR s e
     (captures_by logic pins free tdi s.ir s.current s.boundary s.bypass s.identification s.latches h)
 
 record ChainCaptures (registers : List (List Bool)) (ps after : List ChainPart) : Type 0 where
@@ -65,16 +76,37 @@ record Shifts (t : TapState) (logic : TestLogic) (tdi out : Bool) (s after : Par
 
 shifts_by : (logic : TestLogic) (pins : List Bool) (free : FreeBits) (tms tdi : Bool) (ir : List Bool) (i : Instruction)
     (boundary : List Bool) (bypass : Bool) (code latches : List Bool) → i ≢ Other →
-    let s : PartState = record { tap = ShiftDR; ir = ir; current = i; boundary = boundary; bypass = bypass; identification = code; latches = latches } in
+    let s : PartState = record {
+      tap = ShiftDR;
+      ir = ir;
+      current = i;
+      boundary = boundary;
+      bypass = bypass;
+      identification
+          = code;
+      latches = latches;
+    } in
     Shifts (next_state ShiftDR tms) logic tdi (part_tdo free tdi s) s (part_after logic pins free tms tdi s)
-shifts_by logic pins free true tdi ir Extest b y c l h = record { register = shift_is b tdi; size = length-shifted b tdi; frame = refl; selecting = (refl, h) }
-shifts_by logic pins free false tdi ir Extest b y c l h = record { register = shift_is b tdi; size = length-shifted b tdi; frame = refl; selecting = (refl, h) }
-shifts_by logic pins free true tdi ir Sample b y c l h = record { register = shift_is b tdi; size = length-shifted b tdi; frame = refl; selecting = (refl, h) }
-shifts_by logic pins free false tdi ir Sample b y c l h = record { register = shift_is b tdi; size = length-shifted b tdi; frame = refl; selecting = (refl, h) }
+shifts_by logic pins free true tdi ir Extest b y c l h =
+    record
+    { register = shift_is b tdi; size = length-shifted b tdi; frame = refl; selecting = (refl, h) }
+shifts_by logic pins free false tdi ir Extest b y c l h =
+    record
+    { register = shift_is b tdi; size = length-shifted b tdi; frame = refl; selecting = (refl, h) }
+shifts_by logic pins free true tdi ir Sample b y c l h =
+    record
+    { register = shift_is b tdi; size = length-shifted b tdi; frame = refl; selecting = (refl, h) }
+shifts_by logic pins free false tdi ir Sample b y c l h =
+    record
+    { register = shift_is b tdi; size = length-shifted b tdi; frame = refl; selecting = (refl, h) }
 shifts_by logic pins free true tdi ir Bypass b y c l h = record { register = refl; size = refl; frame = refl; selecting = (refl, h) }
 shifts_by logic pins free false tdi ir Bypass b y c l h = record { register = refl; size = refl; frame = refl; selecting = (refl, h) }
-shifts_by logic pins free true tdi ir Idcode b y c l h = record { register = shift_is c tdi; size = length-shifted c tdi; frame = refl; selecting = (refl, h) }
-shifts_by logic pins free false tdi ir Idcode b y c l h = record { register = shift_is c tdi; size = length-shifted c tdi; frame = refl; selecting = (refl, h) }
+shifts_by logic pins free true tdi ir Idcode b y c l h =
+    record
+    { register = shift_is c tdi; size = length-shifted c tdi; frame = refl; selecting = (refl, h) }
+shifts_by logic pins free false tdi ir Idcode b y c l h =
+    record
+    { register = shift_is c tdi; size = length-shifted c tdi; frame = refl; selecting = (refl, h) }
 shifts_by logic pins free tms tdi ir Other b y c l h = absurd (h refl)
 
 part_shifts : (logic : TestLogic) (pins : List Bool) (free : FreeBits) (tms tdi : Bool) (s : PartState) → s.tap ≡ ShiftDR →
@@ -122,10 +154,10 @@ all_shifts : (wiring : Wiring) (b : ScanBit) (bits : List ScanBit) (choices : Ch
     AllShifts (tdi_bits (b ∷ bits)) (tdos wiring (shift_clocks (b ∷ bits)) choices ps) ps (run wiring (shift_clocks (b ∷ bits)) choices ps)
 unfolding run tdos
 all_shifts wiring b [] choices ps h =
-    let e = chain_shifts ps (pins_at wiring (choices 0) ps) (choices 0).parts true b.tdi h in
+    let e = chain_shifts ps (bits_at_pins wiring (choices 0) ps) (choices 0).parts true b.tdi h in
     record { register = e.register; sizes = e.sizes; frames = e.frames; selecting = e.selecting; count = refl }
 all_shifts wiring b (c ∷ bits) choices ps h =
-    let e = chain_shifts ps (pins_at wiring (choices 0) ps) (choices 0).parts false b.tdi h in
+    let e = chain_shifts ps (bits_at_pins wiring (choices 0) ps) (choices 0).parts false b.tdi h in
     let next : List ChainPart = clock_after wiring (shift_clock false b) (choices 0) ps in
     let ih = all_shifts wiring c bits (later choices) next e.selecting in
     let out : Bool = clock_tdo (shift_clock false b) (choices 0) ps in
@@ -148,7 +180,16 @@ record Updates (logic : TestLogic) (s after : PartState) : Type 0 where
 
 updates_by : (logic : TestLogic) (pins : List Bool) (free : FreeBits) (tdi : Bool) (ir : List Bool) (i : Instruction) (boundary : List Bool)
     (bypass : Bool) (code latches : List Bool) → i ≢ Other →
-    let s : PartState = record { tap = Exit1DR; ir = ir; current = i; boundary = boundary; bypass = bypass; identification = code; latches = latches } in
+    let s : PartState = record {
+      tap = Exit1DR;
+      ir = ir;
+      current = i;
+      boundary = boundary;
+      bypass = bypass;
+      identification
+          = code;
+      latches = latches;
+    } in
     Updates logic s (part_after logic pins free true tdi s)
 updates_by logic pins free tdi ir Extest b y c l h = record { held = refl; frame = refl; selecting = (refl, h) }
 updates_by logic pins free tdi ir Sample b y c l h = record { held = refl; frame = refl; selecting = (refl, h) }
@@ -185,12 +226,13 @@ captures_moved : (wiring : Wiring) (choices : Choices) (ps : List ChainPart) →
 captures_moved wiring choices ps h =
     let moved : List ChainPart = map (moved_to CaptureDR) ps in
     let free : ℕ → FreeBits = (choices 2).parts in
-    let e = chain_captures moved (pins_at wiring (choices 2) moved) free (choices 2).tdi (moved_selecting RunTestIdle CaptureDR ps h) in
+    let e = chain_captures moved (bits_at_pins wiring (choices 2) moved) free (choices 2).tdi
+    (moved_selecting RunTestIdle CaptureDR ps h) in
     let shows : pin_states moved ≡ pin_states ps = map-moved_to (λ p. pin_state p.state) CaptureDR (λ p. refl) ps in
     record {
       registers_are =
           e.registers_are
-          ∙ dr_captures-moved_to CaptureDR ps (pins_at wiring (choices 2) moved) free
+          ∙ dr_captures-moved_to CaptureDR ps (bits_at_pins wiring (choices 2) moved) free
           ∙ ap (λ (v : List PinState). dr_captures (wiring v (choices 2)) free ps) shows;
       frames = e.frames ∙ map-moved_to data_frame CaptureDR (λ p. refl) ps;
       selecting = e.selecting;
@@ -223,10 +265,10 @@ long_data_transport wiring (b ∷ bits) choices ps h some =
     -- the clocks of the update and back to Run-Test/Idle
     let f4 : Choices = choices_after shifts f3 in
     let n5 : List ChainPart = clock_after wiring (plain true) (f4 0) n4 in
-    let update = chain_updates n4 (pins_at wiring (f4 0) n4) (f4 0).parts (f4 0).tdi shift.selecting in
+    let update = chain_updates n4 (bits_at_pins wiring (f4 0) n4) (f4 0).parts (f4 0).tdi shift.selecting in
     let n6 : List ChainPart = clock_after wiring (plain false) (f4 1) n5 in
     let n6_is : n6 ≡ map (moved_to RunTestIdle) n5 =
-    chain_moves UpdateDR n5 (pins_at wiring (f4 1) n5) (f4 1).parts false (f4 1).tdi (all_in UpdateDR n5 update.selecting) refl refl in
+    chain_moves UpdateDR n5 (bits_at_pins wiring (f4 1) n5) (f4 1).parts false (f4 1).tdi (all_in UpdateDR n5 update.selecting) refl refl in
     let after_is : run wiring clocks choices ps ≡ map (moved_to RunTestIdle) n5 = run-append wiring shifts tail f3 n3 ∙ n6_is in
     -- the bits that come out at TDO, and the bits that the chain holds afterwards
     let early : List Bool = tdos wiring (front ++ plain false ∷ []) choices ps in
@@ -237,7 +279,8 @@ long_data_transport wiring (b ∷ bits) choices ps h some =
     let stream_is : out ++ joined (data_registers n4) ≡ stream =
     sym shift.register ∙ ap (λ (r : List (List Bool)). joined r ++ tdi_bits (b ∷ bits)) capture.registers_are in
     let leaving_is : out ≡ take (length (b ∷ bits)) stream =
-    sym (take_front (length (b ∷ bits)) out (joined (data_registers n4)) count) ∙ ap (λ (r : List Bool). take (length (b ∷ bits)) r) stream_is in
+    sym (take_front (length (b ∷ bits)) out (joined (data_registers n4)) count)
+    ∙ ap (λ (r : List Bool). take (length (b ∷ bits)) r) stream_is in
     let held_are : all_held (run wiring clocks choices ps) ≡ data_registers n4 =
     ap (λ (r : List ChainPart). all_held r) after_is ∙ map-moved_to (λ p. held_bits p.state) RunTestIdle (λ p. refl) n5 ∙ update.held in
     record {
@@ -253,12 +296,16 @@ long_data_transport wiring (b ∷ bits) choices ps h some =
           ap (λ (r : List (List Bool)). joined r) held_are
           ∙ sym (drop_front (length (b ∷ bits)) out (joined (data_registers n4)) count)
           ∙ ap (λ (r : List Bool). drop (length (b ∷ bits)) r) stream_is;
-      lengths = ap (λ (r : List (List Bool)). map length r) held_are ∙ shift.sizes ∙ ap (λ (r : List (List Bool)). map length r) capture.registers_are;
+      lengths =
+          ap (λ (r : List (List Bool)). map length r) held_are ∙ shift.sizes
+          ∙ ap (λ (r : List (List Bool)). map length r) capture.registers_are;
       frames =
           ap (λ (r : List ChainPart). map data_frame r) after_is
           ∙ map-moved_to data_frame RunTestIdle (λ p. refl) n5
           ∙ update.frames ∙ shift.frames ∙ capture.frames;
-      idle = subst (λ (r : List ChainPart). AllSelectingIn RunTestIdle r) (sym after_is) (moved_selecting UpdateDR RunTestIdle n5 update.selecting);
+      idle =
+          subst (λ (r : List ChainPart). AllSelectingIn RunTestIdle r) (sym after_is)
+          (moved_selecting UpdateDR RunTestIdle n5 update.selecting);
     }
 
 -- if the scan is as long as the registers, all captured bits come out, and all bits that are shifted in are held

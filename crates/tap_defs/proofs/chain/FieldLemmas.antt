@@ -39,7 +39,8 @@ joined_nothing (Some a) = ap (λ (r : List Bool). Some r) (sym (append-nil a))
 text_bits_last : (digits : List ℕ) (c : ℕ) → text_bits (digits ++ c ∷ []) ≡ joined_bits (digit_bits c) (text_bits digits)
 text_bits_last [] c = joined_nothing (digit_bits c)
 text_bits_last (x ∷ digits) c =
-    ap (λ (r : Option (List Bool)). joined_bits r (digit_bits x)) (text_bits_last digits c) ∙ joined_assoc (digit_bits c) (text_bits digits) (digit_bits x)
+    ap (λ (r : Option (List Bool)). joined_bits r (digit_bits x)) (text_bits_last digits c)
+    ∙ joined_assoc (digit_bits c) (text_bits digits) (digit_bits x)
 
 -- the digits of the bits are read as the same bits, with zeros above them
 record Padded (bits : List Bool) (read : Option (List Bool)) : Type 0 where

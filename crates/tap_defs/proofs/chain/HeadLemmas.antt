@@ -11,7 +11,7 @@ use Rattle.tap_defs.specs.chain.Chain.{ChainPart, chain_after, logics, AllAreSta
 use Rattle.tap_defs.specs.chain.Run.{Wiring, Clock, Choices, clock_tdi, clock_after, later, choices_after, run, tdos, run_passes}
 use Rattle.tap_defs.specs.chain.Scan.{Scan}
 use Rattle.tap_defs.specs.chain.Clocks.{all_clocks, reset_clocks, head_clocks, test_clocks}
-use Rattle.tap_defs.specs.chain.ChainRegisters.{ir_registers, pins_at, AllIn}
+use Rattle.tap_defs.specs.chain.ChainRegisters.{ir_registers, bits_at_pins, AllIn}
 use Rattle.tap_defs.specs.chain.ChainTest.{ir_lengths}
 use Rattle.tap_defs.proofs.chain.ListLemmas.{cons_path, length-shifted, length-captured_ir}
 use Rattle.tap_defs.proofs.chain.MoveLemmas.{way}
@@ -21,13 +21,15 @@ use Rattle.tap_defs.proofs.chain.RunLemmas.{run_keeps, two_pass}
 pub chain_logics : (ps : List ChainPart) (pins : ℕ → List Bool) (free : ℕ → FreeBits) (tms tdi : Bool) →
     logics (chain_after ps pins free tms tdi) ≡ logics ps
 chain_logics [] pins free tms tdi = refl
-chain_logics (p ∷ ps) pins free tms tdi = cons_path refl (chain_logics ps (λ k. pins (suc k)) (λ k. free (suc k)) tms (part_tdo (free 0) tdi p.state))
+chain_logics (p ∷ ps) pins free tms tdi =
+    cons_path refl
+    (chain_logics ps (λ k. pins (suc k)) (λ k. free (suc k)) tms (part_tdo (free 0) tdi p.state))
 
 pub run_logics : (wiring : Wiring) (cs : List Clock) (choices : Choices) (ps : List ChainPart) →
     logics (run wiring cs choices ps) ≡ logics ps
 run_logics wiring cs choices ps =
     run_keeps (λ (qs : List ChainPart). logics qs ≡ logics ps) wiring
-    (λ c choice qs e. chain_logics qs (pins_at wiring choice qs) choice.parts c.tms (clock_tdi c choice) ∙ e) cs choices ps refl
+    (λ c choice qs e. chain_logics qs (bits_at_pins wiring choice qs) choice.parts c.tms (clock_tdi c choice) ∙ e) cs choices ps refl
 
 -- a clock keeps the lengths of the instruction registers, since the actions of the old state and of the new state keep them
 old_ir : (t : TapState) (i : Instruction) (logic : TestLogic) (pins : List Bool) (free : FreeBits) (tdi : Bool) (s : PartState) →
@@ -57,7 +59,9 @@ part_ir : (logic : TestLogic) (pins : List Bool) (free : FreeBits) (tms tdi : Bo
     length (part_after logic pins free tms tdi s).ir ≡ length s.ir
 part_ir logic pins free tms tdi s =
     ap (λ (r : List Bool). length r)
-    (new_ir (next_state s.tap tms) s.current logic free (record (old_state_acts s.tap s.current logic pins free tdi s) { tap = next_state s.tap tms }))
+    (new_ir (next_state s.tap tms) s.current logic free
+    (record (old_state_acts s.tap s.current logic pins free tdi s)
+    { tap = next_state s.tap tms }))
     ∙ old_ir s.tap s.current logic pins free tdi s
 
 abbrev pub ir_sizes : List ChainPart → List ℕ
@@ -67,13 +71,14 @@ chain_ir : (ps : List ChainPart) (pins : ℕ → List Bool) (free : ℕ → Free
     ir_sizes (chain_after ps pins free tms tdi) ≡ ir_sizes ps
 chain_ir [] pins free tms tdi = refl
 chain_ir (p ∷ ps) pins free tms tdi =
-    cons_path (part_ir p.logic (pins 0) (free 0) tms tdi p.state) (chain_ir ps (λ k. pins (suc k)) (λ k. free (suc k)) tms (part_tdo (free 0) tdi p.state))
+    cons_path (part_ir p.logic (pins 0) (free 0) tms tdi p.state)
+    (chain_ir ps (λ k. pins (suc k)) (λ k. free (suc k)) tms (part_tdo (free 0) tdi p.state))
 
 pub run_ir : (wiring : Wiring) (cs : List Clock) (choices : Choices) (ps : List ChainPart) →
     ir_sizes (run wiring cs choices ps) ≡ ir_sizes ps
 run_ir wiring cs choices ps =
     run_keeps (λ (qs : List ChainPart). ir_sizes qs ≡ ir_sizes ps) wiring
-    (λ c choice qs e. chain_ir qs (pins_at wiring choice qs) choice.parts c.tms (clock_tdi c choice) ∙ e) cs choices ps refl
+    (λ c choice qs e. chain_ir qs (bits_at_pins wiring choice qs) choice.parts c.tms (clock_tdi c choice) ∙ e) cs choices ps refl
 
 pub states_ir : (ps : List ChainPart) → AllAreStates ps → ir_sizes ps ≡ ir_lengths (logics ps)
 states_ir [] h = refl
@@ -95,7 +100,9 @@ new_tap _ _ logic free s = refl
 pub part_tap : (logic : TestLogic) (pins : List Bool) (free : FreeBits) (tms tdi : Bool) (s : PartState) →
     (part_after logic pins free tms tdi s).tap ≡ next_state s.tap tms
 part_tap logic pins free tms tdi s =
-    new_tap (next_state s.tap tms) s.current logic free (record (old_state_acts s.tap s.current logic pins free tdi s) { tap = next_state s.tap tms })
+    new_tap (next_state s.tap tms) s.current logic free
+    (record (old_state_acts s.tap s.current logic pins free tdi s)
+    { tap = next_state s.tap tms })
 
 -- these clocks lead every part to this state
 abbrev AllLead : TapState → List Clock → List ChainPart → Type 0
@@ -120,7 +127,7 @@ unfolding run
 run_leads wiring u [] choices ps h = led_in u ps h
 run_leads wiring u (c ∷ cs) choices ps h =
     run_leads wiring u cs (later choices) (clock_after wiring c (choices 0) ps)
-    (chain_leads u c cs ps (pins_at wiring (choices 0) ps) (choices 0).parts (clock_tdi c (choices 0)) h)
+    (chain_leads u c cs ps (bits_at_pins wiring (choices 0) ps) (choices 0).parts (clock_tdi c (choices 0)) h)
 
 -- five clocks with TMS 1 lead from every state to Test-Logic-Reset, and one with TMS 0 from there to Run-Test/Idle
 resets : (t : TapState) → way t reset_clocks ≡ TestLogicReset

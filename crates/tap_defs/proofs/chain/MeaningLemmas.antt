@@ -11,7 +11,7 @@ use Rattle.tap_defs.specs.chain.Text.{command_word, gap, broken, laid, compare_t
 use Rattle.tap_defs.specs.chain.Run.{Clock}
 use Rattle.tap_defs.specs.chain.Clocks.{scan_clocks, all_clocks, reset_clocks, head_clocks, test_clocks}
 use Rattle.tap_defs.specs.chain.SvfTokens.{Token, Word, Open, Close, End, without_comments, tokens_from, pieces_from}
-use Rattle.tap_defs.specs.chain.SvfStatements.{Statement, TrstOff, EndIrIdle, EndDrIdle, StateReset, StateIdle, ScanOf, statement_of, statements_of}
+use Rattle.tap_defs.specs.chain.SvfStatements.{Statement, TrstOff, EndIrIdle, EndDrIdle, StateReset, StateIdle, ScanOf, svf_statement, statements_of}
 use Rattle.tap_defs.specs.chain.Svf.{Standing, may_scan, followed_by, clocks_of, at_start, text_statements, meaning}
 use Rattle.tap_defs.proofs.chain.ListLemmas.{cons_path}
 use Rattle.tap_defs.proofs.chain.TokenLemmas.{is_bare, all_append, all_bare, hex_text_plain, decimal_plain, worded, words_of, field_tokens, compare_tokens}
@@ -43,13 +43,14 @@ piece_ends piece (Close ∷ body) rest h =
     piece_ends (piece ++ Close ∷ []) body rest h
     ∙ ap (λ (r : List Token). option_map (λ pieces. r ∷ pieces) (pieces_from [] rest)) (append_assoc piece (Close ∷ []) body)
 
-one_statement : (statement : Statement) (body rest : List Token) → list_all is_inner body ≡ true → statement_of body ≡ Some statement →
+one_statement : (statement : Statement) (body rest : List Token) → list_all is_inner body ≡ true → svf_statement body ≡ Some statement →
     statements_in (body ++ End ∷ rest) ≡ option_map (λ more. statement ∷ more) (statements_in rest)
 one_statement statement body rest h e =
     ap (λ (o : Option (List (List Token))). option_and_then statements_of o) (piece_ends [] body rest h) ∙ by_rest (pieces_from [] rest)
   where
     by_rest : (o : Option (List (List Token))) →
-        option_and_then statements_of (option_map (λ pieces. body ∷ pieces) o) ≡ option_map (λ more. statement ∷ more) (option_and_then statements_of o)
+        option_and_then statements_of (option_map (λ pieces. body ∷ pieces) o)
+        ≡ option_map (λ more. statement ∷ more) (option_and_then statements_of o)
     by_rest None = refl
     by_rest (Some pieces) = ap (λ (o : Option Statement). option_and_then (λ s. option_map (λ more. s ∷ more) (statements_of pieces)) o) e
 
@@ -63,7 +64,8 @@ field_inner long name bits tokens = worded_inner (words_of long (hex_text bits))
 
 scan_inner : (long : Bool) (scan : Scan) → list_all is_inner (scan_tokens long scan) ≡ true
 scan_inner long scan =
-    field_inner long (codes "TDI") (tdi_bits scan.bits) (compare_tokens long scan.bits (compares scan.bits)) ∙ by_compares (compares scan.bits)
+    field_inner long (codes "TDI") (tdi_bits scan.bits)
+    (compare_tokens long scan.bits (compares scan.bits)) ∙ by_compares (compares scan.bits)
   where
     by_compares : (b : Bool) → list_all is_inner (compare_tokens long scan.bits b) ≡ true
     by_compares false = refl
@@ -108,7 +110,9 @@ bare_stays (b ∷ c ∷ text) h =
 
 all_more : (x : ℕ) (xs ys : List ℕ) → (list_all is_bare xs ≡ true → list_all is_bare ys ≡ true) → list_all is_bare (x ∷ xs) ≡ true →
     list_all is_bare (x ∷ ys) ≡ true
-all_more x xs ys f h = let both = and_parts (is_bare x) (list_all is_bare xs) h in and_from (is_bare x) (list_all is_bare ys) both.0 (f both.1)
+all_more x xs ys f h =
+    let both = and_parts (is_bare x) (list_all is_bare xs) h in
+    and_from (is_bare x) (list_all is_bare ys) both.0 (f both.1)
 
 broken_bare : (room : ℕ) (digits : List ℕ) → list_all is_bare digits ≡ true → list_all is_bare (broken room digits) ≡ true
 broken_bare room [] h = refl
@@ -131,7 +135,8 @@ compare_bare long bits true =
     let mask_field : List ℕ = gap long ∷ codes "MASK (" ++ (mask ++ codes ");") in
     let mask_field_bare : list_all is_bare mask_field ≡ true =
     gap_bare long (codes "MASK (" ++ (mask ++ codes ");")) (all_append is_bare mask (codes ");") (laid_bare long (mask_bits bits)) refl) in
-    gap_bare long (codes "TDO (" ++ (tdo ++ 41 ∷ mask_field)) (all_append is_bare tdo (41 ∷ mask_field) (laid_bare long (tdo_bits bits)) mask_field_bare)
+    gap_bare long (codes "TDO (" ++ (tdo ++ 41 ∷ mask_field))
+    (all_append is_bare tdo (41 ∷ mask_field) (laid_bare long (tdo_bits bits)) mask_field_bare)
 
 form_bare : (long : Bool) (scan : Scan) → length scan.bits < 2 ^ 64 → list_all is_bare (form long scan) ≡ true
 form_bare long scan fits =
@@ -151,7 +156,9 @@ scans_bare : (scans : List Scan) → AllSized scans → list_all is_bare (scan_t
 scans_bare [] h = refl
 scans_bare (s ∷ scans) h =
     let long : Bool = nat_lt 80 (length (form false s)) in
-    all_append is_bare (scan_text s) (scan_texts scans) (all_append is_bare (form long s) (10 ∷ []) (form_bare long s h.0.1) refl) (scans_bare scans h.1)
+    all_append is_bare (scan_text s) (scan_texts scans)
+    (all_append is_bare (form long s) (10 ∷ []) (form_bare long s h.0.1) refl)
+    (scans_bare scans h.1)
 
 text_bare : (scans : List Scan) → AllSized scans → list_all is_bare (head_text ++ (scan_texts scans ++ tail_text)) ≡ true
 text_bare scans h = all_append is_bare (scan_texts scans) tail_text (scans_bare scans h) refl
@@ -197,7 +204,8 @@ pub text_read : (scans : List Scan) → AllSized scans →
     text_statements (svf_text scans) ≡ Some (head_statements ++ (scan_statements scans ++ tail_statements))
 unfolding text_statements svf_text
 text_read scans h =
-    ap (λ (text : List ℕ). statements_in (tokens_from [] text)) (bare_stays (head_text ++ (scan_texts scans ++ tail_text)) (text_bare scans h))
+    ap (λ (text : List ℕ). statements_in (tokens_from [] text))
+    (bare_stays (head_text ++ (scan_texts scans ++ tail_text)) (text_bare scans h))
     ∙ head_read (scan_texts scans ++ tail_text)
     ∙ ap head_then (scans_read scans tail_text tail_statements h tail_read)
 

@@ -9,7 +9,7 @@ use Rattle.tap_defs.specs.chain.TestLogic.{TestLogic, Instruction}
 use Rattle.tap_defs.specs.chain.Part.{PartState, FreeBits, old_state_acts, new_state_acts, part_after, part_tdo}
 use Rattle.tap_defs.specs.chain.Chain.{ChainPart, chain_after}
 use Rattle.tap_defs.specs.chain.Run.{Wiring, Clock, Choices, clock_tdi, later, run}
-use Rattle.tap_defs.specs.chain.ChainRegisters.{AllIn, AllSelectingIn, dr_captures, ir_captures, pins_at}
+use Rattle.tap_defs.specs.chain.ChainRegisters.{AllIn, AllSelectingIn, dr_captures, ir_captures, bits_at_pins}
 use Rattle.tap_defs.proofs.chain.ListLemmas.{cons_path}
 
 abbrev pub with_tap : TapState → PartState → PartState
@@ -110,7 +110,9 @@ all_in t (p ∷ ps) h = (h.0.0, all_in t ps h.1)
 moved_nowhere : (t : TapState) (ps : List ChainPart) → AllIn t ps → ps ≡ map (moved_to t) ps
 moved_nowhere t [] h = refl
 moved_nowhere t (p ∷ ps) h =
-    cons_path (ap (λ (s : PartState). record { logic = p.logic; state = s }) (at_tap (λ s. s ≡ with_tap t s) t p.state h.0 refl)) (moved_nowhere t ps h.1)
+    cons_path
+    (ap (λ (s : PartState). record { logic = p.logic; state = s })
+    (at_tap (λ s. s ≡ with_tap t s) t p.state h.0 refl)) (moved_nowhere t ps h.1)
 
 moved_twice : (t u : TapState) (ps : List ChainPart) → map (moved_to u) (map (moved_to t) ps) ≡ map (moved_to u) ps
 moved_twice t u [] = refl
@@ -135,7 +137,7 @@ run_moves wiring t (c ∷ cs) choices ps h e =
     let step = and_parts (rests t) (not (changes (next_state t c.tms))) both.0 in
     let u : TapState = next_state t c.tms in
     let m =
-    chain_moves t ps (pins_at wiring (choices 0) ps) (choices 0).parts c.tms (clock_tdi c (choices 0)) h step.0
+    chain_moves t ps (bits_at_pins wiring (choices 0) ps) (choices 0).parts c.tms (clock_tdi c (choices 0)) h step.0
     (not-true (changes (next_state t c.tms)) step.1) in
     ap (λ (qs : List ChainPart). run wiring cs (later choices) qs) m
     ∙ run_moves wiring u cs (later choices) (map (moved_to u) ps) (moved_in u ps) both.1

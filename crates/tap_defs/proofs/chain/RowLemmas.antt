@@ -3,7 +3,7 @@ use Rattle.std.proofs.Common.{◌≡◌, ℕ, zero, suc, Bool, true, false, cond
 use Rattle.tap_defs.specs.chain.TestLogic.{all_ones}
 use Rattle.tap_defs.specs.chain.Scan.{ScanBit, tdi_bits, tdo_bits, mask_bits, scan_bits}
 use Rattle.tap_defs.specs.chain.Codes.{sent, code_bits}
-use Rattle.tap_defs.specs.chain.ChainScans.{compared}
+use Rattle.tap_defs.specs.chain.ChainScans.{compared_with}
 use Rattle.tap_defs.proofs.chain.ListLemmas.{cons_path}
 
 -- the row of TDI of a scan has the bits that were given for shifting in
@@ -16,7 +16,7 @@ tdi_bits-code_bits [] = refl
 tdi_bits-code_bits (a ∷ []) = refl
 tdi_bits-code_bits (a ∷ b ∷ code) = cons_path refl (cons_path refl (tdi_bits-sent code))
 
-pub tdi_bits-compared : (ins out : List Bool) → length ins ≡ length out → tdi_bits (compared ins out) ≡ ins
+pub tdi_bits-compared : (ins out : List Bool) → length ins ≡ length out → tdi_bits (compared_with ins out) ≡ ins
 tdi_bits-compared [] out h = refl
 tdi_bits-compared (i ∷ ins) [] h = absurd (omega (arith, h))
 tdi_bits-compared (i ∷ ins) (o ∷ out) h = cons_path refl (tdi_bits-compared ins out (omega (arith, h)))
@@ -28,7 +28,9 @@ all_ones-replicate (suc n) = all_ones-replicate n
 
 -- a scan that is made from its own rows is the same scan
 bit_is : (tdi : Bool) (expect : Option Bool) →
-    ◌≡◌ {A = ScanBit} (record { tdi = tdi; expect = cond (is_some expect) (Some (unwrap_or expect false)) None }) (record { tdi = tdi; expect = expect })
+    ◌≡◌ {A = ScanBit}
+    (record { tdi = tdi; expect = cond (is_some expect) (Some (unwrap_or expect false)) None })
+    (record { tdi = tdi; expect = expect })
 bit_is tdi None = refl
 bit_is tdi (Some e) = refl
 
@@ -51,9 +53,12 @@ is_compared : (o m : Bool) → is_some (cond m (Some o) None) ≡ m
 is_compared o true = refl
 is_compared o false = refl
 
-pub mask_bits-scan_bits : (tdi tdo mask : List Bool) → length tdo ≡ length tdi → length mask ≡ length tdi → mask_bits (scan_bits tdi tdo mask) ≡ mask
+pub mask_bits-scan_bits : (tdi tdo mask : List Bool) → length tdo ≡ length tdi
+    → length mask ≡ length tdi → mask_bits (scan_bits tdi tdo mask) ≡ mask
 mask_bits-scan_bits [] tdo [] o m = refl
 mask_bits-scan_bits [] tdo (m' ∷ ms) o m = absurd (omega (arith, m))
 mask_bits-scan_bits (i ∷ is) [] mask o m = absurd (omega (arith, o))
 mask_bits-scan_bits (i ∷ is) (o' ∷ os) [] o m = absurd (omega (arith, m))
-mask_bits-scan_bits (i ∷ is) (o' ∷ os) (m' ∷ ms) o m = cons_path (is_compared o' m') (mask_bits-scan_bits is os ms (omega (arith, o)) (omega (arith, m)))
+mask_bits-scan_bits (i ∷ is) (o' ∷ os) (m' ∷ ms) o m =
+    cons_path (is_compared o' m')
+    (mask_bits-scan_bits is os ms (omega (arith, o)) (omega (arith, m)))

@@ -31,7 +31,9 @@ pub run_keeps : (P : List ChainPart → Type 0) (wiring : Wiring) →
     (cs : List Clock) (choices : Choices) (ps : List ChainPart) → P ps → P (run wiring cs choices ps)
 unfolding run
 run_keeps P wiring step [] choices ps h = h
-run_keeps P wiring step (c ∷ cs) choices ps h = run_keeps P wiring step cs (later choices) (clock_after wiring c (choices 0) ps) (step c (choices 0) ps h)
+run_keeps P wiring step (c ∷ cs) choices ps h =
+    run_keeps P wiring step cs (later choices) (clock_after wiring c (choices 0) ps)
+    (step c (choices 0) ps h)
 
 pub and_assoc : (x y z : Bool) → (x && (y && z)) ≡ ((x && y) && z)
 and_assoc true y z = refl
@@ -62,7 +64,9 @@ pub shifts_pass : (b : ScanBit) (bits : List ScanBit) (out more : List Bool) (re
 shifts_pass b bits [] more rest e h = absurd (omega (arith, e))
 shifts_pass b [] (o ∷ []) more rest e h = ap (λ (r : Bool). bit_passes b.expect o && r) h
 shifts_pass b [] (o ∷ p ∷ out) more rest e h = absurd (omega (arith, e))
-shifts_pass b (c ∷ bits) (o ∷ out) more rest e h = ap (λ (r : Bool). bit_passes b.expect o && r) (shifts_pass c bits out more rest (omega (arith, e)) h)
+shifts_pass b (c ∷ bits) (o ∷ out) more rest e h =
+    ap (λ (r : Bool). bit_passes b.expect o && r)
+    (shifts_pass c bits out more rest (omega (arith, e)) h)
 
 -- only the first bits that come out are compared, as many as the scan has
 pub scan_passes_take : (bits : List ScanBit) (out : List Bool) → scan_passes bits (take (length bits) out) ≡ scan_passes bits out

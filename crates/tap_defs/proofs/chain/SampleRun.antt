@@ -23,7 +23,17 @@ abbrev pub no_wiring : Wiring
 no_wiring pins choice k = []
 
 abbrev pub pausing : PartState
-pausing = record { tap = PauseDR; ir = off ∷ off ∷ off ∷ off ∷ []; current = Sample; boundary = []; bypass = on; identification = []; latches = [] }
+pausing =
+    record {
+      tap = PauseDR;
+      ir = off ∷ off ∷ off ∷ off
+          ∷ [];
+      current = Sample;
+      boundary = [];
+      bypass = on;
+      identification = [];
+      latches = [];
+    }
 
 abbrev pub shifting : PartState
 shifting = record { tap = ShiftIR; ir = on ∷ off ∷ []; current = Other; boundary = []; bypass = off; identification = []; latches = [] }

@@ -7,5 +7,6 @@ use Rattle.tap_defs.specs.chain.ScanRows.{AreBitsOf}
 abbrev pub bit : Bool → Option Bool → ScanBit
 bit tdi expect = record { tdi = tdi; expect = expect }
 
-pub three_bits : AreBitsOf (bit true (Some false) ∷ bit false (Some true) ∷ bit true None ∷ []) (true ∷ false ∷ true ∷ []) (false ∷ true ∷ false ∷ []) (true ∷ true ∷ false ∷ [])
+pub three_bits : AreBitsOf (bit true (Some false) ∷ bit false (Some true) ∷ bit true None ∷ [])
+    (true ∷ false ∷ true ∷ []) (false ∷ true ∷ false ∷ []) (true ∷ true ∷ false ∷ [])
 three_bits = record { tdi = refl; tdo = refl; mask = refl }

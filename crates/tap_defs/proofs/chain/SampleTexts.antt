@@ -91,7 +91,9 @@ unfolding meaning text_statements tokens_from
 two_nets_mean = refl
 
 -- the chain tests of one part and of forty parts; the first scan of the second test would have 89 characters in one line
-pub one_part_text : chain_text (2 ∷ []) ≡ sample_text (codes "SIR 2 TDI (3) TDO (1) MASK (3);" ∷ codes "SDR 9 TDI (0A5) TDO (14A) MASK (1FF);" ∷ [])
+pub one_part_text : chain_text (2 ∷ [])
+    ≡ sample_text
+    (codes "SIR 2 TDI (3) TDO (1) MASK (3);" ∷ codes "SDR 9 TDI (0A5) TDO (14A) MASK (1FF);" ∷ [])
 unfolding svf_text digits
 one_part_text = refl
 
@@ -106,7 +108,8 @@ forty_parts_text = refl
 abbrev pub zero_digits : ℕ → List ℕ
 zero_digits n = replicate n 48
 
-pub eighty_text : svf_text (sdr (replicate 260 (sent off)) ∷ []) ≡ sample_text ((codes "SDR 260 TDI (" ++ (zero_digits 65 ++ codes ");")) ∷ [])
+pub eighty_text : svf_text (sdr (replicate 260 (sent off)) ∷ [])
+    ≡ sample_text ((codes "SDR 260 TDI (" ++ (zero_digits 65 ++ codes ");")) ∷ [])
 unfolding svf_text digits
 eighty_text = refl
 
@@ -133,7 +136,9 @@ unfolding meaning text_statements tokens_from
 scan_means = refl
 
 -- the text has a meaning in spite of comments, blanks, line ends between digits, digits in either case, and TDO bits that are not compared
-pub comment_means : headed (codes "! a; (" ∷ codes "SDR 5 // 6" ∷ codes "TDI (0!8" ∷ codes "8) TDO (0" ∷ codes " 1 )MASK (05 ) ;//" ∷ []) ≡ one_scan
+pub comment_means : headed
+    (codes "! a; (" ∷ codes "SDR 5 // 6" ∷ codes "TDI (0!8" ∷ codes "8) TDO (0"
+    ∷ codes " 1 )MASK (05 ) ;//" ∷ []) ≡ one_scan
 unfolding meaning text_statements tokens_from
 comment_means = refl
 

@@ -56,14 +56,16 @@ part_passes (x ∷ bs) [] e h k b r p q = cc q
 part_passes (x ∷ bs) (y ∷ rs) e h zero b r p q =
     let tl : map length bs ≡ map length rs = cc e in
     let both =
-    and_parts (scan_passes (joined bs) (joined rs)) (scan_passes x y) (sym (scan_passes-append (joined bs) x (joined rs) y (length-joined bs rs tl)) ∙ h) in
+    and_parts (scan_passes (joined bs) (joined rs)) (scan_passes x y)
+    (sym (scan_passes-append (joined bs) x (joined rs) y (length-joined bs rs tl)) ∙ h) in
     let ex : x ≡ b = cc p in
     let ey : y ≡ r = cc q in
     subst (λ (z : List ScanBit). scan_passes z r ≡ true) ex (subst (λ (z : List Bool). scan_passes x z ≡ true) ey both.1)
 part_passes (x ∷ bs) (y ∷ rs) e h (suc k) b r p q =
     let tl : map length bs ≡ map length rs = cc e in
     let both =
-    and_parts (scan_passes (joined bs) (joined rs)) (scan_passes x y) (sym (scan_passes-append (joined bs) x (joined rs) y (length-joined bs rs tl)) ∙ h) in
+    and_parts (scan_passes (joined bs) (joined rs)) (scan_passes x y)
+    (sym (scan_passes-append (joined bs) x (joined rs) y (length-joined bs rs tl)) ∙ h) in
     part_passes bs rs tl both.0 k b r p q
 
 -- if a part passes, each of its bits passes

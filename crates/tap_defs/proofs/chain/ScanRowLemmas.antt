@@ -35,10 +35,13 @@ module _ {bits : List ScanBit} {shifted expected marks : List Bool} (are : AreBi
 
   -- wherever the row of expected bits has a 1, the row of marks has a 1
   pub rows_masked : (i : ℕ) → get_or expected i false ≡ true → get_or marks i false ≡ true
-  rows_masked i one = ap (λ (l : List Bool). get_or l i false) are.mask ∙ one_masked bits i (sym (ap (λ (l : List Bool). get_or l i false) are.tdo) ∙ one)
+  rows_masked i one =
+      ap (λ (l : List Bool). get_or l i false) are.mask
+      ∙ one_masked bits i (sym (ap (λ (l : List Bool). get_or l i false) are.tdo) ∙ one)
 
 -- if `Fits` implies `Holds` and each row has a room that fits, each row has a room that holds
-pub each_room : {Fits Holds : ℕ → Type 0} {rows : ScanRows} → ((room : ℕ) → Fits room → Holds room) → EachHasRoom Fits rows → EachHasRoom Holds rows
+pub each_room : {Fits Holds : ℕ → Type 0} {rows : ScanRows} → ((room : ℕ) → Fits room → Holds room)
+    → EachHasRoom Fits rows → EachHasRoom Holds rows
 each_room {Fits} {Holds} {rows} holds each = record {
   tdi = holds rows.tdi.now.room each.tdi;
   tdo = holds rows.tdo.now.room each.tdo;
@@ -46,7 +49,8 @@ each_room {Fits} {Holds} {rows} holds each = record {
 }
 
 -- rows with room for a scan have room for its stored rows
-pub room_for : (bits : List ScanBit) (stored : StoredRows) (rows : ScanRows) → AreRowsOf bits stored → EachHasRoom (λ room. length bits ≤ room) rows → HaveRoomFor stored rows
+pub room_for : (bits : List ScanBit) (stored : StoredRows) (rows : ScanRows) → AreRowsOf bits stored
+    → EachHasRoom (λ room. length bits ≤ room) rows → HaveRoomFor stored rows
 room_for bits stored rows are each = record {
   tdi = omega (arith, shifted_length are, each.tdi);
   tdo = omega (arith, expected_length are, each.tdo);

@@ -10,27 +10,91 @@ use Rattle.tap_defs.proofs.chain.ListLemmas.{length-filled, length-shifted, leng
 
 old_keeps : (t : TapState) (i : Instruction) (logic : TestLogic) (pins : List Bool) (free : FreeBits) (tdi : Bool) (s : PartState) →
     length pins ≡ logic.boundary_length → IsStateOf logic s → IsStateOf logic (old_state_acts t i logic pins free tdi s)
-old_keeps CaptureIR i logic pins free tdi s fit h = record { ir = length-captured_ir s.ir free.ir ∙ h.ir; boundary = h.boundary; identification = h.identification; latches = h.latches }
-old_keeps ShiftIR i logic pins free tdi s fit h = record { ir = length-shifted s.ir tdi ∙ h.ir; boundary = h.boundary; identification = h.identification; latches = h.latches }
-old_keeps CaptureDR Extest logic pins free tdi s fit h = record { ir = h.ir; boundary = fit; identification = h.identification; latches = h.latches }
-old_keeps CaptureDR Sample logic pins free tdi s fit h = record { ir = h.ir; boundary = length-filled (length s.boundary) free.cells ∙ h.boundary; identification = h.identification; latches = h.latches }
-old_keeps CaptureDR Bypass logic pins free tdi s fit h = record { ir = h.ir; boundary = h.boundary; identification = h.identification; latches = h.latches }
-old_keeps CaptureDR Idcode logic pins free tdi s fit h = record { ir = h.ir; boundary = h.boundary; identification = refl; latches = h.latches }
-old_keeps ShiftDR Extest logic pins free tdi s fit h = record { ir = h.ir; boundary = length-shifted s.boundary tdi ∙ h.boundary; identification = h.identification; latches = h.latches }
-old_keeps ShiftDR Sample logic pins free tdi s fit h = record { ir = h.ir; boundary = length-shifted s.boundary tdi ∙ h.boundary; identification = h.identification; latches = h.latches }
-old_keeps ShiftDR Bypass logic pins free tdi s fit h = record { ir = h.ir; boundary = h.boundary; identification = h.identification; latches = h.latches }
-old_keeps ShiftDR Idcode logic pins free tdi s fit h = record { ir = h.ir; boundary = h.boundary; identification = length-shifted s.identification tdi ∙ h.identification; latches = h.latches }
+old_keeps CaptureIR i logic pins free tdi s fit h =
+    record {
+      ir = length-captured_ir s.ir free.ir
+          ∙ h.ir;
+      boundary = h.boundary;
+      identification = h.identification;
+      latches = h.latches;
+    }
+old_keeps ShiftIR i logic pins free tdi s fit h =
+    record {
+      ir = length-shifted s.ir tdi
+          ∙ h.ir;
+      boundary = h.boundary;
+      identification = h.identification;
+      latches = h.latches;
+    }
+old_keeps CaptureDR Extest logic pins free tdi s fit h =
+    record { ir = h.ir; boundary = fit; identification = h.identification; latches = h.latches }
+old_keeps CaptureDR Sample logic pins free tdi s fit h =
+    record {
+      ir = h.ir;
+      boundary = length-filled (length s.boundary) free.cells
+          ∙ h.boundary;
+      identification = h.identification;
+      latches = h.latches;
+    }
+old_keeps CaptureDR Bypass logic pins free tdi s fit h =
+    record
+    { ir = h.ir; boundary = h.boundary; identification = h.identification; latches = h.latches }
+old_keeps CaptureDR Idcode logic pins free tdi s fit h =
+    record { ir = h.ir; boundary = h.boundary; identification = refl; latches = h.latches }
+old_keeps ShiftDR Extest logic pins free tdi s fit h =
+    record {
+      ir = h.ir;
+      boundary = length-shifted s.boundary tdi
+          ∙ h.boundary;
+      identification = h.identification;
+      latches = h.latches;
+    }
+old_keeps ShiftDR Sample logic pins free tdi s fit h =
+    record {
+      ir = h.ir;
+      boundary = length-shifted s.boundary tdi
+          ∙ h.boundary;
+      identification = h.identification;
+      latches = h.latches;
+    }
+old_keeps ShiftDR Bypass logic pins free tdi s fit h =
+    record
+    { ir = h.ir; boundary = h.boundary; identification = h.identification; latches = h.latches }
+old_keeps ShiftDR Idcode logic pins free tdi s fit h =
+    record {
+      ir = h.ir;
+      boundary = h.boundary;
+      identification = length-shifted s.identification tdi
+          ∙ h.identification;
+      latches = h.latches;
+    }
 old_keeps _ _ logic pins free tdi s fit h = h
 
 new_keeps : (t : TapState) (i : Instruction) (logic : TestLogic) (free : FreeBits) (s : PartState) → IsStateOf logic s →
     IsStateOf logic (new_state_acts t i logic free s)
 new_keeps UpdateIR i logic free s h = record { ir = h.ir; boundary = h.boundary; identification = h.identification; latches = h.latches }
-new_keeps UpdateDR Extest logic free s h = record { ir = h.ir; boundary = h.boundary; identification = h.identification; latches = h.boundary }
-new_keeps UpdateDR Sample logic free s h = record { ir = h.ir; boundary = h.boundary; identification = h.identification; latches = h.boundary }
+new_keeps UpdateDR Extest logic free s h =
+    record
+    { ir = h.ir; boundary = h.boundary; identification = h.identification; latches = h.boundary }
+new_keeps UpdateDR Sample logic free s h =
+    record
+    { ir = h.ir; boundary = h.boundary; identification = h.identification; latches = h.boundary }
 new_keeps UpdateDR Other logic free s h =
-    record { ir = h.ir; boundary = h.boundary; identification = h.identification; latches = length-filled (length s.latches) free.latches ∙ h.latches }
+    record {
+      ir = h.ir;
+      boundary = h.boundary;
+      identification = h.identification;
+      latches =
+          length-filled (length s.latches) free.latches ∙ h.latches;
+    }
 new_keeps TestLogicReset i logic free s h =
-    record { ir = h.ir; boundary = h.boundary; identification = h.identification; latches = length-filled (length s.latches) free.latches ∙ h.latches }
+    record {
+      ir = h.ir;
+      boundary = h.boundary;
+      identification = h.identification;
+      latches =
+          length-filled (length s.latches) free.latches ∙ h.latches;
+    }
 new_keeps _ _ logic free s h = h
 
 part_keeps : (logic : TestLogic) (pins : List Bool) (free : FreeBits) (tms tdi : Bool) (s : PartState) →
@@ -38,7 +102,9 @@ part_keeps : (logic : TestLogic) (pins : List Bool) (free : FreeBits) (tms tdi :
     IsStateOf logic s → IsStateOf logic (part_after logic pins free tms tdi s)
 part_keeps logic pins free tms tdi s fit h =
     let a = old_keeps s.tap s.current logic pins free tdi s fit h in
-    new_keeps (next_state s.tap tms) s.current logic free (record (old_state_acts s.tap s.current logic pins free tdi s) { tap = next_state s.tap tms })
+    new_keeps (next_state s.tap tms) s.current logic free
+    (record (old_state_acts s.tap s.current logic pins free tdi s)
+    { tap = next_state s.tap tms })
     (record { ir = a.ir; boundary = a.boundary; identification = a.identification; latches = a.latches })
 
 -- each part gets as many bits as it has boundary cells

@@ -12,11 +12,11 @@ use Rattle.bt_bits.specs.Hex.{hex_digit, hex_text}
 use Rattle.lists.proofs.Booleans.{gt-eqb, lt-eqb}
 use Rattle.tap_defs.specs.chain.Scan.{ScanBit, Scan, tdi_bits, tdo_bits, mask_bits, compares}
 use Rattle.tap_defs.specs.chain.Text.{command_word, gap, broken, laid, compare_text, form}
-use Rattle.tap_defs.specs.chain.SvfTokens.{Token, Word, Open, Close, End, is_blank, ended, tokens_from}
+use Rattle.tap_defs.specs.chain.SvfTokens.{Token, Word, Open, Close, End, is_svf_blank, ended, tokens_from}
 
 -- the byte belongs to a word
 abbrev pub is_solid : ℕ → Bool
-is_solid b = not (is_blank b) && (not (b == 40) && (not (b == 41) && not (b == 59)))
+is_solid b = not (is_svf_blank b) && (not (b == 40) && (not (b == 41) && not (b == 59)))
 
 -- the byte begins no comment
 abbrev pub is_bare : ℕ → Bool
@@ -73,7 +73,9 @@ hex_text_plain [] = refl
 hex_text_plain (a ∷ []) = one_more is_plain [] (hex_digit a false false false) refl (hex_digit_plain a false false false)
 hex_text_plain (a ∷ b ∷ []) = one_more is_plain [] (hex_digit a b false false) refl (hex_digit_plain a b false false)
 hex_text_plain (a ∷ b ∷ c ∷ []) = one_more is_plain [] (hex_digit a b c false) refl (hex_digit_plain a b c false)
-hex_text_plain (a ∷ b ∷ c ∷ d ∷ bits) = one_more is_plain (hex_text bits) (hex_digit a b c d) (hex_text_plain bits) (hex_digit_plain a b c d)
+hex_text_plain (a ∷ b ∷ c ∷ d ∷ bits) =
+    one_more is_plain (hex_text bits) (hex_digit a b c d) (hex_text_plain bits)
+    (hex_digit_plain a b c d)
 
 hex_text_some : (bits : List Bool) → 0 < length bits → 0 < length (hex_text bits)
 hex_text_some [] h = h
@@ -101,7 +103,8 @@ digit_plain b h =
     let low : 48 < b + 1 = grind arith in
     let high : b < 58 = grind arith in
     plain_by b (gt-eqb b 32 (omega arith)) (gt-eqb b 9 (omega arith)) (gt-eqb b 10 (omega arith)) (gt-eqb b 13 (omega arith))
-    (gt-eqb b 40 (omega arith)) (gt-eqb b 41 (omega arith)) (lt-eqb b 59 (omega arith)) (gt-eqb b 33 (omega arith)) (gt-eqb b 47 (omega arith))
+    (gt-eqb b 40 (omega arith)) (gt-eqb b 41 (omega arith)) (lt-eqb b 59 (omega arith))
+    (gt-eqb b 33 (omega arith)) (gt-eqb b 47 (omega arith))
 
 pub decimal_plain : (n : ℕ) → n < 2 ^ 64 → list_all is_plain (decimal n) ≡ true
 decimal_plain n h = all_by is_ascii_digit is_plain digit_plain (decimal n) (decimal_digits n h)
@@ -111,13 +114,13 @@ solid_goes_on : (word : List ℕ) (b : ℕ) (rest : List ℕ) → is_solid b ≡
     tokens_from word (b ∷ rest) ≡ tokens_from (word ++ b ∷ []) rest
 unfolding tokens_from
 solid_goes_on word b rest h =
-    let x = and_parts (not (is_blank b)) (not (b == 40) && (not (b == 41) && not (b == 59))) h in
+    let x = and_parts (not (is_svf_blank b)) (not (b == 40) && (not (b == 41) && not (b == 59))) h in
     let y = and_parts (not (b == 40)) (not (b == 41) && not (b == 59)) x.1 in
     let z = and_parts (not (b == 41)) (not (b == 59)) y.1 in
     let stop : List Token = cond (b == 59) (ended word (End ∷ tokens_from [] rest)) (tokens_from (word ++ b ∷ []) rest) in
     let close : List Token = cond (b == 41) (ended word (Close ∷ tokens_from [] rest)) stop in
     let open_ : List Token = cond (b == 40) (ended word (Open ∷ tokens_from [] rest)) close in
-    ap (λ (t : Bool). cond t (ended word (tokens_from [] rest)) open_) (not-true (is_blank b) x.0)
+    ap (λ (t : Bool). cond t (ended word (tokens_from [] rest)) open_) (not-true (is_svf_blank b) x.0)
     ∙ ap (λ (t : Bool). cond t (ended word (Open ∷ tokens_from [] rest)) close) (not-true (b == 40) y.0)
     ∙ ap (λ (t : Bool). cond t (ended word (Close ∷ tokens_from [] rest)) stop) (not-true (b == 41) z.0)
     ∙ ap (λ (t : Bool). cond t (ended word (End ∷ tokens_from [] rest)) (tokens_from (word ++ b ∷ []) rest)) (not-true (b == 59) z.1)
@@ -214,7 +217,8 @@ gap_first false rest = refl
 number_read : (long : Bool) (n : ℕ) (rest : List ℕ) → n < 2 ^ 64 →
     tokens_from [] (decimal n ++ gap long ∷ rest) ≡ Word (decimal n) ∷ tokens_from [] rest
 number_read long n rest h =
-    word_goes_on [] (decimal n) (gap long ∷ rest) (all_solid (decimal n) (decimal_plain n h)) ∙ gap_ends long (decimal n) rest (decimal_nonempty n h)
+    word_goes_on [] (decimal n) (gap long ∷ rest) (all_solid (decimal n) (decimal_plain n h))
+    ∙ gap_ends long (decimal n) rest (decimal_nonempty n h)
 
 -- the tokens of a field, followed by other tokens
 abbrev pub field_tokens : Bool → List ℕ → List Bool → List Token → List Token
@@ -232,7 +236,9 @@ scan_tokens long scan =
 
 field_tokens-append : (long : Bool) (name : List ℕ) (bits : List Bool) (ts us : List Token) →
     field_tokens long name bits ts ++ us ≡ field_tokens long name bits (ts ++ us)
-field_tokens-append long name bits ts us = ap (λ (r : List Token). Word name ∷ Open ∷ r) (worded-append (words_of long (hex_text bits)) (Close ∷ ts) us)
+field_tokens-append long name bits ts us =
+    ap (λ (r : List Token). Word name ∷ Open ∷ r)
+    (worded-append (words_of long (hex_text bits)) (Close ∷ ts) us)
 
 -- the tokens of the text of MASK, which may be followed by any text
 mask_read : (long : Bool) (bits : List Bool) (rest : List ℕ) → 0 < length bits →
@@ -269,13 +275,15 @@ compare_read long bits true rest h =
     let mask_long : List ℕ = gap long ∷ codes "MASK (" ++ (mask ++ (codes ");" ++ 10 ∷ rest)) in
     let end : List Token = End ∷ tokens_from [] rest in
     let mask_tokens : List Token = field_tokens long (codes "MASK") (mask_bits bits) end in
-    let regroup : (gap long ∷ codes "TDO (" ++ (tdo ++ 41 ∷ mask_field)) ++ 10 ∷ rest ≡ gap long ∷ codes "TDO (" ++ (tdo ++ 41 ∷ mask_long) =
+    let regroup : (gap long ∷ codes "TDO (" ++ (tdo ++ 41 ∷ mask_field)) ++ 10 ∷ rest
+    ≡ gap long ∷ codes "TDO (" ++ (tdo ++ 41 ∷ mask_long) =
     ap (λ (r : List ℕ). gap long ∷ codes "TDO (" ++ r)
     (append_assoc tdo (41 ∷ mask_field) (10 ∷ rest)
     ∙ ap (λ (r : List ℕ). tdo ++ (41 ∷ gap long ∷ codes "MASK (" ++ r)) (append_assoc mask (codes ");") (10 ∷ rest))) in
     let tokens_are : compare_tokens long bits true ++ end ≡ field_tokens long (codes "TDO") (tdo_bits bits) mask_tokens =
     field_tokens-append long (codes "TDO") (tdo_bits bits) (field_tokens long (codes "MASK") (mask_bits bits) []) end
-    ∙ ap (λ (r : List Token). field_tokens long (codes "TDO") (tdo_bits bits) r) (field_tokens-append long (codes "MASK") (mask_bits bits) [] end) in
+    ∙ ap (λ (r : List Token). field_tokens long (codes "TDO") (tdo_bits bits) r)
+    (field_tokens-append long (codes "MASK") (mask_bits bits) [] end) in
     bits_read long (tdi_bits bits) ((gap long ∷ codes "TDO (" ++ (tdo ++ 41 ∷ mask_field)) ++ 10 ∷ rest) some
     ∙ ap (λ (r : List Token). worded (words_of long (hex_text (tdi_bits bits))) (Close ∷ r))
     (ap (λ (r : List ℕ). tokens_from [] r) regroup
@@ -302,8 +310,10 @@ form_read long scan rest h fits =
     let before : List Token → List Token = λ (r : List Token). Word (command_word scan.ir) ∷ Word n ∷ Word (codes "TDI") ∷ Open ∷ r in
     ap (λ (r : List ℕ). tokens_from [] r) (command-append scan.ir (n ++ (gap long ∷ codes "TDI (" ++ (tdi ++ tail))) (10 ∷ rest))
     ∙ command_read scan.ir ((n ++ (gap long ∷ codes "TDI (" ++ (tdi ++ tail))) ++ 10 ∷ rest)
-    ∙ ap (λ (r : List ℕ). Word (command_word scan.ir) ∷ tokens_from [] r) (append_assoc n (gap long ∷ codes "TDI (" ++ (tdi ++ tail)) (10 ∷ rest))
-    ∙ ap (λ (r : List Token). Word (command_word scan.ir) ∷ r) (number_read long (length scan.bits) (codes "TDI (" ++ ((tdi ++ tail) ++ 10 ∷ rest)) fits)
+    ∙ ap (λ (r : List ℕ). Word (command_word scan.ir) ∷ tokens_from [] r)
+    (append_assoc n (gap long ∷ codes "TDI (" ++ (tdi ++ tail)) (10 ∷ rest))
+    ∙ ap (λ (r : List Token). Word (command_word scan.ir) ∷ r)
+    (number_read long (length scan.bits) (codes "TDI (" ++ ((tdi ++ tail) ++ 10 ∷ rest)) fits)
     ∙ ap (λ (r : List ℕ). before (tokens_from [] r)) (append_assoc tdi tail (10 ∷ rest))
     ∙ ap before (compare_read long scan.bits (compares scan.bits) rest h)
     ∙ ap before

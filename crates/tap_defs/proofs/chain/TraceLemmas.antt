@@ -5,7 +5,7 @@ use Rattle.tap_defs.specs.declared.tap.TapState.TheVariants.{TestLogicReset, Run
 use Rattle.tap_defs.specs.chain.Tap.{next_state}
 use Rattle.tap_defs.specs.chain.Scan.{ScanBit}
 use Rattle.tap_defs.specs.chain.Clocks.{sir_clocks, shift_clocks, plain, sdr_clocks}
-use Rattle.tap_defs.specs.chain.ChainRegisters.{AllIn, pins_at}
+use Rattle.tap_defs.specs.chain.ChainRegisters.{AllIn, bits_at_pins}
 use Rattle.tap_defs.specs.chain.Chain.{ChainPart, chain_after, pin_states}
 use Rattle.tap_defs.specs.chain.Run.{Clock, Wiring, Choices, choices_after, shown, later, clock_after, clock_tdi, run}
 use Rattle.tap_defs.specs.chain.Part.{FreeBits, PinState, PartState, part_after, part_tdo, pin_state, new_state_acts, old_state_acts}
@@ -46,14 +46,20 @@ acts_shown _ _ logic pins free tdi s = refl
 part_shown : (logic : TestLogic) (pins : List Bool) (free : FreeBits) (tms tdi : Bool) (s : PartState) →
     changes (next_state s.tap tms) ≡ false → pin_state (part_after logic pins free tms tdi s) ≡ pin_state s
 part_shown logic pins free tms tdi s e =
-    settles_shown (next_state s.tap tms) s.current logic free (record (old_state_acts s.tap s.current logic pins free tdi s) { tap = next_state s.tap tms }) e
+    settles_shown (next_state s.tap tms) s.current logic free
+    (record (old_state_acts s.tap s.current logic pins free tdi s)
+    { tap = next_state s.tap tms }) e
     ∙ acts_shown s.tap s.current logic pins free tdi s
 
 pub taps_step : (t : TapState) (chain : List ChainPart) (pins : ℕ → List Bool) (free : ℕ → FreeBits) (tms tdi : Bool) → AllIn t chain →
     AllIn (next_state t tms) (chain_after chain pins free tms tdi)
 taps_step t [] pins free tms tdi h = tt
-taps_step t (n ∷ chain) pins free tms tdi h =
-    (part_tap n.logic (pins 0) (free 0) tms tdi n.state ∙ ap (λ (u : TapState). next_state u tms) h.0, taps_step t chain (λ k. pins (suc k)) (λ k. free (suc k)) tms (part_tdo (free 0) tdi n.state) h.1)
+taps_step t (n ∷ chain) pins free tms tdi h = (
+  part_tap n.logic (pins 0) (free 0) tms tdi n.state
+      ∙ ap (λ (u : TapState). next_state u tms) h.0,
+  taps_step t chain (λ k. pins (suc k)) (λ k. free (suc k)) tms
+      (part_tdo (free 0) tdi n.state) h.1,
+)
 
 shown_step : (t : TapState) (chain : List ChainPart) (pins : ℕ → List Bool) (free : ℕ → FreeBits) (tms tdi : Bool) → AllIn t chain →
     changes (next_state t tms) ≡ false → pin_states (chain_after chain pins free tms tdi) ≡ pin_states chain
@@ -91,9 +97,22 @@ clear_run wiring t [] free chain h e = record { moments_are = tt; same = refl; i
 clear_run wiring t (c ∷ cs) free chain h e =
     let two = and_parts (not (changes (next_state t c.tms))) (is_decided (next_state t c.tms) cs) e in
     let next : List ChainPart = clock_after wiring c (free 0) chain in
-    let same : pin_states next ≡ pin_states chain = shown_step t chain (pins_at wiring (free 0) chain) (free 0).parts c.tms (clock_tdi c (free 0)) h (not-true (changes (next_state t c.tms)) two.0) in
-    let r = clear_run wiring (next_state t c.tms) cs (later free) next (taps_step t chain (pins_at wiring (free 0) chain) (free 0).parts c.tms (clock_tdi c (free 0)) h) two.1 in
-    record { moments_are = (same, all_are_by (pin_states next) (pin_states chain) (shown wiring cs (later free) next) same r.moments_are); same = r.same ∙ same; idle = r.idle }
+    let same : pin_states next
+    ≡ pin_states chain = shown_step t chain (bits_at_pins wiring (free 0) chain) (free 0).parts
+    c.tms (clock_tdi c (free 0)) h (not-true (changes (next_state t c.tms)) two.0) in
+    let r = clear_run wiring (next_state t c.tms) cs (later free) next
+    (taps_step t chain (bits_at_pins wiring (free 0) chain) (free 0).parts c.tms
+    (clock_tdi c (free 0)) h) two.1 in
+    record {
+      moments_are = (
+        same,
+        all_are_by (pin_states next) (pin_states chain)
+            (shown wiring cs (later free) next) same r.moments_are,
+      );
+      same = r.same
+          ∙ same;
+      idle = r.idle;
+    }
 
 -- shift clocks change nothing visible, and lead to Exit1
 shifts_clear : (t u : TapState) → next_state t false ≡ t → next_state t true ≡ u → changes t ≡ false → changes u ≡ false →
@@ -120,7 +139,8 @@ shown-append wiring (x ∷ xs) ys free chain = cons_path refl (shown-append wiri
 
 switch_by : (wiring : Wiring) (t u : TapState) (front : List Clock) (free : Choices) (chain : List ChainPart) → AllIn t chain →
     is_decided t front ≡ true → next_state (tap_after_all t front) true ≡ u → next_state u false ≡ RunTestIdle →
-    Switches (shown wiring (front ++ plain true ∷ plain false ∷ []) free chain) chain (run wiring (front ++ plain true ∷ plain false ∷ []) free chain)
+    Switches (shown wiring (front ++ plain true ∷ plain false ∷ []) free chain) chain
+    (run wiring (front ++ plain true ∷ plain false ∷ []) free chain)
 unfolding run shown
 switch_by wiring t u front free chain h clear up back =
     let c = clear_run wiring t front free chain h clear in
@@ -129,9 +149,14 @@ switch_by wiring t u front free chain h clear up back =
     let n2 : List ChainPart = clock_after wiring (plain true) (f 0) n1 in
     let n3 : List ChainPart = clock_after wiring (plain false) (f 1) n2 in
     let tap2 : AllIn u n2 =
-    subst (λ (x : TapState). AllIn x n2) up (taps_step (tap_after_all t front) n1 (pins_at wiring (f 0) n1) (f 0).parts true (f 0).tdi c.idle) in
-    let same : pin_states n3 ≡ pin_states n2 = shown_step u n2 (pins_at wiring (f 1) n2) (f 1).parts false (f 1).tdi tap2 (ap changes back) in
-    let runs : run wiring (front ++ plain true ∷ plain false ∷ []) free chain ≡ n3 = run-append wiring front (plain true ∷ plain false ∷ []) free chain in
+    subst (λ (x : TapState). AllIn x n2) up
+    (taps_step (tap_after_all t front) n1 (bits_at_pins wiring (f 0) n1) (f 0).parts true
+    (f 0).tdi c.idle) in
+    let same : pin_states n3
+    ≡ pin_states n2 = shown_step u n2 (bits_at_pins wiring (f 1) n2) (f 1).parts false (f 1).tdi
+    tap2 (ap changes back) in
+    let runs : run wiring (front ++ plain true ∷ plain false ∷ []) free chain
+    ≡ n3 = run-append wiring front (plain true ∷ plain false ∷ []) free chain in
     let last : List PinState = pin_states (run wiring (front ++ plain true ∷ plain false ∷ []) free chain) in
     let last_is : last ≡ pin_states n3 = ap pin_states runs in
     record {
@@ -162,7 +187,8 @@ sdr_switches wiring [] free chain h some = absurd (omega (arith, some))
 sdr_switches wiring (b ∷ bits) free chain h some =
     let front : List Clock = plain true ∷ plain false ∷ plain false ∷ [] in
     let r = front_clear RunTestIdle ShiftDR Exit1DR front b bits refl refl refl refl refl refl in
-    switch_by wiring RunTestIdle UpdateDR (front ++ shift_clocks (b ∷ bits)) free chain h r.0 (ap (λ (x : TapState). next_state x true) r.1) refl
+    switch_by wiring RunTestIdle UpdateDR (front ++ shift_clocks (b ∷ bits)) free chain h r.0
+    (ap (λ (x : TapState). next_state x true) r.1) refl
 
 pub sir_switches : (wiring : Wiring) (bits : List ScanBit) (free : Choices) (chain : List ChainPart) → AllIn RunTestIdle chain →
     0 < length bits → Switches (shown wiring (sir_clocks bits) free chain) chain (run wiring (sir_clocks bits) free chain)
@@ -170,4 +196,5 @@ sir_switches wiring [] free chain h some = absurd (omega (arith, some))
 sir_switches wiring (b ∷ bits) free chain h some =
     let front : List Clock = plain true ∷ plain true ∷ plain false ∷ plain false ∷ [] in
     let r = front_clear RunTestIdle ShiftIR Exit1IR front b bits refl refl refl refl refl refl in
-    switch_by wiring RunTestIdle UpdateIR (front ++ shift_clocks (b ∷ bits)) free chain h r.0 (ap (λ (x : TapState). next_state x true) r.1) refl
+    switch_by wiring RunTestIdle UpdateIR (front ++ shift_clocks (b ∷ bits)) free chain h r.0
+    (ap (λ (x : TapState). next_state x true) r.1) refl

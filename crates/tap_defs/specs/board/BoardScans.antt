@@ -27,7 +27,12 @@ pub record RowScan : Type 0 where
 -- the bits of one part: one for each boundary cell of a described part, cell 0 first, or one for any other part
 abbrev pub part_bits : RawBoard → RowScan → ℕ → PartKind → List ScanBit
 part_bits board scan part (Described device) =
-    filled device.boundary (λ cell. record { tdi = row_bit board scan.now part device cell; expect = expect_bit board scan.before part device cell })
+    filled device.boundary
+    (λ cell. record {
+      tdi = row_bit board scan.now part device cell;
+      expect = expect_bit board scan.before
+          part device cell;
+    })
 part_bits board scan part (Bypass n) = record { tdi = false; expect = None } ∷ []
 
 -- the bits of these parts, the first of which has number `part`
@@ -108,7 +113,13 @@ pub record AreTestScans (board : RawBoard) (passes : List (List Ctl)) (width : �
   pub extest : slice_get scans 2 ≡ Some (instructs (map (λ part. extest_code part.kind) board.chain))
   pub rows : (x : ℕ) (pass : List Ctl) (j : ℕ) → slice_get passes x ≡ Some pass → j ≤ width →
       slice_get scans (3 + (x * suc width + j))
-      ≡ Some (scan_of_row board (record { now = row_now (code_row board passes pass) width j; before = row_before (code_row board passes pass) j }))
+      ≡ Some
+      (scan_of_row board
+      (record {
+        now = row_now (code_row board passes pass) width j;
+        before = row_before
+            (code_row board passes pass) j;
+      }))
 
 -- the data scans of the board's test after the EXTEST codes: those of the board's passes, with the code width for the nets that these
 -- passes observe

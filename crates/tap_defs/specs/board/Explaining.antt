@@ -109,13 +109,16 @@ pub record AreInTurn (board : RawBoard) (scans : List RowScan) : Type 0 where
 -- cells capture while the row before the scan is in the latches.
 abbrev pub IsCapturedBy : RawBoard → FaultSet → List RowScan → List (List Bool) → Type 0
 IsCapturedBy board faults scans log =
-    (x : ℕ) (scan : RowScan) (logged : List Bool) (choice : Choice) → slice_get (compared_scans board scans) x ≡ Some scan → slice_get log x ≡ Some logged →
+    (x : ℕ) (scan : RowScan) (logged : List Bool) (choice : Choice)
+    → slice_get (compared_scans board scans) x ≡ Some scan → slice_get log x ≡ Some logged →
     AgreeWhereCompared (joined (row_bits board scan)) logged (row_captured board faults scan.before choice)
 
 -- the two logs have the same bit wherever these scans compare a bit
 abbrev pub AgreeOn : RawBoard → List RowScan → List (List Bool) → List (List Bool) → Type 0
 AgreeOn board scans log other =
-    (x : ℕ) (scan : RowScan) (logged second : List Bool) → slice_get (compared_scans board scans) x ≡ Some scan → slice_get log x ≡ Some logged → slice_get other x ≡ Some second →
+    (x : ℕ) (scan : RowScan) (logged second : List Bool)
+    → slice_get (compared_scans board scans) x ≡ Some scan → slice_get log x ≡ Some logged
+    → slice_get other x ≡ Some second →
     AgreeWhereCompared (joined (row_bits board scan)) logged second
 
 -- the position of a cell in a data scan: the bits of all later parts have lower positions
@@ -125,10 +128,13 @@ cell_position board part cell = sum_by (λ p. data_length p.kind) (drop (suc par
 -- the net and the place in it of the pin that the cell reads, or None if the cell reads no pin of a net
 abbrev pub read_place : RawBoard → ℕ → RawDevice → ℕ → Option Place
 read_place board part device cell =
-    option_and_then (λ entry. option_and_then (λ b. place_of (record { part = part; bit = b }) 0 board.nets) entry.bit) (reading_entry device cell)
+    option_and_then
+    (λ entry. option_and_then (λ b. place_of (record { part = part; bit = b }) 0 board.nets)
+    entry.bit) (reading_entry device cell)
 
 -- the cell of a described part is compared in this row: it reads the pin at `place`, and `expected` is its expected bit
-pub record IsCompared (board : RawBoard) (row : TestRow) (part : ℕ) (device : RawDevice) (cell : ℕ) (place : Place) (expected : Bool) : Type 0 where
+pub record IsCompared (board : RawBoard) (row : TestRow) (part : ℕ) (device : RawDevice) (cell : ℕ)
+    (place : Place) (expected : Bool) : Type 0 where
   pub is_device : device_at board part ≡ Some device
   pub below : cell < device.boundary
   pub reads : read_place board part device cell ≡ Some place

@@ -75,17 +75,19 @@ pub data Feeding : Type 0 where
   Contended : Feeding
 
 -- the driving of a net after one more pin, which counts only if it is live
-abbrev pub counted : Bool → ℕ → Bool → Feeding → Feeding
-counted false place bit feeding = feeding
-counted true place bit Undriven = Driven place bit
-counted true place bit Unruled = Unruled
-counted true place bit (Driven other value) = Contended
-counted true place bit Contended = Contended
+abbrev pub with_pin : Bool → ℕ → Bool → Feeding → Feeding
+with_pin false place bit feeding = feeding
+with_pin true place bit Undriven = Driven place bit
+with_pin true place bit Unruled = Unruled
+with_pin true place bit (Driven other value) = Contended
+with_pin true place bit Contended = Contended
 
 -- the driving of a net by these pins, the first of which has place `place`
 abbrev pub feeding_from : RawBoard → List PinState → ℕ → List NetPin → Feeding
 feeding_from board states place [] = Undriven
-feeding_from board states place (pin ∷ pins) = counted (live board states pin) place (driver_bit board states pin.at) (feeding_from board states (suc place) pins)
+feeding_from board states place (pin ∷ pins) =
+    with_pin (live board states pin) place (driver_bit board states pin.at)
+    (feeding_from board states (suc place) pins)
 
 -- the driving of the net
 abbrev pub feeding : RawBoard → List PinState → Net → Feeding
@@ -123,14 +125,14 @@ cut faults n (Driven place bit) = faults.opened n place
 cut faults n Contended = None
 
 -- the first bit if there is one, otherwise the second
-abbrev pub or_else : Option Bool → Option Bool → Option Bool
-or_else None second = second
-or_else (Some first) second = Some first
+abbrev pub bit_or_else : Option Bool → Option Bool → Option Bool
+bit_or_else None second = second
+bit_or_else (Some first) second = Some first
 
 -- The bit of a net that is neither stuck nor shorted: the bit that it is fed, else the pull that holds it, else the constant of its open
 -- driver.
 abbrev pub unshorted_bit : FaultSet → ℕ → Option Bool → Feeding → Option Bool
-unshorted_bit faults n pull feeding = or_else (fed faults n feeding) (or_else (held faults n pull feeding) (cut faults n feeding))
+unshorted_bit faults n pull feeding = bit_or_else (fed faults n feeding) (bit_or_else (held faults n pull feeding) (cut faults n feeding))
 
 -- a net's number, with a value that belongs to the net
 abbrev pub OfNet : Type 0 → Type 0
@@ -170,17 +172,19 @@ is_decided (Driven place bit) = true
 is_decided Contended = false
 
 -- the number of a net with a value of the net, if there is a value
-abbrev pub numbered : {A : Type 0} → ℕ → Option A → Option (ℕ × A)
-numbered n None = None
-numbered n (Some a) = Some (n, a)
+abbrev pub numbered_value : {A : Type 0} → ℕ → Option A → Option (ℕ × A)
+numbered_value n None = None
+numbered_value n (Some a) = Some (n, a)
 
 -- the bits of those nets that are fed
 abbrev pub bits_fed : RawBoard → FaultSet → List PinState → List (OfNet Net) → List (OfNet Bool)
-bits_fed board faults states nets = filter_map (λ net. numbered net.0 (fed faults net.0 (feeding board states net.1))) nets
+bits_fed board faults states nets = filter_map (λ net. numbered_value net.0 (fed faults net.0 (feeding board states net.1))) nets
 
 -- the pulls of those nets that are held
 abbrev pub bits_held : RawBoard → FaultSet → List PinState → List (OfNet Net) → List (OfNet Bool)
-bits_held board faults states nets = filter_map (λ net. numbered net.0 (held faults net.0 net.1.pull (feeding board states net.1))) nets
+bits_held board faults states nets =
+    filter_map
+    (λ net. numbered_value net.0 (held faults net.0 net.1.pull (feeding board states net.1))) nets
 
 -- the combined fed bits; if no net is fed, the combined pulls; if no net is held either, a free bit
 abbrev pub first_combined : ShortKind → List (OfNet Bool) → List (OfNet Bool) → Bool → Bool

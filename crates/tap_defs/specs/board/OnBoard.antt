@@ -27,7 +27,16 @@ test_logic (Described device) = record {
   at_reset = Some (reset_by device.idcode);
   idcode = [];
 }
-test_logic (WithoutDescription n) = record { ir_length = n; boundary_length = 0; extest = None; preload = None; at_reset = None; idcode = [] }
+test_logic (WithoutDescription n) =
+    record {
+      ir_length = n;
+      boundary_length = 0;
+      extest = None;
+      preload = None;
+      at_reset = None;
+      idcode =
+          [];
+    }
 
 -- the parts of the board's chain
 abbrev pub board_logics : RawBoard → List TestLogic

@@ -44,12 +44,14 @@ latched_setting board states c = set_in board c.part c.cell (latch states c.part
 abbrev pub IsSafelySet : RawBoard → List PinState → Type 0
 IsSafelySet board states =
     ((part : ℕ) (device : RawDevice) → device_at board part ≡ Some device → in_extest states part ≡ false)
-    ⊎ (((part : ℕ) (device : RawDevice) → device_at board part ≡ Some device → in_extest states part ≡ true) × IsSafe board (latched_setting board states))
+    ⊎ (((part : ℕ) (device : RawDevice) → device_at board part ≡ Some device
+    → in_extest states part ≡ true) × IsSafe board (latched_setting board states))
 
 -- (b) no net has two different drivers, each of which is live at this moment or at the next
 abbrev pub IsUncontested : RawBoard → List PinState → List PinState → Type 0
 IsUncontested board now next =
-    (n : ℕ) (net : Net) (i j : ℕ) (p q : NetPin) → slice_get board.nets n ≡ Some net → slice_get net.pins i ≡ Some p → slice_get net.pins j ≡ Some q → i ≢ j →
+    (n : ℕ) (net : Net) (i j : ℕ) (p q : NetPin) → slice_get board.nets n ≡ Some net
+    → slice_get net.pins i ≡ Some p → slice_get net.pins j ≡ Some q → i ≢ j →
     (live board now p || live board next p) ≡ true → (live board now q || live board next q) ≡ true → ⊥
 
 -- the pin at the port bit is on an unguarded net
@@ -76,7 +78,8 @@ safe_bit device cell = option_and_then symbol_value (safe_value device cell)
 -- 0 or 1.
 abbrev pub KeepsSafeValues : RawBoard → List PinState → Type 0
 KeepsSafeValues board states =
-    (part cell : ℕ) (device : RawDevice) (value : Bool) → device_at board part ≡ Some device → in_extest states part ≡ true → cell < device.boundary →
+    (part cell : ℕ) (device : RawDevice) (value : Bool) → device_at board part ≡ Some device
+    → in_extest states part ≡ true → cell < device.boundary →
     list_any (controls_driver board part cell) device.cells ≡ false → list_any (drives_unguarded board part cell) device.cells ≡ false →
     safe_bit device cell ≡ Some value → latch states part cell ≡ value
 

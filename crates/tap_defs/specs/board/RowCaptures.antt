@@ -18,7 +18,12 @@ use Rattle.tap_defs.specs.board.BoardScans.{RowScan}
 
 -- The visible state of a part while the row is in the latches. A described part has EXTEST, and any other part has BYPASS.
 abbrev pub shown_by_part : RawBoard → TestRow → ℕ → PartKind → PinState
-shown_by_part board row part (Described device) = record { current = Extest; latches = filled device.boundary (λ cell. row_bit board row part device cell) }
+shown_by_part board row part (Described device) =
+    record {
+      current = Extest;
+      latches = filled device.boundary
+          (λ cell. row_bit board row part device cell);
+    }
 shown_by_part board row part (WithoutDescription n) = record { current = Bypass; latches = [] }
 
 -- the visible states of these parts, the first of which has number `part`

@@ -6,7 +6,7 @@ use Rattle.board_defs.specs.declared.fault.Kind.{Kind}
 use Rattle.board_defs.specs.declared.fault.Kind.TheVariants.{And, Or, First, Second}
 use Rattle.board_defs.specs.declared.fault.Single.{Single}
 use Rattle.board_defs.specs.declared.fault.Single.TheVariants.{StuckNet, OpenPin, Short}
-use Rattle.tap_defs.specs.board.NetBits.{Feeding, Unruled, Undriven, Driven, Contended, or_else, Place}
+use Rattle.tap_defs.specs.board.NetBits.{Feeding, Unruled, Undriven, Driven, Contended, bit_or_else, Place}
 use Rattle.tap_defs.specs.board.TestRows.{TestRow, first_enabled}
 use Rattle.tap_defs.specs.board.RowDriving.{row_feeding}
 
@@ -38,7 +38,7 @@ shorted Second (Some first) (Some second) = Some second
 -- The bit of two shorted nets. It follows from the bits to which they are driven, or, if neither is driven, from their pulls.
 abbrev pub shorted_nets_bit : RawBoard → TestRow → Kind → Option Net → Option Net → Option Bool
 shorted_nets_bit board row kind first second =
-    or_else (shorted kind (driven_to board row first) (driven_to board row second)) (shorted kind (pulled_to first) (pulled_to second))
+    bit_or_else (shorted kind (driven_to board row first) (driven_to board row second)) (shorted kind (pulled_to first) (pulled_to second))
 
 -- the place, if there is one, is `place`
 abbrev pub is_place : Option ℕ → ℕ → Bool

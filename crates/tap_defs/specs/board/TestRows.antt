@@ -16,7 +16,8 @@ use Rattle.tap_defs.specs.board.Quiet.{controls_driver, safe_bit}
 -- the place of the first enabled driver among some pins, which is the only one if the setting is safe
 abbrev pub first_enabled : RawBoard → Enabling → ℕ → List NetPin → Option ℕ
 first_enabled board setting place [] = None
-first_enabled board setting place (pin ∷ pins) = cond (enables board setting pin) (Some place) (first_enabled board setting (suc place) pins)
+first_enabled board setting place (pin ∷ pins) =
+    cond (enables board setting pin) (Some place) (first_enabled board setting (suc place) pins)
 
 -- some pin at a place other than the driver's is a receiver
 abbrev pub reads_beside : RawBoard → ℕ → ℕ → List NetPin → Bool
@@ -136,7 +137,8 @@ expect_place board row (Some p) = expect_observed (row.carried p.number) p.place
 abbrev pub expect_pin : RawBoard → TestRow → ℕ → Option ℕ → Option Bool
 expect_pin board row part None = None
 expect_pin board row part (Some b) =
-    cond (receives_where board (Some (record { part = part; bit = b }))) (expect_place board row (place_of (record { part = part; bit = b }) 0 board.nets)) None
+    cond (receives_where board (Some (record { part = part; bit = b })))
+    (expect_place board row (place_of (record { part = part; bit = b }) 0 board.nets)) None
 
 -- the expected bit of a cell with this reading entry, if the entry is INPUT, CLOCK or BIDIR
 abbrev pub expect_entry : RawBoard → TestRow → ℕ → Option Cell → Option Bool

@@ -57,12 +57,12 @@ ir_captures free [] = []
 ir_captures free (p ∷ parts) = captured_ir p.state.ir (free 0).ir ∷ ir_captures (λ k. free (suc k)) parts
 
 -- the bits that the pins give the boundary cells of each part
-abbrev pub pins_at : Wiring → Choice → List ChainPart → ℕ → List Bool
-pins_at wiring choice parts = wiring (pin_states parts) choice
+abbrev pub bits_at_pins : Wiring → Choice → List ChainPart → ℕ → List Bool
+bits_at_pins wiring choice parts = wiring (pin_states parts) choice
 
 -- the bits that a data scan captures; the third clock of the scan is the one whose old state is Capture-DR
 abbrev pub data_captured : Wiring → Choices → List ChainPart → List (List Bool)
-data_captured wiring choices parts = dr_captures (pins_at wiring (choices 2) parts) (choices 2).parts parts
+data_captured wiring choices parts = dr_captures (bits_at_pins wiring (choices 2) parts) (choices 2).parts parts
 
 -- the bits that an instruction scan captures; the fourth clock of the scan is the one whose old state is Capture-IR
 abbrev pub codes_captured : Choices → List ChainPart → List (List Bool)

@@ -9,17 +9,17 @@ abbrev pub marks : List Bool
 marks = true ∷ false ∷ true ∷ false ∷ false ∷ true ∷ false ∷ true ∷ []
 
 -- bits to shift in, each with the expected bit at TDO
-abbrev pub compared : List Bool → List Bool → List ScanBit
-compared [] out = []
-compared (i ∷ ins) [] = []
-compared (i ∷ ins) (o ∷ out) = record { tdi = i; expect = Some o } ∷ compared ins out
+abbrev pub compared_with : List Bool → List Bool → List ScanBit
+compared_with [] out = []
+compared_with (i ∷ ins) [] = []
+compared_with (i ∷ ins) (o ∷ out) = record { tdi = i; expect = Some o } ∷ compared_with ins out
 
 -- The scans of the chain test. The first shifts a code of ones, which means BYPASS, into each part. The second shifts
 -- the marks in and expects them at TDO after one bit for each part.
 abbrev pub chain_scans : List ℕ → List Scan
 chain_scans lengths =
     let zeros : List Bool = replicate (length lengths) false in
-    instructs (map (λ n. replicate n true) lengths) ∷ record { ir = false; bits = compared (marks ++ zeros) (zeros ++ marks) } ∷ []
+    instructs (map (λ n. replicate n true) lengths) ∷ record { ir = false; bits = compared_with (marks ++ zeros) (zeros ++ marks) } ∷ []
 
 -- the text of the chain test of parts with these instruction lengths
 abbrev pub chain_text : List ℕ → List ℕ

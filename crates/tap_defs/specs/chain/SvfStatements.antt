@@ -35,24 +35,24 @@ fields_from (Some f) (Close ∷ tokens) = option_map (λ fields. f ∷ fields) (
 fields_from (Some f) _ = None
 
 -- the `n` bits of the field, if it has this name and is a field of `n` bits
-abbrev pub bits_of : List ℕ → ℕ → Field → Option (List Bool)
-bits_of name n field = if bytes_eq field.name name then field_bits n field.digits else None
+abbrev pub field_bits_of : List ℕ → ℕ → Field → Option (List Bool)
+field_bits_of name n field = if bytes_eq field.name name then field_bits n field.digits else None
 
 -- the bits of a scan from the bits of its three fields
-abbrev pub compared_bits : Option (List Bool) → Option (List Bool) → Option (List Bool) → Option (List ScanBit)
-compared_bits (Some tdi) (Some tdo) (Some mask) = Some (scan_bits tdi tdo mask)
-compared_bits _ _ _ = None
+abbrev pub bits_of_three : Option (List Bool) → Option (List Bool) → Option (List Bool) → Option (List ScanBit)
+bits_of_three (Some tdi) (Some tdo) (Some mask) = Some (scan_bits tdi tdo mask)
+bits_of_three _ _ _ = None
 
 -- the bits of a scan of `n` bits, whose fields are TDI alone, or TDI, TDO and MASK
 abbrev pub bits_of_fields : ℕ → List Field → Option (List ScanBit)
-bits_of_fields n (tdi ∷ []) = option_map (map sent) (bits_of (codes "TDI") n tdi)
+bits_of_fields n (tdi ∷ []) = option_map (map sent) (field_bits_of (codes "TDI") n tdi)
 bits_of_fields n (tdi ∷ tdo ∷ mask ∷ []) =
-    compared_bits (bits_of (codes "TDI") n tdi) (bits_of (codes "TDO") n tdo) (bits_of (codes "MASK") n mask)
+    bits_of_three (field_bits_of (codes "TDI") n tdi) (field_bits_of (codes "TDO") n tdo) (field_bits_of (codes "MASK") n mask)
 bits_of_fields n _ = None
 
 -- the length of a scan, which is a decimal number other than 0
-abbrev pub length_of : List ℕ → Option ℕ
-length_of word = if list_all is_ascii_digit word && nat_lt 0 (digits_value 10 word) then Some (digits_value 10 word) else None
+abbrev pub length_word : List ℕ → Option ℕ
+length_word word = if list_all is_ascii_digit word && nat_lt 0 (digits_value 10 word) then Some (digits_value 10 word) else None
 
 -- true for the word SIR, false for the word SDR, and None for any other word
 abbrev pub scan_command : List ℕ → Option Bool
@@ -75,13 +75,15 @@ two_words a b =
     if bytes_eq a (codes "STATE") && bytes_eq b (codes "IDLE") then Some StateIdle else None))))
 
 -- the statement that these tokens before a semicolon form, if they form one
-abbrev pub statement_of : List Token → Option Statement
-statement_of (Word a ∷ Word b ∷ []) = two_words a b
-statement_of (Word command ∷ Word n ∷ t ∷ tokens) =
-    scan_by (scan_command command) (option_and_then (λ m. option_and_then (bits_of_fields m) (fields_from None (t ∷ tokens))) (length_of n))
-statement_of _ = None
+abbrev pub svf_statement : List Token → Option Statement
+svf_statement (Word a ∷ Word b ∷ []) = two_words a b
+svf_statement (Word command ∷ Word n ∷ t ∷ tokens) =
+    scan_by (scan_command command)
+    (option_and_then (λ m. option_and_then (bits_of_fields m) (fields_from None (t ∷ tokens)))
+    (length_word n))
+svf_statement _ = None
 
 -- the statements of these lists of tokens, or None if one of the lists is not a statement
 abbrev pub statements_of : List (List Token) → Option (List Statement)
 statements_of [] = Some []
-statements_of (piece ∷ pieces) = option_and_then (λ s. option_map (λ more. s ∷ more) (statements_of pieces)) (statement_of piece)
+statements_of (piece ∷ pieces) = option_and_then (λ s. option_map (λ more. s ∷ more) (statements_of pieces)) (svf_statement piece)

@@ -19,8 +19,8 @@ pub data Token : Type 0 where
   End : Token
 
 -- the byte is a space, a tab, a line feed or a carriage return
-abbrev pub is_blank : ℕ → Bool
-is_blank b = (b == 32) || (b == 9) || (b == 10) || (b == 13)
+abbrev pub is_svf_blank : ℕ → Bool
+is_svf_blank b = (b == 32) || (b == 9) || (b == 10) || (b == 13)
 
 -- the word that ends here, if one has begun, followed by the tokens
 abbrev pub ended : List ℕ → List Token → List Token
@@ -31,7 +31,7 @@ ended (b ∷ word) tokens = Word (b ∷ word) ∷ tokens
 unfoldable pub tokens_from : List ℕ → List ℕ → List Token
 tokens_from word [] = ended word []
 tokens_from word (b ∷ bytes) =
-    if is_blank b
+    if is_svf_blank b
     then ended word (tokens_from [] bytes)
     else (if b == 40
     then ended word (Open ∷ tokens_from [] bytes)

@@ -30,14 +30,14 @@ abbrev pub all_ones : List Bool → Bool
 all_ones bits = list_all (λ b. b) bits
 
 -- there is a code, and it has these bits
-abbrev pub is_code : Option (List Bool) → List Bool → Bool
-is_code None bits = false
-is_code (Some code) bits = pointwise beq code bits
+abbrev pub has_these_bits : Option (List Bool) → List Bool → Bool
+has_these_bits None bits = false
+has_these_bits (Some code) bits = pointwise beq code bits
 
 -- The instruction that this code means. A code of ones means BYPASS in each part.
 abbrev pub instruction_of : TestLogic → List Bool → Instruction
 instruction_of logic code =
-    cond (all_ones code) Bypass (cond (is_code logic.extest code) Extest (cond (is_code logic.preload code) Sample Other))
+    cond (all_ones code) Bypass (cond (has_these_bits logic.extest code) Extest (cond (has_these_bits logic.preload code) Sample Other))
 
 -- The instruction in Test-Logic-Reset. If it is not known, a free choice decides whether it is BYPASS or another instruction.
 abbrev pub reset_instruction : Option Instruction → Bool → Instruction

@@ -28,12 +28,19 @@ laid false digits = digits
 abbrev pub compare_text : Bool → List ScanBit → Bool → List ℕ
 compare_text long bits false = codes ");"
 compare_text long bits true =
-    41 ∷ gap long ∷ codes "TDO (" ++ (laid long (hex_text (tdo_bits bits)) ++ (41 ∷ gap long ∷ codes "MASK (" ++ (laid long (hex_text (mask_bits bits)) ++ codes ");")))
+    41 ∷ gap long ∷ codes "TDO ("
+    ++ (laid long (hex_text (tdo_bits bits))
+    ++ (41 ∷ gap long ∷ codes "MASK ("
+    ++ (laid long (hex_text (mask_bits bits)) ++ codes ");")))
 
 -- a scan statement in one line or in several lines, without the last line feed
 abbrev pub form : Bool → Scan → List ℕ
 form long scan =
-    command_word scan.ir ++ (32 ∷ decimal (length scan.bits) ++ (gap long ∷ codes "TDI (" ++ (laid long (hex_text (tdi_bits scan.bits)) ++ compare_text long scan.bits (compares scan.bits))))
+    command_word scan.ir
+    ++ (32 ∷ decimal (length scan.bits)
+    ++ (gap long ∷ codes "TDI ("
+    ++ (laid long (hex_text (tdi_bits scan.bits))
+    ++ compare_text long scan.bits (compares scan.bits))))
 
 -- the statement of a scan: in one line if it has at most 80 characters there, otherwise in several lines
 abbrev pub scan_text : Scan → List ℕ
@@ -47,7 +54,11 @@ abbrev pub line : List ℕ → List ℕ
 line words = words ++ 10 ∷ []
 
 abbrev pub head_text : List ℕ
-head_text = line (codes "TRST OFF;") ++ (line (codes "ENDIR IDLE;") ++ (line (codes "ENDDR IDLE;") ++ (line (codes "STATE RESET;") ++ line (codes "STATE IDLE;"))))
+head_text =
+    line (codes "TRST OFF;")
+    ++ (line (codes "ENDIR IDLE;")
+    ++ (line (codes "ENDDR IDLE;")
+    ++ (line (codes "STATE RESET;") ++ line (codes "STATE IDLE;"))))
 
 abbrev pub tail_text : List ℕ
 tail_text = line (codes "STATE RESET;")

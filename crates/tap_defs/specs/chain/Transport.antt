@@ -26,7 +26,8 @@ data_frame p = record { logic = p.logic; current = p.state.current; ir = p.state
 
 -- A data scan that captures these registers. The TDO bits of its shift clocks are `leaving`, and it compares no other bits. Afterwards
 -- the chain holds `staying`, in registers of the captured lengths. The controllers are in Run-Test/Idle again.
-pub record ScansData (bits : List ScanBit) (captured : List (List Bool)) (leaving staying tdo : List Bool) (before after : List ChainPart) : Type 0 where
+pub record ScansData (bits : List ScanBit) (captured : List (List Bool))
+    (leaving staying tdo : List Bool) (before after : List ChainPart) : Type 0 where
   pub leaves : take (length bits) (drop 3 tdo) ≡ leaving
   pub compares : run_passes (sdr_clocks bits) tdo ≡ scan_passes bits leaving
   pub stays : joined (all_held after) ≡ staying
@@ -70,7 +71,9 @@ DataTransport =
     AllSelectingIn RunTestIdle parts → 0 < length bits →
     let captured : List (List Bool) = data_captured wiring choices parts in
     length bits ≡ length (joined captured) →
-    ScansData bits captured (joined captured) (tdi_bits bits) (tdos wiring (sdr_clocks bits) choices parts) parts (run wiring (sdr_clocks bits) choices parts)
+    ScansData bits captured (joined captured) (tdi_bits bits)
+    (tdos wiring (sdr_clocks bits) choices parts) parts
+    (run wiring (sdr_clocks bits) choices parts)
 
 -- A data scan of any length `n`. Of the captured bits followed by the bits that are shifted in, the first `n` come out, and the chain
 -- then holds the others.

@@ -8,7 +8,10 @@ use Rattle.text_lines.proofs.first_line.Goals as goal
 
 pub returns-in-Some-clause-lines : goal.returns-in-Some-clause-lines
 returns-in-Some-clause-lines c =
-    let split : slice_split is_newline c.args.text.now ≡ before_first is_newline c.args.text.now ∷ slice_split is_newline (after_first is_newline c.args.text.now) = slice_split_first is_newline c.args.text.now 0 c.in-Some.ensures.0 in
+    let split : slice_split is_newline c.args.text.now
+    ≡ before_first is_newline c.args.text.now
+    ∷ slice_split is_newline (after_first is_newline c.args.text.now) = slice_split_first
+    is_newline c.args.text.now 0 c.in-Some.ensures.0 in
     rw (c.in-Some.ensures.1, c.in-Some.ensures.2) split
 
 pub returns-in-None-clause-lines : goal.returns-in-None-clause-lines

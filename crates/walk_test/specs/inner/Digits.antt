@@ -4,12 +4,12 @@ use Rattle.std.specs.Int.Bits.{bit_and, bit_xor}
 use Rattle.bt_bits.specs.Digits.{digit_bit}
 
 -- the bit of a row at a position
-abbrev pub bit_of : List ℕ → ℕ → Bool
-bit_of digits at = digit_bit (slice_index_or digits (at / 4) 0) (at % 4)
+abbrev pub digit_bit_at : List ℕ → ℕ → Bool
+digit_bit_at digits at = digit_bit (slice_index_or digits (at / 4) 0) (at % 4)
 
 -- position `at` is compared and reads 1
 abbrev pub is_one : List ℕ → List ℕ → ℕ → Bool
-is_one row mask at = bit_of mask at && bit_of row at
+is_one row mask at = digit_bit_at mask at && digit_bit_at row at
 
 -- no position in the digits `from..to` is compared and reads 1
 abbrev pub AreClear : List ℕ → List ℕ → ℕ → ℕ → Type 0
@@ -21,7 +21,9 @@ differing row other mask k = bit_and (bit_xor (slice_index_or row k 0) (slice_in
 
 -- if a position below `end` is compared and reads 1, it has no row in `firsts` yet
 abbrev pub IsFresh : List ℕ → List ℕ → ℕ → List ℕ → ℕ → Type 0
-IsFresh row mask none firsts end = (at : ℕ) → at < end → at < length firsts → is_one row mask at ≡ true → slice_index_or firsts at none ≡ none
+IsFresh row mask none firsts end =
+    (at : ℕ) → at < end → at < length firsts → is_one row mask at ≡ true
+    → slice_index_or firsts at none ≡ none
 
 -- if a position below `end` is compared and reads 1, its item in `new` is j; the items of the other positions below `end` are unchanged
 pub record IsMarked (row mask : List ℕ) (j none : ℕ) (old new : List ℕ) (end : ℕ) : Type 0 where

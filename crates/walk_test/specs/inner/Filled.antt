@@ -6,5 +6,5 @@ use Rattle.tap_defs.specs.declared.scan.Shape.{Shape}
 use Rattle.walk_test.specs.Scans.{FillsWalk}
 
 -- the rows are scan k of the walking test
-abbrev pub FillsRows : RawBoard → ℕ → Shape → ScanRows → Type 0
-FillsRows board k shape rows = FillsWalk board k shape rows.tdi.now.bits rows.tdo.now.bits rows.mask.now.bits
+abbrev pub FillsWalkRows : RawBoard → ℕ → Shape → ScanRows → Type 0
+FillsWalkRows board k shape rows = FillsWalk board k shape rows.tdi.now.bits rows.tdo.now.bits rows.mask.now.bits

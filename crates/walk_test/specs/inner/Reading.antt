@@ -49,7 +49,8 @@ compared_bits len nets = fold with_compared (replicate len false) nets
 -- `mask` has a 1 exactly at the compared positions of the nets, and each net has a compared position
 pub record AreCompared (nets : List NetCells) (mask : List Bool) : Type 0 where
   pub all : (i at : ℕ) (net : NetCells) → slice_get nets i ≡ Some net → Contains net.compared at → slice_index_or mask at false ≡ true
-  pub only : (at : ℕ) → slice_index_or mask at false ≡ true → (i : ℕ) × (net : NetCells) × (slice_get nets i ≡ Some net) × Contains net.compared at
+  pub only : (at : ℕ) → slice_index_or mask at false ≡ true
+      → (i : ℕ) × (net : NetCells) × (slice_get nets i ≡ Some net) × Contains net.compared at
   pub some : (i : ℕ) (net : NetCells) → slice_get nets i ≡ Some net → 0 < length net.compared
 
 -- the net has compared positions, and each is within a row of `len` bits
@@ -74,8 +75,8 @@ pub record AreLoggedNets (it : LoggedNets) : Type 0 where
   pub compared : AreCompared it.nets it.mask
 
 -- two rows read the same at every compared position
-abbrev pub AreSameRows : List (List Bool) → List Bool → ℕ → ℕ → Type 0
-AreSameRows log mask j other = (at : ℕ) → slice_index_or mask at false ≡ true → bit_in log j at ≡ bit_in log other at
+abbrev pub ReadTheSame : List (List Bool) → List Bool → ℕ → ℕ → Type 0
+ReadTheSame log mask j other = (at : ℕ) → slice_index_or mask at false ≡ true → bit_in log j at ≡ bit_in log other at
 
 -- A group starts in row j with the net whose first compared position is `own`: this position is compared and reads 1 in row j, and no
 -- compared position that reads 1 in row j has a row in `firsts` yet.
@@ -86,7 +87,8 @@ pub record StartsGroup (log : List (List Bool)) (mask : List Bool) (j own none :
 -- if a compared position reads 1 in row j, its item in `new` is j; the items of the other compared positions are unchanged
 pub record AreStarted (log : List (List Bool)) (mask : List Bool) (j none : ℕ) (old new : List ℕ) : Type 0 where
   pub marked : (at : ℕ) → slice_index_or mask at false ≡ true → bit_in log j at ≡ true → slice_index_or new at none ≡ j
-  pub kept : (at : ℕ) → slice_index_or mask at false ≡ true → bit_in log j at ≡ false → slice_index_or new at none ≡ slice_index_or old at none
+  pub kept : (at : ℕ) → slice_index_or mask at false ≡ true → bit_in log j at ≡ false
+      → slice_index_or new at none ≡ slice_index_or old at none
 
 -- `row` if it is less than j, and otherwise `none`
 abbrev pub below : ℕ → ℕ → ℕ → ℕ
@@ -105,14 +107,17 @@ pub record AreRead (log : List (List Bool)) (mask : List Bool) (nets : List NetC
 
 -- In row j, all compared cells of the net at place i read 1 if the nets at places i and j have the same label, and otherwise 0.
 abbrev pub net_shows : List (List Bool) → List ℕ → ℕ → ℕ → NetCells → Bool
-net_shows log labels j i cells = list_all (λ at. is_same (bit_in log j at) (slice_index_or labels i 0 == slice_index_or labels j 0)) cells.compared
+net_shows log labels j i cells =
+    list_all
+    (λ at. is_same (bit_in log j at) (slice_index_or labels i 0 == slice_index_or labels j 0))
+    cells.compared
 
 -- in row j, each compared cell of each net i reads 1 if nets i and j have the same label, and otherwise 0
-abbrev pub ShowsIn : List (List Bool) → List ℕ → List NetCells → ℕ → Type 0
-ShowsIn log labels cells j = (i : ℕ) (net : NetCells) → slice_get cells i ≡ Some net → net_shows log labels j i net ≡ true
+abbrev pub ShowsLabelsIn : List (List Bool) → List ℕ → List NetCells → ℕ → Type 0
+ShowsLabelsIn log labels cells j = (i : ℕ) (net : NetCells) → slice_get cells i ≡ Some net → net_shows log labels j i net ≡ true
 
-abbrev pub ShowsAll : List (List Bool) → List ℕ → List NetCells → Type 0
-ShowsAll log labels cells = (j : ℕ) → j < length cells → ShowsIn log labels cells j
+abbrev pub ShowsLabels : List (List Bool) → List ℕ → List NetCells → Type 0
+ShowsLabels log labels cells = (j : ℕ) → j < length cells → ShowsLabelsIn log labels cells j
 
 -- the nets with label k, in order
 abbrev pub members : List ℕ → List ℕ → ℕ → List ℕ

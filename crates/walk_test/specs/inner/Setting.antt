@@ -13,7 +13,9 @@ use Rattle.board_defs.specs.Settings.{inserted}
 -- the control of a driver, if the driver's own cell is the control cell and the net is pulled to the disable value
 abbrev pub own_switch : ℕ → ℕ → Option Bool → Option Control → Option Ctl
 own_switch part num pull None = None
-own_switch part num pull (Some control) = if (control.cell == num) && is_pulled_to control.disable pull then Some (record { part = part; cell = control.cell }) else None
+own_switch part num pull (Some control) =
+    if (control.cell == num) && is_pulled_to control.disable pull
+    then Some (record { part = part; cell = control.cell }) else None
 
 -- like `own_switch`, but takes the driving entry of the pin
 abbrev pub entry_switch : ℕ → Option Bool → Option Cell → Option Ctl

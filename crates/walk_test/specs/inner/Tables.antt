@@ -53,9 +53,9 @@ abbrev pub nets_by : NetPins → Option (List Ctl) → ℕ → List ℕ
 nets_by pins None count = []
 nets_by pins (Some walk) count = nets_in pins walk count
 
-abbrev pub cells_of : NetPins → Option (List Ctl) → List ℕ → List NetCells
-cells_of pins None nets = []
-cells_of pins (Some walk) nets = map (cells_in pins walk) nets
+abbrev pub cells_in_walk : NetPins → Option (List Ctl) → List ℕ → List NetCells
+cells_in_walk pins None nets = []
+cells_in_walk pins (Some walk) nets = map (cells_in pins walk) nets
 
 -- If the plan has a pass, `rows.still` has the bits of the plan's first row, with 0 at the driver cells of the walk nets, and `rows.mask`
 -- has a 1 at each position that is compared for this row.
@@ -98,12 +98,12 @@ abbrev pub shifted_in : BoardWalk → ℕ → List Bool
 shifted_in it j = tdi_of it.board (now_of it.board (length it.tables.nets) j)
 
 -- the bits that scan j after the EXTEST codes expects, with 0 at each position that the scan does not compare
-abbrev pub expected_in : BoardWalk → ℕ → List Bool
-expected_in it j = tdo_of it.board (before_of it.board j)
+abbrev pub walk_expected : BoardWalk → ℕ → List Bool
+walk_expected it j = tdo_of it.board (before_of it.board j)
 
 -- a 1 for each position that scan j after the EXTEST codes compares
-abbrev pub compared_in : BoardWalk → ℕ → List Bool
-compared_in it j = mask_of it.board (before_of it.board j)
+abbrev pub walk_mask : BoardWalk → ℕ → List Bool
+walk_mask it j = mask_of it.board (before_of it.board j)
 
 -- the cells at place j - 1 of the list, or `None` if j is 0
 abbrev pub cells_before : List NetCells → ℕ → Option NetCells

@@ -6,7 +6,10 @@ pub loop-i-init : goal.loop-i-init
 loop-i-init g c = judged_start c.args.batch c.args.piece.first c.new-verdicts.result.items c.new-verdicts.ensures.items
 
 pub loop-i-preserved : goal.loop-i-preserved
-loop-i-preserved g c = judged_more c.args.batch c.args.piece.first c.loop-i.i c.loop-i.verdicts.items c.push.new.self.items c.in_ok-judge.field-0 c.loop-i.auto.i c.in_ok-push.ensures.items c.loop-i.invariant c.in_ok-judge.ensures
+loop-i-preserved g c =
+    judged_more c.args.batch c.args.piece.first c.loop-i.i c.loop-i.verdicts.items
+    c.push.new.self.items c.in_ok-judge.field-0 c.loop-i.auto.i c.in_ok-push.ensures.items
+    c.loop-i.invariant c.in_ok-judge.ensures
 
 pub returns : goal.returns
 returns g c =

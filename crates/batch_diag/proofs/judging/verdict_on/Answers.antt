@@ -5,10 +5,16 @@ use Rattle.fault_sim.specs.Suspects.{AreDiffering}
 use Rattle.batch_diag.proofs.judging.verdict_on.Goals as goal
 
 pub diagnose_in-requires-clause-differing : goal.diagnose_in-requires-clause-differing
-diagnose_in-requires-clause-differing g c = λ κs within. subst (λ (l : List ℕ). AreDiffering c.args.logged.now.test.board c.args.logged.now.test.plan c.args.logged.now.log l) (sym c.deref.ensures.value) c.in_ok-nets.ensures
+diagnose_in-requires-clause-differing g c =
+    λ κs within. subst
+    (λ (l : List ℕ). AreDiffering c.args.logged.now.test.board c.args.logged.now.test.plan
+    c.args.logged.now.log l) (sym c.deref.ensures.value) c.in_ok-nets.ensures
 
 pub none_differs-requires : goal.none_differs-requires
-none_differs-requires g c = subst (λ (l : List ℕ). AreDiffering c.args.logged.now.test.board c.args.logged.now.test.plan c.args.logged.now.log l) (sym c.deref-2.ensures.value) c.in_ok-nets.ensures
+none_differs-requires g c =
+    subst
+    (λ (l : List ℕ). AreDiffering c.args.logged.now.test.board c.args.logged.now.test.plan
+    c.args.logged.now.log l) (sym c.deref-2.ensures.value) c.in_ok-nets.ensures
 
 pub returns-clause-diagnosis : goal.returns-clause-diagnosis
 returns-clause-diagnosis g c =

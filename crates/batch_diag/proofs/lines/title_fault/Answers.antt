@@ -10,19 +10,40 @@ use Rattle.batch_diag.proofs.lines.title_fault.Goals as goal
 pub overflow_cast-result : goal.overflow_cast-result
 overflow_cast-result c =
     let filled = wrong_line c.first_line.result.0.now (sym c.if-is_wrong_title.ensures) in
-    let within = line_within (λ rest. rest.now) c.first_line.result.1 c.first_line.result.0.now c.in-Some.left.now c.first_line.ensures.shorter c.first_line.ensures.whole in
-    let place : c.loop-rest.number + length c.in-Some.left.now ≤ 1 + length c.args.text.now = at_some (λ left. c.loop-rest.number + length left.now ≤ 1 + length c.args.text.now) c.loop-rest.rest c.in-Some.left c.in-Some.is c.loop-rest.invariant.place in
+    let within = line_within (λ rest. rest.now) c.first_line.result.1 c.first_line.result.0.now
+    c.in-Some.left.now c.first_line.ensures.shorter c.first_line.ensures.whole in
+    let place : c.loop-rest.number + length c.in-Some.left.now
+    ≤ 1 + length c.args.text.now = at_some
+    (λ left. c.loop-rest.number + length left.now ≤ 1 + length c.args.text.now)
+    c.loop-rest.rest c.in-Some.left c.in-Some.is c.loop-rest.invariant.place in
     omega (arith, filled, within, place, c.requires)
 
 pub returns-then-is_wrong_title : goal.returns-then-is_wrong_title
 returns-then-is_wrong_title c =
-    let line = left_line c.loop-rest.number (option_copied c.loop-rest.rest) (option_copied c.first_line.result.1) c.in-Some.left.now c.first_line.result.0.now (ap option_copied c.in-Some.is) c.first_line.ensures.lines in
-    sym (c.loop-rest.invariant.said ∙ ap title_fault line ∙ title_wrong c.loop-rest.number (words_of c.first_line.result.0.now) (left_at (c.loop-rest.number + 1) (option_copied c.first_line.result.1)) (sym c.if-is_wrong_title.ensures))
+    let line = left_line c.loop-rest.number (option_copied c.loop-rest.rest)
+    (option_copied c.first_line.result.1) c.in-Some.left.now c.first_line.result.0.now
+    (ap option_copied c.in-Some.is) c.first_line.ensures.lines in
+    sym
+    (c.loop-rest.invariant.said ∙ ap title_fault line
+    ∙ title_wrong c.loop-rest.number (words_of c.first_line.result.0.now)
+    (left_at (c.loop-rest.number + 1) (option_copied c.first_line.result.1))
+    (sym c.if-is_wrong_title.ensures))
 
 pub loop-rest-preserved : goal.loop-rest-preserved
 loop-rest-preserved c =
-    let line = left_line c.loop-rest.number (option_copied c.loop-rest.rest) (option_copied c.first_line.result.1) c.in-Some.left.now c.first_line.result.0.now (ap option_copied c.in-Some.is) c.first_line.ensures.lines in
+    let line = left_line c.loop-rest.number (option_copied c.loop-rest.rest)
+    (option_copied c.first_line.result.1) c.in-Some.left.now c.first_line.result.0.now
+    (ap option_copied c.in-Some.is) c.first_line.ensures.lines in
     record {
-      said = c.loop-rest.invariant.said ∙ ap title_fault line ∙ title_right c.loop-rest.number (words_of c.first_line.result.0.now) (left_at (c.loop-rest.number + 1) (option_copied c.first_line.result.1)) (sym c.if-is_wrong_title.ensures);
-      place = next_place (λ rest. rest.now) c.first_line.result.1 c.first_line.result.0.now c.in-Some.left.now c.loop-rest.number (length c.args.text.now) c.first_line.ensures.shorter (at_some (λ left. c.loop-rest.number + length left.now ≤ 1 + length c.args.text.now) c.loop-rest.rest c.in-Some.left c.in-Some.is c.loop-rest.invariant.place);
+      said =
+          c.loop-rest.invariant.said ∙ ap title_fault line
+          ∙ title_right c.loop-rest.number (words_of c.first_line.result.0.now)
+          (left_at (c.loop-rest.number + 1) (option_copied c.first_line.result.1))
+          (sym c.if-is_wrong_title.ensures);
+      place =
+          next_place (λ rest. rest.now) c.first_line.result.1 c.first_line.result.0.now
+          c.in-Some.left.now c.loop-rest.number (length c.args.text.now)
+          c.first_line.ensures.shorter
+          (at_some (λ left. c.loop-rest.number + length left.now ≤ 1 + length c.args.text.now)
+          c.loop-rest.rest c.in-Some.left c.in-Some.is c.loop-rest.invariant.place);
     }

@@ -4,4 +4,6 @@ use Rattle.batch_diag.proofs.listing.put_blocks.Given as goal
 
 -- the texts of the blocks from number `i` on complete the text of the batch
 abbrev pub invariant-loop-i : goal.invariant-loop-i
-invariant-loop-i g l = Completes (g.K.Sink.shown l.fn.out) (g.K.Sink.shown l.out) (texts_after l.board l.blocks l.verdicts l.i) (batch_text l.board l.blocks l.verdicts)
+invariant-loop-i g l =
+    Completes (g.K.Sink.shown l.fn.out) (g.K.Sink.shown l.out)
+    (texts_after l.board l.blocks l.verdicts l.i) (batch_text l.board l.blocks l.verdicts)

@@ -5,4 +5,6 @@ pub returns-then-is_empty : goal.returns-then-is_empty
 returns-then-is_empty g c = puts_none c.args.board.now c.args.blocks.now c.args.verdicts.now c.if-is_empty.ensures c.put.ensures
 
 pub returns : goal.returns
-returns g c = puts_some c.args.board.now c.args.blocks.now c.args.verdicts.now c.requires.count (some_block c.args.blocks.now c.if-is_empty.ensures) c.put_blocks.ensures
+returns g c =
+    puts_some c.args.board.now c.args.blocks.now c.args.verdicts.now c.requires.count
+    (some_block c.args.blocks.now c.if-is_empty.ensures) c.put_blocks.ensures

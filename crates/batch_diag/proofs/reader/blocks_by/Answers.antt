@@ -1,12 +1,16 @@
-use Rattle.batch_diag.specs.Batch.{batch_of}
-use Rattle.batch_diag.specs.inner.Reading.{IsRead}
+use Rattle.batch_diag.specs.Batch.{blocks_of_text}
+use Rattle.batch_diag.specs.inner.Reading.{AreBlocksRead}
 use Rattle.batch_diag.proofs.ReadLemmas.{read_text}
 use Rattle.batch_diag.proofs.reader.blocks_by.Goals as goal
 use Rattle.batch_diag.proofs.reader.blocks_by.Goals.{After-read_pieces}
 
-whole : (g : _) (c : After-read_pieces g) → IsRead (λ v. v.items) c.args.rows c.args.len (batch_of c.args.bytes.now c.args.rows c.args.len) c.read_pieces.result
+whole : (g : _) (c : After-read_pieces g)
+    → AreBlocksRead (λ v. v.items) c.args.rows c.args.len
+    (blocks_of_text c.args.bytes.now c.args.rows c.args.len) c.read_pieces.result
 whole g c =
-    read_text c.in-Ok.reading (λ v. v.items) c.args.rows c.args.len (batch_of c.args.bytes.now c.args.rows c.args.len) c.read_pieces.result c.in-Ok.ensures.said c.in-Ok.ensures.size.0 c.in-Ok.ensures.size.1 c.read_pieces.ensures
+    read_text c.in-Ok.reading (λ v. v.items) c.args.rows c.args.len
+    (blocks_of_text c.args.bytes.now c.args.rows c.args.len) c.read_pieces.result
+    c.in-Ok.ensures.said c.in-Ok.ensures.size.0 c.in-Ok.ensures.size.1 c.read_pieces.ensures
 
 pub returns-clause-read : goal.returns-clause-read
 returns-clause-read g c = (whole g (goal.at.returns-clause-read g c).After-read_pieces).0

@@ -8,4 +8,7 @@ pub returns-in-Ok-clause-log : goal.returns-in-Ok-clause-log
 returns-in-Ok-clause-log c = log_at_place c.args.own.now c.args.before c.args.rows c.args.len c.args.board c.in-Ok.log c.in-Ok.ensures.read
 
 pub returns-in-Err-clause-log : goal.returns-in-Err-clause-log
-returns-in-Err-clause-log c = rw c.inner.ensures.fault (fault_at_place c.args.own.now c.args.before c.args.rows c.args.len c.args.board c.in-Err.fault c.in-Err.ensures.read)
+returns-in-Err-clause-log c =
+    rw c.inner.ensures.fault
+    (fault_at_place c.args.own.now c.args.before c.args.rows c.args.len c.args.board c.in-Err.fault
+    c.in-Err.ensures.read)

@@ -8,5 +8,11 @@ use Rattle.board_build.proofs.building.board.Goals as goal
 
 pub of-requires-clause-names : goal.of-requires-clause-names
 of-requires-clause-names c =
-    let count : length c.args.devices.items ≡ length (named Entity c.args.chain.now) = omega (arith, c.requires.devices, c.args.devices.ok.0) in
-    ap (map (λ part. part.name)) (c.in_ok-parts.ensures.parts ∙ ap (λ v. chain_parts v c.args.devices.items) c.lines-lines.ensures.lines) ∙ parts_named c.args.chain.now c.args.devices.items count ∙ sym (ap (λ v. names_of (named PartName v)) c.lines-lines.ensures.lines)
+    let count : length c.args.devices.items
+    ≡ length (named Entity c.args.chain.now) = omega
+    (arith, c.requires.devices, c.args.devices.ok.0) in
+    ap (map (λ part. part.name))
+    (c.in_ok-parts.ensures.parts
+    ∙ ap (λ v. chain_parts v c.args.devices.items) c.lines-lines.ensures.lines)
+    ∙ parts_named c.args.chain.now c.args.devices.items count
+    ∙ sym (ap (λ v. names_of (named PartName v)) c.lines-lines.ensures.lines)

@@ -8,5 +8,7 @@ use Rattle.board_build.proofs.lookups.described_by_place.Goals as goal
 pub returns : goal.returns
 returns c =
     IfOk-weaker c.first_places_of.result _ _
-    (λ places e q. e q ∙ ap (λ v. first_place same_word (map (λ n. n.now) v) q.now) c.deref.ensures.value ∙ ap (λ v. first_place same_word v q.now) c.in_ok-names.ensures.names)
+    (λ places e q. e q
+    ∙ ap (λ v. first_place same_word (map (λ n. n.now) v) q.now) c.deref.ensures.value
+    ∙ ap (λ v. first_place same_word v q.now) c.in_ok-names.ensures.names)
     c.first_places_of.ensures

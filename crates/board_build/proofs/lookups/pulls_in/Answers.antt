@@ -7,5 +7,7 @@ use Rattle.board_build.proofs.lookups.pulls_in.Goals as goal
 pub returns : goal.returns
 returns c =
     IfOk-weaker c.pulls_by_net.result _ _
-    (λ known e q. e q ∙ ap (λ v. pull_of_net (map (λ p. (p.0.now, p.1)) v) q.now) c.deref.ensures.value ∙ ap (λ v. pull_of_net v q.now) c.in_ok-pulls.ensures)
+    (λ known e q. e q
+    ∙ ap (λ v. pull_of_net (map (λ p. (p.0.now, p.1)) v) q.now) c.deref.ensures.value
+    ∙ ap (λ v. pull_of_net v q.now) c.in_ok-pulls.ensures)
     c.pulls_by_net.ensures

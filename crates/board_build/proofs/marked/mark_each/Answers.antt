@@ -9,4 +9,10 @@ use Rattle.board_build.proofs.GroupLemmas.{mark_step}
 use Rattle.board_build.proofs.marked.mark_each.Goals as goal
 
 pub loop-i-preserved : goal.loop-i-preserved
-loop-i-preserved c = mark_step (mark_by c.args.parts.now (λ q. is_some (get_by (λ n. same_word q.now n.now) c.args.described.now)) (λ q. place_of_pin (pin_places c.args.places.now) (lent_pin q)) (λ q. is_some (get_by (λ n. same_word q.now n.now) c.args.inerts.now))) c.args.words.now c.loop-i.i c.loop-i.marked.items _ c.loop-i-test.true c.in_ok-mark_at.ensures c.loop-i.invariant
+loop-i-preserved c =
+    mark_step
+    (mark_by c.args.parts.now
+    (λ q. is_some (get_by (λ n. same_word q.now n.now) c.args.described.now))
+    (λ q. place_of_pin (pin_places c.args.places.now) (lent_pin q))
+    (λ q. is_some (get_by (λ n. same_word q.now n.now) c.args.inerts.now))) c.args.words.now
+    c.loop-i.i c.loop-i.marked.items _ c.loop-i-test.true c.in_ok-mark_at.ensures c.loop-i.invariant

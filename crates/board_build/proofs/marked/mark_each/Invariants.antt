@@ -9,4 +9,9 @@ use Rattle.board_build.proofs.marked.mark_each.Given as goal
 
 -- the first `i` words are marked
 abbrev pub invariant-loop-i : goal.invariant-loop-i
-invariant-loop-i l = l.marked.items ≡ map (mark_by l.parts (λ q. is_some (get_by (λ n. same_word q.now n.now) l.described)) (λ q. place_of_pin (pin_places l.places) (lent_pin q)) (λ q. is_some (get_by (λ n. same_word q.now n.now) l.inerts))) (take l.i l.words)
+invariant-loop-i l =
+    l.marked.items
+    ≡ map
+    (mark_by l.parts (λ q. is_some (get_by (λ n. same_word q.now n.now) l.described))
+    (λ q. place_of_pin (pin_places l.places) (lent_pin q))
+    (λ q. is_some (get_by (λ n. same_word q.now n.now) l.inerts))) (take l.i l.words)

@@ -6,8 +6,13 @@ use Rattle.board_build.proofs.nets.groups.Goals as goal
 
 pub loop-i-preserved : goal.loop-i-preserved
 loop-i-preserved c =
-    let size : length (map (λ g. g.items) c.loop-i.groups.items) ≡ vec_len c.loop-i.groups = length-map c.loop-i.groups.items (λ g. g.items) ∙ sym c.loop-i.groups.ok.0 in
+    let size : length (map (λ g. g.items) c.loop-i.groups.items)
+    ≡ vec_len c.loop-i.groups = length-map c.loop-i.groups.items (λ g. g.items)
+    ∙ sym c.loop-i.groups.ok.0 in
     record {
       count = c.in_ok-add_at.ensures.count ∙ c.loop-i.invariant.count;
-      groups = groups_more c.args.words.now c.loop-i.i c.args.count _ (map (λ g. g.items) c.loop-i.groups.items) _ c.loop-i-test.true c.loop-i.invariant.count size c.in_ok-add_at.ensures.groups c.loop-i.invariant.groups;
+      groups =
+          groups_more c.args.words.now c.loop-i.i c.args.count _
+          (map (λ g. g.items) c.loop-i.groups.items) _ c.loop-i-test.true c.loop-i.invariant.count
+          size c.in_ok-add_at.ensures.groups c.loop-i.invariant.groups;
     }

@@ -9,5 +9,12 @@ use Rattle.board_build.proofs.nets.nets_by.Given as goal
 -- the nets so far, followed by the nets of the remaining names and groups, are all nets
 abbrev pub invariant-loop-i : goal.invariant-loop-i
 invariant-loop-i l =
-    map (net_by (λ q. is_some (get_by (λ n. same_word q.now n.now) l.supplies)) (λ q. get_by (λ n. same_word q.now n.now) l.pulls)) (zip l.names (map (λ g. g.items) l.fn.groups.items))
-    ≡ l.nets.items ++ map (net_by (λ q. is_some (get_by (λ n. same_word q.now n.now) l.supplies)) (λ q. get_by (λ n. same_word q.now n.now) l.pulls)) (zip (drop l.i l.names) (map (λ g. g.items) (into_iter_items l.groups)))
+    map
+    (net_by (λ q. is_some (get_by (λ n. same_word q.now n.now) l.supplies))
+    (λ q. get_by (λ n. same_word q.now n.now) l.pulls))
+    (zip l.names (map (λ g. g.items) l.fn.groups.items))
+    ≡ l.nets.items
+    ++ map
+    (net_by (λ q. is_some (get_by (λ n. same_word q.now n.now) l.supplies))
+    (λ q. get_by (λ n. same_word q.now n.now) l.pulls))
+    (zip (drop l.i l.names) (map (λ g. g.items) (into_iter_items l.groups)))

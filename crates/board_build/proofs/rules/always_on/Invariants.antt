@@ -5,4 +5,7 @@ use Rattle.board_build.proofs.rules.always_on.Given as goal
 -- the always-on drivers among the words so far, followed by those among the remaining words, are
 -- all always-on drivers
 abbrev pub invariant-loop-word : goal.invariant-loop-word
-invariant-loop-word l = filter (λ w. nat_lt w.net l.nets && w.always_on) l.words ≡ l.drivers.items ++ filter (λ w. nat_lt w.net l.nets && w.always_on) (drop l.word-index l.words)
+invariant-loop-word l =
+    filter (λ w. nat_lt w.net l.nets && w.always_on) l.words
+    ≡ l.drivers.items
+    ++ filter (λ w. nat_lt w.net l.nets && w.always_on) (drop l.word-index l.words)

@@ -4,4 +4,6 @@ use Rattle.board_build.proofs.rules.guarded_driver.Given as goal
 
 -- none of the drivers so far is on a net that must not have an always-on driver
 abbrev pub invariant-loop-word : goal.invariant-loop-word
-invariant-loop-word l = find (λ w. slice_index_or l.kept w.net false) l.drivers ≡ find (λ w. slice_index_or l.kept w.net false) (drop l.word-index l.drivers)
+invariant-loop-word l =
+    find (λ w. slice_index_or l.kept w.net false) l.drivers
+    ≡ find (λ w. slice_index_or l.kept w.net false) (drop l.word-index l.drivers)

@@ -11,4 +11,8 @@ use Rattle.board_build.proofs.rules.marked_twice.Goals as goal
 
 pub returns : goal.returns
 returns c =
-    IfOk-weaker c.pin_twice.result _ _ (λ fault e. e ∙ ap (λ v. option_map (λ p. PinTwice p.1) (first_repeated same_lent v)) (c.deref.ensures.value ∙ c.in_ok-pins.ensures) ∙ twice_seen c.words.result.now ∙ ap marked_twice c.words.ensures) c.pin_twice.ensures
+    IfOk-weaker c.pin_twice.result _ _
+    (λ fault e. e
+    ∙ ap (λ v. option_map (λ p. PinTwice p.1) (first_repeated same_lent v))
+    (c.deref.ensures.value ∙ c.in_ok-pins.ensures) ∙ twice_seen c.words.result.now
+    ∙ ap marked_twice c.words.ensures) c.pin_twice.ensures

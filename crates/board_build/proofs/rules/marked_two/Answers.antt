@@ -9,4 +9,8 @@ use Rattle.board_build.proofs.rules.marked_two.Goals as goal
 
 pub returns : goal.returns
 returns c =
-    IfOk-weaker c.two_always_on.result _ _ (λ fault e. e ∙ ap (λ v. option_map (λ p. TwoAlwaysOn p.1) (first_repeated (λ a b. a.0 == b.0) v)) (c.deref.ensures.value ∙ c.in_ok-nets.ensures) ∙ two_seen c.args.drivers.now) c.two_always_on.ensures
+    IfOk-weaker c.two_always_on.result _ _
+    (λ fault e. e
+    ∙ ap (λ v. option_map (λ p. TwoAlwaysOn p.1) (first_repeated (λ a b. a.0 == b.0) v))
+    (c.deref.ensures.value ∙ c.in_ok-nets.ensures) ∙ two_seen c.args.drivers.now)
+    c.two_always_on.ensures

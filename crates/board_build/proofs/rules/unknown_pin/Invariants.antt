@@ -4,4 +4,6 @@ use Rattle.board_build.proofs.rules.unknown_pin.Given as goal
 
 -- none of the words so far names an unknown pin
 abbrev pub invariant-loop-word : goal.invariant-loop-word
-invariant-loop-word l = find (λ w. w.described && is_none w.at) l.words ≡ find (λ w. w.described && is_none w.at) (drop l.word-index l.words)
+invariant-loop-word l =
+    find (λ w. w.described && is_none w.at) l.words
+    ≡ find (λ w. w.described && is_none w.at) (drop l.word-index l.words)

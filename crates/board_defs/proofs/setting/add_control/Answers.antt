@@ -6,7 +6,10 @@ use Rattle.board_defs.proofs.setting.add_control.Goals as goal
 pub returns-then-has_control-clause-added : goal.returns-then-has_control-clause-added
 returns-then-has_control-clause-added c =
     let list = c.args.controls.now.items in
-    sym (inserted_old c.args.c list c.requires (ap (λ v. holds v c.args.c) (sym c.deref.ensures.value) ∙ sym c.has_control.ensures ∙ c.if-has_control.true))
+    sym
+    (inserted_old c.args.c list c.requires
+    (ap (λ v. holds v c.args.c) (sym c.deref.ensures.value) ∙ sym c.has_control.ensures
+    ∙ c.if-has_control.true))
 
 pub returns-clause-added : goal.returns-clause-added
 returns-clause-added c =

@@ -7,4 +7,6 @@ use Rattle.board_defs.proofs.setting.place_of.Goals as goal
 pub returns-clause-place : goal.returns-clause-place
 returns-clause-place c =
     point_place c.args.c c.args.controls.now c.partition_point.result c.partition_point.ensures.bound
-    (IsPartitionPoint-from_clause (λ d. precedes d c.args.c) c.args.controls.now c.partition_point.result c.partition_point.ensures.partitioned (order_parts c.args.c c.args.controls.now c.requires) (λ a r f' h. search rules))
+    (IsPartitionPoint-from_clause (λ d. precedes d c.args.c) c.args.controls.now
+    c.partition_point.result c.partition_point.ensures.partitioned
+    (order_parts c.args.c c.args.controls.now c.requires) (λ a r f' h. search rules))

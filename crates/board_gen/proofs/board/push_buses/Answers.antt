@@ -4,4 +4,6 @@ use Rattle.board_gen.proofs.EachLemmas.{appended_more}
 use Rattle.board_gen.proofs.board.push_buses.Goals as goal
 
 pub loop-bit-preserved : goal.loop-bit-preserved
-loop-bit-preserved c = appended_more c.args.text.now.items _ _ (bus_line c.args.number) 0 c.loop-bit.bit (omega arith) c.loop-bit.invariant c.in_ok-push_bus_line.ensures
+loop-bit-preserved c =
+    appended_more c.args.text.now.items _ _ (bus_line c.args.number) 0 c.loop-bit.bit (omega arith)
+    c.loop-bit.invariant c.in_ok-push_bus_line.ensures

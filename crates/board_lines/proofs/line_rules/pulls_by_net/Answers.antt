@@ -6,4 +6,6 @@ use Rattle.board_lines.proofs.MapLemmas.{value_lent}
 use Rattle.board_lines.proofs.line_rules.pulls_by_net.Goals as goal
 
 pub returns : goal.returns
-returns c = IfOk-weaker c.first_values.result _ _ (λ known h q. h q ∙ value_lent (λ n. n.now) same_word c.args.pulls.now q) c.first_values.ensures
+returns c =
+    IfOk-weaker c.first_values.result _ _
+    (λ known h q. h q ∙ value_lent (λ n. n.now) same_word c.args.pulls.now q) c.first_values.ensures

@@ -9,5 +9,7 @@ use Rattle.board_lines.proofs.names.places_among.Goals as goal
 pub returns : goal.returns
 returns c =
     IfOk-weaker c.places_by.result _ _
-    (λ places e. e ∙ map_lent _ (first_place same_word (map (λ n. n.now) c.args.others.now)) (λ name. c.in_ok-known.ensures name) c.args.names.now)
+    (λ places e. e
+    ∙ map_lent _ (first_place same_word (map (λ n. n.now) c.args.others.now))
+    (λ name. c.in_ok-known.ensures name) c.args.names.now)
     c.places_by.ensures

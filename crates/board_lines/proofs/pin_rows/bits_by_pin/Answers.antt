@@ -7,7 +7,9 @@ use Rattle.board_lines.proofs.pin_rows.bits_by_pin.Goals as goal
 pub loop-i-preserved : goal.loop-i-preserved
 loop-i-preserved c = record {
   within = omega (arith, c.loop-i.invariant.within);
-  places = λ q. bits_step c.args.bits.now c.loop-i.i c.index-bits-i.result q.now _ _ c.loop-i-test.true c.loop-i.invariant.within (c.loop-i.invariant.places q) (c.in_ok-put_pin.ensures q);
+  places =
+      λ q. bits_step c.args.bits.now c.loop-i.i c.index-bits-i.result q.now _ _ c.loop-i-test.true
+      c.loop-i.invariant.within (c.loop-i.invariant.places q) (c.in_ok-put_pin.ensures q);
 }
 
 pub returns : goal.returns

@@ -8,4 +8,7 @@ use Rattle.board_lines.proofs.selection.answer.Goals as goal
 
 pub returns-in-Some : goal.returns-in-Some
 unfolding answer
-returns-in-Some c = told_as _ c.in-Some.fault (ap (λ fault. unless fault (map (λ place. unwrap_or place 0) c.args.places.now)) (sym c.in_ok-fault.ensures ∙ c.in-Some.is))
+returns-in-Some c =
+    told_as _ c.in-Some.fault
+    (ap (λ fault. unless fault (map (λ place. unwrap_or place 0) c.args.places.now))
+    (sym c.in_ok-fault.ensures ∙ c.in-Some.is))

@@ -10,5 +10,11 @@ use Rattle.board_lines.proofs.selection.entity_numbers.Goals as goal
 pub returns : goal.returns
 returns c =
     let chain = c.args.chain.now in
-    let same : map (λ n. n.now) c.deref.result.now ≡ entity_names c.args.entities.now = ap (map (λ n. n.now)) c.deref.ensures.value ∙ c.in_ok-names.ensures.names in
-    subst (λ names. Gives board_told (λ numbers. numbers.items) (λ said. answer (named Part chain) (named Entity chain) (entity_places (named Entity chain) names) names ≡ said) c.numbers_among.result) same c.numbers_among.ensures
+    let same : map (λ n. n.now) c.deref.result.now
+    ≡ entity_names c.args.entities.now = ap (map (λ n. n.now)) c.deref.ensures.value
+    ∙ c.in_ok-names.ensures.names in
+    subst
+    (λ names. Gives board_told (λ numbers. numbers.items)
+    (λ said. answer (named Part chain) (named Entity chain)
+    (entity_places (named Entity chain) names) names ≡ said) c.numbers_among.result) same
+    c.numbers_among.ensures

@@ -11,5 +11,8 @@ pub returns : goal.returns
 returns c =
     let chain = c.args.chain.now in
     let names = map (λ n. n.now) c.args.entities.now in
-    let same : answer (map (λ n. (n.0, n.1.now)) c.deref-2.result.now) (map (λ n. (n.0, n.1.now)) c.deref-3.result.now) c.deref-4.result.now names ≡ answer (named Part chain) (named Entity chain) (entity_places (named Entity chain) names) names = search rules in
+    let same : answer (map (λ n. (n.0, n.1.now)) c.deref-2.result.now)
+    (map (λ n. (n.0, n.1.now)) c.deref-3.result.now) c.deref-4.result.now names
+    ≡ answer (named Part chain) (named Entity chain) (entity_places (named Entity chain) names)
+    names = search rules in
     subst (λ known. Gives board_told (λ numbers. numbers.items) (λ said. known ≡ said) c.answer.result) same c.answer.ensures

@@ -10,6 +10,13 @@ loop-i-preserved c =
     let lines = c.args.lines.now in
     let line = c.index-lines-i.result in
     let done = map lent_word c.loop-i.words.items in
-    words_step (net_names lines) lines c.loop-i.i line c.args.numbers.now done (map lent_word c.push_line.new.words.items) (net_words lines) c.loop-i-test.true (sym c.index-lines-i.is) c.requires.numbers
-    (c.in_ok-push_line.ensures ∙ ap (λ n. done ++ line_words n line.line 3 c.as_slice.result.now) c.number_at-net.ensures ∙ ap (λ v. done ++ line_words (unwrap_or (slice_get c.args.numbers.now c.loop-i.i) 0) line.line 3 v) c.as_slice.ensures)
+    words_step (net_names lines) lines c.loop-i.i line c.args.numbers.now done
+    (map lent_word c.push_line.new.words.items) (net_words lines) c.loop-i-test.true
+    (sym c.index-lines-i.is) c.requires.numbers
+    (c.in_ok-push_line.ensures
+    ∙ ap (λ n. done ++ line_words n line.line 3 c.as_slice.result.now) c.number_at-net.ensures
+    ∙ ap
+    (λ v. done
+    ++ line_words (unwrap_or (slice_get c.args.numbers.now c.loop-i.i) 0) line.line 3 v)
+    c.as_slice.ensures)
     c.loop-i.invariant

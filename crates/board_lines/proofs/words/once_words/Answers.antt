@@ -6,4 +6,7 @@ use Rattle.board_lines.proofs.MapLemmas.{once-map}
 use Rattle.board_lines.proofs.words.once_words.Goals as goal
 
 pub returns : goal.returns
-returns c = IfOk-weaker c.once_by.result _ _ (λ kept e. ap (map lent_word) e ∙ once-map lent_word same_place c.args.words.now) c.once_by.ensures
+returns c =
+    IfOk-weaker c.once_by.result _ _
+    (λ kept e. ap (map lent_word) e ∙ once-map lent_word same_place c.args.words.now)
+    c.once_by.ensures

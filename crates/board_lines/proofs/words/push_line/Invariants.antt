@@ -7,5 +7,6 @@ use Rattle.board_lines.proofs.words.push_line.Given as goal
 abbrev pub invariant-loop-pin : goal.invariant-loop-pin
 invariant-loop-pin l = record {
   number : l.word ≡ l.pin-index + 3;
-  words : map lent_word l.fn.words.items ++ line_words l.net l.line 3 l.pins ≡ map lent_word l.words.items ++ line_words l.net l.line l.word (drop l.pin-index l.pins);
+  words : map lent_word l.fn.words.items ++ line_words l.net l.line 3 l.pins
+      ≡ map lent_word l.words.items ++ line_words l.net l.line l.word (drop l.pin-index l.pins);
 }

@@ -8,7 +8,10 @@ pub returns-in-Err : goal.returns-in-Err
 returns-in-Err g c = lost_first _ OfLog c.in-Err.ensures
 
 pub returns-in-Ok-read_board : goal.returns-in-Ok-read_board
-returns-in-Ok-read_board g c = read_then OfLog _ c.in-Ok.ensures c.in-Ok-read_board.ensures (λ texts more is are. ap (λ (l : List Text). l ++ more) is ∙ ap (λ (l : List Text). c.in-Ok.log ∷ l) are)
+returns-in-Ok-read_board g c =
+    read_then OfLog _ c.in-Ok.ensures c.in-Ok-read_board.ensures
+    (λ texts more is are. ap (λ (l : List Text). l ++ more) is
+    ∙ ap (λ (l : List Text). c.in-Ok.log ∷ l) are)
 
 pub returns-in-Err-read_board : goal.returns-in-Err-read_board
 returns-in-Err-read_board g c = lost_then OfLog c.in-Ok.ensures c.in-Err-read_board.ensures

@@ -6,7 +6,10 @@ use Rattle.btest_cli.proofs.texts.read_texts.Given as goal
 -- the texts with the names before `name` were read
 abbrev pub invariant-loop-name : goal.invariant-loop-name
 invariant-loop-name g l = record {
-  reads : Reads AreAll (called (take l.name-index l.names)) (g.S.Store.held l.fn.store) (g.S.Store.held l.store) (g.S.Store.faults l.fn.store) (g.S.Store.faults l.store) (g.S.Store.asked l.fn.store) (g.S.Store.asked l.store) (Ok (map (λ text. text.items) l.texts.items));
+  reads : Reads AreAll (called (take l.name-index l.names)) (g.S.Store.held l.fn.store)
+      (g.S.Store.held l.store) (g.S.Store.faults l.fn.store) (g.S.Store.faults l.store)
+      (g.S.Store.asked l.fn.store) (g.S.Store.asked l.store)
+      (Ok (map (λ text. text.items) l.texts.items));
   short : All (λ text. length text.items < 2 ^ 32) l.texts.items;
   number : length l.texts.items ≡ l.name-index;
 }

@@ -10,7 +10,8 @@ pub returns : goal.returns
 returns c =
     let chain = c.args.chain.now in
     let nets = c.args.nets.now in
-    goes_on (λ board. board) (Is (in_link (joined_files chain nets))) (λ joined. Is (in_board (board_of joined.chain joined.nets c.args.devices.items)))
+    goes_on (λ board. board) (Is (in_link (joined_files chain nets)))
+    (λ joined. Is (in_board (board_of joined.chain joined.nets c.args.devices.items)))
     (record { chain = chain; nets = nets })
     c.board_of.result
     (sym (ap in_link (c.unlinked_files.ensures chain nets c.requires.unlinked)))

@@ -12,7 +12,10 @@ loop-i-preserved c =
     let within : c.loop-i.i < length choices = omega (arith, c.loop-i-test.true, count_choices c.args.chosen.now) in
     let count : length c.loop-i.devices.items ≡ c.loop-i.i = omega (arith, c.loop-i.invariant.count, c.loop-i.devices.ok.0) in
     record {
-      devices = rw (c.in_ok-push.ensures.items) (chooses_more c.args.entities.now choices c.loop-i.i c.loop-i.devices.items c.in-Ok.device within count c.loop-i.invariant.devices c.in-Ok.ensures);
+      devices =
+          rw (c.in_ok-push.ensures.items)
+          (chooses_more c.args.entities.now choices c.loop-i.i c.loop-i.devices.items c.in-Ok.device
+          within count c.loop-i.invariant.devices c.in-Ok.ensures);
       count = search rules;
     }
 
@@ -20,7 +23,13 @@ pub returns-in-Err-clause-devices : goal.returns-in-Err-clause-devices
 returns-in-Err-clause-devices c =
     let choices = choices_of c.args.chosen.now in
     let within : c.loop-i.i < length choices = omega (arith, c.loop-i-test.true, count_choices c.args.chosen.now) in
-    IfSome_then (input_told c.in-Err.fault) {P = λ f. IsDeviceOf c.args.entities.now (slice_index_or choices c.loop-i.i (0, None)) (Err f)} {Q = λ f. EachOf (IsDeviceOf c.args.entities.now) choices (Err f)} (c.in-Err.ensures (slice_index_or choices c.loop-i.i (0, None)) (slice_get-get_or choices c.loop-i.i (0, None) within)) (λ f is. chooses_fault c.args.entities.now choices c.loop-i.i c.loop-i.devices.items f within c.loop-i.invariant.devices is)
+    IfSome_then (input_told c.in-Err.fault)
+    {P = λ f. IsDeviceOf c.args.entities.now (slice_index_or choices c.loop-i.i (0, None))
+    (Err f)} {Q = λ f. EachOf (IsDeviceOf c.args.entities.now) choices (Err f)}
+    (c.in-Err.ensures (slice_index_or choices c.loop-i.i (0, None))
+    (slice_get-get_or choices c.loop-i.i (0, None) within))
+    (λ f is. chooses_fault c.args.entities.now choices c.loop-i.i c.loop-i.devices.items f
+    within c.loop-i.invariant.devices is)
 
 pub returns-clause-devices : goal.returns-clause-devices
 returns-clause-devices c =

@@ -5,4 +5,7 @@ use Rattle.btest_core.proofs.devices.packages.Given as goal
 
 -- the packages so far, followed by the packages of the remaining lines, are all packages
 abbrev pub invariant-loop-line : goal.invariant-loop-line
-invariant-loop-line l = filter_map (λ line. package_in line.statement) l.lines ≡ map option_copied l.list.items ++ filter_map (λ line. package_in line.statement) (drop l.line-index l.lines)
+invariant-loop-line l =
+    filter_map (λ line. package_in line.statement) l.lines
+    ≡ map option_copied l.list.items
+    ++ filter_map (λ line. package_in line.statement) (drop l.line-index l.lines)

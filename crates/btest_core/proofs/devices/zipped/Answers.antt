@@ -6,4 +6,8 @@ pub returns : goal.returns
 returns c =
     let ended : (length c.loop-number.number-iterator.a.rest.now ≡ 0) ⊎ (length c.loop-number.number-iterator.b.rest.now ≡ 0) =
     elim c.in-None.ensures.steps [ inl first ↦ inl first.1.0 | inr second ↦ inr second.1.0 ] in
-    sym (c.loop-number.invariant ∙ ap (λ pairs. c.loop-number.list.items ++ pairs) (no_pairs c.loop-number.number-iterator.a.rest.now c.loop-number.number-iterator.b.rest.now ended) ∙ append-nil c.loop-number.list.items)
+    sym
+    (c.loop-number.invariant
+    ∙ ap (λ pairs. c.loop-number.list.items ++ pairs)
+    (no_pairs c.loop-number.number-iterator.a.rest.now
+    c.loop-number.number-iterator.b.rest.now ended) ∙ append-nil c.loop-number.list.items)

@@ -13,4 +13,6 @@ returns-else-eq-4 c =
     let svf : bytes_eq (codes "svf") c.args.name.now ≡ false = search rules in
     let walk : bytes_eq (codes "walk") c.args.name.now ≡ false = search rules in
     let make : bytes_eq (codes "make") c.args.name.now ≡ false = search rules in
-    subst (λ (o : Option Command). IfOk c.log_called.result (λ command. command ≡ o)) (board_other c.args.name.now (rows_of (found_of c.args.found.now)) cover svf walk make) c.log_called.ensures
+    subst (λ (o : Option Command). IfOk c.log_called.result (λ command. command ≡ o))
+    (board_other c.args.name.now (rows_of (found_of c.args.found.now)) cover svf walk make)
+    c.log_called.ensures

@@ -12,4 +12,6 @@ returns-else-eq-3 c =
     let chain : bytes_eq (codes "chain") c.args.name.now ≡ false = search rules in
     let ident : bytes_eq (codes "ident") c.args.name.now ≡ false = search rules in
     let device : bytes_eq (codes "device") c.args.name.now ≡ false = search rules in
-    subst (λ (o : Option Command). IfOk c.board_called.result (λ command. command ≡ o)) (called_other c.args.name.now (rows_of (found_of c.args.found.now)) chain ident device) c.board_called.ensures
+    subst (λ (o : Option Command). IfOk c.board_called.result (λ command. command ≡ o))
+    (called_other c.args.name.now (rows_of (found_of c.args.found.now)) chain ident device)
+    c.board_called.ensures

@@ -6,4 +6,5 @@ use Rattle.command_line.proofs.found.command_in.Goals as goal
 
 pub returns-in-Some : goal.returns-in-Some
 returns-in-Some c =
-    subst (λ (o : Option Command). IfOk c.command_called.result (λ command. command ≡ o)) (called_by _ _ _ _ c.in-Some.ensures.name c.in-Some.ensures.rows) c.command_called.ensures
+    subst (λ (o : Option Command). IfOk c.command_called.result (λ command. command ≡ o))
+    (called_by _ _ _ _ c.in-Some.ensures.name c.in-Some.ensures.rows) c.command_called.ensures

@@ -19,7 +19,10 @@ returns g c =
     let planned = c.args.planned.now in
     let plan = rw c.test-test.ensures.test at c.plan-passes.ensures.plan in
     let passes = rw c.test-test.ensures.test at c.plan-passes.ensures.passes in
-    let puts : Text → Type 0 = λ text. Puts (g.K.Sink.shown c.args.out.now) (g.K.Sink.shown c.write_test.new.out) text c.write_test.result in
+    let puts : Text
+    → Type 0 = λ text. Puts (g.K.Sink.shown c.args.out.now)
+    (g.K.Sink.shown c.write_test.new.out) text c.write_test.result in
     c.answer_by.ensures _ _ _
     (subst puts (plan_text planned.board planned.plan plan passes)
-    (subst (λ (p : PlannedBoard). puts (pass_text p.board p.plan.passes p.plan.width)) (c.board_plan.ensures ∙ c.test-test.ensures.test) c.write_test.ensures))
+    (subst (λ (p : PlannedBoard). puts (pass_text p.board p.plan.passes p.plan.width))
+    (c.board_plan.ensures ∙ c.test-test.ensures.test) c.write_test.ensures))

@@ -7,4 +7,5 @@ returns c = λ log size.
     let board = c.args.board.now in
     let rules = c.raw-rules.ensures.rules in
     let width = code_width (observed_count board (passes_of board)) in
-    (c.rows_compared.ensures.shape board (passes_of board) width log rules (c.passes_kept.ensures board rules).kept).1 (size.rows, size.bits)
+    (c.rows_compared.ensures.shape board (passes_of board) width log rules
+    (c.passes_kept.ensures board rules).kept).1 (size.rows, size.bits)

@@ -13,7 +13,10 @@ use Rattle.commands.proofs.board_test.write_scans.Given as goal
 -- rows still have room for a scan.
 abbrev pub invariant-loop-k : goal.invariant-loop-k
 invariant-loop-k g l = record {
-  put : Puts {T = Unit {0}} {E = PutFault} (g.K.Sink.shown l.fn.out) (g.K.Sink.shown l.out) (head_text ++ scan_texts (take l.k (test_scans l.test.board l.test.plan.passes l.test.plan.width))) (Ok tt);
+  put : Puts {T = Unit {0}} {E = PutFault} (g.K.Sink.shown l.fn.out) (g.K.Sink.shown l.out)
+      (head_text
+      ++ scan_texts (take l.k (test_scans l.test.board l.test.plan.passes l.test.plan.width)))
+      (Ok tt);
   later : IfSome l.held (λ shape. 0 < l.k);
   held : IfSome l.held (λ shape. HoldScan l.test.board l.test.plan (l.k - 1) shape l.rows.scan);
   kept : AreKept l.test.board l.test.plan l.kept;

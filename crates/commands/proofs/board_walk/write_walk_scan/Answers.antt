@@ -8,4 +8,7 @@ use Rattle.commands.proofs.board_walk.write_walk_scan.Goals as goal
 
 pub returns-clause-text : goal.returns-clause-text
 returns-clause-text g c =
-    subst (λ (w : WalkedBoard). IfSome (slice_get (walk_scans w.board) c.args.k) (λ scan. Puts (g.K.Sink.shown c.args.out.now) (g.K.Sink.shown c.write_scan.new.out) (scan_text scan) c.write_scan.result)) c.walked.view_is (search rules)
+    subst
+    (λ (w : WalkedBoard). IfSome (slice_get (walk_scans w.board) c.args.k)
+    (λ scan. Puts (g.K.Sink.shown c.args.out.now) (g.K.Sink.shown c.write_scan.new.out)
+    (scan_text scan) c.write_scan.result)) c.walked.view_is (search rules)

@@ -9,7 +9,9 @@ returns-in_err-write_head g c = puts_err _ c.write_head.ensures c.in_err-write_h
 pub returns-in_err-write_chain : goal.returns-in_err-write_chain
 unfolding svf_text
 returns-in_err-write_chain g c =
-    puts_ok c.write_head.ensures c.in_ok-write_head.was (puts_err _ c.write_chain.ensures.text c.in_err-write_chain.was c.from_residual-in_err-write_chain.ensures.0)
+    puts_ok c.write_head.ensures c.in_ok-write_head.was
+    (puts_err _ c.write_chain.ensures.text c.in_err-write_chain.was
+    c.from_residual-in_err-write_chain.ensures.0)
 
 pub returns : goal.returns
 unfolding svf_text

@@ -18,7 +18,9 @@ use Rattle.commands.proofs.log_batch.put_blocks.Goals as goal
 pub diagnose_blocks-requires-clause-logs : goal.diagnose_blocks-requires-clause-logs
 diagnose_blocks-requires-clause-logs g c = λ κs within.
     rw c.test-test.ensures.test
-    (subst (λ (n : ℕ). All (λ block. HasSize n (data_bits c.args.planned.now.board) block.log) c.args.blocks.now) (sym c.test-test.ensures.rows) c.requires.size)
+    (subst
+    (λ (n : ℕ). All (λ block. HasSize n (data_bits c.args.planned.now.board) block.log)
+    c.args.blocks.now) (sym c.test-test.ensures.rows) c.requires.size)
 
 pub put_verdicts-requires-clause-named : goal.put_verdicts-requires-clause-named
 put_verdicts-requires-clause-named g c =
@@ -35,10 +37,28 @@ returns g c =
     let rules = subst (λ (b : RawBoard). IsBoard b) c.board-board.ensures laws.rules in
     let means = subst (λ (b : RawBoard). TestMeans b) c.board-board.ensures (laws.means (svf_row_scans c.board-board.result.now)) in
     let respond = subst (λ (b : RawBoard). RespondOnce b) c.board-board.ensures laws.respond in
-    let shaped = subst (λ (b : RawBoard). (log : List (List Bool)) → HasSize (test_rows b) (data_bits b) log → HasShape b (svf_row_scans b) log) c.board-board.ensures laws.shaped in
+    let shaped = subst
+    (λ (b : RawBoard). (log : List (List Bool)) → HasSize (test_rows b) (data_bits b) log
+    → HasShape b (svf_row_scans b) log) c.board-board.ensures laws.shaped in
     let right = each_right laws.listed laws.unexplained board rules blocks verdicts judged in
-    let puts = subst (λ (b : RawBoard). PutsText (batch_text b blocks c.deref.result.now) (g.K.Sink.shown c.args.out.now) (g.K.Sink.shown c.put_verdicts.new.out) c.put_verdicts.result) c.board-board.ensures c.put_verdicts.ensures in
-    let written = subst (λ (v : List Verdict). PutsText (batch_text board blocks v) (g.K.Sink.shown c.args.out.now) (g.K.Sink.shown c.put_verdicts.new.out) c.put_verdicts.result) c.deref.ensures.value puts in
-    λ text read. text_judged (OnBoard judging_each text board) (λ found. verdicts_text (board, found)) (DiagnosesEach text board) (blocks, verdicts)
+    let puts = subst
+    (λ (b : RawBoard). PutsText (batch_text b blocks c.deref.result.now)
+    (g.K.Sink.shown c.args.out.now) (g.K.Sink.shown c.put_verdicts.new.out)
+    c.put_verdicts.result) c.board-board.ensures c.put_verdicts.ensures in
+    let written = subst
+    (λ (v : List Verdict). PutsText (batch_text board blocks v) (g.K.Sink.shown c.args.out.now)
+    (g.K.Sink.shown c.put_verdicts.new.out) c.put_verdicts.result) c.deref.ensures.value puts in
+    λ text read. text_judged (OnBoard judging_each text board)
+    (λ found. verdicts_text (board, found)) (DiagnosesEach text board) (blocks, verdicts)
     (record { contents = blocks; holds = read; finds = (refl, judged) }) _ _ _ written
-    (record { means = means; respond = respond; blocks = blocks; read = read; shapes = λ k d less. shaped _ (c.requires.size k d less); verdicts = verdicts; right = right; is = refl })
+    (record {
+      means = means;
+      respond = respond;
+      blocks = blocks;
+      read = read;
+      shapes = λ k d less.
+          shaped _ (c.requires.size k d less);
+      verdicts = verdicts;
+      right = right;
+      is = refl;
+    })

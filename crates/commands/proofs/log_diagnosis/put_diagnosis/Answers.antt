@@ -14,11 +14,19 @@ pub returns-in-Err : goal.returns-in-Err
 returns-in-Err g c =
     let text = c.args.text in
     let board = c.args.planned.now.board in
-    let fails = of_three (λ (t : List ℕ) (rows bits : ℕ). IfSome (log_told c.in-Err.fault) (λ f. log_rows t rows bits ≡ Err f)) c.into_bytes.ensures.bytes c.log_rows-rows.ensures c.log_bits-bits.ensures c.in-Err.ensures.read in
+    let fails = of_three
+    (λ (t : List ℕ) (rows bits : ℕ). IfSome (log_told c.in-Err.fault)
+    (λ f. log_rows t rows bits ≡ Err f)) c.into_bytes.ensures.bytes c.log_rows-rows.ensures
+    c.log_bits-bits.ensures c.in-Err.ensures.read in
     rw c.unput_by_log.ensures
-    (log_wrong (OnBoard diagnosing text board) (λ found. diagnosis_text (board, found)) (Diagnoses text board) (g.K.Sink.shown c.args.out.now) c.log_rows-rows.result (test_log text board) c.in-Err.fault fails
+    (log_wrong (OnBoard diagnosing text board) (λ found. diagnosis_text (board, found))
+    (Diagnoses text board) (g.K.Sink.shown c.args.out.now) c.log_rows-rows.result
+    (test_log text board) c.in-Err.fault fails
     (λ fault wrong. record { cause = fault; fails = wrong; is = ap (λ (n : ℕ). Log n fault) c.log_rows-rows.ensures }))
 
 pub returns-in-Ok : goal.returns-in-Ok
 returns-in-Ok g c =
-    (rw c.with_log-logged.ensures at c.put_judged.ensures) c.args.text (of_three (λ (t : List ℕ) (rows bits : ℕ). log_rows t rows bits ≡ Ok c.in-Ok.log) c.into_bytes.ensures.bytes c.log_rows-rows.ensures c.log_bits-bits.ensures c.in-Ok.ensures.read)
+    (rw c.with_log-logged.ensures at c.put_judged.ensures) c.args.text
+    (of_three (λ (t : List ℕ) (rows bits : ℕ). log_rows t rows bits ≡ Ok c.in-Ok.log)
+    c.into_bytes.ensures.bytes c.log_rows-rows.ensures c.log_bits-bits.ensures
+    c.in-Ok.ensures.read)

@@ -6,4 +6,9 @@ use Rattle.commands.proofs.log_diagnosis.put_found.Goals as goal
 
 pub returns : goal.returns
 returns g c =
-    subst (λ (faults : List Single). PutsText (diag_text c.args.board.now c.args.found.now.pass faults) (g.K.Sink.shown c.args.out.now) (g.K.Sink.shown c.write_diagnosis.new.out) c.answer_by.result) c.deref.ensures.value (c.answer_by.ensures _ _ _ c.write_diagnosis.ensures)
+    subst
+    (λ (faults : List Single). PutsText
+    (diag_text c.args.board.now c.args.found.now.pass faults)
+    (g.K.Sink.shown c.args.out.now) (g.K.Sink.shown c.write_diagnosis.new.out)
+    c.answer_by.result) c.deref.ensures.value
+    (c.answer_by.ensures _ _ _ c.write_diagnosis.ensures)

@@ -28,10 +28,29 @@ returns g c =
     let rules = subst (λ (b : RawBoard). IsBoard b) c.board-board.ensures laws.rules in
     let means = subst (λ (b : RawBoard). TestMeans b) c.board-board.ensures (laws.means (svf_row_scans c.board-board.result.now)) in
     let respond = subst (λ (b : RawBoard). RespondOnce b) c.board-board.ensures laws.respond in
-    let shaped = subst (λ (b : RawBoard). (log : List (List Bool)) → HasSize (test_rows b) (data_bits b) log → HasShape b (svf_row_scans b) log) c.board-board.ensures laws.shaped in
-    let size = subst (λ (n : ℕ). HasSize n (data_bits board) rows) (rows_are board logged.test.plan c.plan-plan.ensures.plan c.plan-plan.ensures.passes) c.log-log.ensures.rows in
+    let shaped = subst
+    (λ (b : RawBoard). (log : List (List Bool)) → HasSize (test_rows b) (data_bits b) log
+    → HasShape b (svf_row_scans b) log) c.board-board.ensures laws.shaped in
+    let size = subst (λ (n : ℕ). HasSize n (data_bits board) rows)
+    (rows_are board logged.test.plan c.plan-plan.ensures.plan c.plan-plan.ensures.passes)
+    c.log-log.ensures.rows in
     let right = is_right laws.listed laws.unexplained board rules rows found.pass found.faults.items known.passes known.faults in
-    let puts = subst (λ (b : RawBoard). PutsText (diag_text b found.pass found.faults.items) (g.K.Sink.shown c.args.out.now) (g.K.Sink.shown c.put_found.new.out) c.put_found.result) c.board-board.ensures c.put_found.ensures in
-    λ text read. text_judged (OnBoard diagnosing text board) (λ found. diagnosis_text (board, found)) (Diagnoses text board) (found.pass, found.faults.items)
+    let puts = subst
+    (λ (b : RawBoard). PutsText (diag_text b found.pass found.faults.items)
+    (g.K.Sink.shown c.args.out.now) (g.K.Sink.shown c.put_found.new.out) c.put_found.result)
+    c.board-board.ensures c.put_found.ensures in
+    λ text read. text_judged (OnBoard diagnosing text board)
+    (λ found. diagnosis_text (board, found)) (Diagnoses text board)
+    (found.pass, found.faults.items)
     (record { contents = rows; holds = read; finds = record { passes = known.passes; list = known.faults } }) _ _ _ puts
-    (record { means = means; respond = respond; rows = rows; read = read; shape = shaped rows size; pass = found.pass; faults = found.faults.items; right = right; is = refl })
+    (record {
+      means = means;
+      respond = respond;
+      rows = rows;
+      read = read;
+      shape = shaped rows size;
+      pass = found.pass;
+      faults = found.faults.items;
+      right = right;
+      is = refl;
+    })

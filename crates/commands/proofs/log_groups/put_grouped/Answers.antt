@@ -7,19 +7,22 @@ use Rattle.command_line.specs.Words.{Text}
 use Rattle.commands.specs.Answers.{AnswersOn}
 use Rattle.commands.specs.inner.Boards.{WalkedBoard}
 use Rattle.commands.specs.LogRead.{OnBoard, grouping, grouping_text, walk_log, walk_rows}
-use Rattle.commands.specs.Worth.{FindsGroups}
+use Rattle.commands.specs.Worth.{IsGroupsText}
 use Rattle.commands.proofs.AnswerLemmas.{text_judged}
 use Rattle.commands.proofs.VerdictLemmas.{exactly_found}
 use Rattle.commands.proofs.log_groups.put_grouped.Goals as goal
 
 pub groups-requires-clause-rows : goal.groups-requires-clause-rows
 groups-requires-clause-rows g c =
-    let size = subst (λ (p : WalkedBoard). HasSize (walk_rows p.board) (data_bits p.board) c.args.log.now) (sym c.walked.view_is) c.requires.size in
+    let size = subst
+    (λ (p : WalkedBoard). HasSize (walk_rows p.board) (data_bits p.board) c.args.log.now)
+    (sym c.walked.view_is) c.requires.size in
     size.rows ∙ sym (ap (λ (nets : List ℕ). length nets) c.walked.invariant.nets)
 
 pub groups-requires-clause-bits : goal.groups-requires-clause-bits
 groups-requires-clause-bits g c =
-    (subst (λ (p : WalkedBoard). HasSize (walk_rows p.board) (data_bits p.board) c.args.log.now) (sym c.walked.view_is) c.requires.size).bits
+    (subst (λ (p : WalkedBoard). HasSize (walk_rows p.board) (data_bits p.board) c.args.log.now)
+    (sym c.walked.view_is) c.requires.size).bits
 
 pub returns : goal.returns
 returns g c =
@@ -28,8 +31,12 @@ returns g c =
     let rows = c.args.log.now in
     let size = subst (λ (p : WalkedBoard). HasSize (walk_rows p.board) (data_bits p.board) rows) (sym c.walked.view_is) c.requires.size in
     let found : Option (List (List ℕ)) = option_map (λ groups. groups.items) c.in_ok-found.found in
-    subst (λ (p : WalkedBoard). (text : Text) → walk_log text p.board ≡ Ok rows → AnswersOn grouping grouping_text FindsGroups text p.board (g.K.Sink.shown c.args.out.now) (g.K.Sink.shown c.put_found.new.out) c.put_found.result) c.walked.view_is
-    (λ text read. text_judged (OnBoard grouping text board) (λ found. grouping_text (board, found)) (FindsGroups text board) found
+    subst
+    (λ (p : WalkedBoard). (text : Text) → walk_log text p.board ≡ Ok rows
+    → AnswersOn grouping grouping_text IsGroupsText text p.board
+    (g.K.Sink.shown c.args.out.now) (g.K.Sink.shown c.put_found.new.out)
+    c.put_found.result) c.walked.view_is
+    (λ text read. text_judged (OnBoard grouping text board) (λ found. grouping_text (board, found)) (IsGroupsText text board) found
     (record { contents = rows; holds = read; finds = c.in_ok-found.ensures.found }) _ _ _ c.put_found.ensures
     (record {
       means = c.test_means.ensures (walk_row_list board);

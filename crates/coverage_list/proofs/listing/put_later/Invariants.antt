@@ -7,7 +7,11 @@ use Rattle.coverage_list.proofs.listing.put_later.Given as goal
 
 -- the lines of net `low` with the nets from `from` on complete the text
 abbrev pub invariant-loop-from : goal.invariant-loop-from
-invariant-loop-from g l = (net : Net) → slice_get l.board.nets l.low ≡ Some net → Completes (g.K.Sink.shown l.fn.out) (g.K.Sink.shown l.out) (texts_from (pair_at l.board net) l.from (length l.board.nets)) (texts_from (pair_at l.board net) (l.low + 1) (length l.board.nets))
+invariant-loop-from g l =
+    (net : Net) → slice_get l.board.nets l.low ≡ Some net
+    → Completes (g.K.Sink.shown l.fn.out) (g.K.Sink.shown l.out)
+    (texts_from (pair_at l.board net) l.from (length l.board.nets))
+    (texts_from (pair_at l.board net) (l.low + 1) (length l.board.nets))
 
 abbrev pub decreases-loop-from : goal.decreases-loop-from
 decreases-loop-from g l = l.count - l.from

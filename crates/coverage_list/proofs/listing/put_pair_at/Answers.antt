@@ -7,4 +7,5 @@ pub returns-then-is_unpaired : goal.returns-then-is_unpaired
 returns-then-is_unpaired g c low at =
     let high = c.net_at-then-is_unpaired.result.now in
     prints_same (pair_is c.args.board.now low high c.net_at.result.now c.args.high c.net_at-then-is_unpaired.ensures
-    (sym (c.is_unpaired.ensures low at high c.net_at-then-is_unpaired.ensures) ∙ c.if-is_unpaired.true) (same_item c.net_at.ensures at)) c.put_pair.ensures
+    (sym (c.is_unpaired.ensures low at high c.net_at-then-is_unpaired.ensures) ∙
+    c.if-is_unpaired.true) (same_item c.net_at.ensures at)) c.put_pair.ensures

@@ -5,4 +5,6 @@ use Rattle.coverage_list.proofs.listing.put_reason_at.Goals as goal
 pub returns : goal.returns
 returns g c =
     let net = c.net_at-net.result.now in
-    prints_same (reason_is c.args.board.now c.args.n net c.reason.result c.net_at-net.ensures (c.reason.ensures net c.net_at-net.ensures)) c.put_reason.ensures
+    prints_same
+    (reason_is c.args.board.now c.args.n net c.reason.result c.net_at-net.ensures
+    (c.reason.ensures net c.net_at-net.ensures)) c.put_reason.ensures

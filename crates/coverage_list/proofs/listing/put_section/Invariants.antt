@@ -5,4 +5,7 @@ use Rattle.coverage_list.proofs.listing.put_section.Given as goal
 
 -- the lines of the nets from `n` on complete the section
 abbrev pub invariant-loop-n : goal.invariant-loop-n
-invariant-loop-n g l = Completes (g.K.Sink.shown l.fn.out) (g.K.Sink.shown l.out) (texts_from (section_at l.board l.section) l.n (length l.board.nets)) (section_lines l.board l.section)
+invariant-loop-n g l =
+    Completes (g.K.Sink.shown l.fn.out) (g.K.Sink.shown l.out)
+    (texts_from (section_at l.board l.section) l.n (length l.board.nets))
+    (section_lines l.board l.section)

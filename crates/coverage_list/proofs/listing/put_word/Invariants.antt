@@ -7,4 +7,8 @@ use Rattle.coverage_list.proofs.listing.put_word.Given as goal
 
 -- the lines of net `low` with the nets `high..end` complete the text
 abbrev pub invariant-loop-high : goal.invariant-loop-high
-invariant-loop-high g l = (net : Net) → slice_get l.board.nets l.low ≡ Some net → Completes (g.K.Sink.shown l.fn.out) (g.K.Sink.shown l.out) (texts_from (pair_at l.board net) l.high l.end) (texts_from (pair_at l.board net) l.from l.end)
+invariant-loop-high g l =
+    (net : Net) → slice_get l.board.nets l.low ≡ Some net
+    → Completes (g.K.Sink.shown l.fn.out) (g.K.Sink.shown l.out)
+    (texts_from (pair_at l.board net) l.high l.end)
+    (texts_from (pair_at l.board net) l.from l.end)

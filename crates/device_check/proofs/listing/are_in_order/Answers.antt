@@ -7,7 +7,9 @@ loop-cell-init c = λ climbs. climbs
 
 pub loop-cell-preserved : goal.loop-cell-preserved
 loop-cell-preserved c = λ climbs.
-    c.loop-cell.invariant (climb_next c.loop-cell.least c.args.most c.args.cells.now c.loop-cell.cell-index _ (omega arith) (omega arith) (omega arith) climbs)
+    c.loop-cell.invariant
+    (climb_next c.loop-cell.least c.args.most c.args.cells.now c.loop-cell.cell-index _
+    (omega arith) (omega arith) (omega arith) climbs)
 
 pub returns : goal.returns
 returns c = λ yes. c.loop-cell.invariant (climb_end c.loop-cell.least c.args.most c.args.cells.now c.loop-cell.cell-index (omega arith))

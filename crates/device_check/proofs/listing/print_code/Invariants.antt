@@ -8,7 +8,8 @@ use Rattle.device_check.proofs.listing.print_code.Given as goal
 abbrev pub invariant-loop-at : goal.invariant-loop-at
 invariant-loop-at g l = record {
   within : l.at ≤ length l.code;
-  printed : Prints {T = Unit {0}} {E = PutFault} (g.K.Sink.shown l.fn.out) (g.K.Sink.shown l.out) l.fn.line l.line (code_text (drop l.at l.code)) (Ok tt);
+  printed : Prints {T = Unit {0}} {E = PutFault} (g.K.Sink.shown l.fn.out) (g.K.Sink.shown l.out)
+      l.fn.line l.line (code_text (drop l.at l.code)) (Ok tt);
 }
 
 abbrev pub decreases-loop-at : goal.decreases-loop-at

@@ -14,8 +14,12 @@ returns-in_err-print_pin g c =
     let bits = c.args.bits.now in
     let at = c.loop-bit.bit-index in
     let f = λ (bit : PortBit). pin_text bit.pin in
-    prints_same (ap (λ bit. flat_map f (take at bits) ++ (f bit ++ flat_map f (drop (at + 1) bits))) c.bit-item.is ∙ flat-split f bits at c.bit-item.result (omega arith))
-    (prints_ok c.loop-bit.invariant refl (prints_err (flat_map f (drop (at + 1) bits)) c.print_pin.ensures c.in_err-print_pin.was c.from_residual.ensures.0))
+    prints_same
+    (ap (λ bit. flat_map f (take at bits) ++ (f bit ++ flat_map f (drop (at + 1) bits)))
+    c.bit-item.is ∙ flat-split f bits at c.bit-item.result (omega arith))
+    (prints_ok c.loop-bit.invariant refl
+    (prints_err (flat_map f (drop (at + 1) bits)) c.print_pin.ensures c.in_err-print_pin.was
+    c.from_residual.ensures.0))
 
 pub loop-bit-preserved : goal.loop-bit-preserved
 loop-bit-preserved g c =

@@ -8,4 +8,5 @@ use Rattle.device_check.proofs.listing.print_each_pin.Given as goal
 -- the pins of the bits visited so far were printed
 abbrev pub invariant-loop-bit : goal.invariant-loop-bit
 invariant-loop-bit g l =
-    Prints {T = Unit {0}} {E = PutFault} (g.K.Sink.shown l.fn.out) (g.K.Sink.shown l.out) l.fn.line l.line (flat_map (λ bit. pin_text bit.pin) (take l.bit-index l.bits)) (Ok tt)
+    Prints {T = Unit {0}} {E = PutFault} (g.K.Sink.shown l.fn.out) (g.K.Sink.shown l.out) l.fn.line
+    l.line (flat_map (λ bit. pin_text bit.pin) (take l.bit-index l.bits)) (Ok tt)

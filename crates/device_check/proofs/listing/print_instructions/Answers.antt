@@ -15,13 +15,20 @@ pub returns-in_err-print_instruction-in-Of2001 : goal.returns-in_err-print_instr
 returns-in_err-print_instruction-in-Of2001 g c =
     let d = c.args.device.now in
     prints_same (ap (λ t. (codes " PRELOAD " ++ code_text t) ++ (codes " EXTEST " ++ code_text d.extest)) c.symbols-in-Of2001.ensures.value
-    ∙ code_pieces (codes " PRELOAD ") (code_text d.sample) (codes " EXTEST ") (code_text d.extest) ∙ sym (ap (λ e. instructions_text e d.sample d.extest) c.in-Of2001.is))
-    (prints_err (codes " EXTEST " ++ code_text d.extest) c.print_instruction-in-Of2001.ensures c.in_err-print_instruction-in-Of2001.was c.from_residual.ensures.0)
+    ∙ code_pieces (codes " PRELOAD ") (code_text d.sample) (codes " EXTEST ") (code_text d.extest) ∙
+    sym (ap (λ e. instructions_text e d.sample d.extest) c.in-Of2001.is))
+    (prints_err (codes " EXTEST " ++ code_text d.extest) c.print_instruction-in-Of2001.ensures
+    c.in_err-print_instruction-in-Of2001.was c.from_residual.ensures.0)
 
 pub returns-in_ok-print_instruction-in-Of2001 : goal.returns-in_ok-print_instruction-in-Of2001
 returns-in_ok-print_instruction-in-Of2001 g c =
     let d = c.args.device.now in
-    prints_same (ap (λ t. (codes " PRELOAD " ++ code_text t) ++ (codes " EXTEST " ++ code_text c.symbols-in-Of2001-2.result.now)) c.symbols-in-Of2001.ensures.value
+    prints_same
+    (ap
+    (λ t. (codes " PRELOAD " ++ code_text t) ++
+    (codes " EXTEST " ++ code_text c.symbols-in-Of2001-2.result.now))
+    c.symbols-in-Of2001.ensures.value
     ∙ ap (λ t. (codes " PRELOAD " ++ code_text d.sample) ++ (codes " EXTEST " ++ code_text t)) c.symbols-in-Of2001-2.ensures.value
-    ∙ code_pieces (codes " PRELOAD ") (code_text d.sample) (codes " EXTEST ") (code_text d.extest) ∙ sym (ap (λ e. instructions_text e d.sample d.extest) c.in-Of2001.is))
+    ∙ code_pieces (codes " PRELOAD ") (code_text d.sample) (codes " EXTEST ") (code_text d.extest) ∙
+    sym (ap (λ e. instructions_text e d.sample d.extest) c.in-Of2001.is))
     (prints_ok c.print_instruction-in-Of2001.ensures c.in_ok-print_instruction-in-Of2001.was c.print_instruction-in-Of2001-2.ensures)

@@ -10,4 +10,6 @@ put_ports-requires g c = subst (Rises 0) (sym c.as_slice-2.ensures) (rises_all c
 
 pub returns : goal.returns
 returns g c =
-    prints_same (ap (λ l. port_lines l c.as_slice-2.result.now) c.as_slice.ensures ∙ ap (port_lines c.args.device.now.ports) c.as_slice-2.ensures) c.put_ports.ensures
+    prints_same
+    (ap (λ l. port_lines l c.as_slice-2.result.now) c.as_slice.ensures
+    ∙ ap (port_lines c.args.device.now.ports) c.as_slice-2.ensures) c.put_ports.ensures

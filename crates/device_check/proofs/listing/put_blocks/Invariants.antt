@@ -9,7 +9,8 @@ abbrev pub invariant-loop-from : goal.invariant-loop-from
 invariant-loop-from g l = record {
   within : l.from ≤ l.device.boundary;
   room : length l.table ≡ 1024;
-  printed : Prints {T = Unit {0}} {E = PutFault} (g.K.Sink.shown l.fn.out) (g.K.Sink.shown l.out) [] [] (cell_lines l.device.ports l.device.bits l.device.cells 0 l.from) (Ok tt);
+  printed : Prints {T = Unit {0}} {E = PutFault} (g.K.Sink.shown l.fn.out) (g.K.Sink.shown l.out) []
+      [] (cell_lines l.device.ports l.device.bits l.device.cells 0 l.from) (Ok tt);
 }
 
 abbrev pub decreases-loop-from : goal.decreases-loop-from

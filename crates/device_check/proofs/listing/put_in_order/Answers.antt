@@ -12,7 +12,9 @@ pub returns-in_err-put_cell : goal.returns-in_err-put_cell
 returns-in_err-put_cell g c =
     let f = cell_line c.args.ports.now c.args.bits.now in
     prints_same (flat-split f c.args.cells.now c.loop-cell.cell-index _ (omega arith))
-    (prints_ok c.loop-cell.invariant refl (prints_err (flat_map f (drop (c.loop-cell.cell-index + 1) c.args.cells.now)) c.put_cell.ensures c.in_err-put_cell.was c.from_residual.ensures.0))
+    (prints_ok c.loop-cell.invariant refl
+    (prints_err (flat_map f (drop (c.loop-cell.cell-index + 1) c.args.cells.now))
+    c.put_cell.ensures c.in_err-put_cell.was c.from_residual.ensures.0))
 
 pub loop-cell-preserved : goal.loop-cell-preserved
 loop-cell-preserved g c =

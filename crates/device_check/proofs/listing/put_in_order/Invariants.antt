@@ -8,4 +8,5 @@ use Rattle.device_check.proofs.listing.put_in_order.Given as goal
 -- the lines of the entries visited so far were written
 abbrev pub invariant-loop-cell : goal.invariant-loop-cell
 invariant-loop-cell g l =
-    Prints {T = Unit {0}} {E = PutFault} (g.K.Sink.shown l.fn.out) (g.K.Sink.shown l.out) [] [] (flat_map (cell_line l.ports l.bits) (take l.cell-index l.cells)) (Ok tt)
+    Prints {T = Unit {0}} {E = PutFault} (g.K.Sink.shown l.fn.out) (g.K.Sink.shown l.out) [] []
+    (flat_map (cell_line l.ports l.bits) (take l.cell-index l.cells)) (Ok tt)

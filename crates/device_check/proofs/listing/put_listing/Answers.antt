@@ -16,28 +16,48 @@ pub returns-in_err-put_name : goal.returns-in_err-put_name
 unfolding device_text
 returns-in_err-put_name g c =
     let d = c.args.device.now in
-    prints_err (line_of (codes "PACKAGE " ∷ d.package ∷ []) ++ (instruction_line d ++ (port_lines d.ports d.bits ++ (cell_lines d.ports d.bits d.cells 0 d.boundary)))) c.put_name.ensures c.in_err-put_name.was c.from_residual.ensures.0
+    prints_err
+    (line_of (codes "PACKAGE " ∷ d.package ∷ [])
+    ++ (instruction_line d
+    ++ (port_lines d.ports d.bits ++ (cell_lines d.ports d.bits d.cells 0 d.boundary))))
+    c.put_name.ensures c.in_err-put_name.was c.from_residual.ensures.0
 
 pub returns-in_err-put_name-2 : goal.returns-in_err-put_name-2
 unfolding device_text
 returns-in_err-put_name-2 g c =
     let d = c.args.device.now in
-    prints_ok c.put_name.ensures c.in_ok-put_name.was (prints_err (instruction_line d ++ (port_lines d.ports d.bits ++ (cell_lines d.ports d.bits d.cells 0 d.boundary))) c.put_name-2.ensures c.in_err-put_name-2.was c.from_residual-in_err-put_name-2.ensures.0)
+    prints_ok c.put_name.ensures c.in_ok-put_name.was
+    (prints_err
+    (instruction_line d
+    ++ (port_lines d.ports d.bits ++ (cell_lines d.ports d.bits d.cells 0 d.boundary)))
+    c.put_name-2.ensures c.in_err-put_name-2.was c.from_residual-in_err-put_name-2.ensures.0)
 
 pub returns-in_err-put_instructions : goal.returns-in_err-put_instructions
 unfolding device_text
 returns-in_err-put_instructions g c =
     let d = c.args.device.now in
-    prints_ok c.put_name.ensures c.in_ok-put_name.was (prints_ok c.put_name-2.ensures c.in_ok-put_name-2.was (prints_err (port_lines d.ports d.bits ++ (cell_lines d.ports d.bits d.cells 0 d.boundary)) c.put_instructions.ensures c.in_err-put_instructions.was c.from_residual-in_err-put_instructions.ensures.0))
+    prints_ok c.put_name.ensures c.in_ok-put_name.was
+    (prints_ok c.put_name-2.ensures c.in_ok-put_name-2.was
+    (prints_err
+    (port_lines d.ports d.bits ++ (cell_lines d.ports d.bits d.cells 0 d.boundary))
+    c.put_instructions.ensures c.in_err-put_instructions.was
+    c.from_residual-in_err-put_instructions.ensures.0))
 
 pub returns-in_err-put_all_ports : goal.returns-in_err-put_all_ports
 unfolding device_text
 returns-in_err-put_all_ports g c =
     let d = c.args.device.now in
-    prints_ok c.put_name.ensures c.in_ok-put_name.was (prints_ok c.put_name-2.ensures c.in_ok-put_name-2.was (prints_ok c.put_instructions.ensures c.in_ok-put_instructions.was (prints_err (cell_lines d.ports d.bits d.cells 0 d.boundary) c.put_all_ports.ensures c.in_err-put_all_ports.was c.from_residual-in_err-put_all_ports.ensures.0)))
+    prints_ok c.put_name.ensures c.in_ok-put_name.was
+    (prints_ok c.put_name-2.ensures c.in_ok-put_name-2.was
+    (prints_ok c.put_instructions.ensures c.in_ok-put_instructions.was
+    (prints_err (cell_lines d.ports d.bits d.cells 0 d.boundary) c.put_all_ports.ensures
+    c.in_err-put_all_ports.was c.from_residual-in_err-put_all_ports.ensures.0)))
 
 pub returns : goal.returns
 unfolding device_text
 returns g c =
     let d = c.args.device.now in
-    prints_ok c.put_name.ensures c.in_ok-put_name.was (prints_ok c.put_name-2.ensures c.in_ok-put_name-2.was (prints_ok c.put_instructions.ensures c.in_ok-put_instructions.was (prints_ok c.put_all_ports.ensures c.in_ok-put_all_ports.was c.put_cells.ensures)))
+    prints_ok c.put_name.ensures c.in_ok-put_name.was
+    (prints_ok c.put_name-2.ensures c.in_ok-put_name-2.was
+    (prints_ok c.put_instructions.ensures c.in_ok-put_instructions.was
+    (prints_ok c.put_all_ports.ensures c.in_ok-put_all_ports.was c.put_cells.ensures)))

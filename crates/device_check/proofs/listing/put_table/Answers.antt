@@ -15,7 +15,8 @@ returns-in_err-put_entries g c =
     let f = λ (e : Entries). flat_map (cell_line c.args.ports.now c.args.bits.now) (entries_in e) in
     prints_same (flat-split f c.args.table.now c.loop-entries.entries-index _ (omega arith))
     (prints_ok c.loop-entries.invariant refl
-    (prints_err (flat_map f (drop (c.loop-entries.entries-index + 1) c.args.table.now)) c.put_entries.ensures c.in_err-put_entries.was c.from_residual.ensures.0))
+    (prints_err (flat_map f (drop (c.loop-entries.entries-index + 1) c.args.table.now))
+    c.put_entries.ensures c.in_err-put_entries.was c.from_residual.ensures.0))
 
 pub loop-entries-preserved : goal.loop-entries-preserved
 loop-entries-preserved g c =

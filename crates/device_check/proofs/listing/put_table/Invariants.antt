@@ -9,4 +9,6 @@ use Rattle.device_check.proofs.listing.put_table.Given as goal
 -- the lines of the cells visited so far were written
 abbrev pub invariant-loop-entries : goal.invariant-loop-entries
 invariant-loop-entries g l =
-    Prints {T = Unit {0}} {E = PutFault} (g.K.Sink.shown l.fn.out) (g.K.Sink.shown l.out) [] [] (flat_map (λ entries. flat_map (cell_line l.ports l.bits) (entries_in entries)) (take l.entries-index l.table)) (Ok tt)
+    Prints {T = Unit {0}} {E = PutFault} (g.K.Sink.shown l.fn.out) (g.K.Sink.shown l.out) [] []
+    (flat_map (λ entries. flat_map (cell_line l.ports l.bits) (entries_in entries))
+    (take l.entries-index l.table)) (Ok tt)

@@ -8,7 +8,9 @@ use Rattle.device_rules.proofs.cells.counts_of.Goals.{then-is_for+then-entry-bou
 
 pub count_one-requires-clause-room : goal.count_one-requires-clause-room
 count_one-requires-clause-room c =
-    let few = counts_fit (is_for_cell c.args.stage) c.args.entries.now c.args.boundary c.loop-entry.entry-index c.entry-item.result.num c.loop-entry.table.items c.loop-entry-test.true c.if-entry-boundary.true c.loop-entry.invariant in
+    let few = counts_fit (is_for_cell c.args.stage) c.args.entries.now c.args.boundary
+    c.loop-entry.entry-index c.entry-item.result.num c.loop-entry.table.items
+    c.loop-entry-test.true c.if-entry-boundary.true c.loop-entry.invariant in
     omega (arith, few, c.requires)
 
 pub loop-entry-preserved : goal.loop-entry-preserved
@@ -18,14 +20,21 @@ loop-entry-preserved c =
     elim c.if-is_for.branch [
       | then-is_for+then-entry-boundary w ↦
           subst P (sym (ap (λ t. t.items) w.table-is ∙ w.count_one.ensures))
-          (counts_more (is_for_cell c.args.stage) c.args.entries.now c.args.boundary c.loop-entry.entry-index entry entry.num c.loop-entry.table.items c.loop-entry-test.true (sym c.entry-item.is) w.if-entry-boundary.true
-          (counts_here (is_for c.args.stage) entry (sym c.is_for.ensures ∙ w.if-is_for.true)) (counts_nowhere_else (is_for c.args.stage) entry) c.loop-entry.invariant)
+          (counts_more (is_for_cell c.args.stage) c.args.entries.now c.args.boundary
+          c.loop-entry.entry-index entry entry.num c.loop-entry.table.items
+          c.loop-entry-test.true (sym c.entry-item.is) w.if-entry-boundary.true
+          (counts_here (is_for c.args.stage) entry (sym c.is_for.ensures ∙ w.if-is_for.true))
+          (counts_nowhere_else (is_for c.args.stage) entry) c.loop-entry.invariant)
       | then-is_for+else-entry-boundary w ↦
           subst P (sym (ap (λ t. t.items) w.table-is))
-          (counts_kept (is_for_cell c.args.stage) c.args.entries.now c.args.boundary c.loop-entry.entry-index entry c.loop-entry.table.items c.loop-entry-test.true (sym c.entry-item.is)
+          (counts_kept (is_for_cell c.args.stage) c.args.entries.now c.args.boundary
+          c.loop-entry.entry-index entry c.loop-entry.table.items c.loop-entry-test.true
+          (sym c.entry-item.is)
           (λ n lt. counts_above (is_for c.args.stage) entry c.args.boundary n w.if-entry-boundary.false lt) c.loop-entry.invariant)
       | else-is_for w ↦
           subst P (sym (ap (λ t. t.items) w.table-is))
-          (counts_kept (is_for_cell c.args.stage) c.args.entries.now c.args.boundary c.loop-entry.entry-index entry c.loop-entry.table.items c.loop-entry-test.true (sym c.entry-item.is)
+          (counts_kept (is_for_cell c.args.stage) c.args.entries.now c.args.boundary
+          c.loop-entry.entry-index entry c.loop-entry.table.items c.loop-entry-test.true
+          (sym c.entry-item.is)
           (λ n lt. counts_nowhere (is_for c.args.stage) entry n (sym c.is_for.ensures ∙ w.if-is_for.false)) c.loop-entry.invariant)
     ]

@@ -8,4 +8,6 @@ pub loop-cell-preserved : goal.loop-cell-preserved
 loop-cell-preserved c =
     let is : ℕ → Bool = λ cell. nat_lt 1 (slice_index c.args.loaders.now cell) || nat_lt 1 (slice_index c.args.writers.now cell) in
     least_step is c.loop-cell.cell c.args.boundary (least_below is c.args.boundary) c.loop-cell-test.true
-    (ap (λ b. b || nat_lt 1 (slice_index c.args.writers.now c.loop-cell.cell)) (sym c.is_several.ensures ∙ c.if-is_several.false) ∙ sym c.is_several-else-is_several.ensures ∙ c.if-is_several-2.false) c.loop-cell.invariant
+    (ap (λ b. b || nat_lt 1 (slice_index c.args.writers.now c.loop-cell.cell))
+    (sym c.is_several.ensures ∙ c.if-is_several.false)
+    ∙ sym c.is_several-else-is_several.ensures ∙ c.if-is_several-2.false) c.loop-cell.invariant

@@ -4,4 +4,8 @@ use Rattle.first_places.specs.Items.{least_from, least_below}
 use Rattle.device_rules.proofs.cells.least_with_both.Given as goal
 
 abbrev pub invariant-loop-cell : goal.invariant-loop-cell
-invariant-loop-cell l = least_from (λ cell. slice_index_or l.on cell false && slice_index_or l.off cell false) l.cell (l.boundary - l.cell) ≡ least_below (λ cell. slice_index_or l.on cell false && slice_index_or l.off cell false) l.boundary
+invariant-loop-cell l =
+    least_from (λ cell. slice_index_or l.on cell false && slice_index_or l.off cell false) l.cell
+    (l.boundary - l.cell)
+    ≡ least_below (λ cell. slice_index_or l.on cell false && slice_index_or l.off cell false)
+    l.boundary

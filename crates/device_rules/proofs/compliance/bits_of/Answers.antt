@@ -17,11 +17,21 @@ loop-word-preserved c =
     elim c.match-key_of.branch [
       | in-Some+in_ok-insert w ↦
           subst P (sym w.bits-is) (λ name index.
-          marked_more words i word (w.in-Some.key.0.now, w.in-Some.key.1) name.now index _ _ c.loop-word-test.true (sym c.word-item.is) (sym c.key_of.ensures ∙ ap (option_map (λ key. (key.0.now, key.1))) w.in-Some.is)
+          marked_more words i word (w.in-Some.key.0.now, w.in-Some.key.1) name.now index _ _
+          c.loop-word-test.true (sym c.word-item.is)
+          (sym c.key_of.ensures ∙ ap (option_map (λ key. (key.0.now, key.1))) w.in-Some.is)
           (w.in_ok-insert.ensures.updates.0 (name, index)) (c.loop-word.invariant name index))
       | in_default w ↦
-          subst P (sym w.bits-is) (λ name index. marked_none words i word name.now index _ c.loop-word-test.true (sym c.word-item.is) (sym c.key_of.ensures ∙ ap (option_map (λ key. (key.0.now, key.1))) w.in_default.is) (c.loop-word.invariant name index))
+          subst P (sym w.bits-is)
+          (λ name index. marked_none words i word name.now index _ c.loop-word-test.true
+          (sym c.word-item.is)
+          (sym c.key_of.ensures
+          ∙ ap (option_map (λ key. (key.0.now, key.1))) w.in_default.is)
+          (c.loop-word.invariant name index))
     ]
 
 pub returns : goal.returns
-returns c = λ name index. c.loop-word.invariant name index ∙ ap (list_any (names_bit name.now index)) (take_all c.loop-word.word-index c.args.words.now c.loop-word-test.false)
+returns c =
+    λ name index. c.loop-word.invariant name index
+    ∙ ap (list_any (names_bit name.now index))
+    (take_all c.loop-word.word-index c.args.words.now c.loop-word-test.false)

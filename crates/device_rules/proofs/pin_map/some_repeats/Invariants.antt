@@ -8,5 +8,7 @@ use Rattle.device_rules.proofs.pin_map.some_repeats.Given as goal
 abbrev pub invariant-loop-pin : goal.invariant-loop-pin
 invariant-loop-pin l = record {
   seen : (before : List (List ℕ)) → HasNames l.fn.seen before → HasNames l.seen (before ++ take l.pin-index l.pins);
-  rest : (before : List (List ℕ)) → HasNames l.fn.seen before → some_repeats before l.pins ≡ some_repeats (before ++ take l.pin-index l.pins) (drop l.pin-index l.pins);
+  rest : (before : List (List ℕ)) → HasNames l.fn.seen before
+      → some_repeats before l.pins
+      ≡ some_repeats (before ++ take l.pin-index l.pins) (drop l.pin-index l.pins);
 }

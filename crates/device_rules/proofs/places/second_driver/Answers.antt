@@ -11,6 +11,10 @@ returns-then-index c =
     let entries = c.args.entries.now in
     let less = c.in-Some.ensures.few in
     let size = c.loop-i.invariant.driven.size in
-    let flag : get_or c.loop-i.driven.items c.in-Some.bit false ≡ true = grind (arith, common_steps, c.index.ensures, c.if-index.true, less, size) in
-    let breaks = ap (is_driven ports (take c.loop-i.i entries)) (sym c.driven_bit.ensures.number ∙ c.in-Some.is) ∙ sym (c.loop-i.invariant.driven.each c.in-Some.bit less) ∙ flag in
-    first_hit (breaks_driver ports) entries c.loop-i.i c.index-entries-i.result (v13 ports entries) c.loop-i-test.true (sym c.index-entries-i.is) breaks c.loop-i.invariant.found
+    let flag : get_or c.loop-i.driven.items c.in-Some.bit false
+    ≡ true = grind (arith, common_steps, c.index.ensures, c.if-index.true, less, size) in
+    let breaks = ap (is_driven ports (take c.loop-i.i entries))
+    (sym c.driven_bit.ensures.number ∙ c.in-Some.is)
+    ∙ sym (c.loop-i.invariant.driven.each c.in-Some.bit less) ∙ flag in
+    first_hit (breaks_driver ports) entries c.loop-i.i c.index-entries-i.result (v13 ports entries)
+    c.loop-i-test.true (sym c.index-entries-i.is) breaks c.loop-i.invariant.found

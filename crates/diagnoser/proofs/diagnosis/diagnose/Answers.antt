@@ -7,7 +7,9 @@ of-logged-requires-clause-log g c = record { rows = c.requires.rows; bits = c.re
 
 pub diagnose_logged-requires-clause-differing : goal.diagnose_logged-requires-clause-differing
 diagnose_logged-requires-clause-differing g c = λ κs within.
-    subst (λ (l : List ℕ). AreDiffering c.of-logged.result.test.board c.of-logged.result.test.plan c.of-logged.result.log l) (sym c.deref.ensures.value) c.in_ok-nets.ensures
+    subst
+    (λ (l : List ℕ). AreDiffering c.of-logged.result.test.board c.of-logged.result.test.plan
+    c.of-logged.result.log l) (sym c.deref.ensures.value) c.in_ok-nets.ensures
 
 pub returns-clause-faults : goal.returns-clause-faults
 returns-clause-faults g c = rw c.of-logged.ensures at c.diagnose_logged.ensures.faults

@@ -5,4 +5,7 @@ use Rattle.diagnoser.proofs.listing.put_faults.Given as goal
 
 -- the lines that were written, followed by the lines of the remaining faults, are all lines
 abbrev pub invariant-loop-fault : goal.invariant-loop-fault
-invariant-loop-fault g l = Completes (g.K.Sink.shown l.fn.out) (g.K.Sink.shown l.out) (texts_after (fault_line l.board) l.faults l.fault-index) (flat_map (fault_line l.board) l.faults)
+invariant-loop-fault g l =
+    Completes (g.K.Sink.shown l.fn.out) (g.K.Sink.shown l.out)
+    (texts_after (fault_line l.board) l.faults l.fault-index)
+    (flat_map (fault_line l.board) l.faults)

@@ -8,4 +8,8 @@ pub returns-in_ok-push : goal.returns-in_ok-push
 returns-in_ok-push c = λ q. ap (λ v. has_place v q) c.in_ok-push.ensures ∙ block_more c.args.blocks.now c.args.block q
 
 pub returns-else-block-ne0 : goal.returns-else-block-ne0
-returns-else-block-ne0 c = λ q. sym (ap (λ t. has_place c.args.blocks.now q || t) (no_place c.args.block.word c.args.block.bits q c.if-block-ne0.false) ∙ or-false (has_place c.args.blocks.now q))
+returns-else-block-ne0 c =
+    λ q. sym
+    (ap (λ t. has_place c.args.blocks.now q || t)
+    (no_place c.args.block.word c.args.block.bits q c.if-block-ne0.false)
+    ∙ or-false (has_place c.args.blocks.now q))

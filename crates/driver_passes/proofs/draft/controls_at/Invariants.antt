@@ -1,12 +1,13 @@
 use Rattle.std.proofs.Common.{◌≡◌, ◌<◌, ◌-◌, ◌++◌, true, drop, length}
-use Rattle.driver_passes.specs.inner.Drafts.{chosen}
+use Rattle.driver_passes.specs.inner.Drafts.{passing_controls}
 use Rattle.driver_passes.specs.inner.NumberSets.{is_in}
 use Rattle.driver_passes.proofs.draft.controls_at.Given as goal
 
 abbrev pub invariant-loop-place : goal.invariant-loop-place
 invariant-loop-place l = record {
   held : l.place < length l.controls → is_in l.places l.place ≡ true;
-  rest : l.found.items ++ chosen (is_in l.places) l.place (drop l.place l.controls) ≡ chosen (is_in l.places) 0 l.controls;
+  rest : l.found.items ++ passing_controls (is_in l.places) l.place (drop l.place l.controls)
+      ≡ passing_controls (is_in l.places) 0 l.controls;
 }
 
 abbrev pub decreases-loop-place : goal.decreases-loop-place

@@ -5,7 +5,10 @@ use Rattle.driver_passes.proofs.number_set.clear_bits.Goals as goal
 
 pub returns-then-number-words : goal.returns-then-number-words
 returns-then-number-words c = λ n.
-    word_changed (λ b o. b && not o) and-true c.args.words.now c.args.number _ c.args.bits n (omega (arith, c.if-number-words.true)) (bit_less (get_or c.args.words.now c.args.number 0) c.args.bits (n % 64) (omega arith) (omega arith))
+    word_changed (λ b o. b && not o) and-true c.args.words.now c.args.number _ c.args.bits n
+    (omega (arith, c.if-number-words.true))
+    (bit_less (get_or c.args.words.now c.args.number 0) c.args.bits (n % 64) (omega arith)
+    (omega arith))
 
 pub returns-else-number-words : goal.returns-else-number-words
 returns-else-number-words c = λ n. word_past c.args.words.now c.args.number c.args.bits n (omega (arith, c.if-number-words.false))

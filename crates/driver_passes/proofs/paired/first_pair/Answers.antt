@@ -11,7 +11,10 @@ returns-in-Some-clause-found c =
     let i = c.loop-d.d-index in
     let less : i < length drivers = omega arith in
     let d : Drive = get_or drivers i AlwaysOn in
-    sym (pair_found c.args.board.now drivers c.tested_drivers-others.result.now i d c.in-Some.e less (get_or_default drivers i AlwaysOn d less) (sym c.in-Some.ensures.found)) ∙ c.loop-d.invariant
+    sym
+    (pair_found c.args.board.now drivers c.tested_drivers-others.result.now i d c.in-Some.e
+    less (get_or_default drivers i AlwaysOn d less) (sym c.in-Some.ensures.found))
+    ∙ c.loop-d.invariant
 
 pub loop-d-preserved : goal.loop-d-preserved
 loop-d-preserved c =
@@ -19,4 +22,7 @@ loop-d-preserved c =
     let i = c.loop-d.d-index in
     let less : i < length drivers = omega arith in
     let d : Drive = get_or drivers i AlwaysOn in
-    sym (pair_missed c.args.board.now drivers c.tested_drivers-others.result.now i d less (get_or_default drivers i AlwaysOn d less) (sym c.in_default.ensures.found)) ∙ c.loop-d.invariant
+    sym
+    (pair_missed c.args.board.now drivers c.tested_drivers-others.result.now i d less
+    (get_or_default drivers i AlwaysOn d less) (sym c.in_default.ensures.found))
+    ∙ c.loop-d.invariant

@@ -8,5 +8,7 @@ loop-net-preserved c =
     let wanted = is_wanted c.args.board.now c.args.left.now c.args.a in
     record {
       further = omega (arith, c.loop-net.invariant.further);
-      passed = passed_more wanted c.args.from c.loop-net.net (64 * (c.loop-net.net / 64 + 1)) c.loop-net.invariant.passed (c.in_default.ensures wanted c.wanted_word-word.ensures);
+      passed =
+          passed_more wanted c.args.from c.loop-net.net (64 * (c.loop-net.net / 64 + 1))
+          c.loop-net.invariant.passed (c.in_default.ensures wanted c.wanted_word-word.ensures);
     }

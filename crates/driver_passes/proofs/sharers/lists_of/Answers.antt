@@ -11,7 +11,9 @@ shared_nets-requires c =
     c.useful-c-items.ensures.cells c.loop-place.place _ c.loop-place-test.true
 
 pub list_place-requires : goal.list_place-requires
-list_place-requires c = shared_within c.args.board.now _ _ _ c.shared_nets.ensures (ap length c.deref_mut.ensures.value ∙ c.loop-place.invariant.sharers_length)
+list_place-requires c =
+    shared_within c.args.board.now _ _ _ c.shared_nets.ensures
+    (ap length c.deref_mut.ensures.value ∙ c.loop-place.invariant.sharers_length)
 
 pub loop-place-preserved : goal.loop-place-preserved
 loop-place-preserved c =
@@ -24,5 +26,9 @@ loop-place-preserved c =
     let kept = with_items_is before c.list_place.new.sharers size in
     let P : List (List ℕ) → Type 0 = λ v. AreSharersBelow board (place + 1) v in
     let Q : List (List ℕ) → Type 0 = λ v. AreMarked place nets v after in
-    let stands = ap (λ v. slice_get v place) (sym c.useful-c-items.ensures.controls) ∙ slice_get-get_or c.useful-c-items.result.now place _ c.loop-place-test.true in
-    subst P (sym kept) (sharers_more board place _ nets before.items after c.loop-place.invariant stands c.shared_nets.ensures (c.list_place.auto.sharers ∙ ap length c.deref_mut.ensures.value) (subst Q c.deref_mut.ensures.value c.in_ok-list_place.ensures))
+    let stands = ap (λ v. slice_get v place) (sym c.useful-c-items.ensures.controls)
+    ∙ slice_get-get_or c.useful-c-items.result.now place _ c.loop-place-test.true in
+    subst P (sym kept)
+    (sharers_more board place _ nets before.items after c.loop-place.invariant stands
+    c.shared_nets.ensures (c.list_place.auto.sharers ∙ ap length c.deref_mut.ensures.value)
+    (subst Q c.deref_mut.ensures.value c.in_ok-list_place.ensures))

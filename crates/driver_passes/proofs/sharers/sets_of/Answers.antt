@@ -12,10 +12,17 @@ loop-places-preserved c =
     let sets = c.loop-places.sets.items in
     let set = c.in_ok-blocks_of.field-0 in
     let less : i < length lists = omega arith in
-    let same : (q : ℕ) → has_place set q ≡ has_number (get_or lists i []) q = λ q. c.in_ok-blocks_of.ensures q ∙ ap (λ v. has_number v q) (c.as_slice.ensures ∙ c.places-item.is ∙ get_or_default lists i _ [] less) in
+    let same : (q : ℕ)
+    → has_place set q
+    ≡ has_number (get_or lists i []) q = λ q. c.in_ok-blocks_of.ensures q
+    ∙ ap (λ v. has_number v q)
+    (c.as_slice.ensures ∙ c.places-item.is ∙ get_or_default lists i _ [] less) in
     record {
       size = omega (arith, ap length c.in_ok-push.ensures.items, length_push sets set, c.loop-places.invariant.size);
       sets = λ n q.
-          ap (λ v. has_place (get_or v n []) q) c.in_ok-push.ensures.items ∙ sets_more sets (take i lists) set (get_or lists i []) (c.loop-places.invariant.size ∙ sym (length-take-le i lists (omega (arith, less)))) c.loop-places.invariant.sets same n q ∙
+          ap (λ v. has_place (get_or v n []) q) c.in_ok-push.ensures.items
+          ∙ sets_more sets (take i lists) set (get_or lists i [])
+          (c.loop-places.invariant.size ∙ sym (length-take-le i lists (omega (arith, less))))
+          c.loop-places.invariant.sets same n q ∙
           ap (λ v. has_number (get_or v n []) q) (sym (take_more lists i [] less));
     }

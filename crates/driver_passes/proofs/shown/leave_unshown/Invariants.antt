@@ -7,5 +7,6 @@ use Rattle.driver_passes.proofs.shown.leave_unshown.Given as goal
 abbrev pub invariant-loop-i : goal.invariant-loop-i
 invariant-loop-i l = record {
   room : length l.left ≡ length l.initial.left;
-  nets : (n : ℕ) → l.a / 64 ≤ n / 64 → n / 64 < length l.initial.left → is_in l.left n ≡ not (list_any (shows_both l.a n) (take l.i l.rows));
+  nets : (n : ℕ) → l.a / 64 ≤ n / 64 → n / 64 < length l.initial.left
+      → is_in l.left n ≡ not (list_any (shows_both l.a n) (take l.i l.rows));
 }

@@ -17,9 +17,16 @@ returns-in_ok-push c =
     let net = c.args.net in
     let within : q < length lists = omega (arith, c.requires, slice_get_within (useful_controls board) q c.in-By.c c.in-Some.ensures) in
     let P : Drive → Type 0 = λ v. AreNoted board net (λ e. is_by e (Some v)) lists (slice_set lists q c.push.new.self) in
-    subst P (sym c.in-By.is) (noted board lists net q c.in-By.c c.push.new.self c.laws.ensures.passes.said.useful_in_order c.requires c.in-Some.ensures (c.in_ok-push.ensures ∙ ap (λ v. v ++ net ∷ []) (get_or_default lists q c.index-lists-place.result [] within)))
+    subst P (sym c.in-By.is)
+    (noted board lists net q c.in-By.c c.push.new.self
+    c.laws.ensures.passes.said.useful_in_order c.requires c.in-Some.ensures
+    (c.in_ok-push.ensures
+    ∙ ap (λ v. v ++ net ∷ [])
+    (get_or_default lists q c.index-lists-place.result [] within)))
 
 pub returns-in_default-place_of : goal.returns-in_default-place_of
 returns-in_default-place_of c =
     let board = c.args.board.now in
-    not_noted board c.args.lists.now c.args.net (λ e. is_by e (Some c.args.d)) (λ place e at. ap (λ d. is_by e (Some d)) c.in-By.is ∙ not_held (useful_controls board) place e c.in-By.c c.in_default-place_of.ensures at)
+    not_noted board c.args.lists.now c.args.net (λ e. is_by e (Some c.args.d))
+    (λ place e at. ap (λ d. is_by e (Some d)) c.in-By.is
+    ∙ not_held (useful_controls board) place e c.in-By.c c.in_default-place_of.ensures at)

@@ -14,4 +14,8 @@ loop-net-preserved c =
     let kept = with_items_is before c.list_drivers.new.lists size in
     let P : List (List ℕ) → Type 0 = λ v. AreListed board (c.loop-net.net + 1) v in
     let Q : List (List ℕ) → Type 0 = λ v. AreNoted board c.loop-net.net (λ d. drives d drivers) v after in
-    subst P (sym kept) (listed_more board c.loop-net.net before.items after drivers c.loop-net.invariant (c.list_drivers.auto.lists ∙ ap length c.deref_mut.ensures.value) c.tested_drivers.ensures.drivers (subst Q c.deref_mut.ensures.value c.in_ok-list_drivers.ensures))
+    subst P (sym kept)
+    (listed_more board c.loop-net.net before.items after drivers c.loop-net.invariant
+    (c.list_drivers.auto.lists ∙ ap length c.deref_mut.ensures.value)
+    c.tested_drivers.ensures.drivers
+    (subst Q c.deref_mut.ensures.value c.in_ok-list_drivers.ensures))

@@ -6,7 +6,8 @@ use Rattle.std.proofs.lemmas.Nat.Bits.{bit_at_set_other, bit_at_set_same}
 use Rattle.fault_sim.specs.inner.Words.{word_bit}
 use Rattle.fault_sim.proofs.shown.with_row.Goals as goal
 
-row_set : (word j : ℕ) → j < 32 → (i : ℕ) → (i ≡ j) ⊎ (i ≡ j → ⊥) → word_bit (bit_or word (1 * 2 ^ j % 4294967296)) i ≡ (word_bit word i || ((i == j) && true))
+row_set : (word j : ℕ) → j < 32 → (i : ℕ) → (i ≡ j) ⊎ (i ≡ j → ⊥)
+    → word_bit (bit_or word (1 * 2 ^ j % 4294967296)) i ≡ (word_bit word i || ((i == j) && true))
 row_set word j less i (inl e) =
     ap (λ k. word_bit (bit_or word (1 * 2 ^ j % 4294967296)) k) e
     ∙ ap (λ k. k == 1) (bit_at_set_same w32 word j less)

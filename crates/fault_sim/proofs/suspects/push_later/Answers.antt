@@ -26,6 +26,16 @@ pub returns : goal.returns
 returns c =
     let lists = c.args.lists.now in
     let k = c.args.k in
-    let end : c.loop-b.b - suc k ≡ length lists.nets - suc k = omega (arith, lists.few, c.loop-b.auto.b, c.loop-b.auto.b-end, c.loop-b.invariant.within, c.loop-b-test.false, c.len-b-end.ensures, c.saturating_add-b.ensures) in
+    let end : c.loop-b.b - suc k
+    ≡ length lists.nets - suc k = omega (
+      arith,
+      lists.few,
+      c.loop-b.auto.b,
+      c.loop-b.auto.b-end,
+      c.loop-b.invariant.within,
+      c.loop-b-test.false,
+      c.len-b-end.ensures,
+      c.saturating_add-b.ensures,
+    ) in
     c.loop-b.invariant.places
     ∙ ap (λ (n : ℕ). c.args.places.now.items ++ flat_map (λ x. pair_suspects lists k x) (range_with_len (suc k) n)) end

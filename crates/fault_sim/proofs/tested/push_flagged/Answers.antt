@@ -15,4 +15,7 @@ loop-place-preserved c =
     ∙ ap (λ (b : Bool). c.loop-place.pins.items ++ pin_where b net place) c.is_set.ensures
     ∙ ap (λ (l : List PinRef). l ++ pin_where (get_or flags place false) net place) c.loop-place.invariant
     ∙ append_assoc old done (pin_where (get_or flags place false) net place)
-    ∙ ap (λ (l : List PinRef). old ++ l) (sym (map_filter_more (λ k. let pin : PinRef = record { net = net; place = k } in pin) (λ k. get_or flags k false) place))
+    ∙ ap (λ (l : List PinRef). old ++ l)
+    (sym
+    (map_filter_more (λ k. let pin : PinRef = record { net = net; place = k } in pin)
+    (λ k. get_or flags k false) place))

@@ -1,6 +1,6 @@
 use Rattle.std.proofs.Common.{◌++◌, List, ap, sym, ◌∙◌, arith}
 use Rattle.board_defs.specs.declared.board.PinRef.{PinRef}
-use Rattle.fault_sim.specs.inner.Tested.{net_pins}
+use Rattle.fault_sim.specs.inner.Tested.{tested_pins_of}
 use Rattle.fault_sim.proofs.RangeLemmas.{flat_more}
 use Rattle.fault_sim.proofs.tested.tested_pins.Goals as goal
 
@@ -10,5 +10,5 @@ loop-net-preserved c =
     let plan = c.args.plan.now in
     let n = c.loop-net.net in
     c.in_ok-push_pins.ensures
-    ∙ ap (λ (l : List PinRef). l ++ net_pins board plan n) c.loop-net.invariant
-    ∙ sym (flat_more (net_pins board plan) 0 n n (omega arith))
+    ∙ ap (λ (l : List PinRef). l ++ tested_pins_of board plan n) c.loop-net.invariant
+    ∙ sym (flat_more (tested_pins_of board plan) 0 n n (omega arith))

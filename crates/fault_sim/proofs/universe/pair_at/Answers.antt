@@ -14,9 +14,11 @@ returns-then-k-count c =
 pub returns-in_err-a : goal.returns-in_err-a
 returns-in_err-a c =
     let lists = c.args.lists.now in
-    let there = pair_within (length lists.nets) lists.starts c.as_slice-starts.result.now c.as_slice-starts.ensures lists.starts_are c.row_of-low.result c.args.k c.start_at.result
+    let there = pair_within (length lists.nets) lists.starts c.as_slice-starts.result.now
+    c.as_slice-starts.ensures lists.starts_are c.row_of-low.result c.args.k c.start_at.result
     c.row_of-low.ensures.within c.row_of-low.ensures.low c.row_of-low.ensures.high c.start_at.ensures in
-    let item = item_there c.as_slice-nets.result.now c.row_of-low.result (omega (arith, there.0, ap (λ (l : List ℕ). length l) c.as_slice-nets.ensures)) in
+    let item = item_there c.as_slice-nets.result.now c.row_of-low.result
+    (omega (arith, there.0, ap (λ (l : List ℕ). length l) c.as_slice-nets.ensures)) in
     let bad : None ≡ Some item.0 = c.in_err-a.ensures ∙ item.1 in
     cc bad
 
@@ -25,7 +27,8 @@ returns-in_err-b c =
     let lists = c.args.lists.now in
     let low = c.row_of-low.result in
     let high : ℕ = low + 1 + (c.args.k - c.start_at.result) in
-    let there = pair_within (length lists.nets) lists.starts c.as_slice-starts.result.now c.as_slice-starts.ensures lists.starts_are low c.args.k c.start_at.result
+    let there = pair_within (length lists.nets) lists.starts c.as_slice-starts.result.now
+    c.as_slice-starts.ensures lists.starts_are low c.args.k c.start_at.result
     c.row_of-low.ensures.within c.row_of-low.ensures.low c.row_of-low.ensures.high c.start_at.ensures in
     let item = item_there c.as_slice-nets.result.now high (omega (arith, there.0, ap (λ (l : List ℕ). length l) c.as_slice-nets.ensures)) in
     let bad : None ≡ Some item.0 = c.in_err-b.ensures ∙ item.1 in
@@ -36,7 +39,8 @@ returns c =
     let lists = c.args.lists.now in
     let low = c.row_of-low.result in
     let high : ℕ = low + 1 + (c.args.k - c.start_at.result) in
-    let there = pair_within (length lists.nets) lists.starts c.as_slice-starts.result.now c.as_slice-starts.ensures lists.starts_are low c.args.k c.start_at.result
+    let there = pair_within (length lists.nets) lists.starts c.as_slice-starts.result.now
+    c.as_slice-starts.ensures lists.starts_are low c.args.k c.start_at.result
     c.row_of-low.ensures.within c.row_of-low.ensures.low c.row_of-low.ensures.high c.start_at.ensures in
     sym (pair_there lists.nets low high c.args.k c.in_ok-a.a c.in_ok-b.b (omega arith)
     (sym (c.in_ok-a.ensures ∙ ap (λ (l : List ℕ). slice_get l low) c.as_slice-nets.ensures))

@@ -15,11 +15,15 @@ pub returns-then-i-stuck-2 : goal.returns-then-i-stuck-2
 returns-then-i-stuck-2 c plan =
     let lists = c.args.lists.now in
     let k : ℕ = c.args.i - 2 * c.len.result in
-    open_listed plan lists c.args.i k c.open_at.result (omega (arith, c.if-i-stuck.false, c.len.ensures)) (omega (arith, c.if-i-stuck-2.true, c.len-2.ensures))
+    open_listed plan lists c.args.i k c.open_at.result
+    (omega (arith, c.if-i-stuck.false, c.len.ensures))
+    (omega (arith, c.if-i-stuck-2.true, c.len-2.ensures))
     (c.open_at.ensures ∙ ap (λ (l : List PinRef). slice_get (flat_map open_faults l) k) c.as_slice-then-i-stuck-2.ensures)
 
 pub returns-else-i-stuck-2 : goal.returns-else-i-stuck-2
 returns-else-i-stuck-2 c plan =
     let lists = c.args.lists.now in
     let k : ℕ = c.args.i - 2 * c.len.result - 2 * c.len-2.result in
-    short_listed plan lists c.args.i k c.short_at.result (omega (arith, c.if-i-stuck.false, c.if-i-stuck-2.false, c.len.ensures, c.len-2.ensures)) (c.short_at.ensures plan)
+    short_listed plan lists c.args.i k c.short_at.result
+    (omega (arith, c.if-i-stuck.false, c.if-i-stuck-2.false, c.len.ensures, c.len-2.ensures))
+    (c.short_at.ensures plan)

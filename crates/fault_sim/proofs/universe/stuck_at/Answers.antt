@@ -10,4 +10,6 @@ pub returns-in-Some : goal.returns-in-Some
 returns-in-Some c =
     let i = c.args.i in
     let net = c.in-Some.net in
-    sym (flat_at stuck_faults 2 (λ n. refl) c.args.nets.now (i / 2) net (sym c.in-Some.ensures) (i % 2) i (omega arith) (omega arith) ∙ stuck_fault net (i % 2) (omega arith))
+    sym
+    (flat_at stuck_faults 2 (λ n. refl) c.args.nets.now (i / 2) net (sym c.in-Some.ensures)
+    (i % 2) i (omega arith) (omega arith) ∙ stuck_fault net (i % 2) (omega arith))

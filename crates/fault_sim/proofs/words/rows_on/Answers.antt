@@ -10,7 +10,8 @@ returns-in-None c j less = rw c.in-None.is (ap (λ (b : Bool). cond b (Some (wor
 pub returns-then-off : goal.returns-then-off
 returns-then-off c j less =
     rw c.in-Some.is (rw c.if-off.true
-    (ap (λ (b : Bool). cond b (Some (word_bit c.args.value j)) None) (not_word c.args.value j (omega arith) less) ∙ by_bit (word_bit c.args.value j)))
+    (ap (λ (b : Bool). cond b (Some (word_bit c.args.value j)) None)
+    (not_word c.args.value j (omega arith) less) ∙ by_bit (word_bit c.args.value j)))
   where
     by_bit : (b : Bool) → cond (not b) (Some b) None ≡ cond (is_same b true) None (Some b)
     by_bit true = refl

@@ -10,7 +10,8 @@ pub returns-in_err-print : goal.returns-in_err-print
 returns-in_err-print g c =
     prints_same (whole-split c.args.pieces.now c.loop-piece.piece-index _ (omega arith))
     (prints_ok c.loop-piece.invariant refl
-    (prints_err (whole (map (λ p. p.now) (drop (c.loop-piece.piece-index + 1) c.args.pieces.now))) c.print.ensures c.in_err-print.was c.from_residual.ensures.0))
+    (prints_err (whole (map (λ p. p.now) (drop (c.loop-piece.piece-index + 1) c.args.pieces.now)))
+    c.print.ensures c.in_err-print.was c.from_residual.ensures.0))
 
 pub loop-piece-preserved : goal.loop-piece-preserved
 loop-piece-preserved g c =

@@ -6,4 +6,5 @@ use Rattle.line_printer.proofs.printing.print_all.Given as goal
 -- the pieces visited so far were printed
 abbrev pub invariant-loop-piece : goal.invariant-loop-piece
 invariant-loop-piece g l =
-    Prints {T = Unit {0}} {E = PutFault} (g.K.Sink.shown l.fn.out) (g.K.Sink.shown l.out) l.fn.line l.line (whole (map (λ p. p.now) (take l.piece-index l.pieces))) (Ok tt)
+    Prints {T = Unit {0}} {E = PutFault} (g.K.Sink.shown l.fn.out) (g.K.Sink.shown l.out) l.fn.line
+    l.line (whole (map (λ p. p.now) (take l.piece-index l.pieces))) (Ok tt)

@@ -19,5 +19,7 @@ pub loop-at-preserved : goal.loop-at-preserved
 loop-at-preserved g c = record {
   within = omega arith;
   printed = prints_same (taken_more c.loop-at.at c.min-count.result c.args.text.now)
-      (prints_ok c.loop-at.invariant.printed refl (prints_ok c.make_room.ensures.text c.in_ok-make_room.was (prints_none tt c.push.ensures)));
+      (prints_ok c.loop-at.invariant.printed refl
+      (prints_ok c.make_room.ensures.text c.in_ok-make_room.was
+      (prints_none tt c.push.ensures)));
 }

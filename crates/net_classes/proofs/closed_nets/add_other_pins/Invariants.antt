@@ -7,4 +7,9 @@ use Rattle.net_classes.specs.inner.ControlSets.{IsSet, has_control}
 use Rattle.net_classes.proofs.closed_nets.add_other_pins.Given as goal
 
 abbrev pub invariant-loop-pin : goal.invariant-loop-pin
-invariant-loop-pin l = (board : RawBoard) (passes : Ctl → Bool) → IsSet board passes l.initial.others → IsSet board (λ c. passes c || list_any (λ pin. is_by c pin.drive && not (has_control l.set c)) (take l.pin-index l.pins)) l.others
+invariant-loop-pin l =
+    (board : RawBoard) (passes : Ctl → Bool) → IsSet board passes l.initial.others
+    → IsSet board
+    (λ c. passes c
+    || list_any (λ pin. is_by c pin.drive && not (has_control l.set c))
+    (take l.pin-index l.pins)) l.others

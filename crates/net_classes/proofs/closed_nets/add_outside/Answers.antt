@@ -6,4 +6,6 @@ pub returns-then-has : goal.returns-then-has
 returns-then-has c board passes is = inside board passes c.args.others.now c.args.set.now c.args.c (sym c.if-has.ensures) is
 
 pub returns : goal.returns
-returns c board passes is = outside board passes c.insert.new.self c.args.set.now c.args.c (sym c.if-has.ensures) (c.in_ok-insert.ensures board passes is)
+returns c board passes is =
+    outside board passes c.insert.new.self c.args.set.now c.args.c (sym c.if-has.ensures)
+    (c.in_ok-insert.ensures board passes is)

@@ -7,4 +7,7 @@ use Rattle.net_classes.specs.inner.ControlSets.{IsSet}
 use Rattle.net_classes.proofs.closed_nets.add_pins.Given as goal
 
 abbrev pub invariant-loop-pin : goal.invariant-loop-pin
-invariant-loop-pin l = (board : RawBoard) (passes : Ctl → Bool) → IsSet board passes l.initial.set → IsSet board (λ c. passes c || list_any (λ pin. is_by c pin.drive) (take l.pin-index l.pins)) l.set
+invariant-loop-pin l =
+    (board : RawBoard) (passes : Ctl → Bool) → IsSet board passes l.initial.set
+    → IsSet board (λ c. passes c || list_any (λ pin. is_by c pin.drive) (take l.pin-index l.pins))
+    l.set

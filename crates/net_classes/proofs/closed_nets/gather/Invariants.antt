@@ -5,4 +5,6 @@ use Rattle.net_classes.specs.inner.ControlSets.{IsSet}
 use Rattle.net_classes.proofs.closed_nets.gather.Given as goal
 
 abbrev pub invariant-loop-net : goal.invariant-loop-net
-invariant-loop-net l = (passes : Ctl → Bool) → IsSet l.known.board passes l.fn.set → IsSet l.known.board (drives_some l.known.board (take l.net-index l.nets)) l.set
+invariant-loop-net l =
+    (passes : Ctl → Bool) → IsSet l.known.board passes l.fn.set
+    → IsSet l.known.board (drives_some l.known.board (take l.net-index l.nets)) l.set

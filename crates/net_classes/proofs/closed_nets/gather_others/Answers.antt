@@ -7,7 +7,9 @@ use Rattle.net_classes.proofs.closed_nets.gather_others.Goals.{then-net-core+in_
 use Rattle.net_classes.proofs.closed_nets.gather_others.Goals as goal
 
 pub loop-net-init : goal.loop-net-init
-loop-net-init c passes is = no_others c.args.known.now.board c.args.set.now c.clear.new.self (c.clear.ensures c.args.known.now.board passes is)
+loop-net-init c passes is =
+    no_others c.args.known.now.board c.args.set.now c.clear.new.self
+    (c.clear.ensures c.args.known.now.board passes is)
 
 pub loop-net-preserved : goal.loop-net-preserved
 loop-net-preserved c passes is =
@@ -20,6 +22,13 @@ loop-net-preserved c passes is =
     let are = c.loop-net.invariant passes is in
     let P : ControlSet → Type 0 = λ v. AreOthers board c.args.set.now (take (i + 1) nets) v in
     elim c.if-net-core.branch [
-      | then-net-core+in_ok-add_other_pins w ↦ subst P (sym w.others-is) (others_more board c.args.set.now c.loop-net.others w.add_other_pins.new.others nets i n w.pins.result.now less at w.pins.ensures are (w.in_ok-add_other_pins.ensures board are.passes are.are_set))
-      | else-net-core w ↦ let same : n ≡ c.args.core = omega (arith, w.if-net-core.false) in subst P (sym w.others-is) (core_again board c.args.set.now c.loop-net.others nets i n c.args.core less at same c.requires are)
+      | then-net-core+in_ok-add_other_pins w ↦ subst P (sym w.others-is)
+          (others_more board c.args.set.now c.loop-net.others w.add_other_pins.new.others nets i n
+          w.pins.result.now less at w.pins.ensures are
+          (w.in_ok-add_other_pins.ensures board are.passes are.are_set))
+      | else-net-core w ↦ let same : n ≡ c.args.core =
+          omega (arith, w.if-net-core.false) in
+          subst P (sym w.others-is)
+          (core_again board c.args.set.now c.loop-net.others nets i n c.args.core less at same
+          c.requires are)
     ]

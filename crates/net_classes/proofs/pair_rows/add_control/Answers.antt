@@ -8,7 +8,9 @@ use Rattle.net_classes.proofs.pair_rows.add_control.Goals as goal
 
 pub put_row-requires-clause-row : goal.put_row-requires-clause-row
 put_row-requires-clause-row c =
-    row_free c.args.known.now.board c.args.c (row_in c.args.pairs.now 0) c.requires.useful (sym c.shared-shared.ensures ∙ nil_from_length c.shared-shared.result.now c.if-shared-eq0.true) c.requires.pairs.covered
+    row_free c.args.known.now.board c.args.c (row_in c.args.pairs.now 0) c.requires.useful
+    (sym c.shared-shared.ensures
+    ∙ nil_from_length c.shared-shared.result.now c.if-shared-eq0.true) c.requires.pairs.covered
 
 pub row_for-requires-clause-closed : goal.row_for-requires-clause-closed
 row_for-requires-clause-closed c =

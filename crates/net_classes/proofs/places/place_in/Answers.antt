@@ -11,4 +11,6 @@ returns-in-None c =
 pub returns-else-is_same : goal.returns-else-is_same
 returns-else-is_same c =
     let list = c.args.controls.now in
-    holds_some c.args.c c.in-Some.d list c.requires (ap (slice_get list) (sym c.count_before-place.ensures) ∙ sym c.control_at.ensures ∙ c.in-Some.is) ∙ sym c.is_same.ensures ∙ c.if-is_same.false
+    holds_some c.args.c c.in-Some.d list c.requires
+    (ap (slice_get list) (sym c.count_before-place.ensures) ∙ sym c.control_at.ensures
+    ∙ c.in-Some.is) ∙ sym c.is_same.ensures ∙ c.if-is_same.false

@@ -16,4 +16,6 @@ loop-n-preserved c =
     sym (note_nets_more c.args.nets.now c.loop-n.n k (table c.args.rows.now) (omega arith) c.index-nets-n.is)
 
 pub returns : goal.returns
-returns c = let e : c.loop-n.n ≡ length c.args.nets.now = omega arith in c.loop-n.invariant ∙ ap (λ n. note_nets c.args.nets.now n (table c.args.rows.now)) e
+returns c =
+    let e : c.loop-n.n ≡ length c.args.nets.now = omega arith in
+    c.loop-n.invariant ∙ ap (λ n. note_nets c.args.nets.now n (table c.args.rows.now)) e

@@ -8,4 +8,6 @@ loop-n-preserved c =
     let before = c.loop-n.facts.items in
     c.in_ok-push.ensures.items
     ∙ ap (λ (facts : NetFacts). before ++ facts ∷ []) c.in_ok-net_facts.ensures
-    ∙ facts_more c.args.board.now c.as_slice-nets.result.now c.loop-n.n c.index-nets-n.result c.is_guarded.result before (c.as_slice-nets.ensures ∙ ap (λ b. b.nets) c.raw.ensures.value) c.loop-n-test.true c.index-nets-n.is c.is_guarded.ensures c.loop-n.invariant
+    ∙ facts_more c.args.board.now c.as_slice-nets.result.now c.loop-n.n c.index-nets-n.result
+    c.is_guarded.result before (c.as_slice-nets.ensures ∙ ap (λ b. b.nets) c.raw.ensures.value)
+    c.loop-n-test.true c.index-nets-n.is c.is_guarded.ensures c.loop-n.invariant

@@ -18,6 +18,11 @@ loop-place-preserved c =
     c.tested_drive-drive.ensures
     ∙ ap (λ (class : PinClass). cond class.driver_tested (drive_of c.as_slice-pins.result.now k) None) c.pin_class-class.ensures
     ∙ ap (λ (pins : List PinFacts). cond (f k).driver_tested (drive_of pins k) None) c.as_slice-pins.ensures in (
-      c.in_ok-push.ensures ∙ ap (λ xs. xs ++ c.pin_class-class.result ∷ []) c.loop-place.invariant.0 ∙ ap (λ x. map f (range_with_len 0 k) ++ x ∷ []) c.pin_class-class.ensures ∙ sym (map-range_with_len_more f 0 k k (omega arith)),
-      c.in_ok-push_some.ensures ∙ ap (λ xs. xs ++ cons_option c.tested_drive-drive.result []) c.loop-place.invariant.1 ∙ ap (λ o. filter_map g (range_with_len 0 k) ++ cons_option o []) drive ∙ sym (filter_map_more g k),
+      c.in_ok-push.ensures ∙ ap (λ xs. xs ++ c.pin_class-class.result ∷ []) c.loop-place.invariant.0
+          ∙ ap (λ x. map f (range_with_len 0 k) ++ x ∷ []) c.pin_class-class.ensures
+          ∙ sym (map-range_with_len_more f 0 k k (omega arith)),
+      c.in_ok-push_some.ensures
+          ∙ ap (λ xs. xs ++ cons_option c.tested_drive-drive.result []) c.loop-place.invariant.1
+          ∙ ap (λ o. filter_map g (range_with_len 0 k) ++ cons_option o []) drive
+          ∙ sym (filter_map_more g k),
     )

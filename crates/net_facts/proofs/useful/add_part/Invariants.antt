@@ -7,4 +7,7 @@ use Rattle.net_facts.proofs.UsefulLemmas.{cell_in}
 use Rattle.net_facts.proofs.useful.add_part.Given as goal
 
 abbrev pub invariant-loop-cell : goal.invariant-loop-cell
-invariant-loop-cell l = l.useful.items ≡ l.initial.useful.items ++ filter (useful_in (table l.rows)) (map (cell_in l.part) (range_with_len 0 l.cell))
+invariant-loop-cell l =
+    l.useful.items
+    ≡ l.initial.useful.items
+    ++ filter (useful_in (table l.rows)) (map (cell_in l.part) (range_with_len 0 l.cell))

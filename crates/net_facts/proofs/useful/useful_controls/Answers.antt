@@ -15,7 +15,9 @@ loop-part-preserved c =
     let n = ap length same in
     let less : c.loop-part.part < length chain = omega (arith, n) in
     let is : item ≡ get_or chain c.loop-part.part item = c.item-item.is ∙ ap (λ v. get_or v c.loop-part.part item) same in
-    c.in_ok-add_part.ensures ∙ ap (λ v. v ++ filter p (cells_of c.loop-part.part item.kind)) c.loop-part.invariant ∙ sym (cells_more p chain c.loop-part.part item less is)
+    c.in_ok-add_part.ensures
+    ∙ ap (λ v. v ++ filter p (cells_of c.loop-part.part item.kind)) c.loop-part.invariant
+    ∙ sym (cells_more p chain c.loop-part.part item less is)
 
 pub returns : goal.returns
 returns c =

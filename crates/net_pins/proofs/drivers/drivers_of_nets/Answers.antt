@@ -30,4 +30,6 @@ loop-n-preserved c =
     ∙ ap (λ (l : List NetDriver). drivers ++ l ∷ []) c.in_ok-drivers_of.ensures
     ∙ ap (λ (x : Net). drivers ++ drivers_of board x ∷ []) c.index-nets-n.is
     ∙ ap (λ (l : List (List NetDriver)). l ++ drivers_of board (get_or nets n net) ∷ []) c.loop-n.invariant
-    ∙ sym (ap (λ (l : List Net). map (drivers_of board) l) (take_more nets n net c.loop-n-test.true) ∙ map-append (drivers_of board) (take n nets) (get_or nets n net ∷ []))
+    ∙ sym
+    (ap (λ (l : List Net). map (drivers_of board) l) (take_more nets n net c.loop-n-test.true)
+    ∙ map-append (drivers_of board) (take n nets) (get_or nets n net ∷ []))

@@ -13,5 +13,9 @@ loop-place-preserved c =
     let done : List NetDriver = c.loop-place.drivers.items in
     c.in_ok-push_some.ensures
     ∙ ap (λ d. done ++ optional d) c.driver_of.ensures
-    ∙ ap (λ (l : List NetDriver). l ++ optional (driver_of board place (Rattle.std.proofs.Common.get_or c.args.pins.now place pin).at)) c.loop-place.invariant
+    ∙ ap
+    (λ (l : List NetDriver). l
+    ++ optional
+    (driver_of board place (Rattle.std.proofs.Common.get_or c.args.pins.now place pin).at))
+    c.loop-place.invariant
     ∙ sym (gathered-more (λ k (p : NetPin). optional (driver_of board k p.at)) c.args.pins.now place pin c.loop-place-test.true)

@@ -13,5 +13,8 @@ loop-place-preserved c =
     let done : List ReaderCell = c.loop-place.readers.items in
     c.in_ok-push_pin.ensures
     ∙ ap (λ (p : NetPin). done ++ readers_at board place p.at) c.index-pins-place.is
-    ∙ ap (λ (l : List ReaderCell). l ++ readers_at board place (Rattle.std.proofs.Common.get_or c.args.pins.now place pin).at) c.loop-place.invariant
+    ∙ ap
+    (λ (l : List ReaderCell). l
+    ++ readers_at board place (Rattle.std.proofs.Common.get_or c.args.pins.now place pin).at)
+    c.loop-place.invariant
     ∙ sym (gathered-more (λ k (p : NetPin). readers_at board k p.at) c.args.pins.now place pin c.loop-place-test.true)

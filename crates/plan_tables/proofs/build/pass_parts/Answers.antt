@@ -5,4 +5,6 @@ use Rattle.plan_tables.proofs.build.pass_parts.Goals as goal
 
 pub net_codes-requires-clause-cells : goal.net_codes-requires-clause-cells
 net_codes-requires-clause-cells c k d less x on =
-    control_cells c.args.board.now c.raw.ensures.rules x (c.requires.plannable.controls k (get_or c.args.passes.now k d) x (slice_get-get_or c.args.passes.now k d less) on)
+    control_cells c.args.board.now c.raw.ensures.rules x
+    (c.requires.plannable.controls k (get_or c.args.passes.now k d) x
+    (slice_get-get_or c.args.passes.now k d less) on)

@@ -4,4 +4,10 @@ use Rattle.plan_tables.proofs.codes.net_codes.Goals as goal
 
 pub number_nets-requires : goal.number_nets-requires
 number_nets-requires c =
-    omega (arith, c.requires.few, ap (λ (l : List Bool). length l) (c.deref.ensures.value ∙ c.in_ok-seen.ensures), length-seen_in c.args.placed.now.board.now c.args.nets c.args.tables.now.steady c.args.tables.now.by_control c.args.passes.now)
+    omega (
+      arith,
+      c.requires.few,
+      ap (λ (l : List Bool). length l) (c.deref.ensures.value ∙ c.in_ok-seen.ensures),
+      length-seen_in c.args.placed.now.board.now c.args.nets c.args.tables.now.steady
+          c.args.tables.now.by_control c.args.passes.now,
+    )

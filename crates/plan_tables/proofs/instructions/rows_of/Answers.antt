@@ -5,7 +5,7 @@ use Rattle.board_defs.specs.declared.board.Part.{Part}
 use Rattle.board_defs.specs.Pins.{instruction_length}
 use Rattle.tap_defs.specs.chain.ScanRows.{AreRowsOf}
 use Rattle.tap_defs.specs.chain.Codes.{instructs}
-use Rattle.plan_tables.specs.inner.Codes.{code_for, captured_bits, compared_bits}
+use Rattle.plan_tables.specs.inner.Codes.{code_for, captured_bits, compared_code_bits}
 use Rattle.plan_tables.proofs.CodeLemmas.{few_left, step_tdi, step_tdo, step_mask}
 use Rattle.plan_tables.proofs.instructions.rows_of.Goals as goal
 
@@ -39,8 +39,8 @@ loop-i-preserved c =
           ∙ ap (λ (l : List Bool). l ++ captured_bits (instruction_length q.kind)) c.loop-i.invariant.tdo
           ∙ sym (step_tdo c.args.instruction chain c.requires.coded i p (omega arith) (omega arith));
       mask = c.in_ok-push_capture.ensures.mask
-          ∙ ap (λ n. c.loop-i.mask.items ++ compared_bits n) c.instruction_length.ensures
-          ∙ ap (λ (l : List Bool). l ++ compared_bits (instruction_length q.kind)) c.loop-i.invariant.mask
+          ∙ ap (λ n. c.loop-i.mask.items ++ compared_code_bits n) c.instruction_length.ensures
+          ∙ ap (λ (l : List Bool). l ++ compared_code_bits (instruction_length q.kind)) c.loop-i.invariant.mask
           ∙ sym (step_mask c.args.instruction chain c.requires.coded i p (omega arith) (omega arith));
     }
 
@@ -49,10 +49,17 @@ returns c =
     let ended : c.loop-i.i ≡ 0 = omega arith in
     IfOk-weaker c.stored.result _ _
     (λ rows are.
-    let read : AreRowsOf ((instructs (map (λ (part : Part). code_for c.args.instruction part.kind) (drop c.loop-i.i c.args.chain.now))).bits) rows = record {
+    let read : AreRowsOf
+    ((instructs
+    (map (λ (part : Part). code_for c.args.instruction part.kind)
+    (drop c.loop-i.i c.args.chain.now))).bits) rows = record {
       tdi = are.0 ∙ c.deref.ensures.value ∙ c.loop-i.invariant.tdi;
       tdo = are.1 ∙ c.deref-2.ensures.value ∙ c.loop-i.invariant.tdo;
       mask = are.2 ∙ c.deref-3.ensures.value ∙ c.loop-i.invariant.mask;
     } in
-    subst (λ (n : ℕ). AreRowsOf ((instructs (map (λ (part : Part). code_for c.args.instruction part.kind) (drop n c.args.chain.now))).bits) rows) ended read)
+    subst
+    (λ (n : ℕ). AreRowsOf
+    ((instructs
+    (map (λ (part : Part). code_for c.args.instruction part.kind)
+    (drop n c.args.chain.now))).bits) rows) ended read)
     c.stored.ensures

@@ -33,8 +33,11 @@ loop-n-preserved c =
     let done : List Observer = c.loop-n.observers.items in
     let read : List ReaderCell = c.readers.result.now in
     c.in_ok-push_observers.ensures
-    ∙ ap (λ (l : List NetDriver). done ++ observers_of board n l read) (c.drivers.ensures ∙ drivers_on_is board tables c.requires n net there.1)
-    ∙ ap (λ (l : List ReaderCell). done ++ observers_of board n (drivers_of board net) l) (c.readers.ensures ∙ readers_on_is board tables c.requires n net there.1)
+    ∙ ap (λ (l : List NetDriver). done ++ observers_of board n l read)
+    (c.drivers.ensures ∙ drivers_on_is board tables c.requires n net there.1)
+    ∙ ap (λ (l : List ReaderCell). done ++ observers_of board n (drivers_of board net) l)
+    (c.readers.ensures ∙ readers_on_is board tables c.requires n net there.1)
     ∙ ap (λ (l : List Observer). l ++ observers_at board n net) c.loop-n.invariant
-    ∙ ap (λ (x : Net). observers board (take n board.nets) ++ observers_at board n x) (sym (get_or_from_slice_get board.nets n net net there.1))
+    ∙ ap (λ (x : Net). observers board (take n board.nets) ++ observers_at board n x)
+    (sym (get_or_from_slice_get board.nets n net net there.1))
     ∙ sym (gathered-more (observers_at board) board.nets n net less)

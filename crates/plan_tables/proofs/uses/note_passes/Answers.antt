@@ -20,10 +20,17 @@ loop-k-preserved c =
     let own : List HeldCell = cells (get_or passes k pass) in
     record {
       held = c.mark_held.ensures
-          ∙ ap (λ (l : List HeldCell). marked_held c.loop-k.held l) (c.as_slice.ensures ∙ c.in_ok-cells.ensures ∙ ap cells c.index-passes-k.is)
+          ∙ ap (λ (l : List HeldCell). marked_held c.loop-k.held l)
+          (c.as_slice.ensures ∙ c.in_ok-cells.ensures ∙ ap cells c.index-passes-k.is)
           ∙ ap (λ (flags : List Bool). marked_held flags own) c.loop-k.invariant.held
           ∙ sym (fold_more (λ done q. marked_held done (cells q)) c.args.held.now passes k pass less);
       runs = subst (λ (r : List ℕ). AreRuns (held_by board quiet passes) r)
-          (sym (c.run_all.ensures ∙ ap (λ (l : List HeldCell). all_run k c.loop-k.runs l) (c.as_slice-in-loop-k.ensures ∙ c.in_ok-cells.ensures ∙ ap cells c.index-passes-k.is)))
-          (runs_go_on (held_by board quiet passes) k own c.loop-k.runs (λ h has. subst (λ (l : List HeldCell). Has l h) (sym (held_at board quiet passes k pass less)) has) c.loop-k.invariant.runs);
+          (sym
+          (c.run_all.ensures
+          ∙ ap (λ (l : List HeldCell). all_run k c.loop-k.runs l)
+          (c.as_slice-in-loop-k.ensures ∙ c.in_ok-cells.ensures
+          ∙ ap cells c.index-passes-k.is)))
+          (runs_go_on (held_by board quiet passes) k own c.loop-k.runs
+          (λ h has. subst (λ (l : List HeldCell). Has l h)
+          (sym (held_at board quiet passes k pass less)) has) c.loop-k.invariant.runs);
     }

@@ -7,4 +7,6 @@ use Rattle.port_entries.proofs.pins.driving_entry.Goals as goal
 
 pub returns : goal.returns
 returns c =
-    c.find_driving.ensures ∙ ap (λ (l : List Cell). find (λ cell. is_driving cell.role) l) c.entries_at.ensures ∙ driving_is c.args.board.now c.args.rows.now c.requires c.args.at
+    c.find_driving.ensures
+    ∙ ap (λ (l : List Cell). find (λ cell. is_driving cell.role) l) c.entries_at.ensures
+    ∙ driving_is c.args.board.now c.args.rows.now c.requires c.args.at

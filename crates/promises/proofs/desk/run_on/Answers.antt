@@ -10,6 +10,12 @@ returns-clause-one g c =
       chain = one.chain;
       idents = one.idents;
       board = one.board;
-      outcome = one_outcome one.device one.chain one.idents one.board (logs_say_one one.board rules c.logs_have_one_diagnosis.ensures.one c.logs_have_one_set.ensures.one);
-      some_outcome = some_outcome one.some_device one.some_chain one.some_idents one.some_board (logs_say_some one.some_board rules c.logs_have_one_diagnosis.ensures.some c.logs_have_one_set.ensures.some);
+      outcome =
+          one_outcome one.device one.chain one.idents one.board
+          (logs_say_one one.board rules c.logs_have_one_diagnosis.ensures.one
+          c.logs_have_one_set.ensures.one);
+      some_outcome =
+          some_outcome one.some_device one.some_chain one.some_idents one.some_board
+          (logs_say_some one.some_board rules c.logs_have_one_diagnosis.ensures.some
+          c.logs_have_one_set.ensures.some);
     }

@@ -10,7 +10,9 @@ use Rattle.response_log.proofs.reader.keep_rows.Given as goal
 -- the answer for the whole text is the answer for the remaining lines after the kept rows
 abbrev pub invariant-loop-next : goal.invariant-loop-next
 invariant-loop-next l = record {
-  said : log_rows l.initial.text l.rows l.len ≡ rows_after l.rows l.len (kept_rows l.len l.found (take l.kept l.text)) (lines_left l.number (text_at l.text l.next));
+  said : log_rows l.initial.text l.rows l.len
+      ≡ rows_after l.rows l.len (kept_rows l.len l.found (take l.kept l.text))
+      (lines_left l.number (text_at l.text l.next));
   count : l.kept ≡ l.found * digit_count l.len;
   whole : AreWhole l.len l.found (take l.kept l.text);
   few : l.found ≤ l.rows;

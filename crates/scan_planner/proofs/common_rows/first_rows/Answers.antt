@@ -13,6 +13,11 @@ loop-number-preserved c =
     let row = c.copy_stacked.new.self in
     let place = sym c.loop-number.invariant.count in
     record {
-      count = ap (λ (l : List BitRow). length l) c.in_ok-push.ensures.items ∙ length_push rows row ∙ ap (λ (n : ℕ). n + 1) c.loop-number.invariant.count;
-      rows = subst (AreFirstRows stack) (sym c.in_ok-push.ensures.items) (each_more (λ j row. row.bits ≡ stacked stack j) rows row c.loop-number.invariant.rows (subst (λ j. row.bits ≡ stacked stack j) place c.copy_stacked.ensures.bits));
+      count =
+          ap (λ (l : List BitRow). length l) c.in_ok-push.ensures.items ∙ length_push rows row
+          ∙ ap (λ (n : ℕ). n + 1) c.loop-number.invariant.count;
+      rows =
+          subst (AreFirstRows stack) (sym c.in_ok-push.ensures.items)
+          (each_more (λ j row. row.bits ≡ stacked stack j) rows row c.loop-number.invariant.rows
+          (subst (λ j. row.bits ≡ stacked stack j) place c.copy_stacked.ensures.bits));
     }

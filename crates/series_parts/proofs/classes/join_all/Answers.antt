@@ -22,5 +22,10 @@ loop-a-preserved c =
     record {
       count = omega (arith, c.join_ends.ensures.count, c.loop-a.invariant.count);
       low = λ x lt. c.join_ends.ensures.low x (omega (arith, lt, c.join_ends.new.parents.ok.0));
-      labels = (merged label _ _, reflects_more c.args.edges.now c.loop-a.a-index _ _ c.loop-a.parents.items c.join_ends.new.parents.items label edge reflects (c.join_ends.ensures.labels label reflects.labelling));
+      labels = (
+        merged label _ _,
+        reflects_more c.args.edges.now c.loop-a.a-index _ _ c.loop-a.parents.items
+            c.join_ends.new.parents.items label edge reflects
+            (c.join_ends.ensures.labels label reflects.labelling),
+      );
     }

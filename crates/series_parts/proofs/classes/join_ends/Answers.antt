@@ -9,11 +9,21 @@ returns-then-first-second-clause-labels c = λ label h.
     let old_second = c.root-second.ensures.labels label old_first in
     let first : c.root-first.result ≡ label c.args.a = c.root-first.ensures.root label h in
     let second : c.root-second.result ≡ label c.args.b = c.root-second.ensures.root label old_first in
-    let in_first : c.root-first.result < length c.root-first.new.parents.items = omega (arith, c.root-first.ensures.within, c.root-first.new.parents.ok.0) in
-    let in_second : c.root-second.result < length c.root-second.new.parents.items = omega (arith, c.root-second.ensures.within, c.root-second.new.parents.ok.0) in
-    let own_first : label c.root-first.result ≡ c.root-first.result = old_first.root c.root-first.result in_first c.root-first.ensures.own in
-    let own_second : label c.root-second.result ≡ c.root-second.result = old_second.root c.root-second.result in_second c.root-second.ensures.own in
-    joined_second c.root-second.new.parents.items c.args.a c.args.b c.root-first.result c.root-second.result label in_second c.if-first-second.true first second own_first own_second old_second
+    let in_first : c.root-first.result
+    < length c.root-first.new.parents.items = omega
+    (arith, c.root-first.ensures.within, c.root-first.new.parents.ok.0) in
+    let in_second : c.root-second.result
+    < length c.root-second.new.parents.items = omega
+    (arith, c.root-second.ensures.within, c.root-second.new.parents.ok.0) in
+    let own_first : label c.root-first.result
+    ≡ c.root-first.result = old_first.root c.root-first.result in_first c.root-first.ensures.own
+    in
+    let own_second : label c.root-second.result
+    ≡ c.root-second.result = old_second.root c.root-second.result in_second
+    c.root-second.ensures.own in
+    joined_second c.root-second.new.parents.items c.args.a c.args.b c.root-first.result
+    c.root-second.result label in_second c.if-first-second.true first second own_first
+    own_second old_second
 
 pub returns-then-second-first-clause-labels : goal.returns-then-second-first-clause-labels
 returns-then-second-first-clause-labels c = λ label h.
@@ -21,12 +31,28 @@ returns-then-second-first-clause-labels c = λ label h.
     let old_second = c.root-second.ensures.labels label old_first in
     let first : c.root-first.result ≡ label c.args.a = c.root-first.ensures.root label h in
     let second : c.root-second.result ≡ label c.args.b = c.root-second.ensures.root label old_first in
-    let in_first : c.root-first.result < length c.root-first.new.parents.items = omega (arith, c.root-first.ensures.within, c.root-first.new.parents.ok.0) in
-    let in_second : c.root-second.result < length c.root-second.new.parents.items = omega (arith, c.root-second.ensures.within, c.root-second.new.parents.ok.0) in
-    let own_first : label c.root-first.result ≡ c.root-first.result = old_first.root c.root-first.result in_first c.root-first.ensures.own in
-    let own_second : label c.root-second.result ≡ c.root-second.result = old_second.root c.root-second.result in_second c.root-second.ensures.own in
-    let inside : c.root-first.result < length c.root-second.new.parents.items = omega (arith, c.root-first.ensures.within, c.root-second.ensures.count, c.root-second.new.parents.ok.0) in
-    joined_first c.root-second.new.parents.items c.args.a c.args.b c.root-second.result c.root-first.result label inside c.if-second-first.true first second own_second own_first old_second
+    let in_first : c.root-first.result
+    < length c.root-first.new.parents.items = omega
+    (arith, c.root-first.ensures.within, c.root-first.new.parents.ok.0) in
+    let in_second : c.root-second.result
+    < length c.root-second.new.parents.items = omega
+    (arith, c.root-second.ensures.within, c.root-second.new.parents.ok.0) in
+    let own_first : label c.root-first.result
+    ≡ c.root-first.result = old_first.root c.root-first.result in_first c.root-first.ensures.own
+    in
+    let own_second : label c.root-second.result
+    ≡ c.root-second.result = old_second.root c.root-second.result in_second
+    c.root-second.ensures.own in
+    let inside : c.root-first.result
+    < length c.root-second.new.parents.items = omega (
+      arith,
+      c.root-first.ensures.within,
+      c.root-second.ensures.count,
+      c.root-second.new.parents.ok.0,
+    ) in
+    joined_first c.root-second.new.parents.items c.args.a c.args.b c.root-second.result
+    c.root-first.result label inside c.if-second-first.true first second own_second own_first
+    old_second
 
 pub returns-else-second-first-clause-labels : goal.returns-else-second-first-clause-labels
 returns-else-second-first-clause-labels c = λ label h.

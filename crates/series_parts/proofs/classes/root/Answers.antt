@@ -24,5 +24,7 @@ loop-at-preserved c =
       within = omega (arith, lower, low, c.loop-at.invariant.within);
       low = low-set parents at above within (omega (arith, lower, low)) c.loop-at.invariant.low;
       labels = λ label h. labels-halved parents at parent above label within p a ne (c.loop-at.invariant.labels label h);
-      same = λ label h. same_label parents at parent above label within inside p a (c.loop-at.invariant.labels label h) ∙ c.loop-at.invariant.same label h;
+      same =
+          λ label h. same_label parents at parent above label within inside p a
+          (c.loop-at.invariant.labels label h) ∙ c.loop-at.invariant.same label h;
     }

@@ -13,5 +13,7 @@ loop-point-preserved c =
       kept = λ label h. c.root-label.ensures.labels label (c.loop-point.invariant.kept label h);
       count = search rules;
       labels = λ label h x lt. ap (λ xs. get_or xs x 0) items
-          ∙ pushed c.loop-point.labels.items c.root-label.result c.loop-point.point label count (c.loop-point.invariant.labels label h) (c.root-label.ensures.root label (c.loop-point.invariant.kept label h)) x lt;
+          ∙ pushed c.loop-point.labels.items c.root-label.result c.loop-point.point label count
+          (c.loop-point.invariant.labels label h)
+          (c.root-label.ensures.root label (c.loop-point.invariant.kept label h)) x lt;
     }

@@ -19,11 +19,27 @@ returns c =
     let nets = c.lines-nets.result.now in
     let names = c.in_ok-names.names in
     let least = map (λ (n : Bor (List ℕ)). n.now) c.in_ok-least.least.items in
-    let h : (name : List ℕ) → renamed names least name ≡ joined_name (links nets chain) names name = λ name. c.in_ok-least.ensures name ∙ ap (λ lines. joined_name (links lines chain) names name) (c.requires ∙ sym c.lines-nets.ensures.lines) in
-    let first = renaming_is nets chain names least (map (λ (n : Bor (List ℕ)). n.now) c.deref.result.now) c.in_ok-names.ensures (ap (map (λ (n : Bor (List ℕ)). n.now)) c.deref.ensures.value) h in
-    let second = renaming_is nets chain names least (map (λ (n : Bor (List ℕ)). n.now) c.deref-2.result.now) c.in_ok-names.ensures (ap (map (λ (n : Bor (List ℕ)). n.now)) c.deref-2.ensures.value) h in
-    let new_chain : c.of-2.result ≡ joined_chain chain nets = c.of-2.ensures ∙ c.in_ok-joined_chain.ensures ∙ ap (λ f. map (joined_line f) chain) first in
-    let new_nets : c.of-3.result ≡ joined_nets chain nets = c.of-3.ensures ∙ c.in_ok-joined_nets.ensures ∙ ap (λ f. map (joined_net f) nets) second in
-    let same_chain : c.of-2.result ≡ joined_chain c.args.chain.now c.args.nets.now = new_chain ∙ (λ i. joined_chain (c.lines-chain.ensures.lines i) (c.lines-nets.ensures.lines i)) in
-    let same_nets : c.of-3.result ≡ joined_nets c.args.chain.now c.args.nets.now = new_nets ∙ (λ i. joined_nets (c.lines-chain.ensures.lines i) (c.lines-nets.ensures.lines i)) in
+    let h : (name : List ℕ)
+    → renamed names least name
+    ≡ joined_name (links nets chain) names name = λ name. c.in_ok-least.ensures name
+    ∙ ap (λ lines. joined_name (links lines chain) names name)
+    (c.requires ∙ sym c.lines-nets.ensures.lines) in
+    let first = renaming_is nets chain names least
+    (map (λ (n : Bor (List ℕ)). n.now) c.deref.result.now) c.in_ok-names.ensures
+    (ap (map (λ (n : Bor (List ℕ)). n.now)) c.deref.ensures.value) h in
+    let second = renaming_is nets chain names least
+    (map (λ (n : Bor (List ℕ)). n.now) c.deref-2.result.now) c.in_ok-names.ensures
+    (ap (map (λ (n : Bor (List ℕ)). n.now)) c.deref-2.ensures.value) h in
+    let new_chain : c.of-2.result
+    ≡ joined_chain chain nets = c.of-2.ensures ∙ c.in_ok-joined_chain.ensures
+    ∙ ap (λ f. map (joined_line f) chain) first in
+    let new_nets : c.of-3.result
+    ≡ joined_nets chain nets = c.of-3.ensures ∙ c.in_ok-joined_nets.ensures
+    ∙ ap (λ f. map (joined_net f) nets) second in
+    let same_chain : c.of-2.result
+    ≡ joined_chain c.args.chain.now c.args.nets.now = new_chain
+    ∙ (λ i. joined_chain (c.lines-chain.ensures.lines i) (c.lines-nets.ensures.lines i)) in
+    let same_nets : c.of-3.result
+    ≡ joined_nets c.args.chain.now c.args.nets.now = new_nets
+    ∙ (λ i. joined_nets (c.lines-chain.ensures.lines i) (c.lines-nets.ensures.lines i)) in
     λ i. record { chain = same_chain i; nets = same_nets i }

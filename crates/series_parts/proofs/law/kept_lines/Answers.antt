@@ -16,7 +16,9 @@ pub returns-clause-lengths : goal.returns-clause-lengths
 returns-clause-lengths c = λ chain nets h. same_lengths (renaming chain nets) chain h
 
 pub returns-clause-chain_lines : goal.returns-clause-chain_lines
-returns-clause-chain_lines c = λ chain nets. map_after (joined_line (renaming chain nets)) (λ (line : ChainLine). line.line) (λ line. refl) chain
+returns-clause-chain_lines c =
+    λ chain nets. map_after (joined_line (renaming chain nets)) (λ (line : ChainLine). line.line)
+    (λ line. refl) chain
 
 pub returns-clause-net_lines : goal.returns-clause-net_lines
 returns-clause-net_lines c = λ chain nets. map_after (joined_net (renaming chain nets)) (λ (line : NetLine). line.line) (λ line. refl) nets

@@ -9,7 +9,9 @@ loop-place-preserved c =
     let names = c.args.names.now in
     let places = c.args.places.now in
     let k = c.loop-place.place-index in
-    let read : get_or names (get_or places k 0) [] ≡ c.at.result.now = get_or_from_slice_get names (get_or places k 0) c.at.result.now [] c.at.ensures in
+    let read : get_or names (get_or places k 0) []
+    ≡ c.at.result.now = get_or_from_slice_get names (get_or places k 0) c.at.result.now []
+    c.at.ensures in
     ap (map (λ n. n.now)) c.in_ok-push.ensures.items
     ∙ map-append (λ n. n.now) c.loop-place.found.items (c.at.result ∷ [])
     ∙ ap (λ ns. ns ++ c.at.result.now ∷ []) c.loop-place.invariant

@@ -6,4 +6,7 @@ use Rattle.series_parts.proofs.FindLemmas.{none_found}
 use Rattle.series_parts.proofs.missing.is_missing.Goals as goal
 
 pub returns : goal.returns
-returns c = c.is_none.ensures ∙ ap is_none c.place_of.ensures ∙ sym (none_found (λ line. line.name) (has_pin c.args.part.now c.args.pin.now) c.args.pins.now [])
+returns c =
+    c.is_none.ensures ∙ ap is_none c.place_of.ensures
+    ∙ sym
+    (none_found (λ line. line.name) (has_pin c.args.part.now c.args.pin.now) c.args.pins.now [])

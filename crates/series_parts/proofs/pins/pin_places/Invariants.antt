@@ -9,7 +9,9 @@ use Rattle.series_parts.proofs.pins.pin_places.Given as goal
 abbrev pub invariant-loop-i : goal.invariant-loop-i
 invariant-loop-i l = record {
   within : l.i ≤ length l.lines;
-  places : (q : Bor (List ℕ) × Bor (List ℕ)) → get_by (λ p. same_word q.0.now p.0.now && same_word q.1.now p.1.now) l.places ≡ position_from (has_pin q.0.now q.1.now) l.i (drop l.i l.lines);
+  places : (q : Bor (List ℕ) × Bor (List ℕ))
+      → get_by (λ p. same_word q.0.now p.0.now && same_word q.1.now p.1.now) l.places
+      ≡ position_from (has_pin q.0.now q.1.now) l.i (drop l.i l.lines);
 }
 
 abbrev pub decreases-loop-i : goal.decreases-loop-i

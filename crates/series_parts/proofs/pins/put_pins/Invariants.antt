@@ -7,5 +7,7 @@ use Rattle.series_parts.proofs.pins.put_pins.Given as goal
 -- putting the remaining pins into the map gives the map that has all pins of the line
 abbrev pub invariant-loop-word : goal.invariant-loop-word
 invariant-loop-word l = (q : Bor (List ℕ) × Bor (List ℕ)) →
-    cond (has_word q.0.now q.1.now (drop l.word-index l.words)) (Some l.place) (get_by (λ p. same_word q.0.now p.0.now && same_word q.1.now p.1.now) l.places)
-    ≡ cond (has_word q.0.now q.1.now l.words) (Some l.place) (get_by (λ p. same_word q.0.now p.0.now && same_word q.1.now p.1.now) l.fn.places)
+    cond (has_word q.0.now q.1.now (drop l.word-index l.words)) (Some l.place)
+    (get_by (λ p. same_word q.0.now p.0.now && same_word q.1.now p.1.now) l.places)
+    ≡ cond (has_word q.0.now q.1.now l.words) (Some l.place)
+    (get_by (λ p. same_word q.0.now p.0.now && same_word q.1.now p.1.now) l.fn.places)

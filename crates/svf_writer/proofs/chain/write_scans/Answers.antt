@@ -15,7 +15,8 @@ write_codes-requires-clause-room g c = each_room (λ room is. is.codes) c.requir
 pub returns-in_err-write_codes-clause-text : goal.returns-in_err-write_codes-clause-text
 returns-in_err-write_codes-clause-text g c =
     puts_same (scan_texts-chain c.args.lengths.now)
-    (puts_err (scan_text (mark_scan (length c.args.lengths.now))) c.write_codes.ensures.text c.in_err-write_codes.was c.from_residual.ensures.0)
+    (puts_err (scan_text (mark_scan (length c.args.lengths.now))) c.write_codes.ensures.text
+    c.in_err-write_codes.was c.from_residual.ensures.0)
 
 pub returns-clause-text : goal.returns-clause-text
 returns-clause-text g c =

@@ -13,7 +13,8 @@ returns-in_err-put_full_line g c =
     let long : from + 64 < length digits = omega (arith, length-hex_text c.args.row.now.bits) in
     c.loop-from.invariant.completes _ _
     (puts_same (line_more c.loop-from.line digits c.args.end.now from long)
-    (puts_err (broken 64 (drop (from + 64) digits) ++ c.args.end.now) c.put_full_line.ensures.text c.in_err-put_full_line.was c.from_residual.ensures.0))
+    (puts_err (broken 64 (drop (from + 64) digits) ++ c.args.end.now) c.put_full_line.ensures.text
+    c.in_err-put_full_line.was c.from_residual.ensures.0))
 
 pub loop-from-preserved : goal.loop-from-preserved
 loop-from-preserved g c =
@@ -35,4 +36,7 @@ returns g c =
     let digits = hex_text c.args.row.now.bits in
     let count : c.digit_count-count.result ≡ length digits = c.digit_count-count.ensures ∙ sym (length-hex_text c.args.row.now.bits) in
     c.loop-from.invariant.completes _ _
-    (puts_same (c.bytes.ensures ∙ c.push-2.ensures ∙ ap (λ t. t ++ c.args.end.now) c.put_hex.ensures ∙ line_last c.loop-from.line digits c.args.end.now c.loop-from.from c.digit_count-count.result count (omega arith)) c.put.ensures)
+    (puts_same
+    (c.bytes.ensures ∙ c.push-2.ensures ∙ ap (λ t. t ++ c.args.end.now) c.put_hex.ensures
+    ∙ line_last c.loop-from.line digits c.args.end.now c.loop-from.from
+    c.digit_count-count.result count (omega arith)) c.put.ensures)

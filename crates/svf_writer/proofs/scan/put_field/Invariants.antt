@@ -10,7 +10,11 @@ abbrev pub invariant-loop-from : goal.invariant-loop-from
 invariant-loop-from g l = record {
   within : l.from ≤ l.count;
   short : length l.line ≤ 6;
-  completes : (new : Shown) (end : Result (Unit {0}) PutFault) → Puts (g.K.Sink.shown l.out) new (l.line ++ (broken 64 (drop l.from (hex_text l.row.bits)) ++ l.end)) end → Puts (g.K.Sink.shown l.fn.out) new (l.label ++ (broken 64 (hex_text l.row.bits) ++ l.end)) end;
+  completes : (new : Shown) (end : Result (Unit {0}) PutFault)
+      → Puts (g.K.Sink.shown l.out) new
+      (l.line ++ (broken 64 (drop l.from (hex_text l.row.bits)) ++ l.end)) end
+      → Puts (g.K.Sink.shown l.fn.out) new (l.label ++ (broken 64 (hex_text l.row.bits) ++ l.end))
+      end;
 }
 
 abbrev pub decreases-loop-from : goal.decreases-loop-from

@@ -8,5 +8,7 @@ returns c = record {
   some = λ board faults scans rules is_set no_open turn. some_log board rules faults scans turn.follow is_set no_open turn.safe;
   one = λ board faults scans log other rules turn. logs_agree board rules faults scans turn.follow log other;
   single = λ board single scans rules is_single turn.
-      some_log board rules (set_of single) scans turn.follow (single_observable board single is_single).is_set (single_no_open_shorted single) turn.safe;
+      some_log board rules (set_of single) scans turn.follow
+      (single_observable board single is_single).is_set (single_no_open_shorted single)
+      turn.safe;
 }

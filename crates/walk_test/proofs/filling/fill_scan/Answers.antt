@@ -6,4 +6,9 @@ pub of-requires-clause-some : goal.of-requires-clause-some
 of-requires-clause-some c = (past_codes c.args.tables.now c.args.k (omega arith) c.requires.scan).0
 
 pub fill-requires-else-k-lt3-clause-row : goal.fill-requires-else-k-lt3-clause-row
-fill-requires-else-k-lt3-clause-row c = omega (arith, (past_codes c.args.tables.now c.args.k (omega arith) c.requires.scan).1, ap (λ it. length it.tables.nets) c.of.ensures)
+fill-requires-else-k-lt3-clause-row c =
+    omega (
+      arith,
+      (past_codes c.args.tables.now c.args.k (omega arith) c.requires.scan).1,
+      ap (λ it. length it.tables.nets) c.of.ensures,
+    )

@@ -34,7 +34,10 @@ loop-list-preserved c =
           c.in_ok-push_group.ensures
           ∙ ap (λ (l : List (List ℕ)). l ++ where_several c.into_vec.result.items) at.invariant.groups
           ∙ ap (λ (l : List ℕ). flat_map where_several at.yielded ++ where_several l) c.into_vec.ensures
-          ∙ sym (flat_map-append where_several at.yielded (list ∷ []) ∙ ap (λ (l : List (List ℕ)). flat_map where_several at.yielded ++ l) (append-nil (where_several list)));
+          ∙ sym
+          (flat_map-append where_several at.yielded (list ∷ [])
+          ∙ ap (λ (l : List (List ℕ)). flat_map where_several at.yielded ++ l)
+          (append-nil (where_several list)));
     }
 
 pub returns : goal.returns

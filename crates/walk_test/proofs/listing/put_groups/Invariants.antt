@@ -5,4 +5,7 @@ use Rattle.walk_test.proofs.listing.put_groups.Given as goal
 
 -- the text so far, followed by the text of the remaining groups, is the text of all groups
 abbrev pub invariant-loop-group : goal.invariant-loop-group
-invariant-loop-group g l = Completes (g.K.Sink.shown l.fn.out) (g.K.Sink.shown l.out) (texts_after (group_text l.board) l.groups l.group-index) (flat_map (group_text l.board) l.groups)
+invariant-loop-group g l =
+    Completes (g.K.Sink.shown l.fn.out) (g.K.Sink.shown l.out)
+    (texts_after (group_text l.board) l.groups l.group-index)
+    (flat_map (group_text l.board) l.groups)

@@ -5,4 +5,6 @@ use Rattle.walk_test.proofs.listing.put_nets.Given as goal
 
 -- the text so far, followed by the text of the remaining nets, is the text of all nets
 abbrev pub invariant-loop-n : goal.invariant-loop-n
-invariant-loop-n g l = Completes (g.K.Sink.shown l.fn.out) (g.K.Sink.shown l.out) (texts_after (net_line l.board) l.nets l.n-index) (flat_map (net_line l.board) l.nets)
+invariant-loop-n g l =
+    Completes (g.K.Sink.shown l.fn.out) (g.K.Sink.shown l.out)
+    (texts_after (net_line l.board) l.nets l.n-index) (flat_map (net_line l.board) l.nets)

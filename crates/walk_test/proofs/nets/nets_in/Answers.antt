@@ -13,5 +13,6 @@ loop-n-preserved c =
     let n = c.loop-n.n in
     c.in_ok-push_if.ensures
     ∙ ap (λ (l : List ℕ). l ++ cond c.is_some.result (n ∷ []) []) c.loop-n.invariant
-    ∙ ap (λ (b : Bool). nets_in pins walk n ++ cond b (n ∷ []) []) (c.is_some.ensures ∙ ap (λ (o : Option NetDriver). is_some o) c.observer.ensures)
+    ∙ ap (λ (b : Bool). nets_in pins walk n ++ cond b (n ∷ []) [])
+    (c.is_some.ensures ∙ ap (λ (o : Option NetDriver). is_some o) c.observer.ensures)
     ∙ sym (filter_below_more (λ m. is_some (observer_on pins.nets (holds walk) m)) n)

@@ -21,10 +21,16 @@ loop-at-preserved c =
     elim c.if-is_one.branch [
       | then-is_one+else-firsts-at w ↦
           let one : is_one row mask at ≡ true = sym c.is_one.ensures ∙ w.if-is_one.true in
-          let others : (p : ℕ) → (p ≡ at → ⊥) → get_or new p none ≡ get_or now p none = λ p other. ap (λ (l : List ℕ). get_or l p none) w.firsts-is ∙ get_or-set_other now at p c.args.j none other in
+          let others : (p : ℕ) → (p ≡ at → ⊥)
+          → get_or new p none
+          ≡ get_or now p none = λ p other. ap (λ (l : List ℕ). get_or l p none) w.firsts-is
+          ∙ get_or-set_other now at p c.args.j none other in
           record {
             long = c.if-is_one.auto.firsts ∙ inv.long;
-            fresh = fresh_more row mask c.args.j none old at next past gap inv.fresh (λ within on. sym (inv.left at (omega arith)) ∙ get_or_default now at none 0 c.loop-at-test.true ∙ w.if-firsts-at.false);
+            fresh =
+                fresh_more row mask c.args.j none old at next past gap inv.fresh
+                (λ within on. sym (inv.left at (omega arith))
+                ∙ get_or_default now at none 0 c.loop-at-test.true ∙ w.if-firsts-at.false);
             marked = marked_more row mask c.args.j none old at next past gap now new inv.left others inv.marked
                 (λ within on. ap (λ (l : List ℕ). get_or l at none) w.firsts-is ∙ get_or-set_same now at c.args.j none c.loop-at-test.true)
                 (λ off. let bad : true ≡ false = sym one ∙ off in cc bad);
@@ -32,10 +38,14 @@ loop-at-preserved c =
           }
       | else-is_one w ↦
           let none_here : is_one row mask at ≡ false = sym c.is_one.ensures ∙ w.if-is_one.false in
-          let others : (p : ℕ) → (p ≡ at → ⊥) → get_or new p none ≡ get_or now p none = λ p other. ap (λ (l : List ℕ). get_or l p none) w.firsts-is in
+          let others : (p : ℕ) → (p ≡ at → ⊥)
+          → get_or new p none
+          ≡ get_or now p none = λ p other. ap (λ (l : List ℕ). get_or l p none) w.firsts-is in
           record {
             long = c.if-is_one.auto.firsts ∙ inv.long;
-            fresh = fresh_more row mask c.args.j none old at next past gap inv.fresh (λ within on. let bad : false ≡ true = sym none_here ∙ on in cc bad);
+            fresh =
+                fresh_more row mask c.args.j none old at next past gap inv.fresh
+                (λ within on. let bad : false ≡ true = sym none_here ∙ on in cc bad);
             marked = marked_more row mask c.args.j none old at next past gap now new inv.left others inv.marked
                 (λ within on. let bad : false ≡ true = sym none_here ∙ on in cc bad)
                 (λ off. ap (λ (l : List ℕ). get_or l at none) w.firsts-is);

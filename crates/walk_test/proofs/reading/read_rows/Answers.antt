@@ -7,7 +7,13 @@ use Rattle.walk_test.proofs.ReadLemmas.{none_read, row_read, row_not}
 use Rattle.walk_test.proofs.reading.read_rows.Goals as goal
 
 pub read_row-requires-clause-row : goal.read_row-requires-clause-row
-read_row-requires-clause-row c = omega (arith, c.laws.ensures.rows, c.loop-j-test.true, ap (λ (l : List NetCells). length l) c.nets-nets.ensures)
+read_row-requires-clause-row c =
+    omega (
+      arith,
+      c.laws.ensures.rows,
+      c.loop-j-test.true,
+      ap (λ (l : List NetCells). length l) c.nets-nets.ensures,
+    )
 
 pub loop-j-init : goal.loop-j-init
 loop-j-init c =
@@ -15,7 +21,11 @@ loop-j-init c =
     let none = c.rows-none.result in
     record {
       long = refl;
-      read = none_read it.log it.mask it.nets none c.rows-none.ensures c.laws.ensures.rows c.laws.ensures.compared c.args.firsts.now (subst (λ (n : ℕ). (at : ℕ) → get_or c.args.firsts.now at n ≡ n) (sym c.rows-none.ensures) c.requires.blank);
+      read =
+          none_read it.log it.mask it.nets none c.rows-none.ensures c.laws.ensures.rows
+          c.laws.ensures.compared c.args.firsts.now
+          (subst (λ (n : ℕ). (at : ℕ) → get_or c.args.firsts.now at n ≡ n) (sym c.rows-none.ensures)
+          c.requires.blank);
     }
 
 pub loop-j-preserved : goal.loop-j-preserved
@@ -25,11 +35,16 @@ loop-j-preserved c =
     let j = c.loop-j.j in
     let net : NetCells = c.index-nets-j.result in
     let is_net : slice_get it.nets j ≡ Some net =
-    ap (λ (l : List NetCells). slice_get l j) (sym c.nets-nets.ensures) ∙ slice_get-get_or nets j net c.loop-j-test.true ∙ ap (λ (n : NetCells). Some n) (sym c.index-nets-j.is) in
+    ap (λ (l : List NetCells). slice_get l j) (sym c.nets-nets.ensures)
+    ∙ slice_get-get_or nets j net c.loop-j-test.true
+    ∙ ap (λ (n : NetCells). Some n) (sym c.index-nets-j.is) in
     record {
       long = c.read_row.auto.firsts ∙ c.loop-j.invariant.long;
-      read = row_read it.log it.mask it.nets c.rows-none.result c.rows-none.ensures c.laws.ensures.rows c.laws.ensures.compared j c.loop-j.firsts c.loop-j.invariant.read net is_net
-          c.first_of.result c.first_of.ensures c.read_row.new.firsts c.read_row.result c.if-not-read_row.false c.read_row.ensures.again c.read_row.ensures.starts;
+      read =
+          row_read it.log it.mask it.nets c.rows-none.result c.rows-none.ensures c.laws.ensures.rows
+          c.laws.ensures.compared j c.loop-j.firsts c.loop-j.invariant.read net is_net
+          c.first_of.result c.first_of.ensures c.read_row.new.firsts c.read_row.result
+          c.if-not-read_row.false c.read_row.ensures.again c.read_row.ensures.starts;
     }
 
 pub returns-then-not-read_row : goal.returns-then-not-read_row
@@ -39,9 +54,13 @@ returns-then-not-read_row c =
     let j = c.loop-j.j in
     let net : NetCells = c.index-nets-j.result in
     let is_net : slice_get it.nets j ≡ Some net =
-    ap (λ (l : List NetCells). slice_get l j) (sym c.nets-nets.ensures) ∙ slice_get-get_or nets j net c.loop-j-test.true ∙ ap (λ (n : NetCells). Some n) (sym c.index-nets-j.is) in
-    row_not it.log it.mask it.nets c.rows-none.result c.rows-none.ensures c.laws.ensures.rows c.laws.ensures.compared j c.loop-j.firsts c.loop-j.invariant.read net is_net
-    c.first_of.result c.first_of.ensures c.read_row.new.firsts c.read_row.result c.if-not-read_row.true c.read_row.ensures.again c.read_row.ensures.starts
+    ap (λ (l : List NetCells). slice_get l j) (sym c.nets-nets.ensures)
+    ∙ slice_get-get_or nets j net c.loop-j-test.true
+    ∙ ap (λ (n : NetCells). Some n) (sym c.index-nets-j.is) in
+    row_not it.log it.mask it.nets c.rows-none.result c.rows-none.ensures c.laws.ensures.rows
+    c.laws.ensures.compared j c.loop-j.firsts c.loop-j.invariant.read net is_net
+    c.first_of.result c.first_of.ensures c.read_row.new.firsts c.read_row.result
+    c.if-not-read_row.true c.read_row.ensures.again c.read_row.ensures.starts
 
 pub returns : goal.returns
 returns c =

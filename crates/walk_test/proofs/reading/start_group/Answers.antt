@@ -8,19 +8,23 @@ use Rattle.walk_test.proofs.reading.start_group.Goals as goal
 pub mark_row-requires : goal.mark_row-requires
 mark_row-requires c =
     let row = c.row-row in
-    sym row.result.long ∙ marks_count c.args.log.now.mask row.result.mask.now row.ensures.mask ∙ ap (λ (n : ℕ). digit_count n) (sym c.requires.firsts)
+    sym row.result.long ∙ marks_count c.args.log.now.mask row.result.mask.now row.ensures.mask
+    ∙ ap (λ (n : ℕ). digit_count n) (sym c.requires.firsts)
 
 pub returns-else-is_one-clause-starts : goal.returns-else-is_one-clause-starts
 returns-else-is_one-clause-starts c =
     let row = c.row-row in
-    not_started c.args.log.now.log c.args.log.now.mask row.result.mask.now row.ensures.mask c.args.j row.result.digits.now row.ensures.digits row.ensures.bits
+    not_started c.args.log.now.log c.args.log.now.mask row.result.mask.now row.ensures.mask c.args.j
+    row.result.digits.now row.ensures.digits row.ensures.bits
     c.args.at c.args.none c.args.firsts.now c.is_one.result c.is_one.ensures c.if-is_one.false
 
 pub returns-then-is_one-clause-starts : goal.returns-then-is_one-clause-starts
 returns-then-is_one-clause-starts c =
     let row = c.row-row in
-    starts c.args.log.now.log c.args.log.now.mask row.result.mask.now row.ensures.mask c.args.j row.result.digits.now row.ensures.digits row.ensures.bits
-    c.args.none c.args.firsts.now c.requires.firsts c.args.at (sym c.is_one.ensures ∙ c.if-is_one.true) c.mark_row.result c.mark_row.ensures.fresh
+    starts c.args.log.now.log c.args.log.now.mask row.result.mask.now row.ensures.mask c.args.j
+    row.result.digits.now row.ensures.digits row.ensures.bits
+    c.args.none c.args.firsts.now c.requires.firsts c.args.at
+    (sym c.is_one.ensures ∙ c.if-is_one.true) c.mark_row.result c.mark_row.ensures.fresh
 
 pub returns-then-is_one-clause-started : goal.returns-then-is_one-clause-started
 returns-then-is_one-clause-started c =

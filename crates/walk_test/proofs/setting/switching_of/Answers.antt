@@ -10,7 +10,9 @@ pub loop-n-preserved : goal.loop-n-preserved
 loop-n-preserved c =
     let nets = c.as_slice-nets.result.now in
     let are : nets ≡ c.args.board.now.nets = c.as_slice-nets.ensures ∙ ap (λ (b : RawBoard). b.nets) c.raw.ensures.value in
-    net_more c.args.board.now nets c.loop-n.n c.index-nets-n.result c.loop-n.setting c.add_net.new.setting are c.loop-n-test.true c.index-nets-n.is c.loop-n.invariant c.in_ok-add_net.ensures
+    net_more c.args.board.now nets c.loop-n.n c.index-nets-n.result c.loop-n.setting
+    c.add_net.new.setting are c.loop-n-test.true c.index-nets-n.is c.loop-n.invariant
+    c.in_ok-add_net.ensures
 
 pub returns : goal.returns
 returns c =

@@ -8,7 +8,9 @@ use Rattle.walk_test.proofs.setting.without_switching.Goals as goal
 pub of-requires : goal.of-requires
 of-requires c =
     let set = c.in_ok-switching.switching in
-    let left : c.in_ok-left.left.items ≡ filter (λ x. not (holds set x)) c.args.pass.now = c.in_ok-left.ensures ∙ ap (λ (l : List Ctl). filter (λ x. not (holds set x)) l) c.controls.ensures.value in
+    let left : c.in_ok-left.left.items
+    ≡ filter (λ x. not (holds set x)) c.args.pass.now = c.in_ok-left.ensures
+    ∙ ap (λ (l : List Ctl). filter (λ x. not (holds set x)) l) c.controls.ensures.value in
     subst (λ (l : List Ctl). IsInControlOrder l) (sym left) (left_order (λ x. not (holds set x)) c.args.pass.now c.controls.ensures.order)
 
 pub returns : goal.returns

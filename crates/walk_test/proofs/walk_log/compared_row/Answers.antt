@@ -9,5 +9,9 @@ pub loop-net-preserved : goal.loop-net-preserved
 loop-net-preserved c =
     let net : NetCells = c.net-item.result in
     let old : List Bool = c.loop-net.row.bits in
-    let set : c.set_all.new.row.bits ≡ with_compared old net = c.set_all.ensures.bits ∙ ap (λ (l : List ℕ). assigned (λ at. at) (λ at. true) old l) c.as_slice.ensures in
-    set ∙ ap (λ (b : List Bool). with_compared b net) c.loop-net.invariant ∙ compared_more c.args.len c.args.nets.now c.loop-net.net-index net c.loop-net-test.true c.net-item.is
+    let set : c.set_all.new.row.bits
+    ≡ with_compared old net = c.set_all.ensures.bits
+    ∙ ap (λ (l : List ℕ). assigned (λ at. at) (λ at. true) old l) c.as_slice.ensures in
+    set ∙ ap (λ (b : List Bool). with_compared b net) c.loop-net.invariant
+    ∙ compared_more c.args.len c.args.nets.now c.loop-net.net-index net c.loop-net-test.true
+    c.net-item.is

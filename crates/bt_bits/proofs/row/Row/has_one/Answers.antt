@@ -6,5 +6,6 @@ use Rattle.bt_bits.proofs.row.Row.has_one.Goals as goal
 
 pub returns : goal.returns
 returns c =
-    let are = seen_digits _ c.args.self.now.bits c.self.inside.len c.self.inside.digits.items c.self.invariant.0 (ap (λ r. r.bits) c.self.view_is) in
+    let are = seen_digits _ c.args.self.now.bits c.self.inside.len c.self.inside.digits.items
+    c.self.invariant.0 (ap (λ r. r.bits) c.self.view_is) in
     c.has_one.ensures ∙ ap (list_any (λ x. not (x == 0))) (c.deref.ensures.value ∙ are.values) ∙ any_digit c.args.self.now.bits

@@ -21,11 +21,21 @@ invariant_of-self c =
     let bits = c.args.row.now.bits in
     let room = ap (λ s. s.room) c.self.view_is in
     let are : (j : ℕ) → j < 16 → map (digit_in j) c.spread_digits.new.words.items ≡ digits_of bits =
-    λ j less. ap (map (digit_in j)) (c.spread_digits.ensures.value ∙ ap (map (λ x. x * 1229782938247303441)) c.digits.ensures) ∙ digits_each (digits_of bits) j (digits_of-below bits) less in
-    (stacked_by c.len-self-inside.result c.spread_digits.new.words.items (λ j. bits) (λ j less. sym c.len-self-inside.ensures.value) are, omega (arith, room), omega arith, omega arith)
+    λ j less. ap (map (digit_in j))
+    (c.spread_digits.ensures.value ∙ ap (map (λ x. x * 1229782938247303441)) c.digits.ensures)
+    ∙ digits_each (digits_of bits) j (digits_of-below bits) less in (
+      stacked_by c.len-self-inside.result c.spread_digits.new.words.items (λ j. bits)
+          (λ j less. sym c.len-self-inside.ensures.value) are,
+      omega (arith, room),
+      omega arith,
+      omega arith,
+    )
 
 pub returns-clause-rows : goal.returns-clause-rows
 returns-clause-rows c j less =
     let bits = c.args.row.now.bits in
     row_bits-is bits c.len-self-inside.result (map (digit_in j) c.spread_digits.new.words.items) (sym c.len-self-inside.ensures.value)
-    (ap (map (digit_in j)) (c.spread_digits.ensures.value ∙ ap (map (λ x. x * 1229782938247303441)) c.digits.ensures) ∙ digits_each (digits_of bits) j (digits_of-below bits) less)
+    (ap (map (digit_in j))
+    (c.spread_digits.ensures.value
+    ∙ ap (map (λ x. x * 1229782938247303441)) c.digits.ensures)
+    ∙ digits_each (digits_of bits) j (digits_of-below bits) less)

@@ -7,4 +7,6 @@ pub returns : goal.returns
 returns c = λ rows are.
     let number = c.args.self.now.number in
     let row : List ℕ = c.args.row.now in
-    c.in_ok-push.ensures.items ∙ ap (λ v. v ++ c.word.result ∷ []) are ∙ ap (λ w. words_at number rows ++ w ∷ []) c.word.ensures.word ∙ sym (map-append (λ (r : List ℕ). get_or r number 0) rows (row ∷ []))
+    c.in_ok-push.ensures.items ∙ ap (λ v. v ++ c.word.result ∷ []) are
+    ∙ ap (λ w. words_at number rows ++ w ∷ []) c.word.ensures.word
+    ∙ sym (map-append (λ (r : List ℕ). get_or r number 0) rows (row ∷ []))

@@ -2,7 +2,7 @@ use Rattle.std.proofs.Common.{◌∙◌, ap, arith}
 use Rattle.std.specs.Prelude.{slice_get}
 use Rattle.std.proofs.lemmas.Option.{slice_get_within}
 use Rattle.board_defs.specs.Passes.{useful_controls}
-use Rattle.driver_passes.specs.inner.Drafts.{drafted, with_control}
+use Rattle.driver_passes.specs.inner.Drafts.{drafted, draft_with}
 use Rattle.driver_passes.proofs.DraftLemmas.{added_draft, added_setting}
 use Rattle.driver_passes.proofs.FitLemmas.{holds_at}
 use Rattle.driver_passes.proofs.draft.Draft.add.Goals as goal
@@ -22,10 +22,16 @@ pub invariant_of-self : goal.invariant_of-self
 invariant_of-self c =
     let inside = c.self.inside in
     let stands = ap (λ d. slice_get (useful_controls d.board) c.args.place) c.self.view_is ∙ c.requires in
-    added_draft inside.board.now inside.held inside.free c.insert_if.new.self c.take_out_apart.new.free c.remove.new.self c.args.place c.args.c c.classes-laws.ensures.laws.passes c.self.invariant stands c.insert_if.ensures.room c.insert_if.ensures.numbers c.take_out_apart.ensures c.remove.ensures
+    added_draft inside.board.now inside.held inside.free c.insert_if.new.self
+    c.take_out_apart.new.free c.remove.new.self c.args.place c.args.c
+    c.classes-laws.ensures.laws.passes c.self.invariant stands c.insert_if.ensures.room
+    c.insert_if.ensures.numbers c.take_out_apart.ensures c.remove.ensures
 
 pub returns : goal.returns
 returns c =
     let inside = c.self.inside in
     let stands = ap (λ d. slice_get (useful_controls d.board) c.args.place) c.self.view_is ∙ c.requires in
-    ap (drafted inside.board.now) (added_setting inside.board.now inside.held c.insert_if.new.self c.args.place c.args.c c.classes-laws.ensures.laws.passes.said.useful_in_order stands c.insert_if.ensures.numbers) ∙ ap (λ d. with_control d c.args.c) c.self.view_is
+    ap (drafted inside.board.now)
+    (added_setting inside.board.now inside.held c.insert_if.new.self c.args.place c.args.c
+    c.classes-laws.ensures.laws.passes.said.useful_in_order stands
+    c.insert_if.ensures.numbers) ∙ ap (λ d. draft_with d c.args.c) c.self.view_is

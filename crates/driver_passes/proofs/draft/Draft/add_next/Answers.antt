@@ -12,7 +12,12 @@ returns-then-useful-place-clause-step c =
     let inside = c.self.inside in
     let board = inside.board.now in
     let place = c.first_from-place.result in
-    rw (sym c.self.view_is) (ap (drafted board) (sym (second_passes board inside.held inside.free c.args.from place c.classes.ensures.laws.passes c.self.invariant c.first_from-place.ensures.further c.first_from-place.ensures.passed)))
+    rw (sym c.self.view_is)
+    (ap (drafted board)
+    (sym
+    (second_passes board inside.held inside.free c.args.from place
+    c.classes.ensures.laws.passes c.self.invariant
+    c.first_from-place.ensures.further c.first_from-place.ensures.passed)))
 
 pub returns-clause-step : goal.returns-clause-step
 returns-clause-step c =
@@ -22,5 +27,11 @@ returns-clause-step c =
     let within : place < length c.useful-useful.result.now = omega (arith, c.if-useful-place.false) in
     let none : Ctl = record { part = 0; cell = 0 } in
     let added : Ctl = get_or c.useful-useful.result.now place none in
-    let at = ap (λ v. slice_get v place) (sym (c.useful-useful.ensures.controls ∙ ap useful_controls c.classes.ensures.same)) ∙ slice_get-get_or c.useful-useful.result.now place none within in
-    rw (sym c.self.view_is) (second_adds board inside.held inside.free c.add.new.self c.args.from place added c.classes.ensures.laws.passes c.self.invariant c.first_from-place.ensures.further c.first_from-place.ensures.passed at (c.first_from-place.ensures.found within) (rw (sym c.self.view_is) at c.add.ensures))
+    let at = ap (λ v. slice_get v place)
+    (sym (c.useful-useful.ensures.controls ∙ ap useful_controls c.classes.ensures.same))
+    ∙ slice_get-get_or c.useful-useful.result.now place none within in
+    rw (sym c.self.view_is)
+    (second_adds board inside.held inside.free c.add.new.self c.args.from place added
+    c.classes.ensures.laws.passes c.self.invariant c.first_from-place.ensures.further
+    c.first_from-place.ensures.passed at (c.first_from-place.ensures.found within)
+    (rw (sym c.self.view_is) at c.add.ensures))

@@ -8,4 +8,9 @@ pub returns-clause-places : goal.returns-clause-places
 returns-clause-places c =
     let held = c.self.inside.held in
     let useful = useful_controls c.self.inside.board.now in
-    rw (sym c.self.view_is) (λ i e at. c.add_all.ensures.numbers i ∙ ap (λ t. t || is_in c.args.places.now i) (sym (chosen_holds (is_in held) 0 i i useful e c.classes-laws.ensures.laws.passes.said.useful_in_order (omega arith) at)))
+    rw (sym c.self.view_is)
+    (λ i e at. c.add_all.ensures.numbers i
+    ∙ ap (λ t. t || is_in c.args.places.now i)
+    (sym
+    (chosen_holds (is_in held) 0 i i useful e
+    c.classes-laws.ensures.laws.passes.said.useful_in_order (omega arith) at)))

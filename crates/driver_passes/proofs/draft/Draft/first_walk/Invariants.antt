@@ -5,7 +5,10 @@ use Rattle.driver_passes.proofs.draft.Draft.first_walk.Given as goal
 
 -- going over the controls that are left gives the same draft as going over all controls from the start
 abbrev pub invariant-loop-place : goal.invariant-loop-place
-invariant-loop-place l = (l.self.board ≡ l.initial.self.board) × (first_walked l.self l.place l.earlier.passes.items ≡ first_walked l.initial.self 0 l.earlier.passes.items)
+invariant-loop-place l =
+    (l.self.board ≡ l.initial.self.board)
+    × (first_walked l.self l.place l.earlier.passes.items
+    ≡ first_walked l.initial.self 0 l.earlier.passes.items)
 
 abbrev pub decreases-loop-place : goal.decreases-loop-place
 decreases-loop-place l = length (useful_controls l.initial.self.board) - l.place

@@ -3,4 +3,7 @@ use Rattle.driver_passes.specs.inner.Progress.{IsProgress, enabling}
 use Rattle.driver_passes.proofs.drivers.Progress.add_for_drivers.Given as goal
 
 abbrev pub invariant-loop-d : goal.invariant-loop-d
-invariant-loop-d l = IsProgress l.board l.self × (l.self.passes.items ≡ fold (enabling l.board) l.initial.self.passes.items (take l.d-index l.drivers))
+invariant-loop-d l =
+    IsProgress l.board l.self
+    × (l.self.passes.items
+    ≡ fold (enabling l.board) l.initial.self.passes.items (take l.d-index l.drivers))

@@ -9,5 +9,8 @@ loop-number-preserved c =
     let number = c.loop-number.number in
     record {
       further = omega (arith, c.loop-number.invariant.further, c.past_word-number.ensures.further);
-      passed = passed_more p c.args.from number c.past_word-number.result c.loop-number.invariant.passed (λ n least below. c.in_default.ensures p c.word.ensures.bits n least (omega (arith, below, c.past_word-number.ensures.within)));
+      passed =
+          passed_more p c.args.from number c.past_word-number.result c.loop-number.invariant.passed
+          (λ n least below. c.in_default.ensures p c.word.ensures.bits n least
+          (omega (arith, below, c.past_word-number.ensures.within)));
     }

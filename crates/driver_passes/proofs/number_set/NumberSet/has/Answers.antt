@@ -6,4 +6,7 @@ pub returns : goal.returns
 unfolding is_in
 returns c =
     let n = c.args.number in
-    c.has_bit.ensures ∙ ap (λ w. has_bit w (n % 64)) (c.word_at.ensures ∙ ap (λ v. get_or v (n / 64) 0) (c.deref.ensures.value ∙ c.self.view_is))
+    c.has_bit.ensures
+    ∙ ap (λ w. has_bit w (n % 64))
+    (c.word_at.ensures
+    ∙ ap (λ v. get_or v (n / 64) 0) (c.deref.ensures.value ∙ c.self.view_is))

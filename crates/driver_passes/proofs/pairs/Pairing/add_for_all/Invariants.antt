@@ -10,5 +10,7 @@ invariant-loop-a l = record {
   pairing : ArePairing l.board l.self;
   done : AreDone l.board l.self.passes.items l.a;
   few : length l.self.passes.items ≤ most_pins + most_nets * l.a;
-  rest : fold (observing l.board) l.self.passes.items (later_pairs l.board l.a) ≡ pair_passes l.board (useful_controls l.board) l.initial.self.passes.items (drivers_by_net l.board);
+  rest : fold (observing l.board) l.self.passes.items (later_pairs l.board l.a)
+      ≡ pair_passes l.board (useful_controls l.board) l.initial.self.passes.items
+      (drivers_by_net l.board);
 }

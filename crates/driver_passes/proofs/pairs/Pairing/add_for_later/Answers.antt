@@ -12,7 +12,9 @@ returns-then-is_done-clause-added c =
     none_later board (useful_controls board) c.args.self.now.passes.items c.args.a c.requires.first (c.is_done.ensures c.if-is_done.true)
 
 pub returns-then-is_done-clause-done : goal.returns-then-is_done-clause-done
-returns-then-is_done-clause-done c = done_next c.args.board.now c.args.self.now.passes.items c.args.a c.requires.done (c.is_done.ensures c.if-is_done.true)
+returns-then-is_done-clause-done c =
+    done_next c.args.board.now c.args.self.now.passes.items c.args.a c.requires.done
+    (c.is_done.ensures c.if-is_done.true)
 
 pub loop-b-init : goal.loop-b-init
 loop-b-init c =
@@ -29,7 +31,9 @@ loop-b-init c =
           always = are.always;
         };
         net = c.requires.first;
-        left = left_whole c.args.board.now before.passes.items before.rows.items c.leave_unshown.new.left c.args.a (length before.left) are.rows c.requires.first are.left_length (λ n from within.
+        left = left_whole c.args.board.now before.passes.items before.rows.items
+            c.leave_unshown.new.left c.args.a (length before.left) are.rows c.requires.first
+            are.left_length (λ n from within.
             c.leave_unshown.ensures.nets n from within ∙ ap (λ v. not (list_any (shows_both c.args.a n) v)) c.deref-2.ensures.value);
       };
       later = omega arith;
@@ -44,5 +48,13 @@ pub returns-clause-done : goal.returns-clause-done
 returns-clause-done c =
     let board = c.args.board.now in
     let inv = c.loop-b.invariant in
-    let past : length board.nets ≤ c.loop-b.b = omega (arith, c.loop-b-test.false, c.net_count-nets.ensures.value, ap (λ b. length b.nets) c.classes.ensures.same) in
-    done_next board c.loop-b.self.passes.items c.args.a (λ m less n later within. inv.kept m n (c.requires.done m less n later within)) (λ n later within. inv.done n later (omega (arith, within, past)))
+    let past : length board.nets
+    ≤ c.loop-b.b = omega (
+      arith,
+      c.loop-b-test.false,
+      c.net_count-nets.ensures.value,
+      ap (λ b. length b.nets) c.classes.ensures.same,
+    ) in
+    done_next board c.loop-b.self.passes.items c.args.a
+    (λ m less n later within. inv.kept m n (c.requires.done m less n later within))
+    (λ n later within. inv.done n later (omega (arith, within, past)))

@@ -10,7 +10,8 @@ invariant-loop-b l = record {
   kept : StaysDone l.board l.initial.self.passes.items l.self.passes.items;
   done : IsDoneTo l.board l.self.passes.items l.a l.b;
   few : length l.self.passes.items ≤ length l.initial.self.passes.items + l.b;
-  rest : fold (observing l.board) l.self.passes.items (pairs_from l.board l.a l.b) ≡ fold (observing l.board) l.initial.self.passes.items (pairs_from l.board l.a (l.a + 1));
+  rest : fold (observing l.board) l.self.passes.items (pairs_from l.board l.a l.b)
+      ≡ fold (observing l.board) l.initial.self.passes.items (pairs_from l.board l.a (l.a + 1));
 }
 
 abbrev pub decreases-loop-b : goal.decreases-loop-b

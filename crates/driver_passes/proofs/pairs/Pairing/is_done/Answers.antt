@@ -6,7 +6,11 @@ use Rattle.driver_passes.proofs.DoneLemmas.{all_show, none_tested}
 use Rattle.driver_passes.proofs.pairs.Pairing.is_done.Goals as goal
 
 pub returns-then-is_empty : goal.returns-then-is_empty
-returns-then-is_empty c = λ e b least below. none_tested c.args.board.now c.args.self.now.passes.items c.args.a b (sym (c.tested_drivers.ensures.drivers ∙ ap (λ b. drivers_at b c.args.a) c.classes.ensures.same) ∙ nil_from_length c.tested_drivers.result.now (eqb-true (length c.tested_drivers.result.now) 0 (sym c.if-is_empty.ensures)))
+returns-then-is_empty c =
+    λ e b least below. none_tested c.args.board.now c.args.self.now.passes.items c.args.a b
+    (sym (c.tested_drivers.ensures.drivers ∙ ap (λ b. drivers_at b c.args.a) c.classes.ensures.same)
+    ∙ nil_from_length c.tested_drivers.result.now
+    (eqb-true (length c.tested_drivers.result.now) 0 (sym c.if-is_empty.ensures)))
 
 pub returns : goal.returns
 returns c = λ e b later less.

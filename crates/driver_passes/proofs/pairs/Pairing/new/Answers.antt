@@ -15,6 +15,8 @@ returns-clause-pairing c =
       tested = c.requires.tested;
       useful = c.requires.progress.useful;
       left_length = c.in_ok-left.ensures.room ∙ same;
-      always = always_whole c.args.board.now progress.passes.items progress.rows.items c.keep_shown.new.always _ c.requires.progress.rows (c.in_ok-always.ensures.room ∙ same) c.keep_shown.ensures.room (λ n within.
+      always = always_whole c.args.board.now progress.passes.items progress.rows.items
+          c.keep_shown.new.always _ c.requires.progress.rows (c.in_ok-always.ensures.room ∙ same)
+          c.keep_shown.ensures.room (λ n within.
           c.keep_shown.ensures.nets n within ∙ ap (list_all (λ row. is_in row n)) c.deref.ensures.value);
     }

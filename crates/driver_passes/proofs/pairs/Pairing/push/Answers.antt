@@ -18,13 +18,19 @@ returns-clause-looks c =
     let shown = shown_as board c.args.draft.now.setting pass row c.in_ok-pass.ensures.value c.in_ok-row.ensures in
     record {
       are = record {
-        rows = rows_more board before.passes.items passes before.rows.items c.push-2.new.self.items pass row are.rows shown pushed c.in_ok-push-2.ensures.items;
+        rows =
+            rows_more board before.passes.items passes before.rows.items c.push-2.new.self.items
+            pass row are.rows shown pushed c.in_ok-push-2.ensures.items;
         column = c.in_ok-add.ensures before.rows.items are.column ∙ ap (words_at c.add.new.self.number) (sym c.in_ok-push-2.ensures.items);
         tested = enabled_more board before.passes.items passes pass are.tested pushed;
         useful = useful_more board before.passes.items passes pass are.useful c.in_ok-pass.ensures.useful pushed;
         left_length = c.take_shown.ensures.room ∙ are.left_length;
-        always = always_more board before.passes.items passes pass row before.always c.keep_only.new.self are.always shown pushed c.keep_only.ensures.room c.keep_only.ensures.numbers;
+        always =
+            always_more board before.passes.items passes pass row before.always c.keep_only.new.self
+            are.always shown pushed c.keep_only.ensures.room c.keep_only.ensures.numbers;
       };
       net = c.requires.net;
-      left = left_more board before.passes.items passes pass row before.left c.take_shown.new.left c.args.a c.requires.left shown c.requires.net pushed c.take_shown.ensures.nets;
+      left =
+          left_more board before.passes.items passes pass row before.left c.take_shown.new.left
+          c.args.a c.requires.left shown c.requires.net pushed c.take_shown.ensures.nets;
     }

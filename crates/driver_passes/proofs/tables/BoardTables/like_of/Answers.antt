@@ -11,7 +11,10 @@ returns-in-Some c =
     let net = c.args.net in
     let like = c.in-Some.like.now in
     let there = c.in-Some.ensures.lookup.3.0 in
-    let is : like ≡ get_or c.self.inside.likes.items net 0 = c.in-Some.ensures.lookup.1 ∙ get_or_default likes net like 0 there ∙ ap (λ v. get_or v net 0) c.deref.ensures.value in
+    let is : like
+    ≡ get_or c.self.inside.likes.items net 0 = c.in-Some.ensures.lookup.1
+    ∙ get_or_default likes net like 0 there
+    ∙ ap (λ v. get_or v net 0) c.deref.ensures.value in
     let less : net < length board.nets = omega (arith, there, ap length c.deref.ensures.value, are.likes_length) in
     record {
       within = omega (arith, is, are.likes_within net less);

@@ -1,7 +1,7 @@
 use Rattle.std.proofs.Common.{◌≡◌, ◌<◌, ◌-◌, ◌+◌, ◌/◌, ◌||◌, ℕ, true, drop, length}
 use Rattle.std.specs.List.{list_any}
 use Rattle.board_defs.specs.Passes.{shows, useful_controls}
-use Rattle.driver_passes.specs.inner.Drafts.{chosen, setting_of}
+use Rattle.driver_passes.specs.inner.Drafts.{passing_controls, setting_of}
 use Rattle.driver_passes.specs.inner.NumberSets.{is_in}
 use Rattle.net_classes.specs.Pairs.{drivers_at}
 use Rattle.driver_passes.specs.inner.Tested.{drives}
@@ -12,7 +12,11 @@ abbrev pub invariant-loop-place : goal.invariant-loop-place
 invariant-loop-place l = record {
   room : length l.row ≡ length l.board.nets / 64 + 1;
   held : l.place < l.places → is_in l.held l.place ≡ true;
-  rest : (n : ℕ) → n < length l.board.nets → (is_in l.row n || list_any (λ c. drives c (drivers_at l.board n)) (chosen (is_in l.held) l.place (drop l.place (useful_controls l.board)))) ≡ shows (drivers_at l.board n) (setting_of l.board l.held);
+  rest : (n : ℕ) → n < length l.board.nets
+      → (is_in l.row n
+      || list_any (λ c. drives c (drivers_at l.board n))
+      (passing_controls (is_in l.held) l.place (drop l.place (useful_controls l.board))))
+      ≡ shows (drivers_at l.board n) (setting_of l.board l.held);
 }
 
 abbrev pub decreases-loop-place : goal.decreases-loop-place

@@ -14,11 +14,18 @@ returns-then-not-shows_own c =
     let rules = subst (λ (b : RawBoard). IsBoard b) c.board.ensures c.raw-rules.ensures.rules in
     let kept = (c.passes_kept.ensures board rules).kept in
     let width = code_width (observed_count board (passes_of board)) in
-    let law = explains_is board rules c.args.self.now.test.plan c.plan-plan.ensures.plan c.plan-plan.ensures.passes log c.log-log.ensures.rows.rows c.log-log.ensures.rows.bits (c.rows_compared.ensures.passes board (passes_of board) width rules kept)
-    (c.rows_compared.ensures.shape board (passes_of board) width log rules kept) c.args.fault c.requires (c.singles_respond.ensures.own board c.args.fault log rules c.requires) in
+    let law = explains_is board rules c.args.self.now.test.plan c.plan-plan.ensures.plan
+    c.plan-plan.ensures.passes log c.log-log.ensures.rows.rows c.log-log.ensures.rows.bits
+    (c.rows_compared.ensures.passes board (passes_of board) width rules kept)
+    (c.rows_compared.ensures.shape board (passes_of board) width log rules kept) c.args.fault
+    c.requires (c.singles_respond.ensures.own board c.args.fault log rules c.requires) in
     let there = nets_there board c.args.fault c.requires in (
       λ bad. cc bad,
-      λ explains. c.if-not-shows_own.ensures.1 (λ x less. (law.0 explains x less (first_net c.args.fault) there.0, law.0 explains x less (second_net c.args.fault) there.1)),
+      λ explains. c.if-not-shows_own.ensures.1
+          (λ x less. (
+            law.0 explains x less (first_net c.args.fault) there.0,
+            law.0 explains x less (second_net c.args.fault) there.1,
+          )),
     )
 
 pub returns : goal.returns
@@ -28,6 +35,9 @@ returns c =
     let rules = subst (λ (b : RawBoard). IsBoard b) c.board.ensures c.raw-rules.ensures.rules in
     let kept = (c.passes_kept.ensures board rules).kept in
     let width = code_width (observed_count board (passes_of board)) in
-    let law = explains_is board rules c.args.self.now.test.plan c.plan-plan.ensures.plan c.plan-plan.ensures.passes log c.log-log.ensures.rows.rows c.log-log.ensures.rows.bits (c.rows_compared.ensures.passes board (passes_of board) width rules kept)
-    (c.rows_compared.ensures.shape board (passes_of board) width log rules kept) c.args.fault c.requires (c.singles_respond.ensures.own board c.args.fault log rules c.requires) in
+    let law = explains_is board rules c.args.self.now.test.plan c.plan-plan.ensures.plan
+    c.plan-plan.ensures.passes log c.log-log.ensures.rows.rows c.log-log.ensures.rows.bits
+    (c.rows_compared.ensures.passes board (passes_of board) width rules kept)
+    (c.rows_compared.ensures.shape board (passes_of board) width log rules kept) c.args.fault
+    c.requires (c.singles_respond.ensures.own board c.args.fault log rules c.requires) in
     decides_as c.shows_all.result c.shows_all.ensures law.1 law.0

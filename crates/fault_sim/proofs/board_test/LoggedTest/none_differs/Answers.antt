@@ -15,6 +15,8 @@ returns c =
     let rules = subst (λ (b : RawBoard). IsBoard b) c.board.ensures c.raw-rules.ensures.rules in
     let kept = (c.passes_kept.ensures board rules).kept in
     let width = code_width (observed_count board (passes_of board)) in
-    let law = expected_is board rules plan c.plan-plan.ensures.plan c.plan-plan.ensures.passes log c.log-log.ensures.rows.rows c.log-log.ensures.rows.bits (c.rows_compared.ensures.passes board (passes_of board) width rules kept)
+    let law = expected_is board rules plan c.plan-plan.ensures.plan c.plan-plan.ensures.passes log
+    c.log-log.ensures.rows.rows c.log-log.ensures.rows.bits
+    (c.rows_compared.ensures.passes board (passes_of board) width rules kept)
     (c.rows_compared.ensures.shape board (passes_of board) width log rules kept) (c.expected_bits.ensures.bits board _ log) in
     none_decides board plan log c.args.nets.now c.requires _ law.0 law.1 c.is_empty.result c.is_empty.ensures

@@ -6,11 +6,16 @@ use Rattle.fault_sim.proofs.board_test.LoggedTest.shows_all.Goals as goal
 
 pub returns-then-not-shows_all : goal.returns-then-not-shows_all
 returns-then-not-shows_all c =
-    let shows = λ (p : PassOfLog). ShowsIn p.logged.test.board p.logged.test.plan c.args.fault p.logged.log p.number in
-    (λ bad. cc bad, λ shown. c.if-not-shows_all.ensures.1 (subst shows (sym c.pass-pass.ensures) (shown c.loop-x.x (omega (arith, c.loop-x-test.true, c.pass_count-x-end.ensures)))))
+    let shows = λ (p : PassOfLog). ShowsIn p.logged.test.board p.logged.test.plan c.args.fault p.logged.log p.number in (
+      λ bad. cc bad,
+      λ shown. c.if-not-shows_all.ensures.1
+          (subst shows (sym c.pass-pass.ensures)
+          (shown c.loop-x.x (omega (arith, c.loop-x-test.true, c.pass_count-x-end.ensures)))),
+    )
 
 pub loop-x-preserved : goal.loop-x-preserved
 loop-x-preserved c =
     let shows = λ (p : PassOfLog). ShowsIn p.logged.test.board p.logged.test.plan c.args.fault p.logged.log p.number in
     let log = c.args.self.now in
-    passes_more (λ k. ShowsIn log.test.board log.test.plan c.args.fault log.log k) c.loop-x.x c.loop-x.invariant (subst shows c.pass-pass.ensures (c.if-not-shows_all.ensures.0 refl))
+    passes_more (λ k. ShowsIn log.test.board log.test.plan c.args.fault log.log k) c.loop-x.x
+    c.loop-x.invariant (subst shows c.pass-pass.ensures (c.if-not-shows_all.ensures.0 refl))

@@ -23,10 +23,20 @@ returns c =
     let width = code_width (observed_count board (passes_of board)) in
     let lists = c.args.universe.now in
     let nets = c.args.nets.now in
-    let all = all_suspects board rules plan c.plan-plan.ensures.plan c.plan-plan.ensures.passes log c.log-log.ensures.rows.rows c.log-log.ensures.rows.bits (c.rows_compared.ensures.passes board (passes_of board) width rules own)
-    (c.rows_compared.ensures.shape board (passes_of board) width log rules own) kept (c.codes_number_covered.ensures board rules plan.passes kept) (λ single is. c.singles_respond.ensures.own board single log rules is)
+    let all = all_suspects board rules plan c.plan-plan.ensures.plan c.plan-plan.ensures.passes log
+    c.log-log.ensures.rows.rows c.log-log.ensures.rows.bits
+    (c.rows_compared.ensures.passes board (passes_of board) width rules own)
+    (c.rows_compared.ensures.shape board (passes_of board) width log rules own) kept
+    (c.codes_number_covered.ensures board rules plan.passes kept)
+    (λ single is. c.singles_respond.ensures.own board single log rules is)
     (c.expected_bits.ensures.bits board _ log)
-    (λ single is expected explains. c.expected_logs.ensures.own_unexplained board rules log expected (set_of single) (c.singles_observable.ensures.observable board single is) (c.singles_observable.ensures.nonempty single) explains)
+    (λ single is expected explains. c.expected_logs.ensures.own_unexplained board rules log expected
+    (set_of single) (c.singles_observable.ensures.observable board single is)
+    (c.singles_observable.ensures.nonempty single) explains)
     lists c.requires.universe lists.starts_are nets c.requires.differing in
     subst (λ (l : List ℕ). AreSuspects board plan lists log l)
-    (sym (c.in_ok-places.ensures ∙ ap (λ (p : PlanTables). suspects_of p c.lists.result.now nets) c.plan-plan.ensures.value ∙ ap (λ (l : FaultLists). suspects_of plan l nets) c.lists.ensures)) all
+    (sym
+    (c.in_ok-places.ensures
+    ∙ ap (λ (p : PlanTables). suspects_of p c.lists.result.now nets)
+    c.plan-plan.ensures.value
+    ∙ ap (λ (l : FaultLists). suspects_of plan l nets) c.lists.ensures)) all

@@ -20,7 +20,8 @@ returns c =
       ones = λ j less. c.cell_word-word.ensures j less ∙ one_shown (ltb j width) (reader.place == driver) (bit j) other;
       zeros = λ j less.
           and_word rows (4294967295 - word) j
-          ∙ ap (λ (b : Bool). b && word_bit (4294967295 - word) j) (c.first_rows.ensures j ∙ ap (λ (v : RowsOfNet). ltb j v.width) c.self.view_is)
+          ∙ ap (λ (b : Bool). b && word_bit (4294967295 - word) j)
+          (c.first_rows.ensures j ∙ ap (λ (v : RowsOfNet). ltb j v.width) c.self.view_is)
           ∙ ap (λ (b : Bool). ltb j width && b) (not_word word j (omega arith) less ∙ ap not (c.cell_word-word.ensures j less))
           ∙ zero_shown (ltb j width) (reader.place == driver) (bit j) other;
     }

@@ -6,4 +6,6 @@ pub mark_by-requires-clause-compared : goal.mark_by-requires-clause-compared
 mark_by-requires-clause-compared c =
     let rows = c.kept_rows.result.now in
     let found = c.in-Some.ensures.lookup in
-    rw (← c.self.view_is) (c.kept_rows.ensures c.args.j c.in-Some.row.now (slice_get_read rows (length rows) c.args.j c.in-Some.row.now refl found.3.0 found.1))
+    rw (← c.self.view_is)
+    (c.kept_rows.ensures c.args.j c.in-Some.row.now
+    (slice_get_read rows (length rows) c.args.j c.in-Some.row.now refl found.3.0 found.1))

@@ -13,5 +13,9 @@ returns c =
     let r = c.shows_effect.result in
     let own = rw (← c.self.view_is) at c.shows_effect.ensures in
     rw (← c.self.view_is)
-    (subst (λ (d : Option ℕ). Decides r (ShowsEffect plan log pass.number c.args.net (effect_in pass.test.board plan (controls_of pass) c.args.fault c.args.net) d)) c.driver_place.ensures
+    (subst
+    (λ (d : Option ℕ). Decides r
+    (ShowsEffect plan log pass.number c.args.net
+    (effect_in pass.test.board plan (controls_of pass) c.args.fault c.args.net) d))
+    c.driver_place.ensures
     (subst (λ (e : Effect). Decides r (ShowsEffect plan log pass.number c.args.net e c.driver_place.result)) c.effect-effect.ensures own))

@@ -13,7 +13,12 @@ loop-n-preserved c =
     let drivers = c.loop-n.drivers.items in
     let driver = c.driver.result in
     let count = c.loop-n.invariant.0 in
-    let last : driver ≡ enabled_driver plan pass (length drivers) = c.driver.ensures ∙ ap (λ (n : ℕ). enabled_driver plan pass n) (sym count) in (
-      ap (λ (l : List (Option EnabledDriver)). length l) c.in_ok-push.ensures.items ∙ length_push drivers driver ∙ ap (λ (n : ℕ). n + 1) count,
-      subst (λ (l : List (Option EnabledDriver)). AreDrivers plan pass l) (sym c.in_ok-push.ensures.items) (each_more (λ n v. v ≡ enabled_driver plan pass n) drivers driver c.loop-n.invariant.1 last),
+    let last : driver ≡ enabled_driver plan pass (length drivers) = c.driver.ensures ∙ ap
+    (λ (n : ℕ). enabled_driver plan pass n) (sym count) in (
+      ap (λ (l : List (Option EnabledDriver)). length l) c.in_ok-push.ensures.items
+          ∙ length_push drivers driver ∙ ap (λ (n : ℕ). n + 1) count,
+      subst (λ (l : List (Option EnabledDriver)). AreDrivers plan pass l)
+          (sym c.in_ok-push.ensures.items)
+          (each_more (λ n v. v ≡ enabled_driver plan pass n) drivers driver c.loop-n.invariant.1
+          last),
     )

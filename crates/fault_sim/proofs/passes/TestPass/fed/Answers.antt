@@ -16,4 +16,5 @@ returns c =
     c.net_fed_by.ensures
     ∙ ap (λ (d : Option EnabledDriver). net_fed_by d c.pull.result) c.driver.ensures
     ∙ ap (λ (p : Option Bool). net_fed_by (enabled_driver pass.test.plan (controls_of pass) c.args.net) p) c.pull.ensures
-    ∙ ap (λ (f : Option Feed). let fed : FedNet = record { feed = f; pull = pull } in fed) (feed_is pass.test.plan (controls_of pass) c.args.net pull)
+    ∙ ap (λ (f : Option Feed). let fed : FedNet = record { feed = f; pull = pull } in fed)
+    (feed_is pass.test.plan (controls_of pass) c.args.net pull)

@@ -16,5 +16,10 @@ returns c =
     rw (← c.self.view_is)
     (record {
       row = record { tdo = c.fill_compared.ensures.tdo; mask = c.fill_compared.ensures.mask };
-      room = record { tdo = omega (arith, room.tdo, c.fill_compared.ensures.tdo_kept); mask = omega (arith, room.mask, c.fill_compared.ensures.mask_kept) };
+      room =
+          record {
+            tdo = omega (arith, room.tdo, c.fill_compared.ensures.tdo_kept);
+            mask = omega
+                (arith, room.mask, c.fill_compared.ensures.mask_kept);
+          };
     })

@@ -11,5 +11,10 @@ returns c =
     record {
       value = cc (c.from.ensures, c.from-2.ensures, number, width);
       pass = rw (← c.self.view_is) (rw c.number.ensures.value at c.number.ensures.within);
-      few = omega (arith, mul-le c.from.result c.from-2.result 4294967295 14 (omega (arith, c.from.ensures)) (omega (arith, c.from-2.ensures, c.width.ensures.few)));
+      few =
+          omega (
+            arith,
+            mul-le c.from.result c.from-2.result 4294967295 14 (omega (arith, c.from.ensures))
+                (omega (arith, c.from-2.ensures, c.width.ensures.few)),
+          );
     }

@@ -1,7 +1,7 @@
 use Rattle.std.proofs.Common.{◌∙◌, ◌+◌, ℕ, List, length, ap, sym, subst}
 use Rattle.std.proofs.lemmas.List.{length_push}
 use Rattle.fault_sim.specs.declared.kept.ComparedRow.{ComparedRow}
-use Rattle.fault_sim.specs.Kept.{AreRows, IsRow}
+use Rattle.fault_sim.specs.Kept.{AreComparedRows, IsComparedRow}
 use Rattle.scan_planner.proofs.NumberedLemmas.{each_more}
 use Rattle.fault_sim.proofs.passes.TestPass.new_rows.Goals as goal
 
@@ -13,7 +13,10 @@ loop-j-preserved c =
     let rows = c.loop-j.rows.items in
     let row = c.in_ok-new_row.field-0 in
     let count = c.loop-j.invariant.0 in
-    let last : IsRow board plan x (length rows) row = subst (λ (j : ℕ). IsRow board plan x j row) (sym count) c.in_ok-new_row.ensures in (
+    let last : IsComparedRow board plan x (length rows) row = subst
+    (λ (j : ℕ). IsComparedRow board plan x j row) (sym count) c.in_ok-new_row.ensures in (
       ap (λ (l : List ComparedRow). length l) c.in_ok-push.ensures.items ∙ length_push rows row ∙ ap (λ (n : ℕ). n + 1) count,
-      subst (λ (l : List ComparedRow). AreRows board plan x l) (sym c.in_ok-push.ensures.items) (each_more (λ j v. IsRow board plan x j v) rows row c.loop-j.invariant.1 last),
+      subst (λ (l : List ComparedRow). AreComparedRows board plan x l)
+          (sym c.in_ok-push.ensures.items)
+          (each_more (λ j v. IsComparedRow board plan x j v) rows row c.loop-j.invariant.1 last),
     )

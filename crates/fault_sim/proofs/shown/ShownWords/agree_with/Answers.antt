@@ -6,5 +6,7 @@ use Rattle.fault_sim.proofs.shown.ShownWords.agree_with.Goals as goal
 pub returns : goal.returns
 returns c =
     let shown = c.args.self.now in
-    let word = c.args.word in
-    (λ none. agreeing shown word (omega arith) (eqb-true (clashes shown word) 0 none), λ agrees. eq-eqb (clashes shown word) 0 (clashes_nowhere shown word (omega arith) agrees))
+    let word = c.args.word in (
+      λ none. agreeing shown word (omega arith) (eqb-true (clashes shown word) 0 none),
+      λ agrees. eq-eqb (clashes shown word) 0 (clashes_nowhere shown word (omega arith) agrees),
+    )

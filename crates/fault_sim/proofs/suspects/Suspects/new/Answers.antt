@@ -10,7 +10,9 @@ suspects-requires-clause-universe c = rw c.of-logged.ensures c.requires.universe
 
 pub suspects-requires-clause-differing : goal.suspects-requires-clause-differing
 suspects-requires-clause-differing c =
-    subst (λ (l : List ℕ). AreDiffering c.of-logged.result.test.board c.of-logged.result.test.plan c.of-logged.result.log l) (sym c.deref.ensures.value) c.in_ok-nets.ensures
+    subst
+    (λ (l : List ℕ). AreDiffering c.of-logged.result.test.board c.of-logged.result.test.plan
+    c.of-logged.result.log l) (sym c.deref.ensures.value) c.in_ok-nets.ensures
 
 pub returns : goal.returns
 returns c = rw c.of-logged.ensures at c.suspects.ensures

@@ -21,8 +21,13 @@ returns-in-Some c =
     let width = code_width (observed_count board (passes_of board)) in
     rw (← c.self.view_is)
     (λ hidden single explains.
-    let law = explains_is board rules plan c.laws.ensures.plan c.laws.ensures.passes log c.laws.ensures.log.rows c.laws.ensures.log.bits (c.rows_compared.ensures.passes board (passes_of board) width rules kept)
-    (c.rows_compared.ensures.shape board (passes_of board) width log rules kept) c.args.fault single (c.singles_respond.ensures.own board c.args.fault log rules single) in
+    let law = explains_is board rules plan c.laws.ensures.plan c.laws.ensures.passes log
+    c.laws.ensures.log.rows c.laws.ensures.log.bits
+    (c.rows_compared.ensures.passes board (passes_of board) width rules kept)
+    (c.rows_compared.ensures.shape board (passes_of board) width log rules kept) c.args.fault single
+    (c.singles_respond.ensures.own board c.args.fault log rules single) in
     both_ways c.agree_with.result (not-true c.agree_with.result hidden)
     (c.agree_with.ensures.1
-    (agrees_there (net_in_pass pass c.self.inside.net) c.args.fault c.self.inside.code c.self.inside.fed c.self.inside.shown c.in-Some.word c.self.invariant short single c.laws.ensures.pass (law.0 explains))))
+    (agrees_there (net_in_pass pass c.self.inside.net) c.args.fault c.self.inside.code
+    c.self.inside.fed c.self.inside.shown c.in-Some.word c.self.invariant short single
+    c.laws.ensures.pass (law.0 explains))))

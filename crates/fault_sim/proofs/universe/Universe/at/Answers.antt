@@ -12,6 +12,8 @@ pub returns : goal.returns
 returns c board rules plan passes universe =
     let kept = subst (λ (l : List (List Ctl)). ArePasses board l) (sym passes) (c.passes_kept.ensures board rules).kept in
     let places = listed_places c.args.plan.now c.args.self.now in
-    sym (ap (λ (l : List (Option Single)). slice_get l c.args.i) (listed_are board rules c.args.plan.now plan kept c.args.self.now universe))
+    sym
+    (ap (λ (l : List (Option Single)). slice_get l c.args.i)
+    (listed_are board rules c.args.plan.now plan kept c.args.self.now universe))
     ∙ listed_there places c.args.i c.where_observed.result (omega (arith, c.requires, listed_length c.args.plan.now c.args.self.now))
     (c.where_observed.ensures ∙ sym (c.candidate.ensures c.args.plan.now))

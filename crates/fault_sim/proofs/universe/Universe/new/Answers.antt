@@ -5,7 +5,7 @@ use Rattle.board_defs.specs.declared.board.PinRef.{PinRef}
 use Rattle.board_defs.specs.Passes.{ArePasses}
 use Rattle.fault_sim.specs.Effects.{code_in}
 use Rattle.fault_sim.specs.inner.Tested.{coded_nets}
-use Rattle.fault_sim.specs.Starts.{AreStarts}
+use Rattle.fault_sim.specs.Starts.{ArePairStarts}
 use Rattle.fault_sim.proofs.RangeLemmas.{filter_most}
 use Rattle.fault_sim.proofs.TestedLemmas.{nets_are, pins_are, tested_few}
 use Rattle.fault_sim.proofs.universe.Universe.new.Goals as goal
@@ -13,12 +13,26 @@ use Rattle.fault_sim.proofs.universe.Universe.new.Goals as goal
 pub overflow_cast-len : goal.overflow_cast-len
 overflow_cast-len c =
     let found = c.of-nets.ensures ∙ c.in_ok-found.ensures in
-    omega (arith, c.len.ensures, ap (λ (l : List ℕ). length l) found, filter_most (λ n. nat_lt 0 (code_in c.args.plan.now n)) 0 c.net_count.result, c.net_count.ensures, c.raw-rules.ensures.rules.nets_most)
+    omega (
+      arith,
+      c.len.ensures,
+      ap (λ (l : List ℕ). length l) found,
+      filter_most (λ n. nat_lt 0 (code_in c.args.plan.now n)) 0 c.net_count.result,
+      c.net_count.ensures,
+      c.raw-rules.ensures.rules.nets_most,
+    )
 
 pub pair_starts-requires : goal.pair_starts-requires
 pair_starts-requires c =
     let found = c.of-nets.ensures ∙ c.in_ok-found.ensures in
-    omega (arith, c.len.ensures, ap (λ (l : List ℕ). length l) found, filter_most (λ n. nat_lt 0 (code_in c.args.plan.now n)) 0 c.net_count.result, c.net_count.ensures, c.raw-rules.ensures.rules.nets_most)
+    omega (
+      arith,
+      c.len.ensures,
+      ap (λ (l : List ℕ). length l) found,
+      filter_most (λ n. nat_lt 0 (code_in c.args.plan.now n)) 0 c.net_count.result,
+      c.net_count.ensures,
+      c.raw-rules.ensures.rules.nets_most,
+    )
 
 pub invariant_of-result : goal.invariant_of-result
 invariant_of-result c =
@@ -29,9 +43,19 @@ invariant_of-result c =
     let found = c.of-nets.ensures ∙ c.in_ok-found.ensures in
     let pins = c.of-pins.ensures ∙ c.in_ok-tested.ensures ∙ pins_are board rules plan c.requires.plan kept in
     record {
-      few = omega (arith, ap (λ (l : List ℕ). length l) found, filter_most (λ n. nat_lt 0 (code_in plan n)) 0 c.net_count.result, c.net_count.ensures, rules.nets_most);
+      few =
+          omega (
+            arith,
+            ap (λ (l : List ℕ). length l) found,
+            filter_most (λ n. nat_lt 0 (code_in plan n)) 0 c.net_count.result,
+            c.net_count.ensures,
+            rules.nets_most,
+          );
       few_pins = omega (arith, ap (λ (l : List PinRef). length l) pins, tested_few board rules);
-      starts_are = subst (λ (n : ℕ). AreStarts n c.of-starts.result) c.len.ensures (subst (λ (l : List ℕ). AreStarts c.len.result l) (sym c.of-starts.ensures) c.in_ok-pair_starts.ensures);
+      starts_are =
+          subst (λ (n : ℕ). ArePairStarts n c.of-starts.result) c.len.ensures
+          (subst (λ (l : List ℕ). ArePairStarts c.len.result l) (sym c.of-starts.ensures)
+          c.in_ok-pair_starts.ensures);
     }
 
 pub returns : goal.returns
@@ -41,6 +65,10 @@ returns c =
     let rules = c.raw-rules.ensures.rules in
     let kept = subst (λ (l : List (List Ctl)). ArePasses board l) (sym c.requires.passes) (c.passes_kept.ensures board rules).kept in
     record {
-      nets = c.of-nets.ensures ∙ c.in_ok-found.ensures ∙ ap (λ (n : ℕ). coded_nets plan n) c.net_count.ensures ∙ nets_are board rules plan c.requires.plan kept (c.codes_number_covered.ensures board rules plan.passes kept);
+      nets =
+          c.of-nets.ensures ∙ c.in_ok-found.ensures
+          ∙ ap (λ (n : ℕ). coded_nets plan n) c.net_count.ensures
+          ∙ nets_are board rules plan c.requires.plan kept
+          (c.codes_number_covered.ensures board rules plan.passes kept);
       pins = c.of-pins.ensures ∙ c.in_ok-tested.ensures ∙ pins_are board rules plan c.requires.plan kept;
     }

@@ -15,5 +15,8 @@ returns-clause-nets c =
     let P : List ℕ → Type 0 = λ v. IsSet board (drives_some board v) base.set in
     let Q : List ℕ → Type 0 = λ v. AreClosed board v base.nets in
     let R : List ℕ → Type 0 = λ v. AreClosed board (core ∷ []) v in
-    both_close c.args.known.now base.set c.gather_others.new.others core c.args.nets.now c.as_slice-closed.result.now c.in_ok-both.both c.laws.ensures (subst P by was.set_is)
-    (subst R (sym c.as_slice-closed.ensures) (subst Q by was.nets_are)) (c.in_ok-gather_others.ensures others.passes others.is_set) c.core_of-core.ensures c.in_ok-both.ensures
+    both_close c.args.known.now base.set c.gather_others.new.others core c.args.nets.now
+    c.as_slice-closed.result.now c.in_ok-both.both c.laws.ensures (subst P by was.set_is)
+    (subst R (sym c.as_slice-closed.ensures) (subst Q by was.nets_are))
+    (c.in_ok-gather_others.ensures others.passes others.is_set) c.core_of-core.ensures
+    c.in_ok-both.ensures

@@ -7,6 +7,10 @@ use Rattle.net_classes.proofs.control_sets.ControlSet.clear.Goals as goal
 
 pub returns : goal.returns
 returns c board passes is =
-    let size : length c.unmark.new.marks ≡ c.args.self.now.marks.len = grind (arith, c.unmark.auto.marks, c.deref_mut.ensures.len, c.deref_mut.ensures.value) in
+    let size : length c.unmark.new.marks
+    ≡ c.args.self.now.marks.len = grind
+    (arith, c.unmark.auto.marks, c.deref_mut.ensures.len, c.deref_mut.ensures.value) in
     cleared board passes c.args.self.now _ is
-    (ap table (with_items_is c.args.self.now.marks c.unmark.new.marks size) ∙ c.unmark.ensures ∙ ap (λ rows. put_all false (table rows) c.deref.result.now) c.deref_mut.ensures.value ∙ ap (put_all false (table c.args.self.now.marks.items)) c.deref.ensures.value)
+    (ap table (with_items_is c.args.self.now.marks c.unmark.new.marks size) ∙ c.unmark.ensures
+    ∙ ap (λ rows. put_all false (table rows) c.deref.result.now) c.deref_mut.ensures.value
+    ∙ ap (put_all false (table c.args.self.now.marks.items)) c.deref.ensures.value)

@@ -14,6 +14,8 @@ returns c =
     let read : c.index.result.now ≡ get_or words place 0 = c.index.ensures ∙ get_or_default words place c.index.result.now 0 within in
     record {
       bits = λ before after are on same. row_put before after words c.args.net c.put_bit.result (subst (AreRowBits before) view are) within
-          (c.put_bit.ensures.here ∙ ap (λ t. cond t 1 0) (sym on)) (λ i less other. c.put_bit.ensures.others i less other ∙ ap (λ v. bit_at v i) read) same;
+          (c.put_bit.ensures.here ∙ ap (λ t. cond t 1 0) (sym on))
+          (λ i less other. c.put_bit.ensures.others i less other ∙ ap (λ v. bit_at v i) read)
+          same;
       size = length-set words place c.put_bit.result ∙ ap length (sym view);
     }

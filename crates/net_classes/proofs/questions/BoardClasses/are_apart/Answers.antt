@@ -12,4 +12,9 @@ meet-requires-clause-second c = ascends c.args.self.now c.args.b _ c.shared_nets
 pub returns : goal.returns
 returns c =
     let board = c.args.self.now in
-    ap not (shared_is board c.args.a c.args.b c.meet.result _ _ (sym c.is_same.ensures ∙ c.if-is_same.false) c.shared_nets.ensures c.shared_nets-2.ensures c.meet.ensures) ∙ ap (λ t. t || not (share_net board c.args.a c.args.b)) (sym (sym c.is_same.ensures ∙ c.if-is_same.false))
+    ap not
+    (shared_is board c.args.a c.args.b c.meet.result _ _
+    (sym c.is_same.ensures ∙ c.if-is_same.false) c.shared_nets.ensures
+    c.shared_nets-2.ensures c.meet.ensures)
+    ∙ ap (λ t. t || not (share_net board c.args.a c.args.b))
+    (sym (sym c.is_same.ensures ∙ c.if-is_same.false))

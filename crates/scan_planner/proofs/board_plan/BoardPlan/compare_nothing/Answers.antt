@@ -9,7 +9,9 @@ use Rattle.scan_planner.proofs.board_plan.BoardPlan.compare_nothing.Goals as goa
 pub returns-clause-bits : goal.returns-clause-bits
 returns-clause-bits c scan quiet =
     let board = c.args.self.now.board in
-    let zeros : replicate c.dr_bits-len.result false ≡ replicate (data_bits board) false = ap (λ n. replicate n false) (c.dr_bits-len.ensures ∙ ap (λ (b : RawBoard). data_bits b) c.board.ensures) in
+    let zeros : replicate c.dr_bits-len.result false
+    ≡ replicate (data_bits board) false = ap (λ n. replicate n false)
+    (c.dr_bits-len.ensures ∙ ap (λ (b : RawBoard). data_bits b) c.board.ensures) in
     record {
       tdo = c.clear.ensures.bits ∙ zeros ∙ quiet_tdo board scan quiet;
       mask = c.clear-2.ensures.bits ∙ zeros ∙ quiet_mask board scan quiet;

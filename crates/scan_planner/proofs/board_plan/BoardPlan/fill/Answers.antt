@@ -7,4 +7,9 @@ overflow_cast-k c =
     let plan = c.args.self.now.plan in
     let scans : suc plan.width ≡ c.from-scans.result + 1 = omega (arith, c.from-scans.ensures, c.width.ensures) in
     let within = subst (λ (n : ℕ). c.args.k - 3 < length plan.passes * n) scans (omega (arith, c.requires.scan)) in
-    omega (arith, (div-lt_iff_lt-mul {k = c.from-scans.result + 1} {x = c.args.k - 3} {y = length plan.passes} (omega arith)).1 within, c.laws.ensures.counted)
+    omega (
+      arith,
+      (div-lt_iff_lt-mul {k = c.from-scans.result + 1} {x = c.args.k - 3}
+          {y = length plan.passes} (omega arith)).1 within,
+      c.laws.ensures.counted,
+    )

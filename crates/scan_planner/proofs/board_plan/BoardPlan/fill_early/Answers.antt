@@ -33,7 +33,8 @@ returns-then-k-eq0-clause-filled c =
     let are = subst (λ (p : PlanTables). AreRowsOf scan.bits p.preload) (sym c.tables-tables.ensures) c.laws.ensures.plan.tables.preload in
     let first : c.args.k ≡ 0 = omega arith in
     fills board plan.passes plan.width c.args.k scan _ _ _ _
-    (ap (λ (n : ℕ). slice_get (test_scans board plan.passes plan.width) n) first ∙ (scans_placed board plan.passes plan.width).preload) s.some s.most
+    (ap (λ (n : ℕ). slice_get (test_scans board plan.passes plan.width) n) first
+    ∙ (scans_placed board plan.passes plan.width).preload) s.some s.most
     (c.fill_codes.ensures.bits scan.bits are) c.fill_codes.ensures.ir c.fill_codes.ensures.compare
 
 pub returns-else-k-eq1-clause-filled : goal.returns-else-k-eq1-clause-filled
@@ -45,5 +46,6 @@ returns-else-k-eq1-clause-filled c =
     let are = subst (λ (p : PlanTables). AreRowsOf scan.bits p.extest) (sym c.tables-tables.ensures) c.laws.ensures.plan.tables.extest in
     let third : c.args.k ≡ 2 = omega arith in
     fills board plan.passes plan.width c.args.k scan _ _ _ _
-    (ap (λ (n : ℕ). slice_get (test_scans board plan.passes plan.width) n) third ∙ (scans_placed board plan.passes plan.width).extest) s.some s.most
+    (ap (λ (n : ℕ). slice_get (test_scans board plan.passes plan.width) n) third
+    ∙ (scans_placed board plan.passes plan.width).extest) s.some s.most
     (c.fill_codes-else-k-eq1.ensures.bits scan.bits are) c.fill_codes-else-k-eq1.ensures.ir c.fill_codes-else-k-eq1.ensures.compare

@@ -9,7 +9,8 @@ returns-clause-filled c =
     let board = c.args.self.now.board in
     let plan = c.args.self.now.plan in
     let s = row_sized board c.laws.ensures.rules first_row_scan in
-    fills board plan.passes plan.width 1 (scan_of_row board first_row_scan) _ _ _ _ (scans_placed board plan.passes plan.width).quiet s.some s.most
+    fills board plan.passes plan.width 1 (scan_of_row board first_row_scan) _ _ _ _
+    (scans_placed board plan.passes plan.width).quiet s.some s.most
     (record {
       tdi = c.shift_quiet.ensures.bits first_row_scan refl;
       tdo = (c.compare_nothing.ensures.bits first_row_scan refl).tdo;

@@ -32,7 +32,8 @@ invariant_of-result-clause-cells c control held =
     ∙ ap (λ (l : List (List Ctl)). get_or l c.number.result []) (c.as_slice.ensures ∙ ap (λ (p : PlanTables). p.passes) tables_is)
     ∙ ap (λ (n : ℕ). get_or test.plan.passes n []) c.number.ensures.value in
     rw (c.board.ensures ∙ ap (λ (t : PlannedBoard). t.board) c.test-test.ensures)
-    (controls_there test.board c.laws.ensures.rules test.plan c.laws.ensures.plan number c.laws.ensures.within c.pass_at.result.now setting control held)
+    (controls_there test.board c.laws.ensures.rules test.plan c.laws.ensures.plan number
+    c.laws.ensures.within c.pass_at.result.now setting control held)
 
 pub returns-clause-setting : goal.returns-clause-setting
 returns-clause-setting c =

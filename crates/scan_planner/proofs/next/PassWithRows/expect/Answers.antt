@@ -1,7 +1,7 @@
 use Rattle.std.proofs.Common.{suc, ◌∙◌, length, ap, arith}
 use Rattle.tap_defs.specs.chain.Scan.{tdo_bits}
 use Rattle.scan_planner.specs.Plans.{scan_of_pass}
-use Rattle.scan_planner.specs.Planned.{PlannedPass, bits_of}
+use Rattle.scan_planner.specs.Planned.{PlannedPass, scan_bits_of}
 use Rattle.scan_planner.proofs.FillLemmas.{expected_size}
 use Rattle.scan_planner.proofs.next.PassWithRows.expect.Goals as goal
 
@@ -20,4 +20,6 @@ copy_stacked-requires-clause-room c =
 
 pub returns-clause-bits : goal.returns-clause-bits
 returns-clause-bits c =
-    c.copy_stacked.ensures.bits ∙ c.self.invariant.expected c.args.j (rw (← c.self.view_is) at c.requires.row) ∙ ap (λ (p : PlannedPass). tdo_bits (bits_of p (suc c.args.j))) c.self.view_is
+    c.copy_stacked.ensures.bits
+    ∙ c.self.invariant.expected c.args.j (rw (← c.self.view_is) at c.requires.row)
+    ∙ ap (λ (p : PlannedPass). tdo_bits (scan_bits_of p (suc c.args.j))) c.self.view_is

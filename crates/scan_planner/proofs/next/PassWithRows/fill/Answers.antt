@@ -12,7 +12,8 @@ compare_before-requires-clause-stands c later =
     let rules = subst (λ (p : PlannedPass). IsBoard p.test.board) c.self.view_is c.laws.ensures.rules in
     let plan = subst (λ (p : PlannedPass). IsPlanOf p.test.board p.test.plan) c.self.view_is c.laws.ensures.plan in
     let within = subst (λ (p : PlannedPass). p.number < length p.test.plan.passes) c.self.view_is c.laws.ensures.within in (
-      mask_stands pass.test.board rules pass.test.plan plan pass.number c.args.j within later c.requires.row c.args.before _ _ _ c.requires.before,
+      mask_stands pass.test.board rules pass.test.plan plan pass.number c.args.j within later
+          c.requires.row c.args.before _ _ _ c.requires.before,
       c.requires.before.compare,
     )
 

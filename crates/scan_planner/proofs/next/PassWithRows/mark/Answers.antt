@@ -1,7 +1,7 @@
 use Rattle.std.proofs.Common.{suc, ◌∙◌, length, ap, arith}
 use Rattle.tap_defs.specs.chain.Scan.{mask_bits}
 use Rattle.scan_planner.specs.Plans.{scan_of_pass}
-use Rattle.scan_planner.specs.Planned.{PlannedPass, bits_of}
+use Rattle.scan_planner.specs.Planned.{PlannedPass, scan_bits_of}
 use Rattle.scan_planner.proofs.FillLemmas.{marked_size}
 use Rattle.scan_planner.proofs.next.PassWithRows.mark.Goals as goal
 
@@ -17,4 +17,6 @@ copy_row-requires c =
 
 pub returns-clause-bits : goal.returns-clause-bits
 returns-clause-bits c =
-    c.copy_row.ensures.bits ∙ c.self.invariant.mask c.args.j (rw (← c.self.view_is) at c.requires.row) ∙ ap (λ (p : PlannedPass). mask_bits (bits_of p (suc c.args.j))) c.self.view_is
+    c.copy_row.ensures.bits
+    ∙ c.self.invariant.mask c.args.j (rw (← c.self.view_is) at c.requires.row)
+    ∙ ap (λ (p : PlannedPass). mask_bits (scan_bits_of p (suc c.args.j))) c.self.view_is

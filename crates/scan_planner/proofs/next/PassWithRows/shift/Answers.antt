@@ -1,7 +1,7 @@
 use Rattle.std.proofs.Common.{◌∙◌, length, ap, arith}
 use Rattle.tap_defs.specs.chain.Scan.{tdi_bits}
 use Rattle.scan_planner.specs.Plans.{scan_of_pass}
-use Rattle.scan_planner.specs.Planned.{PlannedPass, bits_of}
+use Rattle.scan_planner.specs.Planned.{PlannedPass, scan_bits_of}
 use Rattle.scan_planner.proofs.FillLemmas.{shifted_size}
 use Rattle.scan_planner.proofs.next.PassWithRows.shift.Goals as goal
 
@@ -20,4 +20,6 @@ copy_stacked-requires-clause-room c =
 
 pub returns-then-j-width-clause-bits : goal.returns-then-j-width-clause-bits
 returns-then-j-width-clause-bits c =
-    c.copy_stacked.ensures.bits ∙ c.self.invariant.shifted c.args.j (omega (arith, c.if-j-width.true, c.width.ensures)) ∙ ap (λ (p : PlannedPass). tdi_bits (bits_of p c.args.j)) c.self.view_is
+    c.copy_stacked.ensures.bits
+    ∙ c.self.invariant.shifted c.args.j (omega (arith, c.if-j-width.true, c.width.ensures))
+    ∙ ap (λ (p : PlannedPass). tdi_bits (scan_bits_of p c.args.j)) c.self.view_is

@@ -6,5 +6,8 @@ use Rattle.scan_planner.proofs.pass_cells.PassControls.hold.Given as goal
 abbrev pub invariant-loop-c : goal.invariant-loop-c
 invariant-loop-c g l = record {
   kind : g.S.CodeRows.kind l.rows ≡ g.S.CodeRows.kind l.fn.rows;
-  bits : (j : ℕ) → g.S.CodeRows.shows (g.S.CodeRows.kind l.fn.rows) j → g.S.CodeRows.bits l.rows j ≡ assigned (λ h. h.position) (λ h. h.bit) (g.S.CodeRows.bits l.fn.rows j) (map (held_cell l.self.board.now l.self.tables.now.quiet.bits) (take l.c-index l.c-items));
+  bits : (j : ℕ) → g.S.CodeRows.shows (g.S.CodeRows.kind l.fn.rows) j
+      → g.S.CodeRows.bits l.rows j
+      ≡ assigned (λ h. h.position) (λ h. h.bit) (g.S.CodeRows.bits l.fn.rows j)
+      (map (held_cell l.self.board.now l.self.tables.now.quiet.bits) (take l.c-index l.c-items));
 }

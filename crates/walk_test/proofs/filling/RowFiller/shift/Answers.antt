@@ -30,7 +30,9 @@ pub set-requires : goal.set-requires
 set-requires c =
     omega (
       arith,
-      driver_there c.self.inside.board.now c.raw-rules.ensures.rules c.self.inside.tables.now c.self.invariant.0 c.self.invariant.1 c.args.j c.in-Some.cells.now (sym c.in-Some.ensures),
+      driver_there c.self.inside.board.now c.raw-rules.ensures.rules c.self.inside.tables.now
+          c.self.invariant.0 c.self.invariant.1 c.args.j c.in-Some.cells.now
+          (sym c.in-Some.ensures),
       ap (λ (l : List Bool). length l) c.copy_row-in-Some.ensures.bits,
     )
 
@@ -39,12 +41,14 @@ returns-in-None-clause-bits c =
     let board = c.self.inside.board.now in
     c.copy_row.ensures.bits
     ∙ c.quiet_row.ensures.shifted board c.self.invariant.0.plan
-    ∙ quiet_shifted board c.raw-rules.ensures.rules c.self.inside.tables.now c.self.invariant.0 c.self.invariant.1 c.args.j (sym c.in-None.ensures)
+    ∙ quiet_shifted board c.raw-rules.ensures.rules c.self.inside.tables.now c.self.invariant.0
+    c.self.invariant.1 c.args.j (sym c.in-None.ensures)
     ∙ ap (λ it. shifted_in it c.args.j) c.self.view_is
 
 pub returns-in-Some-clause-bits : goal.returns-in-Some-clause-bits
 returns-in-Some-clause-bits c =
     c.set.ensures.bits
     ∙ ap (λ (l : List Bool). set l c.in-Some.cells.now.driver true) c.copy_row-in-Some.ensures.bits
-    ∙ net_shifted c.self.inside.board.now c.raw-rules.ensures.rules c.self.inside.tables.now c.self.invariant.0 c.self.invariant.1 c.args.j c.in-Some.cells.now (sym c.in-Some.ensures)
+    ∙ net_shifted c.self.inside.board.now c.raw-rules.ensures.rules c.self.inside.tables.now
+    c.self.invariant.0 c.self.invariant.1 c.args.j c.in-Some.cells.now (sym c.in-Some.ensures)
     ∙ ap (λ it. shifted_in it c.args.j) c.self.view_is

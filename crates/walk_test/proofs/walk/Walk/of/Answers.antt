@@ -9,7 +9,9 @@ returns c =
     let board = c.args.board.now in
     let plan = c.in_ok-plan.plan in
     let parts = c.in_ok-parts.ensures in
-    walk_made board c.raw-rules.ensures.rules plan c.in_ok-plan.ensures.plan (c.in_ok-plan.ensures.passes ∙ parts.settings) _ refl c.args.pins c.requires.pins parts.nets parts.cells
+    walk_made board c.raw-rules.ensures.rules plan c.in_ok-plan.ensures.plan
+    (c.in_ok-plan.ensures.passes ∙ parts.settings) _ refl c.args.pins c.requires.pins parts.nets
+    parts.cells
     (subst (λ (l : List NetCells). AreMade board plan l c.fill_rows.new.rows) c.as_slice.ensures (rw c.new.ensures at c.fill_rows.ensures))
 
 pub invariant_of-result : goal.invariant_of-result

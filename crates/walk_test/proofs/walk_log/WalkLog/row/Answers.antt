@@ -13,7 +13,11 @@ invariant_of-result c =
     let inside = c.self.inside in
     let digits = subst (λ (k : ℕ). AreRowDigits (get_or inside.log.now k []) c.digits.result.now) c.from.ensures c.digits.ensures in
     let less : c.args.j < length inside.log.now = omega (arith, c.requires, ap (λ it. length it.log) c.self.view_is) in
-    record { long = sym (row_count inside.log.now inside.mask.bits c.digits-2.result.now c.digits-2.ensures c.args.j c.digits.result.now digits (c.self.invariant.bits c.args.j [] less)) }
+    record {
+      long = sym
+          (row_count inside.log.now inside.mask.bits c.digits-2.result.now c.digits-2.ensures
+          c.args.j c.digits.result.now digits (c.self.invariant.bits c.args.j [] less));
+    }
 
 pub returns : goal.returns
 returns c =
@@ -23,5 +27,7 @@ returns c =
     record {
       digits = subst (λ (it : LoggedNets). AreRowDigits (get_or it.log c.args.j []) c.digits.result.now) c.self.view_is digits;
       mask = c.digits-2.ensures ∙ ap (λ it. digits_of it.mask) c.self.view_is;
-      bits = subst (λ (it : LoggedNets). length (get_or it.log c.args.j []) ≡ length it.mask) c.self.view_is (c.self.invariant.bits c.args.j [] less);
+      bits =
+          subst (λ (it : LoggedNets). length (get_or it.log c.args.j []) ≡ length it.mask)
+          c.self.view_is (c.self.invariant.bits c.args.j [] less);
     }
