@@ -33,7 +33,7 @@ const FEW_SCANS: &str =
 type Wrong = (&'static str, Ending<'static>, Status, Ending<'static>);
 
 static WRONG: [Wrong; 21] = [
-    // Another byte, an extra line, and a missing line.
+    // A wrong byte, an extra line, and a missing line.
     (COVER, COVERED, Status::Done, UNCOVERED),
     (
         COVER,

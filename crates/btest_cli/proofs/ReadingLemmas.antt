@@ -24,7 +24,7 @@ pub is_long : (limit n : ℕ) (b : Bool) → nat_lt limit n ≡ b → limit < n 
 is_long limit n true test long = refl
 is_long limit n false test long = grind (arith, common_steps)
 
--- if the fetched text is the text that the store tells for the name, the store holds this text under the name
+-- if a fetch says that `text` is the text under the name, the store holds `text` under the name
 pub text_told : (held : Held) (name text : Text) → Told held name (λ t. text ≡ t) → IsText held name text
 text_told None name text told = tt
 text_told (Some held) name text told = by (held name) refl told

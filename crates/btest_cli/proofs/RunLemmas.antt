@@ -155,7 +155,7 @@ pub none_asked_for : (command : Option Command) (asked : List Text) → IfSome c
 none_asked_for None asked = tt
 none_asked_for (Some command) asked = none_asked command asked
 
--- the first `length first` names of `first` followed by `others` are `first`
+-- if `first` is followed by `others`, the first `length first` names are `first`
 first_of : (first others : List Text) → take (length first) (first ++ others) ≡ first
 first_of [] others = refl
 first_of (name ∷ first) others = ap (λ (l : List Text). name ∷ l) (first_of first others)

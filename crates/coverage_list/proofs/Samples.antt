@@ -51,21 +51,25 @@ control num = record { num = num; role = ControlRole; bit = None; safe = One; ct
 abbrev by : ℕ → Option Control
 by cell = Some (record { cell = cell; disable = true })
 
--- devices: two receivers; a three-state driver; a bidirectional pin; two pairs of drivers; a driver that its own cell controls
+-- a device with two receivers
 abbrev rcv : RawDevice
 rcv = device (bits Inward (codes "1" ∷ codes "2" ∷ [])) (entry 0 Input 0 None ∷ entry 1 Input 1 None ∷ []) 2
 
+-- a device with a three-state driver
 abbrev ts : RawDevice
 ts = device (bits Outward (codes "1" ∷ [])) (entry 0 Output3 0 (by 1) ∷ control 1 ∷ []) 2
 
+-- a device with a bidirectional pin
 abbrev bi : RawDevice
 bi = device (bits Both (codes "1" ∷ [])) (entry 0 Bidir 0 (by 1) ∷ control 1 ∷ []) 2
 
+-- a device with two pairs of drivers; each pair has one control
 abbrev two : RawDevice
 two = device (bits Outward (codes "1" ∷ codes "2" ∷ codes "3" ∷ codes "4" ∷ []))
     (entry 0 Output3 0 (by 4) ∷ entry 1 Output3 1 (by 4) ∷ entry 2 Output3 2 (by 5)
     ∷ entry 3 Output3 3 (by 5) ∷ control 4 ∷ control 5 ∷ []) 6
 
+-- a device with an open-drain driver
 abbrev od : RawDevice
 od = device (bits Outward (codes "1" ∷ [])) (entry 0 Output2 0 (by 0) ∷ []) 1
 

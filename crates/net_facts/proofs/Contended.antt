@@ -180,7 +180,8 @@ map_item f rows c =
     by_row None = refl
     by_row (Some r) = slice_get-map f r c.cell
 
--- if the table of controls has the class of each control, the table `shared` has for each control the nets that it shares with another control
+-- if the table of controls has the class of each control, the table `shared` has for each control the nets that it shares with another
+-- control
 pub shared_rows : (board : RawBoard) (facts : List NetFacts) (flags : List Bool)
     (rows : List (List ControlClass)) (shared : List (List (List ℕ)))
     → facts ≡ map (net_facts_of board) board.nets → flags ≡ flags_of facts

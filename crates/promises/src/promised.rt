@@ -116,7 +116,7 @@ impl Desk {
         self.run(rt, words, gate)
     }
 
-    /// The usage line answers exactly the words that ask for no command. For these words no file is read.
+    /// Unless memory ran out, the status is Usage if and only if the words ask for no command. For such words no file is read.
     pub fn usage<R: Threads + Sync, G: Gate>(
         &mut self,
         rt: &R,
@@ -143,7 +143,8 @@ impl Desk {
         self.run(rt, words, gate)
     }
 
-    /// Files are refused if and only if they have a fault, with the line for their first fault.
+    /// Unless a read of a file failed or memory ran out, the status is Refused if and only if the files have a fault or a file is too long.
+    /// The notes then take the line for the first fault.
     pub fn refused<R: Threads + Sync, G: Gate>(
         &mut self,
         rt: &R,
@@ -156,7 +157,7 @@ impl Desk {
         self.run(rt, words, gate)
     }
 
-    /// If the text was not written whole, a write failed.
+    /// If the status is WriteFault, a write of the output failed, and the output took only some first bytes of the text.
     pub fn write_fault<R: Threads + Sync, G: Gate>(
         &mut self,
         rt: &R,
@@ -168,7 +169,7 @@ impl Desk {
         self.run(rt, words, gate)
     }
 
-    /// If memory ran out, nothing was written to the output.
+    /// If the status is NoMemory, nothing was written to the output.
     pub fn no_memory<R: Threads + Sync, G: Gate>(
         &mut self,
         rt: &R,

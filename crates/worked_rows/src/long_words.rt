@@ -1,4 +1,4 @@
-// Tests of the limit on the words of a chain file and of a net file, which is 255 bytes.
+// Tests of the limit of 255 bytes on the words of chain files and net files.
 use run_bench::Text::Filled;
 use run_bench::{Bench, CHAIN, Ending, NETS, RowFault, Text};
 use std::alloc::Global;
